@@ -1,4 +1,8 @@
 //! What was counted. A count stays at its greatest value.
+ghost use Rattle.std.specs.Prelude.{◌≡◌, ◌++◌, IfOk, OnOk, string_bytes, decimal};
+ghost use Rattle.std.specs.List.{flat_map};
+ghost use Rattle.agent_texts.specs.Counts.{one_more, entry_text, calls_text, messages_text, losses_text, counts_text};
+
 use std::alloc::{AllocError, Global};
 
 /// What was counted of calls and of messages.
@@ -42,8 +46,26 @@ pub struct Tally {
 }
 
 /// One more.
-pub fn count(number: &mut u64) {
+pub fn count(number: &mut u64)
+    ensures { number.new ≡ one_more number.old }
+{
     *number = number.saturating_add(1);
+}
+
+// A number with what stands before it.
+fn put_entry(text: &mut String, before: &str, number: u64) -> Result<(), AllocError>
+    ensures { OnOk result (string_bytes text.new ≡ string_bytes text.old ++ (before.now ++ decimal number)) }
+{
+    write!(text, "{before}{number}")
+}
+
+fn put_entries(text: &mut String, entries: &[(&str, u64)]) -> Result<(), AllocError>
+    ensures { OnOk result (string_bytes text.new ≡ string_bytes text.old ++ flat_map entry_text entries.now) }
+{
+    for (before, number) in entries {
+        put_entry(text, *before, *number)?;
+    }
+    Ok(())
 }
 
 impl Tally {
@@ -73,8 +95,9 @@ impl Tally {
         send_faults: 0,
     };
 
-    /// The counts as text, one kind a line. An error is for want of memory only.
-    pub fn text(&self, alloc: Global) -> Result<String, AllocError> {
+    fn put_calls(&self, text: &mut String) -> Result<(), AllocError>
+        ensures { OnOk result (string_bytes text.new ≡ string_bytes text.old ++ calls_text self.now) }
+    {
         let entries = [
             ("calls ", self.calls),
             (" set up ", self.set_up),
@@ -82,6 +105,14 @@ impl Tally {
             (" failed ", self.failed),
             (" busy ", self.busy),
             (" wrong number ", self.wrong_number),
+        ];
+        put_entries(text, &entries)
+    }
+
+    fn put_messages(&self, text: &mut String) -> Result<(), AllocError>
+        ensures { OnOk result (string_bytes text.new ≡ string_bytes text.old ++ messages_text self.now) }
+    {
+        let entries = [
             ("\ndatagrams in ", self.datagrams_in),
             (" strange ", self.strange),
             (" out ", self.datagrams_out),
@@ -92,6 +123,14 @@ impl Tally {
             ("\nnotifications ", self.notifications),
             (" announcements ", self.announcements),
             (" strange ", self.strange_names),
+        ];
+        put_entries(text, &entries)
+    }
+
+    fn put_losses(&self, text: &mut String) -> Result<(), AllocError>
+        ensures { OnOk result (string_bytes text.new ≡ string_bytes text.old ++ losses_text self.now) }
+    {
+        let entries = [
             ("\nnetwork lost ", self.lost),
             (" copied ", self.copied),
             (" late ", self.late),
@@ -99,11 +138,18 @@ impl Tally {
             (" receive ", self.receive_faults),
             (" send ", self.send_faults),
         ];
+        put_entries(text, &entries)?;
+        text.push_str("\n")
+    }
+
+    /// The counts as text, one kind a line. An error is for want of memory only.
+    pub fn text(&self, alloc: Global) -> Result<String, AllocError>
+        ensures { IfOk result (λ text. string_bytes text ≡ counts_text self.now) }
+    {
         let mut text = String::new(alloc);
-        for (before, number) in entries.iter() {
-            write!(text, "{before}{number}")?;
-        }
-        text.push_str("\n")?;
+        self.put_calls(&mut text)?;
+        self.put_messages(&mut text)?;
+        self.put_losses(&mut text)?;
         Ok(text)
     }
 }

@@ -1,47 +1,23 @@
 //! The exchange in the program's hands: which command each line is sent, and what its answer means for the line's calls.
-use agent_texts::{Journal, Standing, Station, copied, standing_of, tell_change};
-use call_routing::{Command, Exchange, NumberPlan, Outcome, Phase, Side, Told, told_in};
+//!
+//! Nothing goes over all lines but the opening: those to which something has happened wait, and are settled.
+ghost use Rattle.std.specs.Prelude.{◌≡◌, IfOk, option_map, slice_get, slice_set};
+ghost use Rattle.call_routing.specs.Exchange.{flight_in, line_of};
+ghost use Rattle.call_routing.specs.Numbers.{told_in};
+ghost use Rattle.call_desk.specs.Duties.{begun};
+ghost use Rattle.call_desk.specs.Hooks.{notified};
+ghost use Rattle.call_desk.specs.Orders.{shown, duty_of, cared, routed, ordered};
+ghost use Rattle.call_desk.specs.Waiting.{other_end};
+
+use crate::care::{Care, Duty, NEW_CARE, fixed_order};
+use crate::hooks::{audited_hook, notified, told_by_hook};
+use crate::responses::outcome_of;
+use crate::worklist::Worklist;
+use agent_texts::{Journal, Station, copied, standing_of, tell_change};
+use call_routing::{Command, Exchange, NumberPlan, Outcome, Phase, Told, told_in};
 use event_values::Observed;
-use mg_bytes::{Identifier, OutOfMemory, Text, list_items, same_no_case};
-use mgcp_text::{Message, Param, param_at, read_message};
+use mg_bytes::{OutOfMemory, Text};
 use std::alloc::Global;
-use std::mem;
-
-/// What a command to a line is for.
-#[derive(Clone, Copy)]
-enum Duty {
-    /// Connections of an earlier run are to end: DLCX.
-    Clear,
-    /// The line's hook is to be known: AUEP. Nothing else tells it at the start, and after a notification was given up.
-    Audit,
-    /// The exchange says which command.
-    Route,
-}
-
-// What is kept of a line beside what the exchange knows.
-#[derive(Clone, Copy)]
-struct Care {
-    // What is next, and what the command in flight is for, if one is.
-    next: Duty,
-    flight: Option<Duty>,
-    // Whether the gateway has started again since that was issued: what it is answered may be of before, and isn't believed.
-    is_outlived: bool,
-    // Whether the line has told something since it was audited.
-    has_told: bool,
-    // Whether an audit told that its handset was lifted, and it has told nothing since.
-    is_found_off: bool,
-    // How it stood when that was told last.
-    shown: Standing,
-}
-
-const NEW_CARE: Care = Care {
-    next: Duty::Clear,
-    flight: None,
-    is_outlived: false,
-    has_told: false,
-    is_found_off: false,
-    shown: Standing::Rest,
-};
 
 /// An exchange, and what is kept of its lines beside that.
 #[derive(Drop)]
@@ -50,6 +26,8 @@ pub struct Office {
     plan: NumberPlan,
     map: Text,
     cares: Vec<Care>,
+    // The lines to which something has happened: what they are sent, and how they stand, may be another.
+    worklist: Worklist,
 }
 
 /// A command that is to be issued.
@@ -60,102 +38,76 @@ pub struct Order {
     pub rest: Text,
 }
 
-// Whether a telephone is off the hook, as a value of ES tells it (RFC 3435, 2.3.10).
-fn hook_of(state: &[u8]) -> Option<bool> {
-    if same_no_case(state, b"L/hd") || same_no_case(state, b"hd") {
-        Some(true)
-    } else if same_no_case(state, b"L/hu") || same_no_case(state, b"hu") {
-        Some(false)
-    } else {
-        None
-    }
-}
-
-// The same of all its values.
-fn hook_in(states: &[u8]) -> Option<bool> {
-    for state in list_items(states) {
-        let hook = hook_of(state);
-        if hook.is_some() {
-            return hook;
-        }
-    }
-    None
-}
-
-// What an answer to an audit tells of a hook.
-fn hook_told(params: &[Param<'_>]) -> Option<bool> {
-    hook_in(param_at(b"ES", params)?.value.as_slice())
-}
-
-// What an audit tells of a hook; nothing where memory is refused.
-fn audited_hook(alloc: Global, text: &[u8]) -> Option<bool> {
-    match read_message(alloc, text) {
-        Ok(message) => hook_told(message.params()),
-        Err(_) => None,
-    }
-}
-
-// Whether a line in this phase is off hook.
-fn is_off(phase: Phase) -> bool {
+// The other end of the call of a line in this phase, if it is in one.
+fn other_end(phase: Option<Phase>) -> Option<usize>
+    ensures { result ≡ other_end phase }
+{
     match phase {
-        Phase::Resting => false,
-        Phase::Dialling | Phase::Hearing(_) => true,
-        Phase::InCall(part) => match part.side {
-            Side::Caller => true,
-            Side::Called => part.answered,
-        },
+        Some(Phase::InCall(part)) => Some(part.other),
+        Some(Phase::Resting | Phase::Dialling | Phase::Hearing(_)) | None => None,
     }
 }
 
-// What a line tells by its hook; where that is as the line's phase has it, only its request is used up.
-fn told_by(hook: Option<bool>, phase: Option<Phase>) -> Told {
-    let was_off = match phase {
-        Some(phase) => is_off(phase),
-        None => false,
-    };
-    match (hook, was_off) {
-        (Some(true), false) => Told::OffHook,
-        (Some(false), true) => Told::OnHook,
-        _ => Told::Flash,
+// This is kept of a line from now on, if there is that one.
+#[tactic(auto, using(std::proofs::lemmas::List::set_past))]
+fn set_care(cares: &mut Vec<Care>, line: usize, care: Care)
+    ensures { cares.new.items ≡ slice_set cares.old.items line care }
+{
+    if line < cares.len() {
+        cares[line] = care;
     }
 }
 
-// The connection that an answer to a CRCX names.
-fn connection_in(params: &[Param<'_>]) -> Option<Identifier> {
-    Identifier::of(param_at(b"I", params)?.value.as_slice())
+// What is next at a line to which no command is in flight; that is in flight from now on.
+fn begin(cares: &mut Vec<Care>, line: usize) -> Option<Duty>
+    ensures duty { result ≡ duty_of (slice_get cares.old.items line) }
+    ensures cares { cares.new.items ≡ cared begun cares.old.items line }
+{
+    let mut care = cares.get(line).copied()?;
+    let duty = care.begin();
+    set_care(cares, line, care);
+    duty
 }
 
-// What a CRCX created, where its answer has this body; the code alone where it names no connection, or describes none.
-fn created(
+// The exchange's command to a line, if one is in flight.
+fn flight_at(exchange: &Exchange, line: usize) -> Option<Command>
+    ensures { result ≡ flight_in (line_of exchange.now line) }
+{
+    match exchange.line(line) {
+        Some(line) => line.flight,
+        None => None,
+    }
+}
+
+// The command that the exchange sends to a line, if it sends one; it is in flight from then on.
+fn routed(
     alloc: Global,
-    code: u16,
-    connection: Option<Identifier>,
-    body: &[u8],
-) -> Result<Outcome, OutOfMemory> {
-    match connection {
-        Some(connection) if !body.is_empty() => Ok(Outcome::Created {
-            connection,
-            description: copied(alloc, body)?,
-        }),
-        _ => Ok(Outcome::Answered(code)),
-    }
+    exchange: &mut Exchange,
+    line: usize,
+    map: &[u8],
+) -> Result<Option<Order>, OutOfMemory>
+    ensures { IfOk result (λ order. option_map shown order ≡ routed exchange.old line map.now) }
+{
+    let Some(command) = exchange.send(line) else {
+        return Ok(None);
+    };
+    Ok(Some(Order {
+        verb: command.verb(),
+        rest: exchange.parameters(alloc, line, map)?,
+    }))
 }
 
-// What the answer to a CRCX says. Where memory is refused it counts as given up: then the connection is deleted again.
-fn creation(alloc: Global, code: u16, text: &[u8]) -> Outcome {
-    let created = match read_message(alloc, text) {
-        Ok(Message::Response { params, body, .. }) => {
-            created(
-                alloc,
-                code,
-                connection_in(params.as_slice()),
-                body.as_slice(),
-            )
-        }
-        Ok(Message::Command { .. }) => return Outcome::Answered(code),
-        Err(_) => return Outcome::GivenUp,
-    };
-    created.unwrap_or(Outcome::GivenUp)
+// What a notification that told these events is to the exchange, where an audit had found the handset lifted before, or hadn't.
+fn heard(
+    alloc: Global,
+    plan: &NumberPlan,
+    was_found_off: bool,
+    observed: &[Observed],
+) -> Result<Option<Told>, OutOfMemory>
+    ensures { IfOk result (λ told. told ≡ notified was_found_off (told_in plan.now observed.now)) }
+{
+    let told = told_in(alloc, plan, observed)?;
+    Ok(notified(was_found_off, told))
 }
 
 impl Office {
@@ -175,91 +127,80 @@ impl Office {
             plan,
             map,
             cares,
+            worklist: Worklist::new(alloc, true),
         })
+    }
+
+    // Something happens to a line: it waits, and so does the other end of its call. To be said before and behind it.
+    fn touch(&mut self, line: usize) {
+        self.worklist.put(line);
+        if let Some(other) = other_end(self.exchange.phase(line)) {
+            self.worklist.put(other);
+        }
     }
 
     // The line is to be cleared or audited next.
     fn owe(&mut self, line: usize, duty: Duty) {
         if let Some(care) = self.cares.get_mut(line) {
-            care.next = match care.next {
-                Duty::Clear => Duty::Clear,
-                Duty::Audit | Duty::Route => duty,
-            };
+            care.owe(duty);
         }
-    }
-
-    // What is next at a line to which no command is in flight; that is in flight from now on.
-    fn begin(&mut self, line: usize) -> Option<Duty> {
-        let care = self.cares.get_mut(line)?;
-        if care.flight.is_some() {
-            return None;
-        }
-        let duty = care.next;
-        care.flight = Some(duty);
-        care.is_outlived = false;
-        match duty {
-            Duty::Clear => care.next = Duty::Audit,
-            Duty::Audit => {
-                care.next = Duty::Route;
-                care.has_told = false;
-            }
-            Duty::Route => {}
-        }
-        Some(duty)
     }
 
     // No command to the line is in flight any more: what that was for.
     fn land(&mut self, line: usize) -> Option<Duty> {
-        let care = self.cares.get_mut(line)?;
-        let duty = care.flight?;
-        care.flight = None;
-        Some(duty)
+        match self.cares.get_mut(line) {
+            Some(care) => care.land(),
+            None => None,
+        }
     }
 
-    // The command that the exchange sends to the line, if it sends one.
-    fn routed(&mut self, alloc: Global, line: usize) -> Result<Option<Order>, OutOfMemory> {
-        let Some(command) = self.exchange.send(line) else {
-            let _ = self.land(line);
-            return Ok(None);
-        };
-        Ok(Some(Order {
-            verb: command.verb(),
-            rest: self.exchange.parameters(alloc, line, self.map.as_bytes())?,
-        }))
+    /// Those lines to which something has happened are settled now.
+    pub fn begin_settling(&mut self) {
+        self.worklist.begin();
+    }
+
+    /// How many lines are settled now.
+    pub fn settling(&self) -> usize {
+        self.worklist.len(self.cares.len())
+    }
+
+    /// The line that is settled so many behind the first.
+    pub fn settled_at(&self, index: usize) -> Option<usize> {
+        self.worklist.at(0, index)
     }
 
     /// The command that is to be issued to the line now, if one is; it is in flight from then on. After an error, which is for want of
     /// memory, it was given up.
-    pub fn order(&mut self, alloc: Global, line: usize) -> Result<Option<Order>, OutOfMemory> {
-        let Some(duty) = self.begin(line) else {
+    pub fn order(&mut self, alloc: Global, line: usize) -> Result<Option<Order>, OutOfMemory>
+        ensures { IfOk result (λ order. option_map shown order
+            ≡ ordered (slice_get self.old.cares.items line) self.old.exchange line self.old.map) }
+    {
+        let Some(duty) = begin(&mut self.cares, line) else {
             return Ok(None);
         };
-        let (verb, rest) = match duty {
-            Duty::Clear => (b"DLCX".as_slice(), b"".as_slice()),
-            Duty::Audit => (b"AUEP".as_slice(), b"F: ES\r\n".as_slice()),
-            Duty::Route => return self.routed(alloc, line),
-        };
-        Ok(Some(Order {
-            verb,
-            rest: copied(alloc, rest)?,
-        }))
+        match fixed_order(duty) {
+            Some((verb, rest)) => Ok(Some(Order {
+                verb,
+                rest: copied(alloc, rest)?,
+            })),
+            None => self.route(alloc, line),
+        }
     }
 
-    // Whether a CRCX to the line is in flight.
-    fn is_creating(&self, line: usize) -> bool {
-        match self.exchange.line(line) {
-            Some(line) => matches!(line.flight, Some(Command::Create { .. })),
-            None => false,
+    // The command of the exchange to the line, where that sends one; else none is in flight.
+    fn route(&mut self, alloc: Global, line: usize) -> Result<Option<Order>, OutOfMemory>
+        ensures { IfOk result (λ order. option_map shown order ≡ routed self.old.exchange line self.old.map) }
+    {
+        let order = routed(alloc, &mut self.exchange, line, self.map.as_bytes())?;
+        if order.is_none() {
+            let _ = self.land(line);
         }
+        Ok(order)
     }
 
     // The exchange's command to the line was answered.
     fn answer(&mut self, alloc: Global, line: usize, code: u16, text: &[u8]) {
-        let outcome = if code < 300 && self.is_creating(line) {
-            creation(alloc, code, text)
-        } else {
-            Outcome::Answered(code)
-        };
+        let outcome = outcome_of(alloc, code, flight_at(&self.exchange, line), text);
         self.exchange.answer(line, outcome);
     }
 
@@ -270,17 +211,16 @@ impl Office {
             None => true,
         };
         if !has_told {
-            let told = told_by(audited_hook(alloc, text), self.exchange.phase(line));
+            let told = told_by_hook(audited_hook(alloc, text), self.exchange.phase(line));
             self.find(line, matches!(told, Told::OffHook));
             self.exchange.tell(line, told);
         }
     }
 
-    // From now on an audit has found the line's handset lifted, or not; whether one had before.
-    fn find(&mut self, line: usize, is_off: bool) -> bool {
-        match self.cares.get_mut(line) {
-            Some(care) => mem::replace(&mut care.is_found_off, is_off),
-            None => false,
+    // From now on an audit has found the line's handset lifted, or not.
+    fn find(&mut self, line: usize, is_off: bool) {
+        if let Some(care) = self.cares.get_mut(line) {
+            care.is_found_off = is_off;
         }
     }
 
@@ -298,53 +238,64 @@ impl Office {
         if self.is_outlived(line) {
             return self.given_up(line);
         }
+        self.touch(line);
         match self.land(line) {
             Some(Duty::Route) => self.answer(alloc, line, code, text),
             Some(Duty::Audit) => self.audited(alloc, line, text),
             Some(Duty::Clear) | None => {}
         }
+        self.touch(line);
     }
 
     /// The command in flight to the line was given up, or couldn't be issued.
     pub fn given_up(&mut self, line: usize) {
+        self.touch(line);
         match self.land(line) {
             Some(Duty::Route) => self.exchange.answer(line, Outcome::GivenUp),
             Some(Duty::Audit) => self.owe(line, Duty::Audit),
             Some(Duty::Clear) => self.owe(line, Duty::Clear),
             None => {}
         }
+        self.touch(line);
+    }
+
+    // The line has told something: whether an audit had found its handset lifted before.
+    fn tell(&mut self, line: usize) -> bool {
+        match self.cares.get_mut(line) {
+            Some(care) => care.tell(),
+            None => false,
+        }
     }
 
     /// A notification of the line told this. Where memory is refused the line's hook is asked for.
     pub fn told(&mut self, alloc: Global, line: usize, observed: &[Observed]) {
-        if let Some(care) = self.cares.get_mut(line) {
-            care.has_told = true;
-        }
-        let was_found_off = self.find(line, false);
-        match told_in(alloc, &self.plan, observed) {
-            // The notification of what an audit found says nothing new, and only uses its request up.
-            Ok(Some(Told::OffHook)) if was_found_off => self.exchange.tell(line, Told::Flash),
+        self.touch(line);
+        let was_found_off = self.tell(line);
+        match heard(alloc, &self.plan, was_found_off, observed) {
             Ok(Some(told)) => self.exchange.tell(line, told),
             Ok(None) => {}
             Err(_) => self.owe(line, Duty::Audit),
         }
+        self.touch(line);
     }
 
     // The line has started again: a call that it was in is over, and what is in flight to it was issued to what it was before.
     fn restart(&mut self, line: usize) {
         self.exchange.tell(line, Told::Restarted);
         if let Some(care) = self.cares.get_mut(line) {
-            care.is_outlived = care.flight.is_some();
+            care.outlive();
         }
     }
 
     /// The line is announced: it has started again, and knows of no call and no request (RFC 3435, 4.4.6); or it lost its agent, and
     /// with that a notification (RFC 3435, 4.4.7). Its handset may have been moved, so its hook is asked for.
     pub fn announced(&mut self, line: usize, is_restart: bool) {
+        self.touch(line);
         if is_restart {
             self.restart(line);
         }
         self.owe(line, Duty::Audit);
+        self.touch(line);
     }
 
     /// Tells and counts how the line stands, where that has changed.

@@ -3,12 +3,13 @@ use crate::flight::Flight;
 use crate::gateway::Gateway;
 use crate::office::{Office, Order};
 use crate::typed::{TypedFault, typed_in};
+use crate::worklist::Worklist;
 use agent_texts::{AgentConfig, Journal, Station, copied};
 use call_agent::{IssueFault, Issued};
 use call_routing::NumberPlan;
 use endpoint_names::{Pattern, read_name, write_name};
 use mg_bytes::{OutOfMemory, Sequence, Text, same_no_case, split_once};
-use mgcp_text::{Message, Param, TransactionId, Verb, param_at, read_message};
+use mgcp_text::{Message, Param, TextFault, TransactionId, Verb, param_at, read_message};
 use plain_machine::{Event, Outputs, Refusal};
 use std::alloc::Global;
 use std::net::SocketAddrV4;
@@ -20,6 +21,8 @@ pub struct Switchboard {
     gateways: Vec<Gateway>,
     stations: Vec<Station>,
     office: Option<Office>,
+    // The lines of the gateway that was heard last whose notifications came.
+    notifying: Worklist,
 }
 
 // Puts a line behind the others.
@@ -75,6 +78,7 @@ impl Switchboard {
             gateways: Vec::new(alloc),
             stations: Vec::new(alloc),
             office: None,
+            notifying: Worklist::new(alloc, false),
         }
     }
 
@@ -139,9 +143,20 @@ impl Switchboard {
         self.gateways.len()
     }
 
-    /// How many lines all gateways have.
-    pub fn lines(&self) -> usize {
-        self.stations.len()
+    /// The lines to which something has happened are settled now: each is shown (`show`), then each is sent what it is to be sent
+    /// (`issue_next`).
+    pub fn begin_settling(&mut self) {
+        if let Some(office) = &mut self.office {
+            office.begin_settling();
+        }
+    }
+
+    /// How many lines are settled now.
+    pub fn settling(&self) -> usize {
+        match &self.office {
+            Some(office) => office.settling(),
+            None => 0,
+        }
     }
 
     /// The agent of the gateway at this place hears a datagram: what is sent.
@@ -248,9 +263,20 @@ impl Switchboard {
         }
     }
 
-    /// Issues what the line at this place is to be sent now: what is to be sent, if anything is. Where it can't be issued it counts as
-    /// given up.
-    pub fn issue_next(&mut self, line: usize) -> Result<Option<Issued>, IssueFault> {
+    // The line that is settled so many behind the first.
+    fn settled_at(&self, index: usize) -> Option<usize> {
+        match &self.office {
+            Some(office) => office.settled_at(index),
+            None => None,
+        }
+    }
+
+    /// Issues what the line that is settled so many behind the first is to be sent now: what is to be sent, if anything is. Where it
+    /// can't be issued it counts as given up.
+    pub fn issue_next(&mut self, index: usize) -> Result<Option<Issued>, IssueFault> {
+        let Some(line) = self.settled_at(index) else {
+            return Ok(None);
+        };
         let issued = match self.order_of(line) {
             Ok(None) => return Ok(None),
             Ok(Some(order)) => self.issue(line, &order),
@@ -265,12 +291,12 @@ impl Switchboard {
         }
     }
 
-    /// Tells how the lines stand, where that has changed.
-    pub fn show(&mut self, journal: &mut Journal) {
-        let Some(office) = &mut self.office else {
+    /// Tells how the line that is settled so many behind the first stands, where that has changed.
+    pub fn show(&mut self, journal: &mut Journal, index: usize) {
+        let Some(line) = self.settled_at(index) else {
             return;
         };
-        for line in 0..self.stations.len() {
+        if let Some(office) = &mut self.office {
             office.show(self.alloc, journal, &self.stations, line);
         }
     }
@@ -370,6 +396,18 @@ impl Switchboard {
         }
     }
 
+    // A notification came: what the agent took of it is to be taken of its line.
+    fn hear_notification(&mut self, place: usize, name: &[u8]) {
+        let Some(gateway) = self.gateways.get(place) else {
+            return;
+        };
+        let named = read_name(name, gateway.domain.as_bytes(), gateway.lines);
+        if let Ok(Pattern::One(line)) = named {
+            let before = usize::from(line.saturating_sub(1));
+            self.notifying.put(gateway.first.saturating_add(before));
+        }
+    }
+
     // A message came from the gateway at this place, which this text is.
     fn hear_message(
         &mut self,
@@ -389,6 +427,11 @@ impl Switchboard {
                 params,
                 ..
             } => self.hear_announcement(journal, place, *id, name.as_slice(), params.as_slice()),
+            Message::Command {
+                verb: Verb::Ntfy,
+                name,
+                ..
+            } => self.hear_notification(place, name.as_slice()),
             Message::Command { .. } => {}
         }
     }
@@ -419,23 +462,31 @@ impl Switchboard {
                 self.tell_strange(journal, place, &message, text);
                 self.hear_message(journal, place, &message, text);
             }
+            // It may have been a notification of any line.
+            Err(TextFault::OutOfMemory) => self.notifying.put_all(),
             Err(_) => {}
         }
     }
 
-    /// Takes what a line of the gateway at this place has told and wasn't taken yet, of the first that has told something: whether
-    /// there is one.
-    pub fn take(&mut self, journal: &mut Journal, place: usize) -> bool {
-        let (first, lines) = match self.gateways.get(place) {
-            Some(gateway) => (gateway.first, usize::from(gateway.lines)),
-            None => (0, 0),
-        };
-        for line in first..first.saturating_add(lines) {
-            if self.take_of(journal, place, line) {
-                return true;
-            }
+    /// The lines are taken from now on whose notifications came from the gateway at this place: how many they are.
+    pub fn begin_taking(&mut self, place: usize) -> usize {
+        self.notifying.begin();
+        match self.gateways.get(place) {
+            Some(gateway) => self.notifying.len(usize::from(gateway.lines)),
+            None => 0,
         }
-        false
+    }
+
+    /// Takes what the line that is so many behind the first of these has told and wasn't taken yet: whether there was anything.
+    pub fn take(&mut self, journal: &mut Journal, place: usize, index: usize) -> bool {
+        let first = match self.gateways.get(place) {
+            Some(gateway) => gateway.first,
+            None => 0,
+        };
+        match self.notifying.at(first, index) {
+            Some(line) => self.take_of(journal, place, line),
+            None => false,
+        }
     }
 
     // Takes what a line has told and wasn't taken yet: whether there was anything.

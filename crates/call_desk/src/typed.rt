@@ -1,4 +1,8 @@
 //! Commands that are typed.
+ghost use Rattle.std.specs.Prelude.{◌≡◌, ◌++◌, false, OnOk, option_map};
+ghost use Rattle.mg_bytes.specs.Lines.{crlf};
+ghost use Rattle.call_desk.specs.Typed.{typed_byte, typed_from, typed_in};
+
 use mg_bytes::{OutOfMemory, lines, words};
 use std::alloc::Global;
 
@@ -28,16 +32,39 @@ pub struct Typed<'a> {
 
 const LINE_END: &[u8] = b"\r\n";
 
+fn put_line_end(out: &mut Vec<u8>) -> Result<(), OutOfMemory>
+    ensures { OnOk result (out.new.items ≡ out.old.items ++ crlf) }
+{
+    out.extend_from_slice(b"\r\n")
+}
+
+// Puts a byte that was typed, behind a backslash or not.
+fn put_byte(out: &mut Vec<u8>, is_escaped: bool, byte: u8) -> Result<(), OutOfMemory>
+    ensures { OnOk result (out.new.items ≡ out.old.items ++ typed_byte is_escaped byte) }
+{
+    if byte == b'\n' {
+        return put_line_end(out);
+    }
+    if byte == b'\r' || byte == b'\\' {
+        return Ok(());
+    }
+    if !is_escaped {
+        return out.extend_from_slice(&[byte]);
+    }
+    if byte == b'n' {
+        return put_line_end(out);
+    }
+    out.extend_from_slice(&[b'\\', byte])
+}
+
 // Puts what was typed, with the line ends of a message: a backslash with an n is one too.
-fn put_typed(out: &mut Vec<u8>, text: &[u8]) -> Result<(), OutOfMemory> {
+#[tactic(auto, unfolding(crate::specs::Typed::typed_from))]
+fn put_typed(out: &mut Vec<u8>, text: &[u8]) -> Result<(), OutOfMemory>
+    ensures { OnOk result (out.new.items ≡ out.old.items ++ typed_from false text.now) }
+{
     let mut is_escaped = false;
     for byte in text {
-        match (is_escaped, *byte) {
-            (true, b'n') | (_, b'\n') => out.extend_from_slice(LINE_END)?,
-            (_, b'\r' | b'\\') => {}
-            (true, other) => out.extend_from_slice(&[b'\\', other])?,
-            (false, other) => out.push(other)?,
-        }
+        put_byte(out, is_escaped, *byte)?;
         is_escaped = *byte == b'\\';
     }
     Ok(())
@@ -56,9 +83,12 @@ pub fn typed_text(alloc: Global, line: &[u8], rest: &[u8]) -> Result<Vec<u8>, Ou
 }
 
 /// The command that a text is; none where its first line isn't a verb and a name.
-pub(crate) fn typed_in(text: &[u8]) -> Option<Typed<'_>> {
+pub(crate) fn typed_in(text: &[u8]) -> Option<Typed<'_>>
+    ensures { option_map (λ typed. (typed.verb.now, (typed.name.now, typed.rest.now))) result ≡ typed_in text.now }
+{
     let mut left = lines(text);
-    let mut said = words(left.next()?);
+    let line = left.next()?;
+    let mut said = words(line);
     let verb = said.next()?;
     let name = said.next()?;
     match said.next() {

@@ -29,11 +29,15 @@ fn send_issued<R: Net + Clock>(wire: &mut Wire<'_, R>, issued: &Issued) {
     wire.send(issued.datagram.to, issued.datagram.bytes.as_bytes(), false);
 }
 
-// Tells how the lines stand, and sends them what they are to be sent.
+// Tells how the lines to which something has happened stand, and sends them what they are to be sent.
 fn settle<R: Net + Clock>(board: &mut Switchboard, wire: &mut Wire<'_, R>) {
-    board.show(&mut wire.journal);
-    for line in 0..board.lines() {
-        match board.issue_next(line) {
+    board.begin_settling();
+    let lines = board.settling();
+    for index in 0..lines {
+        board.show(&mut wire.journal, index);
+    }
+    for index in 0..lines {
+        match board.issue_next(index) {
             Ok(Some(issued)) => send_issued(wire, &issued),
             Ok(None) => {}
             Err(_) => count(&mut wire.journal.tally.refused),
@@ -79,11 +83,10 @@ fn deal_with<R: Net + Clock>(
 
 // What the lines of a gateway told is taken, a line at a time.
 fn take_told<R: Net + Clock>(board: &mut Switchboard, wire: &mut Wire<'_, R>, place: usize) {
-    for _ in 0..u16::MAX {
-        if !board.take(&mut wire.journal, place) {
-            return;
+    for index in 0..board.begin_taking(place) {
+        if board.take(&mut wire.journal, place, index) {
+            settle(board, wire);
         }
-        settle(board, wire);
     }
 }
 

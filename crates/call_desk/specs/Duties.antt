@@ -1,0 +1,59 @@
+-- Which command is next at a line beside those of the exchange: first connections of an earlier run end, then its hook is asked for.
+use Rattle.std.specs.Prelude.{ℕ, Bool, true, false, is_some, if◌then◌else◌, codes, List, [], Option, Some, None}
+use Rattle.call_desk.specs.declared.care.Duty.{Duty}
+use Rattle.call_desk.specs.declared.care.Duty.TheVariants.{Clear, Audit, Route}
+use Rattle.call_desk.specs.declared.care.Care.{Care}
+
+-- what is next behind it
+abbrev pub next_behind : Duty → Duty
+next_behind Clear = Audit
+next_behind Audit = Route
+next_behind Route = Route
+
+-- an audit that is sent asks for what is told from then on
+abbrev pub told_still : Duty → Bool → Bool
+told_still Clear has_told = has_told
+told_still Audit has_told = false
+told_still Route has_told = has_told
+
+-- the duty that begins: none while a command is in flight
+abbrev pub duty_begun : Care → Option Duty
+duty_begun care = if is_some care.flight then None else Some care.next
+
+-- it is in flight, to the line as it is now
+abbrev pub begun : Care → Care
+begun care =
+    if is_some care.flight then care
+    else record care {
+      next = next_behind care.next;
+      flight = Some care.next;
+      is_outlived = false;
+      has_told = told_still care.next care.has_told;
+    }
+
+-- it landed
+abbrev pub landed : Care → Care
+landed care = record care { flight = None }
+
+-- a line that is to be cleared stays so
+abbrev pub owed_behind : Duty → Duty → Duty
+owed_behind Clear duty = Clear
+owed_behind Audit duty = duty
+owed_behind Route duty = duty
+
+abbrev pub owed : Care → Duty → Care
+owed care duty = record care { next = owed_behind care.next duty }
+
+-- the gateway has started again: what is in flight was issued to what it was before
+abbrev pub outlived : Care → Care
+outlived care = record care { is_outlived = is_some care.flight }
+
+-- the line has told something: an audit that is in flight is older, and what one has found isn't new any more
+abbrev pub told_care : Care → Care
+told_care care = record care { has_told = true; is_found_off = false }
+
+-- the commands that the exchange doesn't know of: their verbs, and what stands behind the command line
+abbrev pub fixed_order : Duty → Option (List ℕ × List ℕ)
+fixed_order Clear = Some (codes "DLCX", [])
+fixed_order Audit = Some (codes "AUEP", codes "F: ES\r\n")
+fixed_order Route = None

@@ -1,0 +1,48 @@
+-- Which command a line is sent now.
+use Rattle.std.specs.Prelude.{ℕ, List, Option, Some, None, slice_get, slice_set}
+use Rattle.call_routing.specs.declared.command.Command.{Command}
+use Rattle.call_routing.specs.Parameters.{verb_of, parameters_of}
+use Rattle.call_routing.specs.Exchange.{ExchangeState, due, sent_to}
+use Rattle.call_desk.specs.declared.care.Duty.{Duty}
+use Rattle.call_desk.specs.declared.care.Care.{Care}
+use Rattle.call_desk.specs.declared.office.Order.{Order}
+use Rattle.call_desk.specs.Duties.{duty_begun, fixed_order}
+
+-- a verb, and what stands behind the command line
+abbrev pub Shown : Type 0
+Shown = List ℕ × List ℕ
+
+abbrev pub shown : Order → Shown
+shown order = (order.verb.now, order.rest)
+
+abbrev pub duty_of : Option Care → Option Duty
+duty_of None = None
+duty_of (Some care) = duty_begun care
+
+abbrev pub cared_to : (Care → Care) → List Care → ℕ → Option Care → List Care
+cared_to change cares line None = cares
+cared_to change cares line (Some care) = slice_set cares line (change care)
+
+-- what is kept of the lines, of which one is changed, if there is that one
+abbrev pub cared : (Care → Care) → List Care → ℕ → List Care
+cared change cares line = cared_to change cares line (slice_get cares line)
+
+abbrev pub routed_by : ExchangeState → ℕ → List ℕ → Option Command → Option Shown
+routed_by exchange line map None = None
+routed_by exchange line map (Some command) = Some (verb_of command, parameters_of (sent_to exchange line) line map)
+
+-- the exchange's command, with its parameters once it was sent
+abbrev pub routed : ExchangeState → ℕ → List ℕ → Option Shown
+routed exchange line map = routed_by exchange line map (due exchange line)
+
+abbrev pub fixed_or : Option Shown → Option Shown → Option Shown
+fixed_or (Some fixed) other = Some fixed
+fixed_or None other = other
+
+abbrev pub ordered_by : Option Duty → ExchangeState → ℕ → List ℕ → Option Shown
+ordered_by None exchange line map = None
+ordered_by (Some duty) exchange line map = fixed_or (fixed_order duty) (routed exchange line map)
+
+-- the command that a line is sent now, of which this is kept: what is next, where none is in flight
+abbrev pub ordered : Option Care → ExchangeState → ℕ → List ℕ → Option Shown
+ordered care exchange line map = ordered_by (duty_of care) exchange line map

@@ -1,0 +1,137 @@
+//! What is kept of a line beside what the exchange knows: which command is next, and what the one in flight is for.
+ghost use Rattle.std.specs.Prelude.{◌≡◌, option_map};
+ghost use Rattle.call_desk.specs.Duties.{next_behind, told_still, duty_begun, begun, landed, owed_behind, owed, outlived, told_care, fixed_order};
+
+use agent_texts::Standing;
+
+/// What a command to a line is for.
+#[derive(Clone, Copy)]
+pub(crate) enum Duty {
+    /// Connections of an earlier run are to end: DLCX.
+    Clear,
+    /// The line's hook is to be known: AUEP. Nothing else tells it at the start, and after a notification was given up.
+    Audit,
+    /// The exchange says which command.
+    Route,
+}
+
+/// What is kept of a line.
+#[derive(Clone, Copy)]
+pub(crate) struct Care {
+    // What is next, and what the command in flight is for, if one is.
+    pub(crate) next: Duty,
+    pub(crate) flight: Option<Duty>,
+    // Whether the gateway has started again since that was issued: what it is answered may be of before, and isn't believed.
+    pub(crate) is_outlived: bool,
+    // Whether the line has told something since it was audited.
+    pub(crate) has_told: bool,
+    // Whether an audit told that its handset was lifted, and it has told nothing since.
+    pub(crate) is_found_off: bool,
+    // How it stood when that was told last.
+    pub(crate) shown: Standing,
+}
+
+/// A line of which nothing is known.
+pub(crate) const NEW_CARE: Care = Care {
+    next: Duty::Clear,
+    flight: None,
+    is_outlived: false,
+    has_told: false,
+    is_found_off: false,
+    shown: Standing::Rest,
+};
+
+fn next_behind(duty: Duty) -> Duty
+    ensures { result ≡ next_behind duty }
+{
+    match duty {
+        Duty::Clear => Duty::Audit,
+        Duty::Audit => Duty::Route,
+        Duty::Route => Duty::Route,
+    }
+}
+
+// Whether it counts that the line has told something, where this duty begins.
+fn told_still(duty: Duty, has_told: bool) -> bool
+    ensures { result ≡ told_still duty has_told }
+{
+    match duty {
+        Duty::Clear => has_told,
+        Duty::Audit => false,
+        Duty::Route => has_told,
+    }
+}
+
+fn owed_behind(next: Duty, duty: Duty) -> Duty
+    ensures { result ≡ owed_behind next duty }
+{
+    match next {
+        Duty::Clear => Duty::Clear,
+        Duty::Audit => duty,
+        Duty::Route => duty,
+    }
+}
+
+/// The command that a duty is, by its verb and what stands behind its line; none where the exchange says which.
+pub(crate) fn fixed_order(duty: Duty) -> Option<(&'static [u8], &'static [u8])>
+    ensures { option_map (λ order. (order.0.now, order.1.now)) result ≡ fixed_order duty }
+{
+    match duty {
+        Duty::Clear => Some((b"DLCX".as_slice(), b"".as_slice())),
+        Duty::Audit => Some((b"AUEP".as_slice(), b"F: ES\r\n".as_slice())),
+        Duty::Route => None,
+    }
+}
+
+impl Care {
+    /// What is next, where no command is in flight; that is in flight from now on.
+    pub(crate) fn begin(&mut self) -> Option<Duty>
+        ensures duty { result ≡ duty_begun self.old }
+        ensures care { self.new ≡ begun self.old }
+    {
+        if self.flight.is_some() {
+            return None;
+        }
+        let duty = self.next;
+        self.has_told = told_still(duty, self.has_told);
+        self.next = next_behind(duty);
+        self.flight = Some(duty);
+        self.is_outlived = false;
+        Some(duty)
+    }
+
+    /// No command is in flight any more: what that was for.
+    pub(crate) fn land(&mut self) -> Option<Duty>
+        ensures duty { result ≡ self.old.flight }
+        ensures care { self.new ≡ landed self.old }
+    {
+        let duty = self.flight;
+        self.flight = None;
+        duty
+    }
+
+    /// The line is to be cleared or audited next.
+    pub(crate) fn owe(&mut self, duty: Duty)
+        ensures { self.new ≡ owed self.old duty }
+    {
+        self.next = owed_behind(self.next, duty);
+    }
+
+    /// Its gateway has started again.
+    pub(crate) fn outlive(&mut self)
+        ensures { self.new ≡ outlived self.old }
+    {
+        self.is_outlived = self.flight.is_some();
+    }
+
+    /// The line has told something: whether an audit had found its handset lifted before.
+    pub(crate) fn tell(&mut self) -> bool
+        ensures was { result ≡ self.old.is_found_off }
+        ensures care { self.new ≡ told_care self.old }
+    {
+        let was_found_off = self.is_found_off;
+        self.has_told = true;
+        self.is_found_off = false;
+        was_found_off
+    }
+}
