@@ -1,11 +1,12 @@
 -- Lines to which something has happened, and that wait until they are settled.
-use Rattle.std.specs.Prelude.{◌≡◌, ℕ, ◌⊎◌, Bool, true, List, Contains, Option, Some, None}
+use Rattle.std.specs.Prelude.{ℕ, Bool, ◌||◌, ◌==◌, List, Option, Some, None}
+use Rattle.std.specs.List.{list_any}
 use Rattle.call_routing.specs.declared.phase.Phase.{Phase}
 use Rattle.call_routing.specs.declared.phase.Phase.TheVariants.{Resting, Dialling, Hearing, InCall}
 
 -- the line waits: it was put there, or all lines do
-abbrev pub Waits : List ℕ → Bool → ℕ → Type 0
-Waits places is_all place = (is_all ≡ true) ⊎ Contains places place
+abbrev pub waits : List ℕ → Bool → ℕ → Bool
+waits places is_all place = is_all || list_any (λ other. other == place) places
 
 -- what happens to a line concerns the other end of its call too
 abbrev pub other_end : Option Phase → Option ℕ

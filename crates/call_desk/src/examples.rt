@@ -4,7 +4,7 @@
 ghost use Rattle.std.specs.Prelude.{◌≡◌, [], ◌∷◌, true, false, Some, None, codes};
 ghost use Rattle.mg_bytes.specs.Items.{items_of};
 ghost use Rattle.call_desk.specs.declared.care.Duty.TheVariants.{Clear, Audit, Route};
-ghost use Rattle.call_desk.specs.Waiting.{other_end};
+ghost use Rattle.call_desk.specs.Waiting.{waits, other_end};
 ghost use Rattle.call_desk.specs.Duties.{duty_begun, begun, landed, owed, outlived, told_care, fixed_order};
 ghost use Rattle.call_desk.specs.Hooks.{hook_of, hook_among, hook_told, is_off, was_off, told_by_hook, notified};
 ghost use Rattle.call_desk.specs.Responses.{creates, connection_in, created, is_creation};
@@ -139,4 +139,12 @@ pub fn a_command_is_a_verb_and_a_name()
     ensures more { typed_in (codes "AUEP 1 aaln/1") ≡ None }
     ensures nothing { typed_in [] ≡ None }
     ensures empty { typed_in (codes "\r\nAUEP aaln/1") ≡ None }
+{}
+
+/// A line waits that was put there, and where all do.
+pub fn a_line_waits_until_it_is_settled()
+    ensures put { waits (3 ∷ 5 ∷ []) false 5 ≡ true }
+    ensures not_put { waits (3 ∷ 5 ∷ []) false 4 ≡ false }
+    ensures all { waits [] true 4 ≡ true }
+    ensures none { waits [] false 4 ≡ false }
 {}

@@ -1,6 +1,6 @@
 //! Lines that wait until they are settled, so that what happens to one costs nothing at the others.
 ghost use Rattle.std.specs.Prelude.{◌≡◌, ℕ, true, false, [], IsPermutation};
-ghost use Rattle.call_desk.specs.Waiting.{Waits};
+ghost use Rattle.call_desk.specs.Waiting.{waits};
 
 use std::alloc::Global;
 use std::mem;
@@ -29,13 +29,15 @@ impl Worklist {
     }
 
     /// The line at this place waits.
+    #[tactic(auto, using(crate::proofs::WaitingLemmas::waits_last, crate::proofs::WaitingLemmas::waits_still))]
     pub(crate) fn put(&mut self, place: usize)
-        ensures waits { Waits self.new.waiting.items self.new.is_all place }
-        ensures others { (other : ℕ) → Waits self.old.waiting.items self.old.is_all other
-            → Waits self.new.waiting.items self.new.is_all other }
+        ensures waits { waits self.new.waiting.items self.new.is_all place ≡ true }
+        ensures others { (other : ℕ) → waits self.old.waiting.items self.old.is_all other ≡ true
+            → waits self.new.waiting.items self.new.is_all other ≡ true }
     {
-        if self.waiting.push(place).is_err() {
-            self.is_all = true;
+        match self.waiting.push(place) {
+            Ok(()) => {}
+            Err(_) => self.is_all = true,
         }
     }
 
