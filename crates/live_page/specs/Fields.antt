@@ -1,5 +1,5 @@
 -- The fields that what is read goes with: no browser keeps it, guesses another kind, or shows it in another's frame.
-use Rattle.std.specs.Prelude.{ℕ, codes, List, [], ◌∷◌}
+use Rattle.std.specs.Prelude.{ℕ, codes, List, [], ◌∷◌, ◌++◌}
 use Rattle.http1.specs.Fields.{Header}
 use Rattle.live_page.specs.declared.fields.Content.{Content}
 use Rattle.live_page.specs.declared.fields.Content.TheVariants as contents
@@ -19,11 +19,20 @@ abbrev pub policy : List ℕ
 policy =
     codes "default-src 'none'; style-src 'self'; script-src 'self'; connect-src 'self'; img-src data:; base-uri 'none'; form-action 'none'; frame-ancestors 'none'"
 
-abbrev pub kind_fields : Content → List Header
-kind_fields content =
+-- the kind, which no browser guesses, of what none keeps
+abbrev pub kept_fields : Content → List Header
+kept_fields content =
     (codes "content-type", kind_of content) ∷ (codes "cache-control", codes "no-store")
-    ∷ (codes "x-content-type-options", codes "nosniff") ∷ (codes "x-frame-options", codes "DENY")
-    ∷ (codes "referrer-policy", codes "no-referrer") ∷ (codes "content-security-policy", policy) ∷ []
+    ∷ (codes "x-content-type-options", codes "nosniff") ∷ []
+
+-- what a browser may make of it
+abbrev pub guard_fields : List Header
+guard_fields =
+    (codes "x-frame-options", codes "DENY") ∷ (codes "referrer-policy", codes "no-referrer")
+    ∷ (codes "content-security-policy", policy) ∷ []
+
+abbrev pub kind_fields : Content → List Header
+kind_fields content = kept_fields content ++ guard_fields
 
 -- what is read at a route goes with these
 abbrev pub fields_at : Route → List Header

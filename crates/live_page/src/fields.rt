@@ -1,16 +1,12 @@
 //! The fields that answers go with.
 ghost use Rattle.std.specs.Prelude.{◌≡◌, ◌++◌, ◌∷◌, [], OnOk};
 ghost use Rattle.http_server.specs.Response.{fields_of};
-ghost use Rattle.live_page.specs.Fields.{kind_of, kind_fields};
+ghost use Rattle.live_page.specs.Fields.{kind_of, policy, kept_fields, guard_fields, kind_fields};
 
 use bytes::Bytes;
 use http::{HeaderName, HeaderValue, header};
 use http_server::Response;
 use std::alloc::AllocError;
-
-// What the page may do: its own style, script and questions, and stand in no other's frame (Content Security Policy, 3).
-const POLICY: &str =
-    "default-src 'none'; style-src 'self'; script-src 'self'; connect-src 'self'; img-src data:; base-uri 'none'; form-action 'none'; frame-ancestors 'none'";
 
 /// What an answer has.
 #[derive(Clone, Copy)]
@@ -35,6 +31,15 @@ fn kind_of(content: Content) -> HeaderValue
     }
 }
 
+// What the page may do: its own style, script and questions, and stand in no other's frame (Content Security Policy, 3).
+fn policy() -> HeaderValue
+    ensures { result.bytes ≡ policy }
+{
+    HeaderValue::from_static(
+        "default-src 'none'; style-src 'self'; script-src 'self'; connect-src 'self'; img-src data:; base-uri 'none'; form-action 'none'; frame-ancestors 'none'",
+    )
+}
+
 fn put_field(
     response: &mut Response,
     name: HeaderName,
@@ -47,11 +52,11 @@ fn put_field(
     response.add_header(name, value)
 }
 
-/// Puts what this kind of content goes with: no browser keeps it, guesses another kind, or shows it in another's frame.
-pub(crate) fn put_kind(response: &mut Response, content: Content) -> Result<(), AllocError>
+// Puts the kind, which no browser guesses, of what none keeps.
+fn put_kept(response: &mut Response, content: Content) -> Result<(), AllocError>
     ensures status { response.new.status ≡ response.old.status }
     ensures body { response.new.body ≡ response.old.body }
-    ensures fields { OnOk result (fields_of response.new ≡ fields_of response.old ++ kind_fields content) }
+    ensures fields { OnOk result (fields_of response.new ≡ fields_of response.old ++ kept_fields content) }
 {
     put_field(response, header::CONTENT_TYPE, kind_of(content))?;
     put_field(
@@ -64,6 +69,15 @@ pub(crate) fn put_kind(response: &mut Response, content: Content) -> Result<(), 
         header::X_CONTENT_TYPE_OPTIONS,
         HeaderValue::from_static("nosniff"),
     )?;
+    Ok(())
+}
+
+// Puts what a browser may make of it.
+fn put_guards(response: &mut Response) -> Result<(), AllocError>
+    ensures status { response.new.status ≡ response.old.status }
+    ensures body { response.new.body ≡ response.old.body }
+    ensures fields { OnOk result (fields_of response.new ≡ fields_of response.old ++ guard_fields) }
+{
     put_field(
         response,
         header::X_FRAME_OPTIONS,
@@ -74,11 +88,19 @@ pub(crate) fn put_kind(response: &mut Response, content: Content) -> Result<(), 
         header::REFERRER_POLICY,
         HeaderValue::from_static("no-referrer"),
     )?;
-    put_field(
-        response,
-        header::CONTENT_SECURITY_POLICY,
-        HeaderValue::from_static(POLICY),
-    )
+    put_field(response, header::CONTENT_SECURITY_POLICY, policy())?;
+    Ok(())
+}
+
+/// Puts what this kind of content goes with: no browser keeps it, guesses another kind, or shows it in another's frame.
+pub(crate) fn put_kind(response: &mut Response, content: Content) -> Result<(), AllocError>
+    ensures status { response.new.status ≡ response.old.status }
+    ensures body { response.new.body ≡ response.old.body }
+    ensures fields { OnOk result (fields_of response.new ≡ fields_of response.old ++ kind_fields content) }
+{
+    put_kept(response, content)?;
+    put_guards(response)?;
+    Ok(())
 }
 
 /// Puts a body behind what there is.
