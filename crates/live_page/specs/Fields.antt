@@ -15,7 +15,7 @@ kind_of contents.Json = codes "application/json"
 kind_of contents.Metrics = codes "text/plain; version=0.0.4; charset=utf-8"
 
 -- the page may use its own style, script and questions, and stands in no other's frame (Content Security Policy, 3)
-abbrev pub policy : List ℕ
+unfoldable pub policy : List ℕ
 policy =
     codes "default-src 'none'; style-src 'self'; script-src 'self'; connect-src 'self'; img-src data:; base-uri 'none'; form-action 'none'; frame-ancestors 'none'"
 

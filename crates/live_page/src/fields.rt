@@ -32,6 +32,7 @@ fn kind_of(content: Content) -> HeaderValue
 }
 
 // What the page may do: its own style, script and questions, and stand in no other's frame (Content Security Policy, 3).
+#[tactic(auto, unfolding(crate::specs::Fields::policy))]
 fn policy() -> HeaderValue
     ensures { result.bytes ≡ policy }
 {
