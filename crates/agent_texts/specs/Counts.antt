@@ -1,5 +1,6 @@
 -- What was counted, as it is told: a kind a line.
-use Rattle.std.specs.Prelude.{ℕ, ◌+◌, min, codes, decimal, List, ◌++◌}
+use Rattle.std.specs.Prelude.{ℕ, ◌+◌, min, codes, decimal, List, [], ◌∷◌, ◌++◌}
+use Rattle.std.specs.List.{flat_map}
 use Rattle.std.specs.Borrow.{Bor}
 use Rattle.agent_texts.specs.declared.tally.Tally.{Tally}
 
@@ -14,27 +15,27 @@ one_more number = min (number + 1) greatest_count
 abbrev pub entry_text : Bor (List ℕ) × ℕ → List ℕ
 entry_text entry = entry.0.now ++ decimal entry.1
 
-abbrev pub told : List ℕ → ℕ → List ℕ
-told before number = before ++ decimal number
+-- numbers, each with what stands before it
+abbrev pub told : List (List ℕ × ℕ) → List ℕ
+told entries = flat_map (λ entry. entry.0 ++ decimal entry.1) entries
 
-abbrev pub calls_text : Tally → List ℕ
+unfoldable pub calls_text : Tally → List ℕ
 calls_text tally =
-    told (codes "calls ") tally.calls ++ told (codes " set up ") tally.set_up ++ told (codes " abandoned ") tally.abandoned
-    ++ told (codes " failed ") tally.failed ++ told (codes " busy ") tally.busy ++ told (codes " wrong number ") tally.wrong_number
+    told ((codes "calls ", tally.calls) ∷ (codes " set up ", tally.set_up) ∷ (codes " abandoned ", tally.abandoned)
+    ∷ (codes " failed ", tally.failed) ∷ (codes " busy ", tally.busy) ∷ (codes " wrong number ", tally.wrong_number) ∷ [])
 
-abbrev pub messages_text : Tally → List ℕ
+unfoldable pub messages_text : Tally → List ℕ
 messages_text tally =
-    told (codes "\ndatagrams in ") tally.datagrams_in ++ told (codes " strange ") tally.strange ++ told (codes " out ") tally.datagrams_out
-    ++ told (codes " again ") tally.again ++ told (codes "\ncommands ") tally.commands ++ told (codes " answered ") tally.answered
-    ++ told (codes " given up ") tally.given_up ++ told (codes "\nnotifications ") tally.notifications
-    ++ told (codes " announcements ") tally.announcements ++ told (codes " strange ") tally.strange_names
+    told ((codes "\ndatagrams in ", tally.datagrams_in) ∷ (codes " strange ", tally.strange) ∷ (codes " out ", tally.datagrams_out)
+    ∷ (codes " again ", tally.again) ∷ (codes "\ncommands ", tally.commands) ∷ (codes " answered ", tally.answered)
+    ∷ (codes " given up ", tally.given_up) ∷ (codes "\nnotifications ", tally.notifications)
+    ∷ (codes " announcements ", tally.announcements) ∷ (codes " strange ", tally.strange_names) ∷ [])
 
-abbrev pub losses_text : Tally → List ℕ
+unfoldable pub losses_text : Tally → List ℕ
 losses_text tally =
-    told (codes "\nnetwork lost ") tally.lost ++ told (codes " copied ") tally.copied ++ told (codes " late ") tally.late
-    ++ told (codes "\nfaults memory ") tally.refused ++ told (codes " receive ") tally.receive_faults ++ told (codes " send ") tally.send_faults
-    ++ codes "\n"
+    told ((codes "\nnetwork lost ", tally.lost) ∷ (codes " copied ", tally.copied) ∷ (codes " late ", tally.late)
+    ∷ (codes "\nfaults memory ", tally.refused) ∷ (codes " receive ", tally.receive_faults) ∷ (codes " send ", tally.send_faults) ∷ [])
 
 -- all of it
 abbrev pub counts_text : Tally → List ℕ
-counts_text tally = calls_text tally ++ (messages_text tally ++ losses_text tally)
+counts_text tally = calls_text tally ++ messages_text tally ++ losses_text tally ++ codes "\n"

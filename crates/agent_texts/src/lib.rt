@@ -6,6 +6,7 @@
 
 mod config;
 mod config_fault;
+pub mod examples;
 mod journal;
 mod standing;
 mod station;

@@ -95,6 +95,7 @@ impl Tally {
         send_faults: 0,
     };
 
+    #[tactic(auto, unfolding(crate::specs::Counts::calls_text))]
     fn put_calls(&self, text: &mut String) -> Result<(), AllocError>
         ensures { OnOk result (string_bytes text.new ≡ string_bytes text.old ++ calls_text self.now) }
     {
@@ -109,6 +110,7 @@ impl Tally {
         put_entries(text, &entries)
     }
 
+    #[tactic(auto, unfolding(crate::specs::Counts::messages_text))]
     fn put_messages(&self, text: &mut String) -> Result<(), AllocError>
         ensures { OnOk result (string_bytes text.new ≡ string_bytes text.old ++ messages_text self.now) }
     {
@@ -127,6 +129,7 @@ impl Tally {
         put_entries(text, &entries)
     }
 
+    #[tactic(auto, unfolding(crate::specs::Counts::losses_text))]
     fn put_losses(&self, text: &mut String) -> Result<(), AllocError>
         ensures { OnOk result (string_bytes text.new ≡ string_bytes text.old ++ losses_text self.now) }
     {
@@ -138,8 +141,7 @@ impl Tally {
             (" receive ", self.receive_faults),
             (" send ", self.send_faults),
         ];
-        put_entries(text, &entries)?;
-        text.push_str("\n")
+        put_entries(text, &entries)
     }
 
     /// The counts as text, one kind a line. An error is for want of memory only.
@@ -150,6 +152,7 @@ impl Tally {
         self.put_calls(&mut text)?;
         self.put_messages(&mut text)?;
         self.put_losses(&mut text)?;
+        text.push_str("\n")?;
         Ok(text)
     }
 }
