@@ -69,7 +69,7 @@ said_bare setup owner moment (own_command (messages.Command verb id name params 
 said_bare setup owner moment (own_command (messages.Response code id params body)) well = absurd well
 said_bare setup owner moment (answer response) well = tt
 said_bare setup owner moment (again id text) well = tt
-said_bare setup owner moment (resent message) well = tt
+said_bare setup owner moment (resent flight) well = tt
 said_bare setup owner moment (acknowledgement response) well = tt
 
 own_bare : (setup : Setup) (w : World) → IsSetUp setup → Each BareBegun (own_in setup w)

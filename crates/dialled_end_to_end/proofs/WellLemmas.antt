@@ -86,7 +86,7 @@ SaysWell setup owner (command (messages.Command verb id name params body)) = IsO
 SaysWell setup owner (command (messages.Response code id params body)) = ⊥
 SaysWell setup owner (answer response) = Unit {0}
 SaysWell setup owner (again id text) = Unit {0}
-SaysWell setup owner (resent message) = Unit {0}
+SaysWell setup owner (resent flight) = Unit {0}
 SaysWell setup owner (acknowledgement response) = Unit {0}
 
 abbrev pub IsWell : Setup → Sent → Type 0

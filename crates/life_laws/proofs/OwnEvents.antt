@@ -388,5 +388,5 @@ all_began setup events taken =
       begins_then (command (messages.Response code id params body)) moment by = tt
       begins_then (answer response) moment by = tt
       begins_then (again id text) moment by = tt
-      begins_then (resent message) moment by = tt
+      begins_then (resent flight) moment by = tt
       begins_then (acknowledgement response) moment by = tt
