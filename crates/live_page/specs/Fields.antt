@@ -25,11 +25,12 @@ kept_fields content =
     (codes "content-type", kind_of content) ∷ (codes "cache-control", codes "no-store")
     ∷ (codes "x-content-type-options", codes "nosniff") ∷ []
 
--- what a browser may make of it
+-- what a browser may make of it: it shows it in no other's frame, and tells nobody of it
+abbrev pub frame_fields : List Header
+frame_fields = (codes "x-frame-options", codes "DENY") ∷ (codes "referrer-policy", codes "no-referrer") ∷ []
+
 abbrev pub guard_fields : List Header
-guard_fields =
-    (codes "x-frame-options", codes "DENY") ∷ (codes "referrer-policy", codes "no-referrer")
-    ∷ (codes "content-security-policy", policy) ∷ []
+guard_fields = frame_fields ++ (codes "content-security-policy", policy) ∷ []
 
 abbrev pub kind_fields : Content → List Header
 kind_fields content = kept_fields content ++ guard_fields

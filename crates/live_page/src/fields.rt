@@ -1,7 +1,7 @@
 //! The fields that answers go with.
 ghost use Rattle.std.specs.Prelude.{◌≡◌, ◌++◌, ◌∷◌, [], OnOk};
 ghost use Rattle.http_server.specs.Response.{fields_of};
-ghost use Rattle.live_page.specs.Fields.{kind_of, policy, kept_fields, guard_fields, kind_fields};
+ghost use Rattle.live_page.specs.Fields.{kind_of, policy, kept_fields, frame_fields, guard_fields, kind_fields};
 
 use bytes::Bytes;
 use http::{HeaderName, HeaderValue, header};
@@ -73,11 +73,11 @@ fn put_kept(response: &mut Response, content: Content) -> Result<(), AllocError>
     Ok(())
 }
 
-// Puts what a browser may make of it.
-fn put_guards(response: &mut Response) -> Result<(), AllocError>
+// Puts that a browser shows it in no other's frame, and tells nobody of it.
+fn put_frames(response: &mut Response) -> Result<(), AllocError>
     ensures status { response.new.status ≡ response.old.status }
     ensures body { response.new.body ≡ response.old.body }
-    ensures fields { OnOk result (fields_of response.new ≡ fields_of response.old ++ guard_fields) }
+    ensures fields { OnOk result (fields_of response.new ≡ fields_of response.old ++ frame_fields) }
 {
     put_field(
         response,
@@ -89,6 +89,16 @@ fn put_guards(response: &mut Response) -> Result<(), AllocError>
         header::REFERRER_POLICY,
         HeaderValue::from_static("no-referrer"),
     )?;
+    Ok(())
+}
+
+// Puts what a browser may make of it.
+fn put_guards(response: &mut Response) -> Result<(), AllocError>
+    ensures status { response.new.status ≡ response.old.status }
+    ensures body { response.new.body ≡ response.old.body }
+    ensures fields { OnOk result (fields_of response.new ≡ fields_of response.old ++ guard_fields) }
+{
+    put_frames(response)?;
     put_field(response, header::CONTENT_SECURITY_POLICY, policy())?;
     Ok(())
 }
