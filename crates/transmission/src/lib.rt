@@ -20,7 +20,7 @@ pub use crate::hearing::{hear, texts};
 pub use crate::output::{OutDatagram, Outputs};
 pub use crate::packing::{packed, same_address};
 pub use crate::sending::send;
-pub use crate::transacting::{Origin, admit, answer};
+pub use crate::transacting::{Origin, admit, answer, keep_answer};
 
 /// The largest datagram that is taken, in bytes (RFC 3435, 3.5.4).
 pub const LARGEST_DATAGRAM: usize = 4000;

@@ -50,8 +50,29 @@ pub fn admit(
     Ok(false)
 }
 
-/// A new command is answered now (in ms): what its K names is confirmed, its answer is kept, and goes to where it came from
-/// (RFC 3435, 3.2.2.1 and 3.5.1). After an error the history and the messages are as they were.
+/// A new command has its answer now (in ms): what its K names is confirmed, and the answer is kept. Its text is to go to where
+/// the command came from (RFC 3435, 3.2.2.1 and 3.5.1). After an error the history is as it was.
+pub fn keep_answer(
+    alloc: Global,
+    history: &mut History,
+    origin: Origin,
+    now: u64,
+    confirms: Sequence<IdSpan>,
+    answer: &AnswerContent,
+) -> Result<Text, OutOfMemory>
+    ensures kept { OnOk result (history.new
+        ≡ with_first history.old origin.id now confirms (written (response_of origin.id answer.now))) }
+    ensures text { IfOk result (λ text. text ≡ written (response_of origin.id answer.now)) }
+    ensures err { OnErr result (history.new ≡ history.old) }
+{
+    let text = answer.text(alloc, origin.id)?;
+    let kept = copy_of(alloc, text.as_bytes())?;
+    history.keep(origin.id.number(), now, confirms, kept)?;
+    Ok(text)
+}
+
+/// A new command is answered now (in ms): its answer is kept, and goes to where it came from. After an error the history and
+/// the messages are as they were.
 pub fn answer(
     alloc: Global,
     history: &mut History,
@@ -68,13 +89,12 @@ pub fn answer(
     ensures err { OnErr result (history.new ≡ history.old) }
     ensures unsent { OnErr result (out.new.items ≡ out.old.items) }
 {
-    let text = answer.text(alloc, origin.id)?;
-    let kept = copy_of(alloc, text.as_bytes())?;
     // What can fail comes first: there is room for the answer before it is kept.
     out.reserve(1)?;
-    history.keep(origin.id.number(), now, confirms, kept)?;
+    let to = origin.source;
+    let text = keep_answer(alloc, history, origin, now, confirms, answer)?;
     out.push_reserved(OutDatagram {
-        to: origin.source,
+        to,
         moment: now,
         bytes: text,
     });
