@@ -1,5 +1,5 @@
 -- For people: what a command is refused for, and what of it is at fault, in words (this gateway's profile).
-use Rattle.std.specs.Prelude.{ℕ, codes, decimal, List, [], ◌∷◌, ◌++◌, Option, Some, None, option_map}
+use Rattle.std.specs.Prelude.{ℕ, codes, decimal, List, [], ◌∷◌, ◌++◌, Option, Some, None, option_map, Result}
 use Rattle.std.specs.Result.{result_err}
 use Rattle.mg_bytes.specs.declared.return_code.ReturnCode.{ReturnCode}
 use Rattle.mg_bytes.specs.ReturnCode.{words_of, code_with}
@@ -14,6 +14,10 @@ use Rattle.command_forms.specs.Order.{judged_in}
 -- what a message is refused for, whose K was read before, if it is refused
 abbrev pub explained_in : Message → KValue → Names → Option Refused
 explained_in message confirms names = result_err (judged_in message confirms names)
+
+-- what of a command is at fault that is judged so, if that is refused
+abbrev pub fault_by : {A : Type 0} → Result A Refused → Option FaultyPart
+fault_by judged = option_map (λ refused. refused.at) (result_err judged)
 
 -- its code
 abbrev pub refused_code : Option Refused → Option ℕ

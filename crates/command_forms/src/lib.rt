@@ -29,6 +29,6 @@ mod verbs;
 pub use crate::boxed_deed::BoxedDeed;
 pub use crate::forms::{Asks, Audit, AuditTarget, ConnectionDeed, Deed, Target};
 pub use crate::meaning::meant;
-pub use crate::reading::{asked, explained, form, form_while};
+pub use crate::reading::{asked, explained, form, form_while, judged_while};
 pub use crate::refused::{FaultyPart, Refused, Stop, explain};
 pub use crate::verbs::Meant;

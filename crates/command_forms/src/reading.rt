@@ -143,10 +143,10 @@ fn is_audit(purpose: Purpose) -> bool
     }
 }
 
-// What a command asks for, whose K was read before, of a gateway that serves or doesn't yet, or what of it is at fault
-// first.
+/// What a command asks for, whose K was read before, of a gateway that serves or doesn't yet, or its first fault: the return code
+/// of `form_while`, and what of the command is at fault. Memory is wanted as by `form_while`.
 #[tactic(auto, unfolding(crate::specs::Order::judged_while))]
-fn judged_while<'m>(
+pub fn judged_while<'m>(
     alloc: Global,
     serves: bool,
     message: &'m Message<'_>,

@@ -13,7 +13,9 @@ use Rattle.mgcp_text.specs.declared.message.Message.{Message}
 use Rattle.mgcp_text.specs.declared.message.Message.TheVariants as messages
 use Rattle.mgcp_text.specs.declared.message.Param.{Param}
 use Rattle.mgcp_text.specs.declared.message.Verb.{Verb}
-use Rattle.command_forms.specs.Order.{form_while_in}
+use Rattle.command_forms.specs.Order.{form_while_in, judged_while_in}
+use Rattle.command_forms.specs.declared.refused.FaultyPart.{FaultyPart}
+use Rattle.command_forms.specs.Explaining.{fault_by}
 use Rattle.plain_machine.specs.Effect.{Effect}
 use Rattle.plain_machine.specs.Commanding.{done_by}
 use Rattle.std.proofs.lemmas.List.{map-append}
@@ -43,7 +45,7 @@ use Rattle.gateway_core.specs.Hearing.{left_done, left_outcome, passed_over, aga
 use Rattle.gateway_core.specs.declared.outcome.Reply.TheVariants.{First}
 use Rattle.gateway_core.specs.declared.outcome.TextOutcome.{TextOutcome}
 use Rattle.gateway_core.specs.declared.outcome.TextOutcome.TheVariants as outcomes
-use Rattle.gateway_core.specs.Outcomes.{reply_by, text_outcome, text_outcomes, outcomes_of}
+use Rattle.gateway_core.specs.Outcomes.{reply_by, command_fault, text_outcome, text_outcomes, outcomes_of}
 use Rattle.plain_machine.specs.Event.{GatewayEvent, datagram, phone, tick}
 use Rattle.transmission.specs.Texts.{most_texts, texts_of}
 use Rattle.transmission.proofs.TextLaws.{few_texts}
@@ -107,7 +109,7 @@ read_left full setup was source verb id name params body = record { value = refl
 -- one that can't: its answer goes out for the first time, or again
 faulty_left : (looked : Looked) (setup : Setup) (was : State) (source : SocketAddrV4) (id code : ℕ)
     → DoesLeft setup was source (transacted_by looked (machine_in was) source (refusing (machine_in was) id code))
-    (λ text. Some (faulty_label (outcomes.Command None id (reply_by looked code)) id text))
+    (λ text. Some (faulty_label (outcomes.Command None id (reply_by looked code None)) id text))
     (transacted_as looked
     (hearing (with_first was.history id was.clock [] (answer_text (refusing (machine_in was) id code))) (message_to source was.clock (answer_text (refusing (machine_in was) id code)) ∷ []) None)
     (λ text. hearing was.history (message_to source was.clock text ∷ []) None) (hearing was.history [] None))
@@ -213,8 +215,9 @@ faulty_told full setup m history next source moment sent passed asked = refl
 -- one that can be read is left where it is new
 read_told : (looked : Looked) (setup : Setup) (was : State) (next : HistoryState) (source : SocketAddrV4) (moment : ℕ) (verb : Verb) (id : ℕ) (name : List ℕ) (params : List Param) (body : List ℕ) (asked : Bool)
     → left_outcome setup (transacted_as looked (hearing was.history [] (Some (messages.Command verb id name params body)))
-    (λ text. hearing was.history (message_to source moment text ∷ []) None) (hearing was.history [] None)).left (machine_in (with_heard was next)) (outcomes.Command (Some verb) id (reply_by looked 0)) asked
-    ≡ outcomes.Command (Some verb) id (reply_by looked (read_command setup (machine_in was) verb id name params body).done.answer.code)
+    (λ text. hearing was.history (message_to source moment text ∷ []) None) (hearing was.history [] None)).left (machine_in (with_heard was next)) (outcomes.Command (Some verb) id (reply_by looked 0 None)) asked
+    ≡ outcomes.Command (Some verb) id (reply_by looked (read_command setup (machine_in was) verb id name params body).done.answer.code
+    (command_fault setup (machine_in was) (record { verb = verb; name = name; params = params; body = body }) (k_of params)))
 read_told new setup was next source moment verb id name params body asked = refl
 read_told (repeat text) setup was next source moment verb id name params body asked = refl
 read_told confirmed setup was next source moment verb id name params body asked = refl
@@ -262,15 +265,18 @@ pub told_passed : (setup : Setup) (source : SocketAddrV4) (text : List ℕ) (was
 told_passed setup source text was outcome passed read none passed_is =
     told_then setup source text was was.history [] _ outcome None passed passed _ read none refl refl passed_is refl
 
--- a command that is left is answered with this code
-pub command_told : (setup : Setup) (m : Machine) (passed : TextOutcome) (asked : Bool) (left : Option Message) (said : Message) (verb : Verb) (id : ℕ) (name : List ℕ) (params : List Param) (body : List ℕ) (code : ℕ)
+-- a command that is left is answered with this code, and this of it is at fault
+pub command_told : (setup : Setup) (m : Machine) (passed : TextOutcome) (asked : Bool) (left : Option Message) (said : Message) (verb : Verb) (id : ℕ) (name : List ℕ) (params : List Param) (body : List ℕ) (code : ℕ) (fault : Option FaultyPart)
     → left ≡ Some said → said ≡ messages.Command verb id name params body
     → code ≡ (done_by (form_while_in (serves m.endpoints) said (k_of (params_in said)) setup.names) setup m.endpoints m.now id).answer.code
-    → outcomes.Command (Some verb) id (First code) ≡ left_outcome setup left m passed asked
-command_told setup m passed asked left said verb id name params body code some same is =
-    subst (λ (x : Option Message). outcomes.Command (Some verb) id (First code) ≡ left_outcome setup x m passed asked) (sym (some ∙ ap (λ (x : Message). Some x) same))
-    (ap (λ (n : ℕ). outcomes.Command (Some verb) id (First n))
-    (is ∙ ap (λ (x : Message). (done_by (form_while_in (serves m.endpoints) x (k_of (params_in x)) setup.names) setup m.endpoints m.now id).answer.code) same))
+    → fault ≡ fault_by (judged_while_in (serves m.endpoints) said (k_of (params_in said)) setup.names)
+    → outcomes.Command (Some verb) id (First code fault) ≡ left_outcome setup left m passed asked
+command_told setup m passed asked left said verb id name params body code fault some same is why =
+    subst (λ (x : Option Message). outcomes.Command (Some verb) id (First code fault) ≡ left_outcome setup x m passed asked) (sym (some ∙ ap (λ (x : Message). Some x) same))
+    (ap (λ (n : ℕ). outcomes.Command (Some verb) id (First n fault))
+    (is ∙ ap (λ (x : Message). (done_by (form_while_in (serves m.endpoints) x (k_of (params_in x)) setup.names) setup m.endpoints m.now id).answer.code) same)
+    ∙ ap (λ (f : Option FaultyPart). outcomes.Command (Some verb) id (First (command_with setup m id (record { verb = verb; name = name; params = params; body = body }) (k_of params)).done.answer.code f))
+    (why ∙ ap (λ (x : Message). fault_by (judged_while_in (serves m.endpoints) x (k_of (params_in x)) setup.names)) same))
 
 -- the first of these texts, and then the others
 pub told_next : (setup : Setup) (source : SocketAddrV4) (all texts : List (List ℕ)) (text : List ℕ) (was between : State) (were mid : List OutMessage) (told more whole : List TextOutcome)

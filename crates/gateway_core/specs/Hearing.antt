@@ -23,7 +23,7 @@ use Rattle.gateway_core.specs.declared.outcome.Reply.{Reply}
 use Rattle.gateway_core.specs.declared.outcome.Reply.TheVariants.{First, Again, Silence, NoRoom}
 use Rattle.gateway_core.specs.declared.outcome.TextOutcome.{TextOutcome}
 use Rattle.gateway_core.specs.declared.outcome.TextOutcome.TheVariants.{NoMessage, Command, Response}
-use Rattle.gateway_core.specs.Outcomes.{reply_by}
+use Rattle.gateway_core.specs.Outcomes.{reply_by, command_fault}
 
 -- it executes a new command, and a response is heard by whom its id names
 abbrev pub left_done : Setup → Option Message → Machine → SocketAddrV4 → Effect Machine
@@ -37,16 +37,18 @@ left_done setup (Some (messages.Response code id params body)) m source =
 abbrev pub left_outcome : Setup → Option Message → Machine → TextOutcome → Bool → TextOutcome
 left_outcome setup None m passed is_acknowledged = passed
 left_outcome setup (Some (messages.Command verb id name params body)) m passed is_acknowledged =
-    Command (Some verb) id (First (command_with setup m id (record { verb = verb; name = name; params = params; body = body }) (k_of params)).done.answer.code)
+    Command (Some verb) id
+    (First (command_with setup m id (record { verb = verb; name = name; params = params; body = body }) (k_of params)).done.answer.code
+    (command_fault setup m (record { verb = verb; name = name; params = params; body = body }) (k_of params)))
 left_outcome setup (Some (messages.Response code id params body)) m passed is_acknowledged = Response is_acknowledged
 
 -- what a text was of which nothing is left, so that a command that can be read isn't new
 abbrev pub passed_over : List Entry → ℕ → Outcome → TextOutcome
 passed_over kept now no_header = NoMessage
-passed_over kept now (bad_version id) = Command None id (reply_by (look_of most_firsts kept id now) 528)
-passed_over kept now (bad_body id) = Command None id (reply_by (look_of most_firsts kept id now) 510)
+passed_over kept now (bad_version id) = Command None id (reply_by (look_of most_firsts kept id now) 528 None)
+passed_over kept now (bad_body id) = Command None id (reply_by (look_of most_firsts kept id now) 510 None)
 passed_over kept now (message (messages.Command verb id name params body)) =
-    Command (Some verb) id (reply_by (look_of most_firsts kept id now) 0)
+    Command (Some verb) id (reply_by (look_of most_firsts kept id now) 0 None)
 passed_over kept now (message (messages.Response code id params body)) = NoMessage
 
 -- The label of what is sent as a text is heard
@@ -63,7 +65,7 @@ acknowledged_label id = record { whose = Nobody; what = whats.Acknowledgement; i
 
 -- the answer to a command that can't be read past its id, by what that gets
 abbrev pub reply_label : Reply → ℕ → List ℕ → Label
-reply_label (First code) id text = first_label None id code
+reply_label (First code fault) id text = first_label None id code
 reply_label (Again code) id text = again_label None id text
 reply_label Silence id text = again_label None id text
 reply_label NoRoom id text = again_label None id text

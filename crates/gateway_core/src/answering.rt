@@ -6,7 +6,8 @@ ghost use Rattle.mgcp_text.specs.Confirmation.{k_of};
 ghost use Rattle.transmission.specs.Texts.{largest_datagram, most_texts, texts_of};
 ghost use Rattle.std.specs.Result.{result_err, result_ok};
 ghost use Rattle.plain_machine.specs.Refusing.{ends};
-ghost use Rattle.command_forms.specs.Order.{form_while_in};
+ghost use Rattle.command_forms.specs.Order.{form_while_in, judged_while_in};
+ghost use Rattle.command_forms.specs.Explaining.{fault_by};
 ghost use Rattle.plain_machine.specs.Machine.{serves};
 ghost use Rattle.plain_machine.specs.Commanding.{done_by};
 ghost use Rattle.endpoint_rules.specs.Telling.{MayTell};
@@ -25,6 +26,7 @@ use crate::responding::respond;
 use crate::sending::send_all;
 use crate::state::State;
 use crate::telling::passed_over;
+use command_forms::FaultyPart;
 use endpoint_rules::{Context, send};
 use mg_bytes::OutOfMemory;
 use mgcp_text::{KValue, Message, TextFault, read_k, read_message};
@@ -41,9 +43,12 @@ fn execute_with_k(
     line: Option<u16>,
     said: &Message<'_>,
     confirms: &KValue,
+    fault: &mut Option<FaultyPart>,
     out: &mut Vec<OutMessage>,
 ) -> Result<u16, OutOfMemory>
     requires { MayTell context.setup.now state.old.clock }
+    ensures fault { OnOk result (fault.new
+        ≡ fault_by (judged_while_in (serves state.old.store.endpoints) said.now confirms.now context.entry.setup.now.names)) }
     ensures does { Does result (executed (machine_in state.old) origin.source
         (transaction origin.id line (spans_of confirms.now)
         (done_by (form_while_in (serves state.old.store.endpoints) said.now confirms.now
@@ -63,6 +68,7 @@ fn execute_with_k(
         origin.id,
         said,
         confirms,
+        fault,
         &mut sent,
     )?;
     let code = given.code();
@@ -89,9 +95,12 @@ fn execute(
     origin: Origin,
     line: Option<u16>,
     said: &Message<'_>,
+    fault: &mut Option<FaultyPart>,
     out: &mut Vec<OutMessage>,
 ) -> Result<u16, OutOfMemory>
     requires { MayTell context.setup.now state.old.clock }
+    ensures fault { OnOk result (fault.new
+        ≡ fault_by (judged_while_in (serves state.old.store.endpoints) said.now (k_of (params_in said.now)) context.entry.setup.now.names)) }
     ensures does { Does result (executed (machine_in state.old) origin.source
         (transaction origin.id line (spans_of (k_of (params_in said.now)))
         (done_by (form_while_in (serves state.old.store.endpoints) said.now (k_of (params_in said.now))
@@ -103,7 +112,7 @@ fn execute(
         state.old.store.endpoints state.old.clock origin.id).answer.code) }
 {
     let confirms = read_k(context.alloc, said)?;
-    execute_with_k(context, state, origin, line, said, &confirms, out)
+    execute_with_k(context, state, origin, line, said, &confirms, fault, out)
 }
 
 // What is left to the gateway at a text that it heard, and what the text was: where nothing is left, what it was passed over as.
@@ -128,11 +137,13 @@ fn handle(
     match said {
         Message::Command { verb, id, name, .. } => {
             let line = line_of_name(context.setup, name.as_slice());
-            let code = execute(context, state, Origin { source, id: *id }, line, said, out)?;
+            let origin = Origin { source, id: *id };
+            let mut fault = None;
+            let code = execute(context, state, origin, line, said, &mut fault, out)?;
             Ok(TextOutcome::Command {
                 verb: Some(*verb),
                 id: *id,
-                reply: Reply::First { code },
+                reply: Reply::First { code, fault },
             })
         }
         Message::Response { code, id, .. } => {

@@ -1,11 +1,12 @@
 //! What a command does and answers: it asks for a report, or for a deed.
-ghost use Rattle.std.specs.Prelude.{◌≡◌, true, IfOk};
+ghost use Rattle.std.specs.Prelude.{◌≡◌, true, IfOk, OnOk};
 ghost use Rattle.std.specs.List.{list_all};
 ghost use Rattle.mgcp_text.specs.Writing.{is_writable_param};
 ghost use Rattle.endpoint_names.specs.Table.{is_domain};
 ghost use Rattle.mg_bytes.specs.CodeFault.{AnswersAs};
 ghost use Rattle.audits.specs.Fitting.{fitting};
-ghost use Rattle.command_forms.specs.Order.{form_while_in};
+ghost use Rattle.command_forms.specs.Order.{form_while_in, judged_while_in};
+ghost use Rattle.command_forms.specs.Explaining.{fault_by};
 ghost use Rattle.plain_machine.specs.Requesting.{deed_done, line_with_place, done_there, done_for};
 ghost use Rattle.plain_machine.specs.Machine.{serves, endpoint_at};
 ghost use Rattle.plain_machine.specs.Reporting.{line_report, names_of};
@@ -15,7 +16,7 @@ ghost use Rattle.endpoints.specs.Tells.{Tells};
 
 use crate::reporting::{name_alone, names_of};
 use audits::{AuditedEndpoint, connection_report, endpoint_report, fitting};
-use command_forms::{Asks, Audit, AuditTarget, Deed, Target, form_while};
+use command_forms::{Asks, Audit, AuditTarget, Deed, FaultyPart, Stop, Target, judged_while};
 use endpoint_rules::{Context, answer_with};
 use endpoints::{Store, deed_on_all, line_with_place, refused_by};
 use mg_bytes::{CodeFault, OutOfMemory, ReturnCode};
@@ -169,7 +170,8 @@ fn done_for(
     }
 }
 
-/// What a command does whose K was read: its answer, and behind what there is what lines send because of it.
+/// What a command does whose K was read: its answer, what of it is at fault, and behind what there is what lines send because of it.
+#[tactic(auto, using(command_forms::proofs::RefusedLemmas::form_is))]
 pub(crate) fn commanded(
     context: Context<'_>,
     store: &mut Store,
@@ -177,24 +179,31 @@ pub(crate) fn commanded(
     id: TransactionId,
     said: &Message<'_>,
     confirms: &KValue,
+    fault: &mut Option<FaultyPart>,
     sent: &mut Vec<OutMessage>,
 ) -> Result<AnswerContent, OutOfMemory>
     requires { MayTell context.setup.now moment }
+    ensures fault { OnOk result (fault.new
+        ≡ fault_by (judged_while_in (serves store.old.endpoints) said.now confirms.now context.entry.setup.now.names)) }
     ensures answer { IfOk result (λ answer. answer ≡ (done_by
         (form_while_in (serves store.old.endpoints) said.now confirms.now context.entry.setup.now.names)
         context.entry.setup.now store.old.endpoints moment id).answer) }
     ensures told { Tells result (done_by (form_while_in (serves store.old.endpoints) said.now confirms.now context.entry.setup.now.names)
         context.entry.setup.now store.old.endpoints moment id).told store.old store.new sent.old.items sent.new.items }
 {
-    match form_while(
+    *fault = None;
+    match judged_while(
         context.alloc,
         store.serves(),
         said,
         confirms,
         &context.setup.names,
     ) {
-        Err(CodeFault::OutOfMemory) => Err(AllocError),
-        Err(CodeFault::Code(code)) => Ok(AnswerContent::plain(context.alloc, code)),
+        Err(Stop::OutOfMemory) => Err(AllocError),
+        Err(Stop::AtFault(refused)) => {
+            *fault = Some(refused.at);
+            Ok(AnswerContent::plain(context.alloc, refused.code))
+        }
         Ok(Asks::Reports(target, audit)) => answer_to_audit(context, store, id, target, &audit),
         Ok(Asks::Does(target, boxed)) => {
             done_for(context, store, moment, target, boxed.deed(), sent)

@@ -2,9 +2,10 @@
 #![tactic(auto, unfolding(crate::proofs::Computing::on_examples))]
 
 ghost use Rattle.std.specs.Prelude.{◌≡◌, ◌++◌, codes, [], ◌∷◌, length, replicate, true, false, None, Some};
-ghost use Rattle.mgcp_text.specs.declared.message.Verb.TheVariants.{Rqnt, Ntfy};
+ghost use Rattle.mgcp_text.specs.declared.message.Verb.TheVariants.{Rqnt, Ntfy, Other};
 ghost use Rattle.mg_line.specs.declared.phone.Act.TheVariants.{OffHook};
 ghost use Rattle.history.specs.Looking.{full};
+ghost use Rattle.command_forms.specs.declared.refused.FaultyPart.TheVariants as parts;
 ghost use Rattle.transmission.specs.Example.{dot_lines};
 ghost use Rattle.transmission.specs.Texts.{most_texts};
 ghost use Rattle.plain_machine.specs.Event.{datagram, phone, tick};
@@ -20,25 +21,25 @@ ghost use Rattle.gateway_core.specs.Example.{told, audited, accounted, labels, l
 /// A new command is told of with the code that answers it, a repeat with that of the stored answer, wherever it comes from.
 /// 30,000 ms after its first it is new. What a K confirmed gets silence, and what finds no room nothing.
 pub fn commands_are_told_of()
-    ensures done { told (from_agent (audit 1206) ∷ []) ≡ audited 1206 (First 200) ∷ [] }
-    ensures refused { told (from_agent (codes "AUEP 1201 aaln/17@rgw.example.net MGCP 1.0\r\n") ∷ []) ≡ audited 1201 (First 500) ∷ [] }
+    ensures done { told (from_agent (audit 1206) ∷ []) ≡ audited 1206 (First 200 None) ∷ [] }
+    ensures refused { told (from_agent (codes "AUEP 1201 aaln/17@rgw.example.net MGCP 1.0\r\n") ∷ []) ≡ audited 1201 (First 500 (Some parts.Name)) ∷ [] }
     ensures unready { last_outcomes example (rqnt 1203 (codes "aaln/1") (codes "X: A0\r\n") ∷ [])
-        ≡ Command (Some Rqnt) 1203 (First 405) ∷ [] }
+        ≡ Command (Some Rqnt) 1203 (First 405 (Some parts.Verb)) ∷ [] }
     ensures again { told (from_agent (audit 1206) ∷ datagram other_agent (audit 1206) ∷ []) ≡ audited 1206 (Again 200) ∷ [] }
     ensures refused_again { told (from_agent (codes "AUEP 1201 aaln/17@rgw.example.net MGCP 1.0\r\n")
         ∷ from_agent (audit 1201) ∷ []) ≡ audited 1201 (Again 500) ∷ [] }
     ensures young { told (from_agent (audit 1206) ∷ tick 30999 ∷ from_agent (audit 1206) ∷ []) ≡ audited 1206 (Again 200) ∷ [] }
-    ensures old { told (from_agent (audit 1206) ∷ tick 31000 ∷ from_agent (audit 1206) ∷ []) ≡ audited 1206 (First 200) ∷ [] }
+    ensures old { told (from_agent (audit 1206) ∷ tick 31000 ∷ from_agent (audit 1206) ∷ []) ≡ audited 1206 (First 200 None) ∷ [] }
     ensures silence { told (from_agent (audit 1301) ∷ from_agent (audit 1304 ++ codes "K: 1301\r\n") ∷ from_agent (audit 1301) ∷ [])
         ≡ audited 1301 Silence ∷ [] }
-    ensures no_room { reply_by full 200 ≡ NoRoom }
+    ensures no_room { reply_by full 200 None ≡ NoRoom }
 {}
 
 /// A command that can't be read past its id is told of without a verb, a response with whether it was acknowledged; what has no
 /// header is no message.
 pub fn other_texts_are_told_of()
-    ensures version { told (from_agent (codes "AUEP 8 x MGCP 2.0\r\n") ∷ []) ≡ Command None 8 (First 528) ∷ [] }
-    ensures body { told (from_agent (codes "AUEP 7\r\n") ∷ []) ≡ Command None 7 (First 510) ∷ [] }
+    ensures version { told (from_agent (codes "AUEP 8 x MGCP 2.0\r\n") ∷ []) ≡ Command None 8 (First 528 None) ∷ [] }
+    ensures body { told (from_agent (codes "AUEP 7\r\n") ∷ []) ≡ Command None 7 (First 510 None) ∷ [] }
     ensures faulty_again { told (from_agent (audit 7) ∷ from_agent (codes "AUEP 7\r\n") ∷ []) ≡ Command None 7 (Again 200) ∷ [] }
     ensures response { told (response 200 9 ∷ []) ≡ Response false ∷ [] }
     ensures acknowledged { told (from_agent (codes "200 9 OK\r\nK:\r\n") ∷ []) ≡ Response true ∷ [] }
@@ -48,13 +49,13 @@ pub fn other_texts_are_told_of()
 /// The texts of a datagram are told of in order, each to the gateway after those before it.
 pub fn each_text_is_told_of()
     ensures copies { told (from_agent (audit 1206 ++ codes ".\r\n" ++ audit 1206) ∷ [])
-        ≡ audited 1206 (First 200) ∷ audited 1206 (Again 200) ∷ [] }
+        ≡ audited 1206 (First 200 None) ∷ audited 1206 (Again 200) ∷ [] }
     ensures faults { told (from_agent (codes "AUEP 1202 aaln/1@rgw.example.net MGCP 2.0\r\n.\r\n" ++ audit 1202) ∷ [])
-        ≡ Command None 1202 (First 528) ∷ audited 1202 (Again 528) ∷ [] }
+        ≡ Command None 1202 (First 528 None) ∷ audited 1202 (Again 528) ∷ [] }
     ensures answered { last_outcomes example (tick 1 ∷ from_agent
         (codes "RQNT 7 aaln/1@rgw.example.net MGCP 1.0\r\nX: A5\r\n.\r\n200 1 OK\r\n.\r\n"
         ++ codes "RQNT 8 aaln/1@rgw.example.net MGCP 1.0\r\nX: A5\r\n") ∷ [])
-        ≡ Command (Some Rqnt) 7 (First 405) ∷ Response false ∷ Command (Some Rqnt) 8 (First 200) ∷ [] }
+        ≡ Command (Some Rqnt) 7 (First 405 (Some parts.Verb)) ∷ Response false ∷ Command (Some Rqnt) 8 (First 200 None) ∷ [] }
 {}
 
 /// As many texts are told of as a datagram can have: each of its lines is a single dot.
@@ -113,4 +114,16 @@ pub fn other_messages_are_told_of()
     ensures given_up { (accounted (phone 1 OffHook ∷ tick 24499 ∷ tick 24500 ∷ [])).given_up
         ≡ (record { line = 1; id = 10000000; verb = Ntfy; moment = 24500 }) ∷ [] }
     ensures given_up_before { (accounted (phone 1 OffHook ∷ tick 24500 ∷ tick 24501 ∷ [])).given_up ≡ [] }
+{}
+
+/// A command that is refused for its form is told of with what of it is at fault; where a line refuses it nothing of it is.
+pub fn what_is_at_fault_is_told()
+    ensures name { told (from_agent (codes "AUEP 1 aaln/17@rgw.example.net MGCP 1.0\r\n") ∷ [])
+        ≡ audited 1 (First 500 (Some parts.Name)) ∷ [] }
+    ensures verb { told (from_agent (codes "ZZZZ 1 aaln/1@rgw.example.net MGCP 1.0\r\n") ∷ [])
+        ≡ Command (Some Other) 1 (First 504 (Some parts.Verb)) ∷ [] }
+    ensures line { told (rqnt 1 (codes "aaln/1") (codes "X: A0\r\nX: A1\r\n") ∷ [])
+        ≡ Command (Some Rqnt) 1 (First 510 (Some (parts.Line 2))) ∷ [] }
+    ensures missing { told (rqnt 1 (codes "aaln/1") [] ∷ []) ≡ Command (Some Rqnt) 1 (First 510 (Some (parts.Missing 88))) ∷ [] }
+    ensures value { told (rqnt 1 (codes "aaln/1") (codes "X: G\r\n") ∷ []) ≡ Command (Some Rqnt) 1 (First 510 (Some (parts.Value 88))) ∷ [] }
 {}

@@ -51,7 +51,7 @@ fn reply_label(reply: Reply, id: TransactionId, answer: &[u8]) -> Label
     ensures { result ≡ reply_label reply id answer.now }
 {
     match reply {
-        Reply::First { code } => first_label(None, id, code),
+        Reply::First { code, .. } => first_label(None, id, code),
         Reply::Again { .. } | Reply::Silence | Reply::NoRoom => again_label(None, id, answer),
     }
 }

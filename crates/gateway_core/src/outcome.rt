@@ -1,14 +1,21 @@
 //! What a text was that came in a datagram.
 
+use command_forms::FaultyPart;
 use mgcp_text::{TransactionId, Verb};
 
 /// What a command gets that came in a datagram (RFC 3435, 3.5.1).
 #[derive(Clone, Copy)]
 pub enum Reply {
-    /// It was new: an answer with this return code (RFC 3435, 2.4).
-    First { code: u16 },
+    /// It was new: an answer with this return code (RFC 3435, 2.4), and what of it is at fault, where it was refused for that. Where
+    /// a line refuses it, or what is to be reported is too long, nothing of it is.
+    First {
+        code: u16,
+        fault: Option<FaultyPart>,
+    },
     /// It was a repeat: its stored answer once more, which has this return code.
-    Again { code: u16 },
+    Again {
+        code: u16,
+    },
     /// It was a repeat whose answer was confirmed: silence.
     Silence,
     /// It was new, and there was no room for another transaction: nothing (this gateway's profile).

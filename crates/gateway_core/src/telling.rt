@@ -1,5 +1,5 @@
 //! What a text was that came in a datagram, before anything is left to the gateway.
-ghost use Rattle.std.specs.Prelude.{◌≡◌};
+ghost use Rattle.std.specs.Prelude.{◌≡◌, None};
 ghost use Rattle.history.specs.Memory.{most_firsts};
 ghost use Rattle.history.specs.Looking.{look_of};
 ghost use Rattle.transmission.specs.Hearing.{outcome_in};
@@ -12,12 +12,12 @@ use mg_bytes::ReturnCode;
 use mgcp_text::{Message, TextFault, TransactionId};
 use plain_machine::front_code;
 
-// What a command with this id gets that comes now: an answer with this code, if it is new.
+// What a command with this id gets that comes now: an answer with this code, if it is new; nothing of it is told to be at fault.
 fn reply_by(history: &History, now: u64, id: TransactionId, code: u16) -> Reply
-    ensures { result ≡ reply_by (look_of most_firsts history.now.kept id now) code }
+    ensures { result ≡ reply_by (look_of most_firsts history.now.kept id now) code None }
 {
     match history.look(id.number(), now) {
-        Look::New => Reply::First { code },
+        Look::New => Reply::First { code, fault: None },
         Look::Repeat(answer) => Reply::Again {
             code: front_code(answer.as_bytes()),
         },

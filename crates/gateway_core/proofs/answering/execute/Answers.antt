@@ -5,3 +5,6 @@ returns-clause-does c = rw c.in_ok-confirms.ensures at c.execute_with_k.ensures.
 
 pub returns-clause-code : goal.returns-clause-code
 returns-clause-code c = rw c.in_ok-confirms.ensures at c.execute_with_k.ensures.code
+
+pub returns-clause-fault : goal.returns-clause-fault
+returns-clause-fault c = rw c.in_ok-confirms.ensures at c.execute_with_k.ensures.fault

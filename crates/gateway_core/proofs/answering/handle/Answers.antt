@@ -9,7 +9,7 @@ pub returns-in_ok-code-in-Command-clause-does : goal.returns-in_ok-code-in-Comma
 returns-in_ok-code-in-Command-clause-does c = command_done {A = ℕ} (Ok 0) _ _ _ _ _ _ _ _ _ _ _ _ _ _ (ap result_ok c.in-Ok.is) c.in-Command.is (c.line_of_name-line.ensures ∙ ap (line_of_name c.args.context.setup.now) c.as_slice.ensures) c.in_ok-code-in-Command.ensures.does
 
 pub returns-in_ok-code-in-Command-clause-outcome : goal.returns-in_ok-code-in-Command-clause-outcome
-returns-in_ok-code-in-Command-clause-outcome c = command_told _ _ _ _ _ _ _ _ _ _ _ _ (ap result_ok c.in-Ok.is) c.in-Command.is c.in_ok-code-in-Command.ensures.code
+returns-in_ok-code-in-Command-clause-outcome c = command_told _ _ _ _ _ _ _ _ _ _ _ _ _ (ap result_ok c.in-Ok.is) c.in-Command.is c.in_ok-code-in-Command.ensures.code c.in_ok-code-in-Command.ensures.fault
 
 pub returns-in_err-code-in-Command-clause-does : goal.returns-in_err-code-in-Command-clause-does
 returns-in_err-code-in-Command-clause-does c =
