@@ -18,7 +18,6 @@ ghost use Rattle.gateway_core.specs.Hearing.{left_done, left_outcome};
 ghost use Rattle.gateway_core.specs.Outcomes.{text_outcome, text_outcomes};
 
 use crate::commanding::commanded;
-use crate::keeping::keep_answer;
 use crate::labelling::{first_label, line_of_name, send_heard};
 use crate::outcome::{Reply, TextOutcome};
 use crate::outcomes::Outcomes;
@@ -32,7 +31,7 @@ use mg_bytes::OutOfMemory;
 use mgcp_text::{KValue, Message, TextFault, read_k, read_message};
 use plain_machine::{OutMessage, Refusal};
 use std::net::SocketAddrV4;
-use transmission::{Origin, hear, spans_of, texts};
+use transmission::{Origin, hear, keep_answer, spans_of, texts};
 
 // A new command whose K was read, and whose name reads as this line or as none, is executed: its answer, which has this return
 // code, goes out before what lines send because of it.

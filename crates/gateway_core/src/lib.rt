@@ -10,7 +10,6 @@ mod answering;
 mod commanding;
 pub mod examples;
 mod gateway;
-mod keeping;
 mod labelling;
 pub mod laws;
 mod outcome;
