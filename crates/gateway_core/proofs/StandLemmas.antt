@@ -1,6 +1,6 @@
 -- What a gateway stands for, some events later.
 use Rattle.std.proofs.Common.{◌≡◌, ℕ, ◌+◌, ◌<◌, ◌^◌, List, [], ◌∷◌, ◌++◌, length, get_or, take, map, Option, None, refl, sym, ◌∙◌, ap, append_assoc, append-nil, arith}
-use Rattle.std.specs.Prelude.{slice_get, IfSome, Result, Ok, Err, OnOk, OnErr}
+use Rattle.std.specs.Prelude.{slice_get, IfSome, Result, Ok, Err, OnOk, OnErr, min}
 use Rattle.std.proofs.lemmas.List.{take_more, map-append}
 use Rattle.std.proofs.lemmas.Option.{slice_get-get_or}
 use Rattle.std.proofs.lemmas.Bool.Decides.{nat_tests}
@@ -22,6 +22,8 @@ use Rattle.plain_machine.proofs.EffectLaws.{effect_lines, effect_now}
 use Rattle.plain_machine.proofs.ListLaws.{machine_on, outputs_on, taken_on}
 use Rattle.gateway_core.specs.declared.state.State.{State}
 use Rattle.gateway_core.specs.Sound.{IsSound}
+use Rattle.history.specs.Memory.{most_firsts}
+use Rattle.history.specs.Kept.{young_firsts}
 use Rattle.history.proofs.RecallLaws.{recalls_itself}
 use Rattle.plain_machine.specs.Message.{Sent}
 use Rattle.gateway_core.proofs.AlikeLemmas.{effect_alike, refusal_alike, takes_alike, alike_purged, refusal_purged, outcomes_alike, account_alike}
@@ -36,6 +38,14 @@ use Rattle.gateway_core.specs.State.{machine_in, purged_in, PutsOut, AllOr}
 use Rattle.gateway_core.specs.Alike.{Alike, GoesOn}
 use Rattle.gateway_core.specs.GatewayState.{GatewayState}
 use Rattle.gateway_core.specs.Stands.{Stands, Took, before_place}
+use Rattle.gateway_core.specs.Remembering.{remembered}
+
+-- ---- what it remembers
+
+pub remembered_alike : (g : GatewayState) (events : List GatewayEvent) → Stands g events → remembered g.machine ≡ remembered (plain g.setup events)
+remembered_alike g events s =
+    s.alike.history.same_count g.machine.now (omega arith)
+    ∙ ap (λ (now : ℕ). min most_firsts (length (young_firsts now (plain g.setup events).history))) s.alike.now
 
 -- ---- one event, beside the plain machine
 

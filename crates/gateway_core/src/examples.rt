@@ -16,6 +16,8 @@ ghost use Rattle.plain_machine.specs.Labelling.{front_code};
 ghost use Rattle.gateway_core.specs.Outcomes.{reply_by, last_outcomes};
 ghost use Rattle.plain_machine.specs.declared.label.Whose.TheVariants.{AnswerOf, OwnOf, Nobody};
 ghost use Rattle.plain_machine.specs.declared.label.What.TheVariants as whats;
+ghost use Rattle.plain_machine.specs.Lists.{plain};
+ghost use Rattle.gateway_core.specs.Remembering.{remembered};
 ghost use Rattle.gateway_core.specs.Example.{told, audited, accounted, labels, labelled};
 
 /// A new command is told of with the code that answers it, a repeat with that of the stored answer, wherever it comes from.
@@ -33,6 +35,16 @@ pub fn commands_are_told_of()
     ensures silence { told (from_agent (audit 1301) ∷ from_agent (audit 1304 ++ codes "K: 1301\r\n") ∷ from_agent (audit 1301) ∷ [])
         ≡ audited 1301 Silence ∷ [] }
     ensures no_room { reply_by full 200 None ≡ NoRoom }
+{}
+
+/// A command is remembered from its execution on, while it is less than 30,000 ms old. A repeat of it is none more.
+pub fn executed_commands_are_remembered()
+    ensures none { remembered (plain example []) ≡ 0 }
+    ensures first { remembered (plain example (from_agent (audit 1206) ∷ [])) ≡ 1 }
+    ensures other { remembered (plain example (from_agent (audit 1206) ∷ from_agent (audit 1207) ∷ [])) ≡ 2 }
+    ensures repeat { remembered (plain example (from_agent (audit 1206) ∷ datagram other_agent (audit 1206) ∷ [])) ≡ 1 }
+    ensures young { remembered (plain example (from_agent (audit 1206) ∷ tick 29999 ∷ [])) ≡ 1 }
+    ensures old { remembered (plain example (from_agent (audit 1206) ∷ tick 30000 ∷ [])) ≡ 0 }
 {}
 
 /// A command that can't be read past its id is told of without a verb, a response with whether it was acknowledged; what has no

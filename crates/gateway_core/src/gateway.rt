@@ -15,7 +15,7 @@ use arrayvec::ArrayVec;
 use connections::Connection;
 use endpoint_rules::Context;
 use endpoints::{Store, judged, opening_list, opening_own};
-use history::History;
+use history::{History, MOST_FIRSTS};
 use mg_bytes::OutOfMemory;
 use mg_line::Hook;
 use plain_machine::{
@@ -86,6 +86,7 @@ impl Gateway {
     ghost use Rattle.plain_machine.specs.Lists.{plain, hook_of, signals_of, connections_of, lost_of};
     ghost use Rattle.gateway_core.specs.Outcomes.{last_outcomes};
     ghost use Rattle.gateway_core.specs.Accounts.{last_account};
+    ghost use Rattle.gateway_core.specs.Remembering.{remembered};
     ghost use Rattle.gateway_core.specs.Stands.{Stands, Opens, Took, StoppedAt};
 
     /// A gateway of this configuration, at moment 0, with room to tell what the texts of any datagram were. The ids of each line
@@ -187,6 +188,16 @@ impl Gateway {
         ensures below { result < 2 ^ 62 }
     {
         self.state.clock
+    }
+
+    /// How many transactions are remembered: commands that were executed less than 30,000 ms before the moment of the last tick, of which
+    /// there are at most `MOST_FIRSTS` (RFC 3435, 3.5.1).
+    #[tactic(auto, using(crate::proofs::StandLemmas::remembered_alike))]
+    pub fn remembered(&self) -> usize
+        ensures { (events : List GatewayEvent) → Stands self.now events →
+            result ≡ remembered (plain self.now.setup events) }
+    {
+        MOST_FIRSTS.min(self.state.history.young(self.state.clock))
     }
 
     /// The moment, in ms, at which something falls due next: a signal or timer T ends, a command is sent again or given

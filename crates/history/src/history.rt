@@ -81,15 +81,16 @@ impl History {
         ensures purged { (now : ℕ) (before : List KeptEntry) →
             self.now ≡ settled_at now (from_young now before) → result ≡ length (young_firsts now before) }
     {
-        self.count()
+        self.young(self.purged)
     }
 
-    fn count(&self) -> usize
-        ensures { result ≡ length (young_firsts self.now.purged self.now.kept) }
+    /// How many firsts are kept that are young at this moment (RFC 3435, 3.5.1). This takes no memory.
+    pub fn young(&self, now: u64) -> usize
+        ensures { result ≡ length (young_firsts now self.now.kept) }
     {
         let in_order = self.reached.is_some();
         let kept = &self.entries[self.gone..];
-        count_young_of(kept, self.firsts, in_order, self.purged)
+        count_young_of(kept, self.firsts, in_order, now)
     }
 
     /// What a command is that arrives now with this id: a copy is sought first, so a repeat is never lost (RFC 3435,

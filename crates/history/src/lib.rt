@@ -18,4 +18,5 @@ mod spots;
 pub use crate::entry::{Entry, KeptFirst};
 pub use crate::history::History;
 pub use crate::look::Look;
+pub use crate::recall::MOST_FIRSTS;
 pub use crate::span::IdSpan;

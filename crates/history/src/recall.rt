@@ -12,8 +12,8 @@ use crate::entry::{Entry, KeptFirst, are_confirming, count_young, is_young_first
 use crate::spots::{Spots, spot_of};
 use mg_bytes::Text;
 
-// So many firsts are young at a time (this gateway's profile).
-const MOST_FIRSTS: usize = 4096;
+/// So many firsts are young at a time (this gateway's profile).
+pub const MOST_FIRSTS: usize = 4096;
 
 /// What is recalled of an id: the answer to the first that a copy repeats, and whether that is confirmed.
 #[derive(Clone, Copy)]

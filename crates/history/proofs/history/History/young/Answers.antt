@@ -2,7 +2,7 @@ use Rattle.std.proofs.Common.{List, sym, subst}
 use Rattle.history.specs.declared.entry.Entry.{Entry}
 use Rattle.history.specs.Kept.{firsts_in, AreInOrder}
 use Rattle.history.proofs.IndexLaws.{rest_of, kept_in_order}
-use Rattle.history.proofs.history.History.count.Goals as goal
+use Rattle.history.proofs.history.History.young.Goals as goal
 
 pub count_young_of-requires-clause-order : goal.count_young_of-requires-clause-order
 count_young_of-requires-clause-order c = λ yes.
