@@ -81,6 +81,12 @@ impl History {
         ensures purged { (now : ℕ) (before : List KeptEntry) →
             self.now ≡ settled_at now (from_young now before) → result ≡ length (young_firsts now before) }
     {
+        self.count()
+    }
+
+    fn count(&self) -> usize
+        ensures { result ≡ length (young_firsts self.now.purged self.now.kept) }
+    {
         self.young(self.purged)
     }
 
