@@ -1,7 +1,7 @@
 -- The texts of a datagram, one after the other.
 use Rattle.std.proofs.Common.{◌≡◌, ◌<◌, ◌≤◌, ◌+◌, ℕ, suc, Option, Some, None, true, false, List, [], ◌∷◌, ◌++◌, length, length-append, refl, sym, ◌∙◌, ap, subst, append_assoc, append-nil, arith}
 use Rattle.std.proofs.lemmas.Bool.Decides.{nat_tests}
-use Rattle.std.specs.Prelude.{if◌then◌else◌, Bool, Result, nat_lt}
+use Rattle.std.specs.Prelude.{if◌then◌else◌, Bool, Result, Ok, Err, nat_lt}
 use Rattle.std.specs.declared.alloc.AllocError.{AllocError}
 use Rattle.history.specs.Kept.{HistoryState}
 use Rattle.history.specs.Memory.{most_firsts}
@@ -13,7 +13,10 @@ use Rattle.mgcp_text.specs.declared.message.Message.{Message}
 use Rattle.mgcp_text.specs.declared.message.Message.TheVariants as messages
 use Rattle.mgcp_text.specs.declared.message.Param.{Param}
 use Rattle.mgcp_text.specs.declared.message.Verb.{Verb}
-use Rattle.command_forms.specs.Order.{form_while_in, judged_while_in}
+use Rattle.command_forms.specs.declared.forms.Asks.{Asks}
+use Rattle.command_forms.specs.declared.refused.Refused.{Refused}
+use Rattle.command_forms.specs.Refusing.{coded}
+use Rattle.command_forms.specs.Order.{judged_while, judged_while_in, form_while, form_while_in}
 use Rattle.command_forms.specs.declared.refused.FaultyPart.{FaultyPart}
 use Rattle.command_forms.specs.Explaining.{fault_by}
 use Rattle.plain_machine.specs.Effect.{Effect}
@@ -29,7 +32,7 @@ use Rattle.plain_machine.specs.Message.{Sent}
 use Rattle.plain_machine.specs.declared.label.Label.{Label}
 use Rattle.plain_machine.specs.declared.label.OutMessage.{OutMessage}
 use Rattle.plain_machine.specs.Labelling.{message_of, messages_of}
-use Rattle.plain_machine.specs.Machine.{Machine, serves}
+use Rattle.plain_machine.specs.Machine.{Endpoints, Machine, serves}
 use Rattle.plain_machine.specs.Done.{Done}
 use Rattle.transmission.specs.Acknowledging.{asks_for_acknowledgement, acknowledgements, acknowledgement_text}
 use Rattle.transmission.specs.Transacting.{message_to, transacted_as, with_first}
@@ -42,7 +45,8 @@ use Rattle.plain_machine.specs.Message.{of_none, acknowledgement}
 use Rattle.plain_machine.proofs.EffectLaws.{handled_now}
 use Rattle.gateway_core.specs.declared.state.State.{State}
 use Rattle.gateway_core.specs.Hearing.{left_done, left_outcome, passed_over, again_label, first_label, acknowledged_label, faulty_label, heard_label, labelled}
-use Rattle.gateway_core.specs.declared.outcome.Reply.TheVariants.{First}
+use Rattle.gateway_core.specs.declared.outcome.Reply.{Reply}
+use Rattle.gateway_core.specs.declared.outcome.Reply.TheVariants.{First, NoRoom}
 use Rattle.gateway_core.specs.declared.outcome.TextOutcome.{TextOutcome}
 use Rattle.gateway_core.specs.declared.outcome.TextOutcome.TheVariants as outcomes
 use Rattle.gateway_core.specs.Outcomes.{reply_by, command_fault, text_outcome, text_outcomes, outcomes_of}
@@ -265,18 +269,51 @@ pub told_passed : (setup : Setup) (source : SocketAddrV4) (text : List ℕ) (was
 told_passed setup source text was outcome passed read none passed_is =
     told_then setup source text was was.history [] _ outcome None passed passed _ read none refl refl passed_is refl
 
--- a command that is left is answered with this code, and this of it is at fault
-pub command_told : (setup : Setup) (m : Machine) (passed : TextOutcome) (asked : Bool) (left : Option Message) (said : Message) (verb : Verb) (id : ℕ) (name : List ℕ) (params : List Param) (body : List ℕ) (code : ℕ) (fault : Option FaultyPart)
+-- what a new command gets, by its code and by what of it is at fault
+pub first_is : (code coded : ℕ) (fault faulty : Option FaultyPart) → code ≡ coded → fault ≡ faulty → First code fault ≡ First coded faulty
+first_is code coded fault faulty is why = rw (is, why) refl
+
+-- a command that is left gets this
+pub command_told : (setup : Setup) (m : Machine) (passed : TextOutcome) (asked : Bool) (left : Option Message) (said : Message) (verb : Verb) (id : ℕ) (name : List ℕ) (params : List Param) (body : List ℕ) (reply : Reply)
     → left ≡ Some said → said ≡ messages.Command verb id name params body
-    → code ≡ (done_by (form_while_in (serves m.endpoints) said (k_of (params_in said)) setup.names) setup m.endpoints m.now id).answer.code
-    → fault ≡ fault_by (judged_while_in (serves m.endpoints) said (k_of (params_in said)) setup.names)
-    → outcomes.Command (Some verb) id (First code fault) ≡ left_outcome setup left m passed asked
-command_told setup m passed asked left said verb id name params body code fault some same is why =
-    subst (λ (x : Option Message). outcomes.Command (Some verb) id (First code fault) ≡ left_outcome setup x m passed asked) (sym (some ∙ ap (λ (x : Message). Some x) same))
-    (ap (λ (n : ℕ). outcomes.Command (Some verb) id (First n fault))
-    (is ∙ ap (λ (x : Message). (done_by (form_while_in (serves m.endpoints) x (k_of (params_in x)) setup.names) setup m.endpoints m.now id).answer.code) same)
-    ∙ ap (λ (f : Option FaultyPart). outcomes.Command (Some verb) id (First (command_with setup m id (record { verb = verb; name = name; params = params; body = body }) (k_of params)).done.answer.code f))
-    (why ∙ ap (λ (x : Message). fault_by (judged_while_in (serves m.endpoints) x (k_of (params_in x)) setup.names)) same))
+    → reply ≡ First (done_by (form_while_in (serves m.endpoints) said (k_of (params_in said)) setup.names) setup m.endpoints m.now id).answer.code
+    (fault_by (judged_while_in (serves m.endpoints) said (k_of (params_in said)) setup.names))
+    → outcomes.Command (Some verb) id reply ≡ left_outcome setup left m passed asked
+command_told setup m passed asked left said verb id name params body reply some same is =
+    subst (λ (x : Option Message). outcomes.Command (Some verb) id reply ≡ left_outcome setup x m passed asked) (sym (some ∙ ap (λ (x : Message). Some x) same))
+    (ap (λ (r : Reply). outcomes.Command (Some verb) id r)
+    (is ∙ ap (λ (x : Message). First (done_by (form_while_in (serves m.endpoints) x (k_of (params_in x)) setup.names) setup m.endpoints m.now id).answer.code
+    (fault_by (judged_while_in (serves m.endpoints) x (k_of (params_in x)) setup.names))) same))
+
+-- a new command, by how it is judged
+told_by : (setup : Setup) (endpoints : Endpoints) (moment : ℕ) (verb : Verb) (id : ℕ) (looked : Looked) (judged said : Result Asks Refused) → looked ≡ new → judged ≡ said
+    → outcomes.Command (Some verb) id (reply_by looked (done_by (coded judged) setup endpoints moment id).answer.code (fault_by judged))
+    ≡ outcomes.Command (Some verb) id (First (done_by (coded said) setup endpoints moment id).answer.code (fault_by said))
+told_by setup endpoints moment verb id looked judged said is_new is = rw (is_new, is) refl
+
+pub refused_told : (setup : Setup) (m : Machine) (verb : Verb) (id : ℕ) (name : List ℕ) (params : List Param) (body : List ℕ) (refused : Refused) → look_of most_firsts m.history id m.now ≡ new
+    → judged_while (serves m.endpoints) (record { verb = verb; name = name; params = params; body = body }) (k_of params) setup.names ≡ Err refused
+    → text_outcome setup m (message (messages.Command verb id name params body)) ≡ outcomes.Command (Some verb) id (First refused.code (Some refused.at))
+unfolding text_outcome form_while
+refused_told setup m verb id name params body refused is_new is =
+    told_by setup m.endpoints m.now verb id (look_of most_firsts m.history id m.now)
+    (judged_while (serves m.endpoints) (record { verb = verb; name = name; params = params; body = body }) (k_of params) setup.names) (Err refused) is_new is
+
+pub done_told : (setup : Setup) (m : Machine) (verb : Verb) (id : ℕ) (name : List ℕ) (params : List Param) (body : List ℕ) (asks : Asks) → look_of most_firsts m.history id m.now ≡ new
+    → judged_while (serves m.endpoints) (record { verb = verb; name = name; params = params; body = body }) (k_of params) setup.names ≡ Ok asks
+    → text_outcome setup m (message (messages.Command verb id name params body)) ≡ outcomes.Command (Some verb) id (First (done_by (Ok asks) setup m.endpoints m.now id).answer.code None)
+unfolding text_outcome form_while
+done_told setup m verb id name params body asks is_new is =
+    told_by setup m.endpoints m.now verb id (look_of most_firsts m.history id m.now)
+    (judged_while (serves m.endpoints) (record { verb = verb; name = name; params = params; body = body }) (k_of params) setup.names) (Ok asks) is_new is
+
+-- one that is lost
+pub lost_told : (setup : Setup) (m : Machine) (verb : Verb) (id : ℕ) (name : List ℕ) (params : List Param) (body : List ℕ) → look_of most_firsts m.history id m.now ≡ full
+    → text_outcome setup m (message (messages.Command verb id name params body)) ≡ outcomes.Command (Some verb) id NoRoom
+unfolding text_outcome
+lost_told setup m verb id name params body lost =
+    ap (λ (looked : Looked). outcomes.Command (Some verb) id (reply_by looked (read_command setup m verb id name params body).done.answer.code
+    (command_fault setup m (record { verb = verb; name = name; params = params; body = body }) (k_of params)))) lost
 
 -- the first of these texts, and then the others
 pub told_next : (setup : Setup) (source : SocketAddrV4) (all texts : List (List ℕ)) (text : List ℕ) (was between : State) (were mid : List OutMessage) (told more whole : List TextOutcome)

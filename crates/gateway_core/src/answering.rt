@@ -13,6 +13,7 @@ ghost use Rattle.plain_machine.specs.Commanding.{done_by};
 ghost use Rattle.endpoint_rules.specs.Telling.{MayTell};
 ghost use Rattle.transmission.specs.Confirming.{spans_of};
 ghost use Rattle.plain_machine.specs.Answering.{transaction, executed, handled, took_all};
+ghost use Rattle.gateway_core.specs.declared.outcome.Reply.TheVariants.{First};
 ghost use Rattle.gateway_core.specs.State.{machine_in, Does, Happens};
 ghost use Rattle.gateway_core.specs.Hearing.{left_done, left_outcome};
 ghost use Rattle.gateway_core.specs.Outcomes.{text_outcome, text_outcomes};
@@ -25,7 +26,6 @@ use crate::responding::respond;
 use crate::sending::send_all;
 use crate::state::State;
 use crate::telling::passed_over;
-use command_forms::FaultyPart;
 use endpoint_rules::{Context, send};
 use mg_bytes::OutOfMemory;
 use mgcp_text::{KValue, Message, TextFault, read_k, read_message};
@@ -33,8 +33,8 @@ use plain_machine::{OutMessage, Refusal};
 use std::net::SocketAddrV4;
 use transmission::{Origin, hear, keep_answer, spans_of, texts};
 
-// A new command whose K was read, and whose name reads as this line or as none, is executed: its answer, which has this return
-// code, goes out before what lines send because of it.
+// A new command whose K was read, and whose name reads as this line or as none, is executed: its answer goes out before what lines
+// send because of it. What it got.
 fn execute_with_k(
     context: Context<'_>,
     state: &mut State,
@@ -42,21 +42,19 @@ fn execute_with_k(
     line: Option<u16>,
     said: &Message<'_>,
     confirms: &KValue,
-    fault: &mut Option<FaultyPart>,
     out: &mut Vec<OutMessage>,
-) -> Result<u16, OutOfMemory>
+) -> Result<Reply, OutOfMemory>
     requires { MayTell context.setup.now state.old.clock }
-    ensures fault { OnOk result (fault.new
-        ≡ fault_by (judged_while_in (serves state.old.store.endpoints) said.now confirms.now context.entry.setup.now.names)) }
     ensures does { Does result (executed (machine_in state.old) origin.source
         (transaction origin.id line (spans_of confirms.now)
         (done_by (form_while_in (serves state.old.store.endpoints) said.now confirms.now
         context.entry.setup.now.names) context.entry.setup.now
         state.old.store.endpoints state.old.clock origin.id))) state.old state.new out.old.items out.new.items }
-    ensures code { IfOk result (λ code. code
-        ≡ (done_by (form_while_in (serves state.old.store.endpoints) said.now confirms.now
+    ensures reply { IfOk result (λ reply. reply
+        ≡ First (done_by (form_while_in (serves state.old.store.endpoints) said.now confirms.now
         context.entry.setup.now.names) context.entry.setup.now
-        state.old.store.endpoints state.old.clock origin.id).answer.code) }
+        state.old.store.endpoints state.old.clock origin.id).answer.code
+        (fault_by (judged_while_in (serves state.old.store.endpoints) said.now confirms.now context.entry.setup.now.names))) }
 {
     let mut sent = Vec::new(context.alloc);
     let spans = spans_of(context.alloc, confirms)?;
@@ -67,10 +65,9 @@ fn execute_with_k(
         origin.id,
         said,
         confirms,
-        fault,
         &mut sent,
     )?;
-    let code = given.code();
+    let code = given.answer.code();
     let label = first_label(line, origin.id, code);
     let to = origin.source;
     let now = state.clock;
@@ -80,38 +77,40 @@ fn execute_with_k(
         origin,
         now,
         spans,
-        &given,
+        &given.answer,
     )?;
     send(out, to, now, text, label)?;
     send_all(out, sent)?;
-    Ok(code)
+    Ok(Reply::First {
+        code,
+        fault: given.fault,
+    })
 }
 
-// A new command whose name reads as this line, or as none, is executed, and its K is read once: its answer has this return code.
+// A new command whose name reads as this line, or as none, is executed, and its K is read once. What it got.
 fn execute(
     context: Context<'_>,
     state: &mut State,
     origin: Origin,
     line: Option<u16>,
     said: &Message<'_>,
-    fault: &mut Option<FaultyPart>,
     out: &mut Vec<OutMessage>,
-) -> Result<u16, OutOfMemory>
+) -> Result<Reply, OutOfMemory>
     requires { MayTell context.setup.now state.old.clock }
-    ensures fault { OnOk result (fault.new
-        ≡ fault_by (judged_while_in (serves state.old.store.endpoints) said.now (k_of (params_in said.now)) context.entry.setup.now.names)) }
     ensures does { Does result (executed (machine_in state.old) origin.source
         (transaction origin.id line (spans_of (k_of (params_in said.now)))
         (done_by (form_while_in (serves state.old.store.endpoints) said.now (k_of (params_in said.now))
         context.entry.setup.now.names) context.entry.setup.now
         state.old.store.endpoints state.old.clock origin.id))) state.old state.new out.old.items out.new.items }
-    ensures code { IfOk result (λ code. code
-        ≡ (done_by (form_while_in (serves state.old.store.endpoints) said.now (k_of (params_in said.now))
+    ensures reply { IfOk result (λ reply. reply
+        ≡ First (done_by (form_while_in (serves state.old.store.endpoints) said.now (k_of (params_in said.now))
         context.entry.setup.now.names) context.entry.setup.now
-        state.old.store.endpoints state.old.clock origin.id).answer.code) }
+        state.old.store.endpoints state.old.clock origin.id).answer.code
+        (fault_by (judged_while_in (serves state.old.store.endpoints) said.now (k_of (params_in said.now))
+        context.entry.setup.now.names))) }
 {
     let confirms = read_k(context.alloc, said)?;
-    execute_with_k(context, state, origin, line, said, &confirms, fault, out)
+    execute_with_k(context, state, origin, line, said, &confirms, out)
 }
 
 // What is left to the gateway at a text that it heard, and what the text was: where nothing is left, what it was passed over as.
@@ -137,12 +136,11 @@ fn handle(
         Message::Command { verb, id, name, .. } => {
             let line = line_of_name(context.setup, name.as_slice());
             let origin = Origin { source, id: *id };
-            let mut fault = None;
-            let code = execute(context, state, origin, line, said, &mut fault, out)?;
+            let reply = execute(context, state, origin, line, said, out)?;
             Ok(TextOutcome::Command {
                 verb: Some(*verb),
                 id: *id,
-                reply: Reply::First { code, fault },
+                reply,
             })
         }
         Message::Response { code, id, .. } => {

@@ -1,5 +1,5 @@
 //! What a command does and answers: it asks for a report, or for a deed.
-ghost use Rattle.std.specs.Prelude.{◌≡◌, true, IfOk, OnOk};
+ghost use Rattle.std.specs.Prelude.{◌≡◌, true, IfOk};
 ghost use Rattle.std.specs.List.{list_all};
 ghost use Rattle.mgcp_text.specs.Writing.{is_writable_param};
 ghost use Rattle.endpoint_names.specs.Table.{is_domain};
@@ -170,7 +170,14 @@ fn done_for(
     }
 }
 
-/// What a command does whose K was read: its answer, what of it is at fault, and behind what there is what lines send because of it.
+/// What a command comes to: its answer, and what of it is at fault, where it is refused for its form.
+#[derive(Drop)]
+pub(crate) struct Answered {
+    pub answer: AnswerContent,
+    pub fault: Option<FaultyPart>,
+}
+
+/// What a command comes to whose K was read, and behind what there is what lines send because of it.
 #[tactic(auto, using(command_forms::proofs::RefusedLemmas::form_is))]
 pub(crate) fn commanded(
     context: Context<'_>,
@@ -179,19 +186,17 @@ pub(crate) fn commanded(
     id: TransactionId,
     said: &Message<'_>,
     confirms: &KValue,
-    fault: &mut Option<FaultyPart>,
     sent: &mut Vec<OutMessage>,
-) -> Result<AnswerContent, OutOfMemory>
+) -> Result<Answered, OutOfMemory>
     requires { MayTell context.setup.now moment }
-    ensures fault { OnOk result (fault.new
-        ≡ fault_by (judged_while_in (serves store.old.endpoints) said.now confirms.now context.entry.setup.now.names)) }
-    ensures answer { IfOk result (λ answer. answer ≡ (done_by
+    ensures answer { IfOk result (λ answered. answered.answer ≡ (done_by
         (form_while_in (serves store.old.endpoints) said.now confirms.now context.entry.setup.now.names)
         context.entry.setup.now store.old.endpoints moment id).answer) }
+    ensures fault { IfOk result (λ answered. answered.fault
+        ≡ fault_by (judged_while_in (serves store.old.endpoints) said.now confirms.now context.entry.setup.now.names)) }
     ensures told { Tells result (done_by (form_while_in (serves store.old.endpoints) said.now confirms.now context.entry.setup.now.names)
         context.entry.setup.now store.old.endpoints moment id).told store.old store.new sent.old.items sent.new.items }
 {
-    *fault = None;
     match judged_while(
         context.alloc,
         store.serves(),
@@ -200,13 +205,17 @@ pub(crate) fn commanded(
         &context.setup.names,
     ) {
         Err(Stop::OutOfMemory) => Err(AllocError),
-        Err(Stop::AtFault(refused)) => {
-            *fault = Some(refused.at);
-            Ok(AnswerContent::plain(context.alloc, refused.code))
-        }
-        Ok(Asks::Reports(target, audit)) => answer_to_audit(context, store, id, target, &audit),
-        Ok(Asks::Does(target, boxed)) => {
-            done_for(context, store, moment, target, boxed.deed(), sent)
-        }
+        Err(Stop::AtFault(refused)) => Ok(Answered {
+            answer: AnswerContent::plain(context.alloc, refused.code),
+            fault: Some(refused.at),
+        }),
+        Ok(Asks::Reports(target, audit)) => Ok(Answered {
+            answer: answer_to_audit(context, store, id, target, &audit)?,
+            fault: None,
+        }),
+        Ok(Asks::Does(target, boxed)) => Ok(Answered {
+            answer: done_for(context, store, moment, target, boxed.deed(), sent)?,
+            fault: None,
+        }),
     }
 }

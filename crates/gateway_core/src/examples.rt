@@ -2,14 +2,15 @@
 #![tactic(auto, unfolding(crate::proofs::Computing::on_examples))]
 
 ghost use Rattle.std.specs.Prelude.{◌≡◌, ◌++◌, codes, [], ◌∷◌, length, replicate, true, false, None, Some};
-ghost use Rattle.mgcp_text.specs.declared.message.Verb.TheVariants.{Rqnt, Ntfy, Other};
+ghost use Rattle.mgcp_text.specs.declared.message.Verb.TheVariants.{Crcx, Mdcx, Rqnt, Ntfy, Other};
 ghost use Rattle.mg_line.specs.declared.phone.Act.TheVariants.{OffHook};
 ghost use Rattle.history.specs.Looking.{full};
 ghost use Rattle.command_forms.specs.declared.refused.FaultyPart.TheVariants as parts;
+ghost use Rattle.command_forms.specs.Refusing.{letter_k, letter_x};
 ghost use Rattle.transmission.specs.Example.{dot_lines};
 ghost use Rattle.transmission.specs.Texts.{most_texts};
 ghost use Rattle.plain_machine.specs.Event.{datagram, phone, tick};
-ghost use Rattle.plain_machine.specs.Example.{example, agent, other_agent, audit, rqnt, response, from_agent};
+ghost use Rattle.plain_machine.specs.Example.{example, agent, other_agent, audit, rqnt, crcx, mdcx, response, from_agent};
 ghost use Rattle.gateway_core.specs.declared.outcome.Reply.TheVariants.{First, Again, Silence, NoRoom};
 ghost use Rattle.gateway_core.specs.declared.outcome.TextOutcome.TheVariants.{NoMessage, Command, Response};
 ghost use Rattle.plain_machine.specs.Labelling.{front_code};
@@ -24,7 +25,8 @@ ghost use Rattle.gateway_core.specs.Example.{told, audited, accounted, labels, l
 /// 30,000 ms after its first it is new. What a K confirmed gets silence, and what finds no room nothing.
 pub fn commands_are_told_of()
     ensures done { told (from_agent (audit 1206) ∷ []) ≡ audited 1206 (First 200 None) ∷ [] }
-    ensures refused { told (from_agent (codes "AUEP 1201 aaln/17@rgw.example.net MGCP 1.0\r\n") ∷ []) ≡ audited 1201 (First 500 (Some parts.Name)) ∷ [] }
+    ensures refused { told (from_agent (codes "AUEP 1201 aaln/17@rgw.example.net MGCP 1.0\r\n") ∷ [])
+        ≡ audited 1201 (First 500 (Some parts.Name)) ∷ [] }
     ensures unready { last_outcomes example (rqnt 1203 (codes "aaln/1") (codes "X: A0\r\n") ∷ [])
         ≡ Command (Some Rqnt) 1203 (First 405 (Some parts.Verb)) ∷ [] }
     ensures again { told (from_agent (audit 1206) ∷ datagram other_agent (audit 1206) ∷ []) ≡ audited 1206 (Again 200) ∷ [] }
@@ -128,7 +130,8 @@ pub fn other_messages_are_told_of()
     ensures given_up_before { (accounted (phone 1 OffHook ∷ tick 24500 ∷ tick 24501 ∷ [])).given_up ≡ [] }
 {}
 
-/// A command that is refused for its form is told of with what of it is at fault; where a line refuses it nothing of it is.
+/// A command that is refused for its form is told of with what of it is at fault first; where what stands at a line refuses it, the
+/// code alone is told.
 pub fn what_is_at_fault_is_told()
     ensures name { told (from_agent (codes "AUEP 1 aaln/17@rgw.example.net MGCP 1.0\r\n") ∷ [])
         ≡ audited 1 (First 500 (Some parts.Name)) ∷ [] }
@@ -136,6 +139,12 @@ pub fn what_is_at_fault_is_told()
         ≡ Command (Some Other) 1 (First 504 (Some parts.Verb)) ∷ [] }
     ensures line { told (rqnt 1 (codes "aaln/1") (codes "X: A0\r\nX: A1\r\n") ∷ [])
         ≡ Command (Some Rqnt) 1 (First 510 (Some (parts.Line 2))) ∷ [] }
-    ensures missing { told (rqnt 1 (codes "aaln/1") [] ∷ []) ≡ Command (Some Rqnt) 1 (First 510 (Some (parts.Missing 88))) ∷ [] }
-    ensures value { told (rqnt 1 (codes "aaln/1") (codes "X: G\r\n") ∷ []) ≡ Command (Some Rqnt) 1 (First 510 (Some (parts.Value 88))) ∷ [] }
+    ensures missing { told (rqnt 1 (codes "aaln/1") [] ∷ []) ≡ Command (Some Rqnt) 1 (First 510 (Some (parts.Missing letter_x))) ∷ [] }
+    ensures value { told (rqnt 1 (codes "aaln/1") (codes "X: G\r\n") ∷ [])
+        ≡ Command (Some Rqnt) 1 (First 510 (Some (parts.Value letter_x))) ∷ [] }
+    ensures confirming { told (rqnt 1 (codes "aaln/1") (codes "X: G\r\nK: x\r\n") ∷ [])
+        ≡ Command (Some Rqnt) 1 (First 510 (Some (parts.Value letter_k))) ∷ [] }
+    ensures description { told (crcx 1 (codes "aaln/1") (codes "\r\nv=0\r\n") ∷ [])
+        ≡ Command (Some Crcx) 1 (First 509 (Some parts.Description)) ∷ [] }
+    ensures at_the_line { told (mdcx 1 (codes "C: 2\r\nI: 1\r\n") ∷ []) ≡ Command (Some Mdcx) 1 (First 516 None) ∷ [] }
 {}

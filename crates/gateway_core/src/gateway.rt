@@ -1,5 +1,6 @@
 //! The gateway.
 ghost use Rattle.std.specs.Prelude.{◌≡◌, ◌∷◌, [], List, map, option_map, ◌<◌, ◌≤◌, ◌^◌, Some, IfOk, IfErr, OnOk, OnErr};
+ghost use Rattle.history.specs.Memory.{most_firsts};
 ghost use Rattle.plain_machine.specs.Setup.{IsSetUp, firsts, setup_from, setup_of};
 ghost use Rattle.plain_machine.specs.Machine.{opening};
 ghost use Rattle.plain_machine.specs.Event.{GatewayEvent, event_of};
@@ -191,11 +192,12 @@ impl Gateway {
     }
 
     /// How many transactions are remembered: commands that were executed less than 30,000 ms before the moment of the last tick, of which
-    /// there are at most `MOST_FIRSTS` (RFC 3435, 3.5.1).
+    /// there are at most `MOST_FIRSTS` (RFC 3435, 3.5.1). This takes no memory.
     #[tactic(auto, using(crate::proofs::StandLemmas::remembered_alike))]
     pub fn remembered(&self) -> usize
-        ensures { (events : List GatewayEvent) → Stands self.now events →
+        ensures value { (events : List GatewayEvent) → Stands self.now events →
             result ≡ remembered (plain self.now.setup events) }
+        ensures most { result ≤ most_firsts }
     {
         MOST_FIRSTS.min(self.state.history.young(self.state.clock))
     }

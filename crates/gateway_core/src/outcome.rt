@@ -6,8 +6,8 @@ use mgcp_text::{TransactionId, Verb};
 /// What a command gets that came in a datagram (RFC 3435, 3.5.1).
 #[derive(Clone, Copy)]
 pub enum Reply {
-    /// It was new: an answer with this return code (RFC 3435, 2.4), and what of it is at fault, where it was refused for that. Where
-    /// a line refuses it, or what is to be reported is too long, nothing of it is.
+    /// It was new: an answer with this return code (RFC 3435, 2.4), and what of it is at fault first, where it is refused for its form.
+    /// Where what stands at a line refuses it, the code alone says why; so it does of one that can't be read past its id.
     First {
         code: u16,
         fault: Option<FaultyPart>,
@@ -18,7 +18,7 @@ pub enum Reply {
     },
     /// It was a repeat whose answer was confirmed: silence.
     Silence,
-    /// It was new, and there was no room for another transaction: nothing (this gateway's profile).
+    /// It was new, and is lost: there was no room for another transaction, so it gets nothing (this gateway's profile).
     NoRoom,
 }
 
