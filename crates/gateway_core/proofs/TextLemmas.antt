@@ -9,11 +9,16 @@ use Rattle.history.specs.Looking.{Looked, new, repeat, confirmed, full, look_of}
 use Rattle.mgcp_text.specs.Writing.{written}
 use Rattle.mgcp_text.specs.Message.{params_in}
 use Rattle.mgcp_text.specs.Confirmation.{k_of}
+use Rattle.mgcp_text.specs.declared.confirmation.KValue.{KValue}
 use Rattle.mgcp_text.specs.declared.message.Message.{Message}
 use Rattle.mgcp_text.specs.declared.message.Message.TheVariants as messages
 use Rattle.mgcp_text.specs.declared.message.Param.{Param}
 use Rattle.mgcp_text.specs.declared.message.Verb.{Verb}
 use Rattle.command_forms.specs.declared.forms.Asks.{Asks}
+use Rattle.command_forms.specs.declared.forms.Asks.TheVariants.{Reports}
+use Rattle.command_forms.specs.declared.forms.Audit.{Audit}
+use Rattle.command_forms.specs.declared.forms.AuditTarget.{AuditTarget}
+use Rattle.command_forms.proofs.RefusedLemmas.{form_is}
 use Rattle.command_forms.specs.declared.refused.Refused.{Refused}
 use Rattle.command_forms.specs.Refusing.{coded}
 use Rattle.command_forms.specs.Order.{judged_while, judged_while_in, form_while, form_while_in}
@@ -39,6 +44,7 @@ use Rattle.transmission.specs.Transacting.{message_to, transacted_as, with_first
 use Rattle.transmission.specs.Hearing.{Hearing, hearing, heard_at}
 use Rattle.transmission.specs.Confirming.{spans_of}
 use Rattle.plain_machine.specs.Answering.{line_of_name, transaction, answer_text, executed, transacted_by, refusing, read_command, handled, took_all}
+use Rattle.endpoints.specs.StoreState.{StoreState}
 use Rattle.endpoints.specs.Tells.{Goes}
 use Rattle.plain_machine.specs.Responding.{acknowledged, response_with, responded}
 use Rattle.plain_machine.specs.Message.{of_none, acknowledgement}
@@ -205,6 +211,33 @@ went_end setup source all was out none = rw none (record { machine = refl; found
 pub went_on : (setup : Setup) (source : SocketAddrV4) (text : List ℕ) (was is : State) (were are : List OutMessage)
     → Went (handled setup (machine_in was) source (read_text text)) was is were are → is.clock ≡ was.clock
 went_on setup source text was is were are went = ap (λ (m : Machine). m.now) went.machine ∙ handled_now setup (machine_in was) source (read_text text)
+
+-- ---- what changes nothing
+
+-- the endpoints stay, and nothing is sent, where a form is judged so
+form_goes : (serving : Bool) (said : Message) (confirms : KValue) (judged : Result Asks Refused) (setup : Setup) (store : StoreState) (moment id : ℕ) (sent : List OutMessage)
+    → serving ≡ serves store.endpoints → judged_while_in serving said confirms setup.names ≡ judged
+    → Goes (done_by (coded judged) setup store.endpoints moment id).told store store sent sent
+    → Goes (done_by (form_while_in (serves store.endpoints) said confirms setup.names) setup store.endpoints moment id).told store store sent sent
+form_goes serving said confirms judged setup store moment id sent same is goes =
+    subst (λ (form : Result Asks ℕ). Goes (done_by form setup store.endpoints moment id).told store store sent sent)
+    (sym (form_is (serves store.endpoints) said confirms setup.names
+    ∙ ap (λ (b : Bool). coded (judged_while_in b said confirms setup.names)) (sym same)
+    ∙ ap (λ (x : Result Asks Refused). coded x) is)) goes
+
+-- a command that is refused for its form
+pub refused_goes : (serving : Bool) (said : Message) (confirms : KValue) (refused : Refused) (setup : Setup) (store : StoreState) (moment id : ℕ) (sent : List OutMessage)
+    → serving ≡ serves store.endpoints → judged_while_in serving said confirms setup.names ≡ Err refused
+    → Goes (done_by (form_while_in (serves store.endpoints) said confirms setup.names) setup store.endpoints moment id).told store store sent sent
+refused_goes serving said confirms refused setup store moment id sent same is =
+    form_goes serving said confirms (Err refused) setup store moment id sent same is (record { endpoints = refl; found = refl; sent = sym (append-nil sent) })
+
+-- one that asks for a report
+pub report_goes : (serving : Bool) (said : Message) (confirms : KValue) (target : AuditTarget) (audit : Audit) (setup : Setup) (store : StoreState) (moment id : ℕ) (sent : List OutMessage)
+    → serving ≡ serves store.endpoints → judged_while_in serving said confirms setup.names ≡ Ok (Reports target audit)
+    → Goes (done_by (form_while_in (serves store.endpoints) said confirms setup.names) setup store.endpoints moment id).told store store sent sent
+report_goes serving said confirms target audit setup store moment id sent same is =
+    form_goes serving said confirms (Ok (Reports target audit)) setup store moment id sent same is (record { endpoints = refl; found = refl; sent = sym (append-nil sent) })
 
 -- ---- what a text was
 
