@@ -61,7 +61,7 @@ with_answer counts code = record counts { answers = one_more_at counts.answers c
 
 -- a command got this
 abbrev pub with_reply : Counts → Reply → Counts
-with_reply counts (First code) = with_answer counts code
+with_reply counts (First code fault) = with_answer counts code
 with_reply counts (Again code) = record (with_answer counts code) { again = counted counts.again 1 }
 with_reply counts Silence = counts
 with_reply counts NoRoom = counts
@@ -120,7 +120,7 @@ is_other (Command verb id reply) = is_unread verb
 is_other (Response is_acknowledged) = false
 
 abbrev pub has_code : ℕ → Reply → Bool
-has_code code (First given) = given == code
+has_code code (First given fault) = given == code
 has_code code (Again given) = given == code
 has_code code Silence = false
 has_code code NoRoom = false
@@ -133,7 +133,7 @@ is_answered_with code (Response true) = 0 == code
 is_answered_with code (Response false) = false
 
 abbrev pub is_given_again : Reply → Bool
-is_given_again (First code) = false
+is_given_again (First code fault) = false
 is_given_again (Again code) = true
 is_given_again Silence = false
 is_given_again NoRoom = false

@@ -86,7 +86,7 @@ impl TextCounts {
         ensures { counts_in self.new ≡ with_reply (counts_in self.old) reply }
     {
         match reply {
-            Reply::First { code } => self.add_answer(code),
+            Reply::First { code, .. } => self.add_answer(code),
             Reply::Again { code } => {
                 self.add_answer(code);
                 count(&mut self.again);
