@@ -1,5 +1,6 @@
 //! Counts what goes over the wire. What came is told by the gateway; a count stays at its greatest value.
 ghost use Rattle.std.specs.Prelude.{◌≡◌};
+ghost use Rattle.gateway_core.specs.Wire.{counted};
 ghost use Rattle.live_journal.specs.Counting.{counts_in, with_texts};
 
 use crate::own_counts::OwnCounts;
@@ -51,7 +52,8 @@ impl MessageTally {
 
     /// A datagram came.
     pub fn received(&mut self)
-        ensures { self.new.texts ≡ self.old.texts }
+        ensures texts { self.new.texts ≡ self.old.texts }
+        ensures datagrams { self.new.datagrams_in ≡ counted self.old.datagrams_in 1 }
     {
         count(&mut self.datagrams_in);
     }
@@ -66,7 +68,8 @@ impl MessageTally {
 
     /// A datagram is sent. The responses in it were counted with what they answer.
     pub fn sent(&mut self, moment: u64, bytes: &[u8])
-        ensures { self.new.texts ≡ self.old.texts }
+        ensures texts { self.new.texts ≡ self.old.texts }
+        ensures datagrams { self.new.datagrams_out ≡ counted self.old.datagrams_out 1 }
     {
         count(&mut self.datagrams_out);
         self.own.add(moment, bytes);

@@ -1,14 +1,14 @@
 //! What is told at the end: counts, one kind a line.
+ghost use Rattle.std.specs.Prelude.{◌≡◌, ◌++◌, OnOk};
+ghost use Rattle.std.specs.List.{flat_map};
+ghost use Rattle.gateway_core.specs.Wire.{counted};
+ghost use Rattle.page_answers.specs.Metrics.{code_text};
+ghost use Rattle.live_journal.specs.Reporting.{told, entry_text, datagrams_text, commands_text, texts_text, answer_text, answers_from, others_text, report_text};
+
 use crate::message_tally::MessageTally;
 use gateway_core::{Gateway, Served};
 use mg_bytes::put_decimal;
 use std::alloc::{AllocError, Global};
-
-// The words of the verbs, in the order of their counts (RFC 3435, 3.2.1.1).
-const VERB_WORDS: [&str; 10] = [
-    " EPCF ", " RQNT ", " NTFY ", " CRCX ", " MDCX ", " DLCX ", " AUEP ", " AUCX ", " RSIP ",
-    " other ",
-];
 
 /// How often a turn failed. A count stays at its greatest value.
 #[derive(Clone, Copy)]
@@ -30,7 +30,11 @@ impl Faults {
     };
 
     /// What came of some turns more.
-    pub fn add(&mut self, served: Served) {
+    pub fn add(&mut self, served: Served)
+        ensures refused { self.new.refused ≡ counted self.old.refused served.refused }
+        ensures receive { self.new.receive ≡ counted self.old.receive served.receive_faults }
+        ensures send { self.new.send ≡ counted self.old.send served.send_faults }
+    {
         self.refused = self.refused.saturating_add(served.refused);
         self.receive = self.receive.saturating_add(served.receive_faults);
         self.send = self.send.saturating_add(served.send_faults);
@@ -52,48 +56,92 @@ fn put_number(
     text: &mut Vec<u8>,
     before: &str,
     number: u64,
-) -> Result<(), AllocError> {
+) -> Result<(), AllocError>
+    ensures { OnOk result (text.new.items ≡ text.old.items ++ told before.now number) }
+{
     text.extend_from_slice(before.as_bytes())?;
     put_decimal(alloc, text, number)
 }
 
 // Each number, with what stands before it.
-fn put_numbers(
-    alloc: Global,
-    text: &mut Vec<u8>,
-    numbers: &[(&str, u64)],
-) -> Result<(), AllocError> {
+fn put_numbers(alloc: Global, text: &mut Vec<u8>, numbers: &[(&str, u64)]) -> Result<(), AllocError>
+    ensures { OnOk result (text.new.items ≡ text.old.items ++ flat_map entry_text numbers.now) }
+{
     for (before, number) in numbers {
         put_number(alloc, text, *before, *number)?;
     }
     Ok(())
 }
 
-fn put_commands(alloc: Global, text: &mut Vec<u8>, tally: &MessageTally) -> Result<(), AllocError> {
+fn put_datagrams(alloc: Global, text: &mut Vec<u8>, tally: &MessageTally) -> Result<(), AllocError>
+    ensures { OnOk result (text.new.items ≡ text.old.items ++ datagrams_text tally.now) }
+{
+    let numbers = [
+        ("datagrams in ", tally.datagrams_in),
+        (" out ", tally.datagrams_out),
+    ];
+    put_numbers(alloc, text, &numbers)
+}
+
+fn put_commands(alloc: Global, text: &mut Vec<u8>, commands: &[u64; 10]) -> Result<(), AllocError>
+    ensures { OnOk result (text.new.items ≡ text.old.items ++ commands_text commands.now) }
+{
     text.extend_from_slice(b"\ncommands")?;
-    for (word, number) in VERB_WORDS.iter().zip(tally.texts.commands.iter()) {
-        put_number(alloc, text, *word, *number)?;
-    }
-    Ok(())
+    let numbers = [
+        (" EPCF ", commands[0]),
+        (" RQNT ", commands[1]),
+        (" NTFY ", commands[2]),
+        (" CRCX ", commands[3]),
+        (" MDCX ", commands[4]),
+        (" DLCX ", commands[5]),
+        (" AUEP ", commands[6]),
+        (" AUCX ", commands[7]),
+        (" RSIP ", commands[8]),
+        (" other ", commands[9]),
+    ];
+    put_numbers(alloc, text, &numbers)
+}
+
+fn put_texts(alloc: Global, text: &mut Vec<u8>, tally: &MessageTally) -> Result<(), AllocError>
+    ensures { OnOk result (text.new.items ≡ text.old.items ++ texts_text tally.now) }
+{
+    let numbers = [
+        ("\nresponses ", tally.texts.responses),
+        (" no message ", tally.texts.others),
+    ];
+    put_numbers(alloc, text, &numbers)
 }
 
 // The three digits of a return code (RFC 3435, 2.4).
-fn code_digits(code: usize) -> [u8; 3] {
-    [
-        b'0' + (code / 100 % 10) as u8,
-        b'0' + (code / 10 % 10) as u8,
-        b'0' + (code % 10) as u8,
-    ]
+fn put_code(alloc: Global, text: &mut Vec<u8>, code: usize) -> Result<(), AllocError>
+    ensures { OnOk result (text.new.items ≡ text.old.items ++ code_text code) }
+{
+    if code < 10 {
+        text.extend_from_slice(b"00")?;
+    } else if code < 100 {
+        text.extend_from_slice(b"0")?;
+    }
+    put_decimal(alloc, text, code as u64)
 }
 
-fn put_answers(alloc: Global, text: &mut Vec<u8>, tally: &MessageTally) -> Result<(), AllocError> {
-    text.extend_from_slice(b"\nanswers")?;
-    for (code, number) in tally.texts.answers.iter().enumerate() {
-        if *number > 0 {
-            text.extend_from_slice(b" ")?;
-            text.extend_from_slice(&code_digits(code))?;
-            put_number(alloc, text, " ", *number)?;
-        }
+// How often something was answered by a return code, if it ever was.
+fn put_answer(alloc: Global, text: &mut Vec<u8>, code: usize, number: u64) -> Result<(), AllocError>
+    ensures { OnOk result (text.new.items ≡ text.old.items ++ answer_text code number) }
+{
+    if number == 0 {
+        return Ok(());
+    }
+    text.extend_from_slice(b" ")?;
+    put_code(alloc, text, code)?;
+    put_number(alloc, text, " ", number)
+}
+
+#[tactic(auto, unfolding(crate::specs::Reporting::answers_from))]
+fn put_answers(alloc: Global, text: &mut Vec<u8>, answers: &[u64]) -> Result<(), AllocError>
+    ensures { OnOk result (text.new.items ≡ text.old.items ++ answers_from 0 answers.now) }
+{
+    for (code, number) in answers.iter().enumerate() {
+        put_answer(alloc, text, code, *number)?;
     }
     Ok(())
 }
@@ -105,23 +153,41 @@ fn put_others(
     tally: &MessageTally,
     lost: u64,
     faults: Faults,
-) -> Result<(), AllocError> {
-    put_numbers(
-        alloc,
-        text,
-        &[
-            (" repeated ", tally.texts.again),
-            ("\nnotifications ", tally.own.notifications),
-            (" repeated ", tally.own.notifications_again),
-            ("\nannouncements ", tally.own.announcements),
-            (" repeated ", tally.own.announcements_again),
-            (" after given up ", tally.own.given_up),
-            ("\nlost events ", lost),
-            (" refused ", faults.refused),
-            ("\nfaults receive ", faults.receive),
-            (" send ", faults.send),
-        ],
-    )
+) -> Result<(), AllocError>
+    ensures { OnOk result (text.new.items ≡ text.old.items ++ others_text tally.now lost faults) }
+{
+    let numbers = [
+        (" repeated ", tally.texts.again),
+        ("\nnotifications ", tally.own.notifications),
+        (" repeated ", tally.own.notifications_again),
+        ("\nannouncements ", tally.own.announcements),
+        (" repeated ", tally.own.announcements_again),
+        (" after given up ", tally.own.given_up),
+        ("\nlost events ", lost),
+        (" refused ", faults.refused),
+        ("\nfaults receive ", faults.receive),
+        (" send ", faults.send),
+    ];
+    put_numbers(alloc, text, &numbers)
+}
+
+// All of it, where so many events of all lines were lost.
+fn put_report(
+    alloc: Global,
+    text: &mut Vec<u8>,
+    tally: &MessageTally,
+    lost: u64,
+    faults: Faults,
+) -> Result<(), AllocError>
+    ensures { OnOk result (text.new.items ≡ text.old.items ++ report_text tally.now lost faults) }
+{
+    put_datagrams(alloc, text, tally)?;
+    put_commands(alloc, text, &tally.texts.commands)?;
+    put_texts(alloc, text, tally)?;
+    text.extend_from_slice(b"\nanswers")?;
+    put_answers(alloc, text, tally.texts.answers.as_slice())?;
+    put_others(alloc, text, tally, lost, faults)?;
+    text.extend_from_slice(b"\n")
 }
 
 // All of it is ASCII.
@@ -140,25 +206,6 @@ pub fn report(
     faults: Faults,
 ) -> Result<String, AllocError> {
     let mut text = Vec::new(alloc);
-    put_numbers(
-        alloc,
-        &mut text,
-        &[
-            ("datagrams in ", tally.datagrams_in),
-            (" out ", tally.datagrams_out),
-        ],
-    )?;
-    put_commands(alloc, &mut text, tally)?;
-    put_numbers(
-        alloc,
-        &mut text,
-        &[
-            ("\nresponses ", tally.texts.responses),
-            (" no message ", tally.texts.others),
-        ],
-    )?;
-    put_answers(alloc, &mut text, tally)?;
-    put_others(alloc, &mut text, tally, lost_of(gateway), faults)?;
-    text.extend_from_slice(b"\n")?;
+    put_report(alloc, &mut text, tally, lost_of(gateway), faults)?;
     text_of(text)
 }

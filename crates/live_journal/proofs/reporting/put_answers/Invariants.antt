@@ -1,0 +1,7 @@
+use Rattle.std.proofs.Common.{◌≡◌, ◌++◌, drop}
+use Rattle.live_journal.specs.Reporting.{answers_from}
+use Rattle.live_journal.proofs.reporting.put_answers.Given as goal
+
+abbrev pub invariant-loop-code : goal.invariant-loop-code
+invariant-loop-code l =
+    l.text.items ++ answers_from l.code (drop l.code l.answers) ≡ l.initial.text.items ++ answers_from 0 l.answers
