@@ -3,11 +3,12 @@ use Rattle.std.specs.Prelude.{⊤}
 use Rattle.mg_bytes.proofs.Computing.{on_examples as byte_examples}
 use Rattle.exchange_log.specs.Escaping.{shown}
 use Rattle.exchange_log.specs.Grouping.{grouped}
-use Rattle.exchange_log.specs.TimeOfDay.{two_digits, three_digits, time_of_day}
+use Rattle.exchange_log.specs.Calendar.{year_in, month_in}
+use Rattle.exchange_log.specs.TimeOfDay.{two_digits, three_digits, date_of, time_of_day, date_and_time}
 use Rattle.exchange_log.specs.Messages.{name_shown, header_shown, message_shown, header_of}
-use Rattle.exchange_log.specs.Notes.{note_text}
-use Rattle.exchange_log.specs.Lines.{stamp_text, message_line, note_line, given_up_line, refused_line}
+use Rattle.exchange_log.specs.Notes.{note_text, notice_text}
+use Rattle.exchange_log.specs.Lines.{stamp_text, message_line, note_line, notice_line, given_up_line, refused_line}
 
 unfoldable pub on_examples : ⊤
-unfolding byte_examples shown grouped two_digits three_digits time_of_day name_shown header_shown message_shown header_of note_text stamp_text message_line note_line given_up_line refused_line
+unfolding byte_examples shown grouped year_in month_in two_digits three_digits date_of time_of_day date_and_time name_shown header_shown message_shown header_of note_text notice_text stamp_text message_line note_line notice_line given_up_line refused_line
 on_examples = tt

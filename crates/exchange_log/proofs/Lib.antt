@@ -3,4 +3,5 @@ pub mod PacketLaws
 pub mod CaptureComputing
 pub mod EscapingLaws
 pub mod LineLaws
+pub mod CalendarLemmas
 pub mod Computing

@@ -14,12 +14,15 @@ use Rattle.exchange_log.specs.declared.stamp.Stamp.{Stamp}
 use Rattle.exchange_log.specs.declared.stamp.Way.{Way}
 use Rattle.exchange_log.specs.declared.stamp.Way.TheVariants.{Came, Sent}
 use Rattle.exchange_log.specs.declared.note.Note.{Note}
+use Rattle.exchange_log.specs.declared.note.Notice.{Notice}
+use Rattle.exchange_log.specs.declared.note.Notice.TheVariants.{Dropped}
 use Rattle.exchange_log.specs.declared.note.Note.TheVariants.{AnsweredAgain, Unanswered, SentAgain, Refused, Unreadable, TooLong, Unsent, OutOfMemory, Lost, Late, Copied}
 use Rattle.exchange_log.specs.Escaping.{shown, escaped, is_text, IsLine}
-use Rattle.exchange_log.specs.TimeOfDay.{two_digits, three_digits, time_of_day}
+use Rattle.exchange_log.specs.Calendar.{is_leap, month_lengths, year_in, month_in}
+use Rattle.exchange_log.specs.TimeOfDay.{two_digits, three_digits, month_text, date_text, date_of, time_of_day, date_and_time}
 use Rattle.exchange_log.specs.Messages.{set_off, name_shown, header_shown, headed, line_shown, message_of, message_shown, header_of}
-use Rattle.exchange_log.specs.Notes.{words_from, note_text}
-use Rattle.exchange_log.specs.Lines.{stamp_text, mark_of, waited_text, message_line, note_line, given_up_line, refused_line}
+use Rattle.exchange_log.specs.Notes.{words_from, note_text, notice_text}
+use Rattle.exchange_log.specs.Lines.{stamp_text, mark_of, waited_text, message_line, note_line, notice_line, given_up_line, refused_line}
 use Rattle.exchange_log.proofs.EscapingLaws.{text_append, text_cons, digit_printable, escaped_text, shown_text, decimal_text}
 
 two_text : (n : ℕ) → is_text (two_digits n) ≡ true
@@ -48,6 +51,24 @@ time_text moment =
     refl (two_text (moment / 1000000 % 60)))
     refl (three_text (moment / 1000 % 1000))
 
+month_printable : (found : ℕ × ℕ) → is_text (month_text found) ≡ true
+month_printable found = around (two_digits found.0) (codes "-") (two_digits (found.1 + 1)) (two_text found.0) refl (two_text (found.1 + 1))
+
+date_printable : (found : ℕ × ℕ) → is_text (date_text found) ≡ true
+date_printable found =
+    let month : ℕ × ℕ = month_in (month_lengths (is_leap found.0)) 1 found.1 in
+    around (two_digits (found.0 / 100) ++ two_digits found.0) (codes "-") (month_text month)
+    (text_append (two_digits (found.0 / 100)) (two_digits found.0) (two_text (found.0 / 100)) (two_text found.0))
+    refl (month_printable month)
+
+moment_text : (moment : ℕ) → is_text (date_and_time moment) ≡ true
+unfolding date_of date_and_time
+moment_text moment =
+    let day : List ℕ = date_text (year_in 8030 1970 (moment / 86400000000)) in
+    text_append (day ++ codes "T" ++ time_of_day moment) (codes "Z")
+    (around day (codes "T") (time_of_day moment) (date_printable (year_in 8030 1970 (moment / 86400000000))) refl (time_text moment))
+    refl
+
 octets_text : (a b c d : ℕ) → is_text (decimal a ++ codes "." ++ decimal b ++ codes "." ++ decimal c ++ codes "." ++ decimal d) ≡ true
 octets_text a b c d =
     around (decimal a ++ codes "." ++ decimal b ++ codes "." ++ decimal c) (codes ".") (decimal d)
@@ -63,7 +84,7 @@ peer_shown peer =
 
 begun : (stamp : Stamp) → is_text (stamp_text stamp) ≡ true
 unfolding stamp_text
-begun stamp = around (time_of_day stamp.moment) (codes " ") (socket_v4_text stamp.peer) (time_text stamp.moment) refl (peer_shown stamp.peer)
+begun stamp = around (date_and_time stamp.moment) (codes " ") (socket_v4_text stamp.peer) (moment_text stamp.moment) refl (peer_shown stamp.peer)
 
 -- a message
 
@@ -145,6 +166,10 @@ noted_text (Copied first second) =
     (around (codes "copied, late by ") (decimal first) (codes " and ") refl (decimal_text first) refl)
     (decimal_text second) refl
 
+notice_printable : (notice : Notice) → is_text (notice_text notice) ≡ true
+unfolding notice_text
+notice_printable (Dropped lines) = around (codes "dropped ") (decimal lines) (codes " lines, which nobody took") refl (decimal_text lines) refl
+
 -- the lines
 
 pub message_is_line : (own : List ℕ) (stamp : Stamp) (way : Way) (text : List ℕ) (waited : Option ℕ) → IsLine (message_line own stamp way text waited)
@@ -162,6 +187,14 @@ unfolding note_line
 note_is_line stamp note = record {
   line = stamp_text stamp ++ codes " ! " ++ note_text note;
   printable = around (stamp_text stamp) (codes " ! ") (note_text note) (begun stamp) refl (noted_text note);
+  ended = refl;
+}
+
+pub notice_is_line : (moment : ℕ) (notice : Notice) → IsLine (notice_line moment notice)
+unfolding notice_line
+notice_is_line moment notice = record {
+  line = date_and_time moment ++ codes " ! " ++ notice_text notice;
+  printable = around (date_and_time moment) (codes " ! ") (notice_text notice) (moment_text moment) refl (notice_printable notice);
   ended = refl;
 }
 

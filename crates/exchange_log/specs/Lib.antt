@@ -5,6 +5,7 @@ pub mod File
 pub mod CaptureExample
 pub mod Escaping
 pub mod Grouping
+pub mod Calendar
 pub mod TimeOfDay
 pub mod Messages
 pub mod Notes

@@ -1,5 +1,5 @@
--- The lines of the log: each begins with the time of day and the other end's address, and then says what happened: `>` it
--- sent, `<` it was sent, and `!` what is noted.
+-- The lines of the log: each begins with the date, the time of day and the other end's address, and then says what happened: `>`
+-- it sent, `<` it was sent, and `!` what is noted. What is noted of the program itself has no other end.
 use Rattle.std.specs.Prelude.{ℕ, codes, decimal, List, [], ◌∷◌, ◌++◌, Option, Some, None}
 use Rattle.std.specs.Net.Text.{socket_v4_text}
 use Rattle.exchange_log.specs.declared.stamp.Stamp.{Stamp}
@@ -7,13 +7,14 @@ use Rattle.exchange_log.specs.declared.stamp.Way.{Way}
 use Rattle.exchange_log.specs.declared.stamp.Way.TheVariants.{Came, Sent}
 use Rattle.exchange_log.specs.declared.note.Note.{Note}
 use Rattle.exchange_log.specs.Escaping.{escaped}
-use Rattle.exchange_log.specs.TimeOfDay.{time_of_day}
+use Rattle.exchange_log.specs.TimeOfDay.{date_and_time}
 use Rattle.exchange_log.specs.Messages.{message_shown, header_of}
-use Rattle.exchange_log.specs.Notes.{note_text}
+use Rattle.exchange_log.specs.declared.note.Notice.{Notice}
+use Rattle.exchange_log.specs.Notes.{note_text, notice_text}
 
--- what each line begins with, as `12:03:07.123 10.0.0.7:2727`
+-- what each line begins with, as `2026-11-27T12:03:07.123Z 10.0.0.7:2727`
 unfoldable pub stamp_text : Stamp → List ℕ
-stamp_text stamp = time_of_day stamp.moment ++ codes " " ++ socket_v4_text stamp.peer
+stamp_text stamp = date_and_time stamp.moment ++ codes " " ++ socket_v4_text stamp.peer
 
 abbrev pub mark_of : Way → List ℕ
 mark_of Came = codes " >"
@@ -32,6 +33,10 @@ message_line own stamp way text waited =
 -- a note
 unfoldable pub note_line : Stamp → Note → List ℕ
 note_line stamp note = stamp_text stamp ++ codes " ! " ++ note_text note ++ 10 ∷ []
+
+-- what is noted of the program itself
+unfoldable pub notice_line : ℕ → Notice → List ℕ
+notice_line moment notice = date_and_time moment ++ codes " ! " ++ notice_text notice ++ 10 ∷ []
 
 -- a command of the gateway's own is given up
 unfoldable pub given_up_line : List ℕ → Stamp → List ℕ → List ℕ

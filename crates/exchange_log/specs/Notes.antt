@@ -1,9 +1,11 @@
--- What is noted beside messages (this gateway's profile).
+-- What is noted beside messages, and of the program itself (this gateway's profile).
 use Rattle.std.specs.Prelude.{ℕ, codes, decimal, List, [], ◌++◌, Option, Some, None}
 use Rattle.mg_bytes.specs.declared.return_code.ReturnCode.{ReturnCode}
 use Rattle.mg_bytes.specs.ReturnCode.{words_of, code_with}
 use Rattle.exchange_log.specs.declared.note.Note.{Note}
 use Rattle.exchange_log.specs.declared.note.Note.TheVariants.{AnsweredAgain, Unanswered, SentAgain, Refused, Unreadable, TooLong, Unsent, OutOfMemory, Lost, Late, Copied}
+use Rattle.exchange_log.specs.declared.note.Notice.{Notice}
+use Rattle.exchange_log.specs.declared.note.Notice.TheVariants.{Dropped}
 
 -- what the standard says of a return code, if it is one of this gateway's
 abbrev pub words_from : Option ReturnCode → List ℕ
@@ -25,3 +27,7 @@ note_text Lost = codes "lost on its way"
 note_text (Late ms) = codes "late by " ++ decimal ms ++ codes " ms"
 note_text (Copied first second) =
     codes "copied, late by " ++ decimal first ++ codes " and " ++ decimal second ++ codes " ms"
+
+-- what a notice says: lines of the log weren't kept, since what was written before them wasn't taken
+unfoldable pub notice_text : Notice → List ℕ
+notice_text (Dropped lines) = codes "dropped " ++ decimal lines ++ codes " lines, which nobody took"

@@ -3,13 +3,14 @@
 
 ghost use Rattle.std.specs.Prelude.{◌≡◌, ◌++◌, codes, [], ◌∷◌, None, Some};
 ghost use Rattle.exchange_log.specs.declared.note.Note.TheVariants as notes;
+ghost use Rattle.exchange_log.specs.declared.note.Notice.TheVariants.{Dropped};
 ghost use Rattle.exchange_log.specs.declared.stamp.Way.TheVariants.{Came, Sent};
 ghost use Rattle.exchange_log.specs.Escaping.{escaped, shown};
 ghost use Rattle.exchange_log.specs.Grouping.{grouped, number_shown};
-ghost use Rattle.exchange_log.specs.TimeOfDay.{time_of_day};
+ghost use Rattle.exchange_log.specs.TimeOfDay.{date_of, time_of_day, date_and_time};
 ghost use Rattle.exchange_log.specs.Messages.{message_shown, header_of};
-ghost use Rattle.exchange_log.specs.Notes.{note_text};
-ghost use Rattle.exchange_log.specs.Lines.{message_line, note_line, given_up_line, refused_line};
+ghost use Rattle.exchange_log.specs.Notes.{note_text, notice_text};
+ghost use Rattle.exchange_log.specs.Lines.{message_line, note_line, notice_line, given_up_line, refused_line};
 ghost use Rattle.exchange_log.specs.Example.{stamp_at, noon, own};
 
 /// A day has 24 hours of 60 minutes of 60 seconds of 1,000 milliseconds; what is below a millisecond isn't shown.
@@ -24,6 +25,30 @@ pub fn a_moment_has_a_time_of_day()
     ensures noon { time_of_day noon ≡ codes "12:03:07.123" }
     // 1,234,567,890 seconds after 1970 began it was 23:31:30 on 13 February 2009.
     ensures later { time_of_day 1234567890450000 ≡ codes "23:31:30.450" }
+{}
+
+/// Months have their lengths, February 29 days in a leap year: each fourth is one, but of those that end a century only each fourth.
+pub fn a_day_has_a_date()
+    ensures first { date_of 0 ≡ codes "1970-01-01" }
+    ensures month { date_of 30 ≡ codes "1970-01-31" }
+    ensures next_month { date_of 31 ≡ codes "1970-02-01" }
+    ensures year { date_of 364 ≡ codes "1970-12-31" }
+    ensures next_year { date_of 365 ≡ codes "1971-01-01" }
+    ensures no_leap_day { date_of 424 ≡ codes "1971-03-01" }
+    ensures leap_day { date_of 789 ≡ codes "1972-02-29" }
+    ensures after { date_of 790 ≡ codes "1972-03-01" }
+    ensures summer { date_of 911 ≡ codes "1972-06-30" }
+    ensures autumn { date_of 1003 ≡ codes "1972-09-30" }
+    ensures century { date_of 11016 ≡ codes "2000-02-29" }
+    ensures later { date_of 20784 ≡ codes "2026-11-27" }
+    ensures other_century { date_of 47541 ≡ codes "2100-03-01" }
+{}
+
+/// A moment has both, a day of 86,400 seconds; `T` stands between them, and `Z` says that it is UTC.
+pub fn a_moment_has_a_date()
+    ensures last { date_and_time 86399999999 ≡ codes "1970-01-01T23:59:59.999Z" }
+    ensures next { date_and_time 86400000000 ≡ codes "1970-01-02T00:00:00.000Z" }
+    ensures later { date_and_time 1234567890450000 ≡ codes "2009-02-13T23:31:30.450Z" }
 {}
 
 /// From the blank to the tilde each byte is shown as it is, but the backslash; any other by two hexadecimal digits.
@@ -114,22 +139,28 @@ pub fn notes_say_what_happened()
     ensures copied { note_text (notes.Copied 0 1200) ≡ codes "copied, late by 0 and 1200 ms" }
 {}
 
-/// Each line begins with the time of day and the other end, and says by a sign what it is.
+/// What is noted of the program itself, of each kind.
+pub fn notices_say_what_happened()
+    ensures dropped { notice_text (Dropped 1234) ≡ codes "dropped 1234 lines, which nobody took" }
+    ensures line { notice_line noon (Dropped 1) ≡ codes "1970-01-02T12:03:07.123Z ! dropped 1 lines, which nobody took\n" }
+{}
+
+/// Each line begins with the date, the time of day and the other end, and says by a sign what it is.
 pub fn lines_have_their_forms()
     ensures came { message_line own (stamp_at noon) Came (codes "RQNT 1207 aaln/1@rgw.example.net MGCP 1.0\r\nS: L/rg\r\n") None
-        ≡ codes "12:03:07.123 10.0.0.7:2727 > RQNT 1207 aaln/1 S: L/rg\n" }
+        ≡ codes "1970-01-02T12:03:07.123Z 10.0.0.7:2727 > RQNT 1207 aaln/1 S: L/rg\n" }
     ensures answered { message_line own (stamp_at noon) Sent (codes "200 1207 OK\r\n") (Some 0)
-        ≡ codes "12:03:07.123 10.0.0.7:2727 < 200 1207 OK +0 ms\n" }
+        ≡ codes "1970-01-02T12:03:07.123Z 10.0.0.7:2727 < 200 1207 OK +0 ms\n" }
     ensures waited { message_line own (stamp_at 0) Came (codes "200 10000003\r\n") (Some 512)
-        ≡ codes "00:00:00.000 10.0.0.7:2727 > 200 10000003 +512 ms\n" }
-    ensures empty { message_line own (stamp_at 0) Came [] None ≡ codes "00:00:00.000 10.0.0.7:2727 >\n" }
+        ≡ codes "1970-01-01T00:00:00.000Z 10.0.0.7:2727 > 200 10000003 +512 ms\n" }
+    ensures empty { message_line own (stamp_at 0) Came [] None ≡ codes "1970-01-01T00:00:00.000Z 10.0.0.7:2727 >\n" }
     ensures noted { note_line (stamp_at noon) (notes.AnsweredAgain 1205)
-        ≡ codes "12:03:07.123 10.0.0.7:2727 ! repeat of 1205, answered again\n" }
+        ≡ codes "1970-01-02T12:03:07.123Z 10.0.0.7:2727 ! repeat of 1205, answered again\n" }
     ensures given_up { given_up_line own (stamp_at noon) (codes "NTFY 10000003 aaln/1@rgw.example.net MGCP 1.0\r\nX: A1\r\n")
-        ≡ codes "12:03:07.123 10.0.0.7:2727 ! given up: NTFY 10000003 aaln/1\n" }
+        ≡ codes "1970-01-02T12:03:07.123Z 10.0.0.7:2727 ! given up: NTFY 10000003 aaln/1\n" }
     ensures refused { refused_line (stamp_at noon) 1207 (codes "518 unsupported or unknown package: value of parameter R")
-        ≡ codes "12:03:07.123 10.0.0.7:2727 ! refused 1207: 518 unsupported or unknown package: value of parameter R\n" }
+        ≡ codes "1970-01-02T12:03:07.123Z 10.0.0.7:2727 ! refused 1207: 518 unsupported or unknown package: value of parameter R\n" }
     // What is at fault may be a byte that isn't printable.
     ensures refused_byte { refused_line (stamp_at 0) 1 (codes "510 protocol error: missing parameter " ++ 7 ∷ [])
-        ≡ codes "00:00:00.000 10.0.0.7:2727 ! refused 1: 510 protocol error: missing parameter " ++ 92 ∷ codes "x07\n" }
+        ≡ codes "1970-01-01T00:00:00.000Z 10.0.0.7:2727 ! refused 1: 510 protocol error: missing parameter " ++ 92 ∷ codes "x07\n" }
 {}

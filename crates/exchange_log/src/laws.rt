@@ -2,10 +2,11 @@
 ghost use Rattle.std.specs.Prelude.{◌≡◌, ◌≤◌, ℕ, List, Option, length, true};
 ghost use Rattle.std.specs.List.{list_all};
 ghost use Rattle.exchange_log.specs.declared.note.Note.{Note};
+ghost use Rattle.exchange_log.specs.declared.note.Notice.{Notice};
 ghost use Rattle.exchange_log.specs.declared.stamp.Stamp.{Stamp};
 ghost use Rattle.exchange_log.specs.declared.stamp.Way.{Way};
 ghost use Rattle.exchange_log.specs.Escaping.{is_plain, escaped, shown, is_text, IsLine};
-ghost use Rattle.exchange_log.specs.Lines.{message_line, note_line, given_up_line, refused_line};
+ghost use Rattle.exchange_log.specs.Lines.{message_line, note_line, notice_line, given_up_line, refused_line};
 
 /// Whatever bytes a datagram has, what is shown of them is printable ASCII; and what is that, without a backslash, and of at
 /// most 64 bytes is shown as it is.
@@ -20,6 +21,7 @@ pub fn a_line_is_one_line()
     ensures message { (own : List ℕ) (stamp : Stamp) (way : Way) (text : List ℕ) (waited : Option ℕ)
         → IsLine (message_line own stamp way text waited) }
     ensures note { (stamp : Stamp) (note : Note) → IsLine (note_line stamp note) }
+    ensures notice { (moment : ℕ) (notice : Notice) → IsLine (notice_line moment notice) }
     ensures given_up { (own : List ℕ) (stamp : Stamp) (text : List ℕ) → IsLine (given_up_line own stamp text) }
     ensures refused { (stamp : Stamp) (id : ℕ) (why : List ℕ) → IsLine (refused_line stamp id why) }
 {}

@@ -1,13 +1,13 @@
 //! The lines of the log.
 ghost use Rattle.std.specs.Prelude.{◌≡◌, ◌++◌, string_bytes, IfOk, OnOk, OnErr};
 ghost use Rattle.std.specs.Net.Text.{socket_v4_text};
-ghost use Rattle.exchange_log.specs.Lines.{stamp_text, mark_of, waited_text, message_line, note_line, given_up_line, refused_line};
+ghost use Rattle.exchange_log.specs.Lines.{stamp_text, mark_of, waited_text, message_line, note_line, notice_line, given_up_line, refused_line};
 
 use crate::escaping::put_escaped;
 use crate::messages::{put_header, put_text};
-use crate::note::{Note, put_note_text};
+use crate::note::{Note, Notice, put_note_text, put_notice_text};
 use crate::stamp::{Stamp, Way};
-use crate::time::put_time;
+use crate::time::put_date_and_time;
 use mg_bytes::{OutOfMemory, put_decimal};
 use mgcp_text::TransactionId;
 use std::alloc::Global;
@@ -28,7 +28,7 @@ fn begun(alloc: Global, stamp: Stamp) -> Result<Vec<u8>, OutOfMemory>
 {
     let peer = peer_text(alloc, stamp.peer)?;
     let mut line = Vec::new(alloc);
-    put_time(&mut line, stamp.moment)?;
+    put_date_and_time(&mut line, stamp.moment)?;
     line.push(b' ')?;
     line.extend_from_slice(peer.as_bytes())?;
     Ok(line)
@@ -73,8 +73,8 @@ fn message_line(
     Ok(line)
 }
 
-/// Puts a message that came or is sent, in one line, as `12:03:07.123 10.0.0.7:2727 > RQNT 1207 aaln/1 S: L/rg`: of its
-/// header the verb or return code, the transaction id, and the endpoint's name or the comment; then its parameters in their
+/// Puts a message that came or is sent, in one line, as `2026-11-27T12:03:07.123Z 10.0.0.7:2727 > RQNT 1207 aaln/1 S: L/rg`:
+/// of its header the verb or return code, the transaction id, and the endpoint's name or the comment; then its parameters in their
 /// order and the lines of its description. A name whose domain is `own`, compared without case, stands without it, and any
 /// other is whole; where `own` is empty all are. `waited` is how long the command had been waiting for this answer, in ms, and
 /// is shown behind it, as ` +12 ms`. Of a value of more than 64 bytes the front is shown, and `..`; each byte that isn't
@@ -107,8 +107,8 @@ fn note_line(alloc: Global, stamp: Stamp, note: Note) -> Result<Vec<u8>, OutOfMe
     Ok(line)
 }
 
-/// Puts a note in one line, as `12:03:07.123 10.0.0.7:2727 ! repeat of 1205, answered again`. After an error, which is for
-/// want of memory only, `out` is as it was.
+/// Puts a note in one line, as `2026-11-27T12:03:07.123Z 10.0.0.7:2727 ! repeat of 1205, answered again`. After an error, which
+/// is for want of memory only, `out` is as it was.
 pub fn put_note(
     alloc: Global,
     out: &mut Vec<u8>,
@@ -119,6 +119,35 @@ pub fn put_note(
     ensures err { OnErr result (out.new.items ≡ out.old.items) }
 {
     let line = note_line(alloc, stamp, note)?;
+    out.extend_from_slice(&line)?;
+    Ok(())
+}
+
+#[tactic(auto, unfolding(crate::specs::Lines::notice_line))]
+fn notice_line(alloc: Global, moment: u64, notice: Notice) -> Result<Vec<u8>, OutOfMemory>
+    ensures { IfOk result (λ line. line.items ≡ notice_line moment notice) }
+{
+    let mut line = Vec::new(alloc);
+    put_date_and_time(&mut line, moment)?;
+    line.extend_from_slice(b" ! ")?;
+    put_notice_text(alloc, &mut line, notice)?;
+    line.push(b'\n')?;
+    Ok(line)
+}
+
+/// Puts what is noted of the program itself at this moment, in microseconds since 1970 began, in one line, as
+/// `2026-11-27T12:03:07.123Z ! dropped 1234 lines, which nobody took`. After an error, which is for want of memory only, `out` is as it
+/// was.
+pub fn put_notice(
+    alloc: Global,
+    out: &mut Vec<u8>,
+    moment: u64,
+    notice: Notice,
+) -> Result<(), OutOfMemory>
+    ensures ok { OnOk result (out.new.items ≡ out.old.items ++ notice_line moment notice) }
+    ensures err { OnErr result (out.new.items ≡ out.old.items) }
+{
+    let line = notice_line(alloc, moment, notice)?;
     out.extend_from_slice(&line)?;
     Ok(())
 }
@@ -139,8 +168,8 @@ fn given_up_line(
     Ok(line)
 }
 
-/// Puts that the gateway's own command of this text is given up (RFC 3435, 4.3), as `12:03:27.123 10.0.0.7:2727 ! given up:
-/// NTFY 10000003 aaln/1`, the name as `put_message` puts it. After an error, which is for want of memory only, `out` is as it
+/// Puts that the gateway's own command of this text is given up (RFC 3435, 4.3), as `2026-11-27T12:03:27.123Z 10.0.0.7:2727 !
+/// given up: NTFY 10000003 aaln/1`, the name as `put_message` puts it. After an error, which is for want of memory only, `out` is as it
 /// was.
 pub fn put_given_up(
     alloc: Global,
@@ -176,7 +205,7 @@ fn refused_line(
 }
 
 /// Puts that the command with this id is refused, and what is at fault, as `explain` of `command_forms` says it:
-/// `12:03:07.123 10.0.0.7:2727 ! refused 1207: 518 unsupported or unknown package: value of parameter R`. Where nothing is
+/// `2026-11-27T12:03:07.123Z 10.0.0.7:2727 ! refused 1207: 518 unsupported or unknown package: value of parameter R`. Where nothing is
 /// known but the code, `Note::Refused` says it. After an error, which is for want of memory only, `out` is as it was.
 pub fn put_refused(
     alloc: Global,

@@ -1,7 +1,7 @@
 //! What is noted beside messages.
 ghost use Rattle.std.specs.Prelude.{◌≡◌, ◌++◌, codes, decimal, OnOk};
 ghost use Rattle.mg_bytes.specs.ReturnCode.{code_with};
-ghost use Rattle.exchange_log.specs.Notes.{words_from, note_text};
+ghost use Rattle.exchange_log.specs.Notes.{words_from, note_text, notice_text};
 
 use mg_bytes::{OutOfMemory, ReturnCode, put_decimal};
 use mgcp_text::TransactionId;
@@ -32,6 +32,13 @@ pub enum Note {
     Copied { first: u64, second: u64 },
     /// Memory was refused, and nothing was done.
     OutOfMemory,
+}
+
+/// What is noted of the program itself.
+#[derive(Clone, Copy)]
+pub enum Notice {
+    /// So many lines of the log weren't kept, since what was written before them wasn't taken.
+    Dropped { lines: u64 },
 }
 
 // Pieces around a number.
@@ -149,5 +156,21 @@ pub(crate) fn put_note_text(alloc: Global, out: &mut Vec<u8>, note: Note) -> Res
             )
         }
         Note::OutOfMemory => out.extend_from_slice(b"out of memory, nothing was done"),
+    }
+}
+
+/// Puts what a notice says.
+#[tactic(auto, unfolding(crate::specs::Notes::notice_text))]
+pub(crate) fn put_notice_text(
+    alloc: Global,
+    out: &mut Vec<u8>,
+    notice: Notice,
+) -> Result<(), OutOfMemory>
+    ensures { OnOk result (out.new.items ≡ out.old.items ++ notice_text notice) }
+{
+    match notice {
+        Notice::Dropped { lines } => {
+            put_around(alloc, out, b"dropped ", lines, b" lines, which nobody took")
+        }
     }
 }

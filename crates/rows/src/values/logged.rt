@@ -1,7 +1,9 @@
 //! Calls about the log of a live gateway, whose domain is that of the rows: the line that each puts.
 use crate::values::capturing::{address_of, number_of, parted};
 use crate::values::names::DOMAIN;
-use exchange_log::{Note, Stamp, Way, put_given_up, put_message, put_note, put_refused};
+use exchange_log::{
+    Note, Notice, Stamp, Way, put_given_up, put_message, put_note, put_notice, put_refused,
+};
 use mg_bytes::OutOfMemory;
 use mgcp_text::TransactionId;
 use scenario_files::Row;
@@ -30,6 +32,17 @@ fn put_why(row: &mut Row<'_>, stamp: Stamp, value: &[u8]) -> Result<(), OutOfMem
     let (id, why) = parted(row, value);
     let id = id_of(row, id);
     put_refused(row.alloc, &mut row.given, stamp, id, why)
+}
+
+// `1234`: so many lines. What is noted of the program itself has no other end.
+fn put_dropped(row: &mut Row<'_>, stamp: Stamp, value: &[u8]) -> Result<(), OutOfMemory> {
+    let lines = number_of(row, value);
+    put_notice(
+        row.alloc,
+        &mut row.given,
+        stamp.moment,
+        Notice::Dropped { lines },
+    )
 }
 
 // `1207 401`: the command, and the code by which it is refused.
@@ -74,6 +87,7 @@ fn put_line(row: &mut Row<'_>, call: &str, stamp: Stamp, value: &[u8]) -> Result
         "log sent" => put_told(row, stamp, Way::Sent, value),
         "log given up" => put_given_up(row.alloc, &mut row.given, DOMAIN, stamp, value),
         "log refused" => put_why(row, stamp, value),
+        "log dropped" => put_dropped(row, stamp, value),
         _ => {
             let note = note_of(row, call, value);
             put_note(row.alloc, &mut row.given, stamp, note)

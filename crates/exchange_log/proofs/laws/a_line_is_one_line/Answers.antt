@@ -1,4 +1,4 @@
-use Rattle.exchange_log.proofs.LineLaws.{message_is_line, note_is_line, given_up_is_line, refused_is_line}
+use Rattle.exchange_log.proofs.LineLaws.{message_is_line, note_is_line, notice_is_line, given_up_is_line, refused_is_line}
 use Rattle.exchange_log.proofs.laws.a_line_is_one_line.Goals as goal
 
 pub returns-clause-message : goal.returns-clause-message
@@ -6,6 +6,9 @@ returns-clause-message c = message_is_line
 
 pub returns-clause-note : goal.returns-clause-note
 returns-clause-note c = note_is_line
+
+pub returns-clause-notice : goal.returns-clause-notice
+returns-clause-notice c = notice_is_line
 
 pub returns-clause-given_up : goal.returns-clause-given_up
 returns-clause-given_up c = given_up_is_line
