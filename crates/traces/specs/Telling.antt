@@ -54,6 +54,10 @@ abbrev pub told_mark : Mark → ℕ → List ℕ
 told_mark Unsent place = unsent_words ++ printed_line (decimal place)
 told_mark Lost place = lost_words ++ printed_line (decimal place)
 
+-- the last line of a trace that is broken off there, since what stands before it wasn't taken
+abbrev pub broken_off : List ℕ
+broken_off = codes "| ! broken off"
+
 -- the line begins with these words
 abbrev pub begins : List ℕ → List ℕ → Bool
 begins words line = bytes_eq (take (length words) line) words
@@ -66,6 +70,7 @@ is_whole piece = bytes_eq (drop (length piece - 1) piece) (10 ∷ [])
 abbrev pub number_behind : List ℕ → List ℕ → Option ℕ
 number_behind words line = if begins words line then decimal_of (drop (length words) line) else None
 
--- the line, without its end, tells what became of a datagram
+-- the line, without its end, tells what became of a datagram, or that the trace is broken off
 unfoldable pub is_mark : List ℕ → Bool
-is_mark line = is_some (number_behind unsent_words line) || is_some (number_behind lost_words line)
+is_mark line =
+    is_some (number_behind unsent_words line) || is_some (number_behind lost_words line) || bytes_eq line broken_off

@@ -29,7 +29,7 @@ pub fn what_is_noted_is_told()
     ensures lost { told_mark Lost 12 ≡ codes "| ! lost on its way 12\n" }
 {}
 
-/// A line tells what became of a datagram where it says just that, and by a number.
+/// A line tells what became of a datagram where it says just that, and by a number; or that the trace is broken off.
 pub fn marks_are_known()
     ensures unsent { is_mark (codes "| ! not sent 1") ≡ true }
     ensures lost { is_mark (codes "| ! lost on its way 12") ≡ true }
@@ -37,6 +37,8 @@ pub fn marks_are_known()
     ensures more { is_mark (codes "| ! not sent 1 ") ≡ false }
     ensures refusal { is_mark (codes "| ! 5 PhoneState") ≡ false }
     ensures bare { is_mark (codes "! not sent 1") ≡ false }
+    ensures broken_off { is_mark (codes "| ! broken off") ≡ true }
+    ensures other_words { is_mark (codes "| ! broken off 1") ≡ false }
 {}
 
 /// What came in is given to the gateway, and what that sends is owed.
@@ -69,6 +71,7 @@ pub fn what_went_out_is_compared()
     ensures more { comes_where [] (codes "| a\n") ≡ differs }
     ensures less { comes_where (codes "| a\n") (codes "show 1\n") ≡ differs }
     ensures mark { comes_where [] (codes "| ! not sent 1\n") ≡ goes_on [] (owing [] []) }
+    ensures broken_off { comes_where [] (codes "| ! broken off\n") ≡ goes_on [] (owing [] []) }
     ensures early { comes_where (codes "| a\n") (codes "| ! not sent 1\n") ≡ differs }
     ensures done { may_end (owing [] []) ≡ true }
     ensures owed { may_end (owing [] (codes "| a\n")) ≡ false }

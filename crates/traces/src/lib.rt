@@ -19,6 +19,8 @@ pub use crate::head::{first_in, is_head_end};
 pub use crate::replaying::{Progress, Replay};
 pub use crate::reporting::replay;
 pub use crate::steps::shown_by;
-pub use crate::telling::{Mark, is_mark, put_first, put_mark, put_sent, put_shown};
+pub use crate::telling::{
+    Mark, broken_off_line, is_mark, put_first, put_mark, put_sent, put_shown,
+};
 pub use crate::verdict::{ReplayFault, Verdict};
 pub use crate::wording::put_verdict;

@@ -1,10 +1,10 @@
 //! What a trace has of what a gateway sends and answers.
-ghost use Rattle.std.specs.Prelude.{◌≡◌, ◌++◌, decimal, IfOk, OnOk, string_bytes, codes};
+ghost use Rattle.std.specs.Prelude.{◌≡◌, [], ◌∷◌, ◌++◌, decimal, IfOk, OnOk, string_bytes, codes};
 ghost use Rattle.std.specs.List.{flat_map};
 ghost use Rattle.std.specs.Net.Text.{socket_v4_text};
 ghost use Rattle.mg_bytes.specs.Lines.{lines_of};
 ghost use Rattle.rgw_scripts.specs.Printing.{printed_line};
-ghost use Rattle.traces.specs.Telling.{told_line, told_text, told_datagram, told_first, told_mark, begins, mark, number_behind, is_mark};
+ghost use Rattle.traces.specs.Telling.{told_line, told_text, told_datagram, told_first, told_mark, broken_off, begins, mark, number_behind, is_mark};
 
 use mg_bytes::{OutOfMemory, decimal, lines, put_decimal};
 use std::alloc::Global;
@@ -19,6 +19,8 @@ pub(crate) const FIRST: &[u8] = b"| first ";
 const UNSENT: &[u8] = b"| ! not sent ";
 
 const LOST: &[u8] = b"| ! lost on its way ";
+
+const BROKEN_OFF: &[u8] = b"| ! broken off";
 
 /// What became of a datagram of the turn before.
 #[derive(Clone, Copy)]
@@ -104,6 +106,13 @@ pub fn put_mark(alloc: Global, out: &mut Vec<u8>, mark: Mark, place: u64) -> Res
     }
 }
 
+/// The last line of a trace that is broken off, since what stands before it wasn't taken.
+pub fn broken_off_line() -> &'static [u8]
+    ensures { result.now ≡ broken_off ++ 10 ∷ [] }
+{
+    b"| ! broken off\n"
+}
+
 /// Whether a line is told: it went out, or became something.
 pub(crate) fn is_told(line: &[u8]) -> bool
     ensures { result ≡ begins mark line.now }
@@ -124,10 +133,12 @@ pub(crate) fn number_behind(words: &[u8], line: &[u8]) -> Option<u64>
     }
 }
 
-/// Whether a line, without its end, tells what became of a datagram.
+/// Whether a line, without its end, tells what became of a datagram, or that the trace is broken off.
 #[tactic(auto, unfolding(crate::specs::Telling::is_mark))]
 pub fn is_mark(line: &[u8]) -> bool
     ensures { result ≡ is_mark line.now }
 {
-    number_behind(UNSENT, line).is_some() || number_behind(LOST, line).is_some()
+    number_behind(UNSENT, line).is_some()
+        || number_behind(LOST, line).is_some()
+        || line == BROKEN_OFF
 }
