@@ -3,6 +3,7 @@ use Rattle.std.specs.Prelude.{ℕ, ◌==◌, nat_lt, codes, decimal, if◌then�
 use Rattle.std.specs.List.{flat_map}
 use Rattle.page_answers.specs.declared.counts.VerbCount.{VerbCount}
 use Rattle.page_answers.specs.declared.counts.CodeCount.{CodeCount}
+use Rattle.page_answers.specs.declared.counts.FileCount.{FileCount}
 use Rattle.page_answers.specs.declared.counts.Counts.{Counts}
 use Rattle.page_answers.specs.declared.picture.Picture.{Picture}
 use Rattle.page_answers.specs.declared.picture.Totals.{Totals}
@@ -55,11 +56,17 @@ verb_sample count = labelled_sample (codes "rgw_commands_total") (codes "verb") 
 abbrev pub code_sample : CodeCount → List ℕ
 code_sample count = labelled_sample (codes "rgw_answers_total") (codes "code") (code_text count.code) count.number
 
+abbrev pub file_sample : FileCount → List ℕ
+file_sample count = labelled_sample (codes "rgw_write_faults_total") (codes "file") count.file.items count.number
+
 abbrev pub verb_samples : List VerbCount → List ℕ
 verb_samples counts = flat_map verb_sample counts
 
 abbrev pub code_samples : List CodeCount → List ℕ
 code_samples counts = flat_map code_sample counts
+
+abbrev pub file_samples : List FileCount → List ℕ
+file_samples counts = flat_map file_sample counts
 
 -- a metric of one sample
 abbrev pub single : List ℕ → List ℕ → List ℕ → ℕ → List ℕ
@@ -125,6 +132,17 @@ faults_text counts =
     family (codes "rgw_faults_total") (codes "counter") (codes "How often a socket failed.") (codes "of")
     ((codes "receive", counts.receive_faults) ∷ (codes "send", counts.send_faults) ∷ [])
 
+unfoldable pub dropped_text : Counts → List ℕ
+dropped_text counts =
+    singles (counter (codes "rgw_dropped_lines_total") (codes "Lines of the log that found no room.") counts.dropped_lines ∷ [])
+
+unfoldable pub write_faults_head : List ℕ
+write_faults_head = family_head (codes "rgw_write_faults_total") (codes "counter") (codes "How often a record couldn't be written.")
+
+-- what wasn't recorded
+abbrev pub records_text : Counts → List ℕ
+records_text counts = dropped_text counts ++ write_faults_head ++ file_samples counts.write_faults.items
+
 -- what there is now: so many lines, what these have together, and so many transactions
 unfoldable pub gauges_text : ℕ → Totals → ℕ → List ℕ
 gauges_text lines totals transactions =
@@ -139,5 +157,5 @@ gauges_text lines totals transactions =
 abbrev pub metrics_of : Picture → List ℕ
 metrics_of picture =
     traffic_text picture.counts ++ own_counters picture.counts ++ repeats_text picture.counts
-    ++ useless_counters picture.counts ++ faults_text picture.counts
+    ++ useless_counters picture.counts ++ faults_text picture.counts ++ records_text picture.counts
     ++ gauges_text (length picture.lines.items) (totals_of picture.lines.items) picture.counts.transactions

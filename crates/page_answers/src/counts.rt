@@ -17,6 +17,13 @@ pub struct CodeCount {
     pub number: u64,
 }
 
+/// How often a file couldn't be written, or a stream, which has its name here.
+#[derive(Drop)]
+pub struct FileCount {
+    pub file: Vec<u8>,
+    pub number: u64,
+}
+
 /// What was counted since the start, and how much is held now.
 #[derive(Drop)]
 pub struct Counts {
@@ -42,6 +49,10 @@ pub struct Counts {
     pub refused: u64,
     pub receive_faults: u64,
     pub send_faults: u64,
+    /// Lines of the log that found no room.
+    pub dropped_lines: u64,
+    /// Of each file and stream that something is recorded into.
+    pub write_faults: Vec<FileCount>,
     /// Transactions that are held now.
     pub transactions: u64,
 }

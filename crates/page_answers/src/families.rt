@@ -87,6 +87,20 @@ pub(crate) const FAULTS: Metric = Metric {
     label: b"of",
 };
 
+pub(crate) const DROPPED_LINES: Metric = Metric {
+    name: b"rgw_dropped_lines_total",
+    kind: b"counter",
+    help: b"Lines of the log that found no room.",
+    label: b"",
+};
+
+pub(crate) const WRITE_FAULTS: Metric = Metric {
+    name: b"rgw_write_faults_total",
+    kind: b"counter",
+    help: b"How often a record couldn't be written.",
+    label: b"file",
+};
+
 pub(crate) const LOST_EVENTS: Metric = Metric {
     name: b"rgw_lost_events_total",
     kind: b"counter",

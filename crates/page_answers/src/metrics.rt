@@ -1,14 +1,14 @@
 //! What was counted, in Prometheus' text format.
 ghost use Rattle.std.specs.Prelude.{◌≡◌, ◌++◌, OnOk, IfOk};
 ghost use Rattle.std.specs.List.{flat_map};
-ghost use Rattle.page_answers.specs.Metrics.{escaped_byte, escaped, help_line, type_line, family_head, plain_sample, label_begun, label_ended, labelled_sample, code_text, verb_sample, verb_samples, code_sample, code_samples, single, datagrams_text, commands_head, answers_head, traffic_text, own_counters, repeats_text, useless_counters, faults_text, gauges_text, metrics_of};
+ghost use Rattle.page_answers.specs.Metrics.{escaped_byte, escaped, help_line, type_line, family_head, plain_sample, label_begun, label_ended, labelled_sample, code_text, verb_sample, verb_samples, code_sample, code_samples, file_sample, file_samples, single, datagrams_text, commands_head, answers_head, traffic_text, own_counters, repeats_text, useless_counters, faults_text, dropped_text, write_faults_head, records_text, gauges_text, metrics_of};
 ghost use Rattle.page_answers.specs.Samples.{single_of, family_of};
 
-use crate::counts::{CodeCount, Counts, VerbCount, verb_word};
+use crate::counts::{CodeCount, Counts, FileCount, VerbCount, verb_word};
 use crate::families::{
-    ANNOUNCEMENTS, ANSWERS, COMMANDS, CONNECTIONS, DATAGRAMS, FAULTS, GIVEN_UP, LINES,
-    LINES_OFF_HOOK, LOST_EVENTS, Metric, NOTIFICATIONS, REFUSED, REPEATS, RESPONSES, TRANSACTIONS,
-    UNREADABLE,
+    ANNOUNCEMENTS, ANSWERS, COMMANDS, CONNECTIONS, DATAGRAMS, DROPPED_LINES, FAULTS, GIVEN_UP,
+    LINES, LINES_OFF_HOOK, LOST_EVENTS, Metric, NOTIFICATIONS, REFUSED, REPEATS, RESPONSES,
+    TRANSACTIONS, UNREADABLE, WRITE_FAULTS,
 };
 use crate::picture::{Picture, Totals};
 use mg_bytes::{OutOfMemory, put_decimal};
@@ -172,6 +172,27 @@ fn put_codes(alloc: Global, out: &mut Vec<u8>, counts: &[CodeCount]) -> Result<(
     Ok(())
 }
 
+fn put_file(alloc: Global, out: &mut Vec<u8>, count: &FileCount) -> Result<(), OutOfMemory>
+    ensures { OnOk result (out.new.items ≡ out.old.items ++ file_sample count.now) }
+{
+    put_labelled(
+        alloc,
+        out,
+        WRITE_FAULTS,
+        count.file.as_slice(),
+        count.number,
+    )
+}
+
+fn put_files(alloc: Global, out: &mut Vec<u8>, counts: &[FileCount]) -> Result<(), OutOfMemory>
+    ensures { OnOk result (out.new.items ≡ out.old.items ++ file_samples counts.now) }
+{
+    for count in counts {
+        put_file(alloc, out, count)?;
+    }
+    Ok(())
+}
+
 // Metrics of one sample each.
 fn put_singles(
     alloc: Global,
@@ -288,6 +309,29 @@ fn put_faults(alloc: Global, out: &mut Vec<u8>, counts: &Counts) -> Result<(), O
     put_family(alloc, out, FAULTS, &faults)
 }
 
+#[tactic(auto, unfolding(crate::specs::Metrics::dropped_text))]
+fn put_dropped(alloc: Global, out: &mut Vec<u8>, counts: &Counts) -> Result<(), OutOfMemory>
+    ensures { OnOk result (out.new.items ≡ out.old.items ++ dropped_text counts.now) }
+{
+    let singles = [(DROPPED_LINES, counts.dropped_lines)];
+    put_singles(alloc, out, &singles)
+}
+
+#[tactic(auto, unfolding(crate::specs::Metrics::write_faults_head))]
+fn put_write_faults_head(out: &mut Vec<u8>) -> Result<(), OutOfMemory>
+    ensures { OnOk result (out.new.items ≡ out.old.items ++ write_faults_head) }
+{
+    put_head(out, WRITE_FAULTS)
+}
+
+fn put_records(alloc: Global, out: &mut Vec<u8>, counts: &Counts) -> Result<(), OutOfMemory>
+    ensures { OnOk result (out.new.items ≡ out.old.items ++ records_text counts.now) }
+{
+    put_dropped(alloc, out, counts)?;
+    put_write_faults_head(out)?;
+    put_files(alloc, out, counts.write_faults.as_slice())
+}
+
 #[tactic(auto, unfolding(crate::specs::Metrics::gauges_text))]
 fn put_gauges(
     alloc: Global,
@@ -318,6 +362,7 @@ pub fn metrics_text(alloc: Global, picture: &Picture) -> Result<Vec<u8>, OutOfMe
     put_repeats(alloc, &mut out, &picture.counts)?;
     put_useless_counters(alloc, &mut out, &picture.counts)?;
     put_faults(alloc, &mut out, &picture.counts)?;
+    put_records(alloc, &mut out, &picture.counts)?;
     let lines = picture.lines.len() as u64;
     put_gauges(
         alloc,

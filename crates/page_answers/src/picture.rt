@@ -92,6 +92,8 @@ impl Picture {
                 refused: 0,
                 receive_faults: 0,
                 send_faults: 0,
+                dropped_lines: 0,
+                write_faults: Vec::new(alloc),
                 transactions: 0,
             },
         }

@@ -2,12 +2,13 @@
 //!
 //! A value has a word for each thing that isn't 0: `refused:3`, `verb:6:2` for two commands of the verb at this place,
 //! `code:200:4`; `off:1` and `on:0` for a line on which so many events were lost, and behind it `tone:2000` and `tone:-`
-//! for a signal and its end, and `connection:26`.
+//! for a signal and its end, and `connection:26`; `file:trace:1` for a file that couldn't be written so often.
 use crate::texts::words_of;
 use crate::values::capturing::number_of;
 use mg_bytes::{decimal, split_once};
 use page_answers::{
-    CodeCount, ConnectionView, LineView, Picture, SignalView, VerbCount, metrics_text, state_text,
+    CodeCount, ConnectionView, FileCount, LineView, Picture, SignalView, VerbCount, metrics_text,
+    state_text,
 };
 use scenario_files::Row;
 use std::alloc::Global;
@@ -30,6 +31,7 @@ fn set_number(picture: &mut Picture, key: &str, number: u64) -> bool {
         "refused" => picture.counts.refused = number,
         "receive-faults" => picture.counts.receive_faults = number,
         "send-faults" => picture.counts.send_faults = number,
+        "dropped" => picture.counts.dropped_lines = number,
         "transactions" => picture.counts.transactions = number,
         _ => return false,
     }
@@ -50,6 +52,16 @@ fn small_number_of(row: &mut Row<'_>, digits: &[u8]) -> u16 {
 fn pair_of(row: &mut Row<'_>, value: &[u8]) -> (u16, u64) {
     let (place, number) = split_once(value, b':').unwrap_or((value, b""));
     (small_number_of(row, place), number_of(row, number))
+}
+
+// `capture.pcap:1`: a file, and a number.
+fn file_of(row: &mut Row<'_>, value: &[u8]) -> Option<FileCount> {
+    let (name, number) = split_once(value, b':').unwrap_or((value, b""));
+    let number = number_of(row, number);
+    match Vec::from_slice(row.alloc, name) {
+        Ok(file) => Some(FileCount { file, number }),
+        Err(_) => None,
+    }
 }
 
 // The end of a signal: `-` or digits.
@@ -113,6 +125,10 @@ fn tell_list(row: &mut Row<'_>, picture: &mut Picture, key: &str, value: &[u8]) 
                 .push(CodeCount { code, number })
                 .is_ok()
         }
+        "file" => match file_of(row, value) {
+            Some(file) => picture.counts.write_faults.push(file).is_ok(),
+            None => false,
+        },
         "off" | "on" => {
             let lost = number_of(row, value);
             let line = begun(row.alloc, key == "off", lost);
