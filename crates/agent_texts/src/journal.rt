@@ -5,11 +5,12 @@ use event_values::{Observed, write_observed};
 use exchange_log::{
     Note, Packet, Stamp, Way, put_given_up, put_head, put_message, put_note, put_packet,
 };
-use live_ends::Record;
+use live_ends::{Outlets, Record, Written};
 use mg_bytes::{OutOfMemory, lines};
 use mgcp_text::{Message, TextFault, read_message};
 use piggyback::parts;
 use std::alloc::Global;
+use std::io::Write;
 use std::net::SocketAddrV4;
 use transmission::texts;
 
@@ -26,8 +27,11 @@ pub struct Journal {
     pub told: Record,
     /// The log, for people, on standard error.
     pub log: Record,
-    /// The capture, for a file.
+    /// The capture, for a file, and that file's name; empty where there is none.
     pub capture: Record,
+    capture_name: Vec<u8>,
+    // What became of what was recorded.
+    written: Written,
     pub tally: Tally,
 }
 
@@ -91,8 +95,35 @@ impl Journal {
             told: Record::new(alloc, true),
             log: Record::new(alloc, has_log),
             capture,
+            capture_name: Vec::new(alloc),
+            written: Written::ALL,
             tally: Tally::NOTHING,
         }
+    }
+
+    /// The capture's file has this name. An error is for want of memory.
+    pub fn name_capture(&mut self, name: &str) -> Result<(), OutOfMemory> {
+        self.capture_name.extend_from_slice(name.as_bytes())
+    }
+
+    /// Keeps what was recorded since this was called last, at this moment, in microseconds since 1970, and writes what is taken at once.
+    pub fn write<F: Write + Drop>(&mut self, outlets: &mut Outlets<F>, time: u64) {
+        outlets.output.keep_log(&mut self.told, time);
+        outlets.error.keep_log(&mut self.log, time);
+        if let Some(capture) = &mut outlets.capture {
+            capture.keep_whole(&mut self.capture, b"");
+        }
+        outlets.offer();
+        self.written = outlets.written();
+    }
+
+    /// What was counted, as text, one kind a line. Its only error is want of memory.
+    pub fn counts(&self) -> Result<Vec<u8>, OutOfMemory> {
+        let counts = self.tally.text(self.alloc)?;
+        let mut text = Vec::from_slice(self.alloc, counts.as_bytes())?;
+        self.written
+            .put_line(self.alloc, &mut text, self.capture_name.as_slice())?;
+        Ok(text)
     }
 
     /// Tells a line of these pieces.

@@ -6,9 +6,11 @@ use gateway_checks::{
     Check, IN_USE, Names, Player, SERVES, Tally, UNKNOWN, Verdict, all_checks, check_of, put_check,
     put_tally,
 };
+use live_ends::Outlet;
 use mg_bytes::OutOfMemory;
 use serde_json::Value;
 use std::alloc::Global;
+use std::io::Write;
 use std::mem;
 use std::net::{Net, SocketAddrV4};
 use std::rt::Clock;
@@ -66,10 +68,14 @@ fn first_base<R: Clock>(rt: &R) -> u32 {
     (milliseconds % 9_000_000 + 10_000) as u32
 }
 
-fn put_out<R: Print>(rt: &R, text: &str) -> Result<(), CheckFault> {
-    match print!(rt; "{text}") {
-        Ok(()) => Ok(()),
-        Err(_) => Err(CheckFault::Write),
+// Says a text of the report, as far as it is taken at once.
+fn put_out<F: Write + Drop>(said: &mut Outlet<F>, text: &str) -> Result<(), CheckFault> {
+    let is_kept = said.say(text.as_bytes());
+    said.offer();
+    if is_kept && said.is_open() {
+        Ok(())
+    } else {
+        Err(CheckFault::Write)
     }
 }
 
@@ -102,9 +108,9 @@ impl<'a> Checking<'a> {
     }
 
     // Reports a check, with what was said in it.
-    fn report<R: Print>(
+    fn report<F: Write + Drop>(
         &mut self,
-        rt: &R,
+        out: &mut Outlet<F>,
         check: &Check<'_>,
         verdict: Option<Verdict>,
         said: &str,
@@ -116,11 +122,11 @@ impl<'a> Checking<'a> {
         }
         let mut text = String::new(self.alloc);
         put_check(&mut text, check, verdict, said)?;
-        put_out(rt, text.as_str())
+        put_out(out, text.as_str())
     }
 
     // Tells how many checks have come to what.
-    fn report_all<R: Print>(&mut self, rt: &R) -> Result<(), CheckFault> {
+    fn report_all<F: Write + Drop>(&mut self, out: &mut Outlet<F>) -> Result<(), CheckFault> {
         let mut text = String::new(self.alloc);
         if self.settings.is_json {
             let values = mem::replace(&mut self.values, Vec::new(self.alloc));
@@ -129,7 +135,7 @@ impl<'a> Checking<'a> {
         } else {
             put_tally(&mut text, &self.tally)?;
         }
-        put_out(rt, text.as_str())
+        put_out(out, text.as_str())
     }
 }
 
@@ -228,52 +234,53 @@ fn find_lines<R: Net + Clock>(
 }
 
 // Plays a check to its end, and reports what came of it.
-fn play_one<R: Net + Clock + Print>(
-    rt: &R,
+fn play_one<R: Net + Clock, F: Write + Drop>(
+    out: &mut Outlet<F>,
     checking: &mut Checking<'_>,
     ends: &mut Ends<'_, R>,
     check: &Check<'static>,
     player: &mut Player<'_>,
 ) -> Result<(), CheckFault> {
     ends.play(player)?;
-    checking.report(rt, check, Some(player.verdict()), player.said())
+    checking.report(out, check, Some(player.verdict()), player.said())
 }
 
 // Plays a check, where it is asked for.
-fn check_one<R: Net + Clock + Print>(
-    rt: &R,
+fn check_one<R: Net + Clock, F: Write + Drop>(
+    out: &mut Outlet<F>,
     checking: &mut Checking<'_>,
     ends: &mut Ends<'_, R>,
     check: &Check<'static>,
 ) -> Result<(), CheckFault> {
     if !checking.is_asked(check) {
-        return checking.report(rt, check, None, "");
+        return checking.report(out, check, None, "");
     }
     let line = checking.settings.line;
     let mut player = checking.player(check, line);
-    play_one(rt, checking, ends, check, &mut player)
+    play_one(out, checking, ends, check, &mut player)
 }
 
 // Plays all checks that are asked for, and gives the exit status.
-fn check_all<R: Net + Clock + Print>(
-    rt: &R,
+fn check_all<R: Net + Clock, F: Write + Drop>(
+    out: &mut Outlet<F>,
     checking: &mut Checking<'_>,
     ends: &mut Ends<'_, R>,
 ) -> Result<u8, CheckFault> {
     find(checking, ends)?;
     find_lines(checking, ends)?;
     for block in all_checks().split("\n= ").skip(1) {
-        check_one(rt, checking, ends, &check_of(block))?;
+        check_one(out, checking, ends, &check_of(block))?;
     }
-    checking.report_all(rt)?;
+    checking.report_all(out)?;
     Ok(checking.tally.status())
 }
 
-/// Checks a gateway as the settings ask, and gives the exit status: 0 where no check failed, 1 where one did. An error says why
+/// Checks a gateway as the settings ask, reports by this outlet, and gives the exit status: 0 where no check failed, 1 where one did. An error says why
 /// nothing can be checked.
-pub fn check_gateway<R: AllocGlobal + Net + Clock + Print>(
+pub fn check_gateway<R: AllocGlobal + Net + Clock, F: Write + Drop>(
     rt: &R,
     settings: CheckSettings<'_>,
+    out: &mut Outlet<F>,
 ) -> Result<u8, CheckFault> {
     let alloc = rt.alloc();
     let mut checking = Checking {
@@ -284,7 +291,7 @@ pub fn check_gateway<R: AllocGlobal + Net + Clock + Print>(
         values: Vec::new(alloc),
     };
     match Ends::open(rt, alloc, settings.gateway, settings.own) {
-        Ok(mut ends) => check_all(rt, &mut checking, &mut ends),
+        Ok(mut ends) => check_all(out, &mut checking, &mut ends),
         Err(fault) => Err(fault),
     }
 }

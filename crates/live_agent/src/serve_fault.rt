@@ -11,8 +11,8 @@ pub enum ServeFault {
     Control { reason: &'static str },
     /// The clock can't be read.
     Clock,
-    /// Standard output or standard error can't be written.
+    /// What was recorded can't be written, and standard error said so at once.
     Write,
-    /// The capture can't be made or written.
+    /// The capture can't be made.
     Capture { reason: &'static str },
 }

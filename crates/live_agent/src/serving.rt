@@ -1,13 +1,13 @@
 //! Serves a call agent from its opening to its end.
 use crate::serve_fault::ServeFault;
-use crate::session::{serve, write_records};
+use crate::session::serve;
 use crate::wire::{Wire, WireSettings};
 use agent_texts::{AgentConfig, Journal};
 use call_desk::Switchboard;
-use live_ends::{Record, RecordState};
+use live_ends::{Outlet, Outlets, Record, RecordState, make_for_owner};
+use mg_bytes::OutOfMemory;
 use std::alloc::Global;
-use std::fs::File;
-use std::io::{self, ErrorKind};
+use std::io::{ErrorKind, Write};
 use std::net::Net;
 use std::rt::{Clock, Files};
 use system_reasons::reason_of;
@@ -15,64 +15,85 @@ use system_reasons::reason_of;
 // Microseconds in a millisecond.
 const MICROSECONDS: u64 = 1000;
 
-// Says on standard error where the sockets are.
-fn tell_addresses<R: Net + Clock + Eprint>(rt: &R, wire: &Wire<'_, R>) -> io::Result<()> {
-    let listen = wire.socket.local_addr()?;
-    let control = wire.control.address()?;
-    eprintln!(rt; "listen {listen} control {control}")
-}
-
-// Whether a record was written to its end; else this fault where it couldn't be written.
-fn record_result(record: &Record, unwritten: ServeFault) -> Result<(), ServeFault> {
-    match record.state() {
-        RecordState::Off | RecordState::On => Ok(()),
-        RecordState::OutOfMemory => Err(ServeFault::OutOfMemory),
-        RecordState::Write => Err(unwritten),
+// Where the sockets are, as a line; none where a socket doesn't tell that.
+fn addresses_line<R: Net + Clock>(
+    alloc: Global,
+    wire: &Wire<'_, R>,
+) -> Result<String, OutOfMemory> {
+    match (wire.socket.local_addr(), wire.control.address()) {
+        (Ok(listen), Ok(control)) => format!(in alloc; "listen {listen} control {control}\n"),
+        _ => Ok(String::new(alloc)),
     }
 }
 
-// Whether all records were written to their ends.
-fn records_result(journal: &Journal) -> Result<(), ServeFault> {
-    record_result(&journal.told, ServeFault::Write)?;
-    record_result(&journal.log, ServeFault::Write)?;
-    record_result(&journal.capture, ServeFault::Capture { reason: "" })
+// Says on standard error where the sockets are.
+fn tell_addresses<R: Net + Clock, F: Write + Drop>(
+    alloc: Global,
+    wire: &Wire<'_, R>,
+    outlets: &mut Outlets<F>,
+) {
+    // For want of memory that line alone isn't said.
+    if let Ok(line) = addresses_line(alloc, wire) {
+        outlets.error.say(line.as_bytes());
+    }
+    outlets.offer();
 }
 
-// Serves until the end, and says on standard error what was counted.
-fn serve_to_end<R: Files + Net + Clock + Print + Eprint>(
+// Whether memory was refused for a record.
+fn is_refused(record: &Record) -> bool {
+    matches!(record.state(), RecordState::OutOfMemory)
+}
+
+// Whether all records were written to their ends. Of one that couldn't be written it was said at once.
+fn records_result<F: Write + Drop>(
+    journal: &Journal,
+    outlets: &Outlets<F>,
+) -> Result<(), ServeFault> {
+    if is_refused(&journal.told) || is_refused(&journal.log) || is_refused(&journal.capture) {
+        return Err(ServeFault::OutOfMemory);
+    }
+    let written = outlets.written();
+    if written.output > 0 || written.error > 0 || written.capture > 0 {
+        return Err(ServeFault::Write);
+    }
+    Ok(())
+}
+
+// Serves until the end, writes what was recorded, and says on standard error what was counted.
+fn serve_to_end<R: Net + Clock, F: Write + Drop>(
     rt: &R,
     alloc: Global,
     board: &mut Switchboard,
     wire: &mut Wire<'_, R>,
-    capture: &mut Option<R::File>,
+    outlets: &mut Outlets<F>,
 ) -> Result<(), ServeFault> {
-    let served = serve(rt, alloc, board, wire, capture);
-    write_records(rt, &mut wire.journal, capture);
-    let Ok(counts) = wire.journal.tally.text(alloc) else {
+    let served = serve(alloc, board, wire, outlets);
+    let time = wire.clock.now().time;
+    wire.journal.write(outlets, time);
+    let Ok(counts) = wire.journal.counts() else {
         return Err(ServeFault::OutOfMemory);
     };
-    // Nobody is left who could be told that standard error failed.
-    let _ = eprint!(rt; "{counts}");
+    outlets.finish(rt, counts.as_slice(), time);
     if served.is_err() {
         return Err(ServeFault::Clock);
     }
-    records_result(&wire.journal)
+    records_result(&wire.journal, outlets)
 }
 
 // Serves over a wire.
-fn serve_over<R: Files + Net + Clock + Print + Eprint>(
+fn serve_over<R: Net + Clock, F: Write + Drop>(
     rt: &R,
     alloc: Global,
     config: &AgentConfig,
     is_routed: bool,
     wire: &mut Wire<'_, R>,
-    capture: &mut Option<R::File>,
+    outlets: &mut Outlets<F>,
 ) -> Result<(), ServeFault> {
     let time = wire.clock.now().time / MICROSECONDS;
     match Switchboard::of(alloc, config, is_routed, time) {
         Ok(mut board) => {
-            let _ = tell_addresses(rt, wire);
-            let served = serve_to_end(rt, alloc, &mut board, wire, capture);
+            tell_addresses(alloc, wire, outlets);
+            let served = serve_to_end(rt, alloc, &mut board, wire, outlets);
             board.close();
             served
         }
@@ -80,13 +101,20 @@ fn serve_over<R: Files + Net + Clock + Print + Eprint>(
     }
 }
 
-// The file for a capture, made anew, if one is asked for.
-fn open_capture<R: Files>(rt: &R, capture: Option<&str>) -> Result<Option<R::File>, ServeFault> {
+// The outlet of a capture, whose file isn't there yet, if one is asked for.
+fn open_capture<R: Files>(
+    rt: &R,
+    alloc: Global,
+    capture: Option<&str>,
+) -> Result<Option<Outlet<R::File>>, ServeFault> {
     let Some(file) = capture else {
         return Ok(None);
     };
-    match File::create(rt, file) {
-        Ok(made) => Ok(Some(made)),
+    match make_for_owner(rt, file) {
+        Ok(stream) => match Outlet::new(alloc, file, stream) {
+            Ok(outlet) => Ok(Some(outlet)),
+            Err(_) => Err(ServeFault::OutOfMemory),
+        },
         Err(e) if e.kind() == ErrorKind::OutOfMemory => Err(ServeFault::OutOfMemory),
         Err(e) => Err(ServeFault::Capture {
             reason: reason_of(e.kind()),
@@ -94,23 +122,39 @@ fn open_capture<R: Files>(rt: &R, capture: Option<&str>) -> Result<Option<R::Fil
     }
 }
 
+// Makes the file of a capture, if one is asked for, once the sockets are had, and serves.
+fn serve_captured<R: Files + Net + Clock>(
+    rt: &R,
+    alloc: Global,
+    config: &AgentConfig,
+    is_routed: bool,
+    wire: &mut Wire<'_, R>,
+    capture: Option<&str>,
+    outlets: &mut Outlets<R::File>,
+) -> Result<(), ServeFault> {
+    outlets.capture = open_capture(rt, alloc, capture)?;
+    match wire.journal.name_capture(capture.unwrap_or("")) {
+        Ok(()) => serve_over(rt, alloc, config, is_routed, wire, outlets),
+        Err(_) => Err(ServeFault::OutOfMemory),
+    }
+}
+
 /// Serves the gateways of a configuration until the end, and routes calls between their lines where that is asked for. What happens
 /// is told on standard output; the log, where the sockets are, and at the end what was counted, on standard error; the capture, where
-/// one is asked for, goes into the file of this name. An error says why it didn't serve to its end.
-pub fn serve_agent<R: Files + Net + Clock + Print + Eprint>(
+/// one is asked for, goes into a new file of this name. An error says why it didn't serve to its end.
+pub fn serve_agent<R: Files + Net + Clock>(
     rt: &R,
     alloc: Global,
     config: &AgentConfig,
     is_routed: bool,
     settings: WireSettings,
     capture: Option<&str>,
+    outlets: &mut Outlets<R::File>,
 ) -> Result<(), ServeFault> {
     match Wire::open(rt, alloc, settings) {
-        // A file that another one writes stays as it is where there is no socket.
-        Ok(mut wire) => match open_capture(rt, capture) {
-            Ok(mut file) => serve_over(rt, alloc, config, is_routed, &mut wire, &mut file),
-            Err(fault) => Err(fault),
-        },
+        Ok(mut wire) => {
+            serve_captured(rt, alloc, config, is_routed, &mut wire, capture, outlets)
+        }
         Err(fault) => Err(fault),
     }
 }

@@ -1,15 +1,16 @@
 //! Serves gateways and whoever types commands, a turn at a time.
 use crate::wire::Wire;
-use agent_texts::{Journal, count};
+use agent_texts::count;
 use bad_network::{Packet, Way};
 use call_agent::Issued;
 use call_desk::{Switchboard, TypedFault, typed_text};
-use live_ends::STOP_FROM_AFAR;
+use live_ends::{Outlets, STOP_FROM_AFAR};
 use mg_bytes::{OutOfMemory, put_decimal};
 use std::alloc::Global;
+use std::io;
+use std::io::Write;
 use std::net::{Net, SocketAddrV4};
-use std::rt::{Clock, Files};
-use std::{io, str};
+use std::rt::Clock;
 use transmission::texts;
 
 // So many datagrams, and so many typed commands, are taken in a turn, and so many packets handed out.
@@ -181,9 +182,9 @@ fn answer_typed<R: Net + Clock>(
 }
 
 // Answers what was counted so far.
-fn answer_counts<R: Net + Clock>(alloc: Global, wire: &mut Wire<'_, R>) {
-    match wire.journal.tally.text(alloc) {
-        Ok(text) => wire.control.answer(text.as_bytes()),
+fn answer_counts<R: Net + Clock>(wire: &mut Wire<'_, R>) {
+    match wire.journal.counts() {
+        Ok(text) => wire.control.answer(text.as_slice()),
         Err(_) => wire.control.answer(OUT_OF_MEMORY),
     }
 }
@@ -228,7 +229,7 @@ fn answer_requests<R: Net + Clock>(alloc: Global, board: &mut Switchboard, wire:
         }
         match request_of(alloc, wire) {
             None => return,
-            Some(Request::Counts) => answer_counts(alloc, wire),
+            Some(Request::Counts) => answer_counts(wire),
             Some(Request::Stop) => {
                 wire.control.answer(DONE);
                 wire.end = Some(0);
@@ -285,48 +286,21 @@ fn turn<R: Net + Clock>(
     Ok(())
 }
 
-// Writes text on standard error: whether it could be written.
-fn is_written<R: Eprint>(rt: &R, bytes: &[u8]) -> bool {
-    match str::from_utf8(bytes) {
-        Ok(text) => eprint!(rt; "{text}").is_ok(),
-        Err(_) => false,
-    }
-}
-
-/// Writes what was recorded and isn't written yet.
-pub fn write_records<R: Files + Print + Eprint>(
-    rt: &R,
-    journal: &mut Journal,
-    capture: &mut Option<R::File>,
-) {
-    journal.told.write(&mut io::writer(rt));
-    if !journal.log.out.is_empty() {
-        if is_written(rt, journal.log.out.as_slice()) {
-            journal.log.out.clear();
-        } else {
-            journal.log.fail();
-        }
-    }
-    if let Some(file) = capture {
-        journal.capture.write(file);
-    }
-}
-
-/// Serves until the end comes. An error is of the clock.
-pub fn serve<R: Files + Net + Clock + Print + Eprint>(
-    rt: &R,
+/// Serves until the end comes; what happens is told by these outlets. An error is of the clock.
+pub fn serve<R: Net + Clock, F: Write + Drop>(
     alloc: Global,
     board: &mut Switchboard,
     wire: &mut Wire<'_, R>,
-    capture: &mut Option<R::File>,
+    outlets: &mut Outlets<F>,
 ) -> io::Result<()> {
     for _ in 0..u64::MAX {
         if wire.is_over() {
             return Ok(());
         }
         turn(alloc, board, wire)?;
-        write_records(rt, &mut wire.journal, capture);
-        if wire.wait(board.next_due()).is_err() {
+        let time = wire.clock.now().time;
+        wire.journal.write(outlets, time);
+        if wire.wait(board.next_due(), !outlets.are_taken()).is_err() {
             count(&mut wire.journal.tally.receive_faults);
         }
     }

@@ -3,7 +3,7 @@ use crate::serve_fault::ServeFault;
 use agent_texts::{Journal, count};
 use bad_network::{BadNetwork, Fate, Packet, Spoiling, Way};
 use exchange_log::{Note, Stamp};
-use live_ends::{CommandSocket, LONGEST_TICK, LiveClock, Readiness};
+use live_ends::{CommandSocket, LONGEST_TICK, LiveClock, NEXT_OFFER, Readiness};
 use mio::net::UdpSocket;
 use plain_machine::OutDatagram;
 use std::alloc::Global;
@@ -223,8 +223,9 @@ impl<'a, R: Net + Clock> Wire<'a, R> {
         }
     }
 
-    // How long nothing is to be done, in ms, if nothing comes and something else falls due at this moment.
-    fn idle_time(&self, due: u64) -> io::Result<u64> {
+    // How long nothing is to be done, in ms, if nothing comes and something else falls due at this moment; where something that was
+    // recorded waits to be taken, it is offered again soon.
+    fn idle_time(&self, due: u64, is_offering: bool) -> io::Result<u64> {
         let now = self.clock.moment()?;
         let ticked = self.clock.ticked();
         let handed_out = match &self.network {
@@ -237,12 +238,18 @@ impl<'a, R: Net + Clock> Wire<'a, R> {
         }
         let end = self.end.unwrap_or(u64::MAX);
         let left = due.min(handed_out).min(end).saturating_sub(now);
-        Ok(left.clamp(SHORTEST_WAIT, LONGEST_WAIT))
+        let longest = if is_offering {
+            NEXT_OFFER
+        } else {
+            LONGEST_WAIT
+        };
+        Ok(left.clamp(SHORTEST_WAIT, longest))
     }
 
-    /// Waits until something comes or falls due. What the wire doesn't know of does so at this moment, in ms.
-    pub fn wait(&mut self, due: Option<u64>) -> io::Result<()> {
-        let longest = self.idle_time(due.unwrap_or(u64::MAX))?;
+    /// Waits until something comes or falls due. What the wire doesn't know of does so at this moment, in ms; what was recorded may wait
+    /// to be taken.
+    pub fn wait(&mut self, due: Option<u64>, is_offering: bool) -> io::Result<()> {
+        let longest = self.idle_time(due.unwrap_or(u64::MAX), is_offering)?;
         self.ready.wait(longest)
     }
 }

@@ -1,2 +1,3 @@
+pub mod Backlog
 pub mod Requests
 pub mod Example

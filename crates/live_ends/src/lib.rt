@@ -1,21 +1,32 @@
 //! What a program on a live network stands on: the machine's clock, sockets that are waited for, a socket that takes commands,
-//! and records that are written when a turn is over.
+//! and outlets for what is recorded, where no write waits.
 //!
 //! Nothing here knows what a datagram says, or what a command does.
 #![tactic(auto)]
 
+mod backlog;
 mod clock;
 mod command_socket;
 pub mod examples;
+pub mod laws;
 mod now;
+mod outlet;
+mod outlets;
 mod readiness;
 mod record;
 mod requests;
-mod streams;
+mod standing;
+mod stream;
+mod written;
 
+pub use crate::backlog::{Backlog, MOST_KEPT, NOTE_ROOM, TEXT_ROOM, lines_ended};
 pub use crate::clock::{LiveClock, time_of_day};
 pub use crate::command_socket::{CommandSocket, STOP_FROM_AFAR};
 pub use crate::now::{LONGEST_TICK, Now};
+pub use crate::outlet::{Outlet, OutletState};
+pub use crate::outlets::{NEXT_OFFER, Outlets};
 pub use crate::readiness::{MOST_VISITORS, Readiness, Visit};
 pub use crate::record::{Record, RecordState};
-pub use crate::streams::{error_takes, wait_for_streams};
+pub use crate::standing::hold_standard;
+pub use crate::stream::{Stream, make_for_owner};
+pub use crate::written::Written;

@@ -3,11 +3,11 @@ ghost use Rattle.std.specs.Prelude.{◌≡◌, ◌≤◌, [], length, IfOk, IfSo
 ghost use Rattle.gateway_core.specs.Wire.{IsWithin};
 
 use crate::boxing::boxed;
-use crate::outlets::earlier;
+use crate::site::earlier;
 use crate::telephones::{TelephoneRequest, next_request};
 use bad_network::BadNetwork;
 use gateway_core::{Input, WireFault};
-use live_ends::{CommandSocket, LONGEST_TICK, LiveClock, Readiness};
+use live_ends::{CommandSocket, LONGEST_TICK, LiveClock, NEXT_OFFER, Readiness};
 use mio::net::UdpSocket;
 use std::alloc::{AllocError, Global};
 use std::io::ErrorKind;
@@ -38,6 +38,8 @@ pub struct Ends<'a, R> {
     pub due: Option<u64>,
     /// Whether its site has more to do at once.
     pub is_busy: bool,
+    /// Whether something that was recorded waits to be taken.
+    pub is_offering: bool,
     pub ready: Box<Readiness>,
     // How many inputs were given since it was asked what has come.
     given: u8,
@@ -92,6 +94,7 @@ impl<'a, R: Net + Clock> Ends<'a, R> {
             clock,
             due: None,
             is_busy: false,
+            is_offering: false,
             ready,
             given: 0,
             end,
@@ -197,7 +200,12 @@ impl<'a, R: Net + Clock> Ends<'a, R> {
         let due = earlier(self.due, self.network_due()).unwrap_or(u64::MAX);
         let end = self.end.unwrap_or(u64::MAX);
         let left = due.min(end).saturating_sub(now);
-        left.clamp(SHORTEST_WAIT, LONGEST_WAIT)
+        let longest = if self.is_offering {
+            NEXT_OFFER
+        } else {
+            LONGEST_WAIT
+        };
+        left.clamp(SHORTEST_WAIT, longest)
     }
 
     // Waits until something comes or is to be done.

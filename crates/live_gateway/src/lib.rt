@@ -6,18 +6,15 @@
 
 mod boxing;
 mod ends;
-mod finishing;
 mod live_wire;
-mod outlets;
 mod passage;
 mod reception;
 mod session;
+mod site;
 mod telephones;
 
 pub use crate::boxing::boxed;
 pub use crate::ends::Ends;
-pub use crate::finishing::finish;
 pub use crate::live_wire::LiveWire;
-pub use crate::outlets::Outlets;
 pub use crate::reception::Reception;
-pub use crate::session::{answer_stop, serve, write_records};
+pub use crate::session::{answer_stop, serve};

@@ -3,20 +3,21 @@ ghost use Rattle.std.specs.Prelude.{◌≤◌, ◌↔◌, IsTrue};
 
 use crate::ends::Ends;
 use crate::live_wire::LiveWire;
-use crate::outlets::{Outlets, earlier, serve_site};
 use crate::reception::Reception;
+use crate::site::{earlier, serve_site};
 use crate::telephones::{TelephoneRequest, next_request};
 use gateway_core::{Gateway, Input, Refusal, Served};
-use live_ends::{CommandSocket, STOP_FROM_AFAR};
-use live_journal::{Faults, Journal, MessageTally, Trace, TraceEntry, report};
+use live_ends::{CommandSocket, Outlets, STOP_FROM_AFAR};
+use live_journal::{Faults, Journal, Trace, TraceEntry, report};
 use mg_bytes::OutOfMemory;
 use mg_line::Act;
 use mg_packages::Hook;
 use rgw_play::{put_line, put_refusal, status_of};
 use std::alloc::Global;
+use std::io::Write;
 use std::net::Net;
 use std::random::RandomSource;
-use std::rt::{Clock, Files};
+use std::rt::Clock;
 
 // The answer to an act that was done.
 const DONE: &[u8] = b"done\n";
@@ -142,10 +143,10 @@ fn answer_counts(
     alloc: Global,
     gateway: &Gateway,
     telephones: &mut CommandSocket,
-    tally: &MessageTally,
+    journal: &Journal,
     faults: Faults,
 ) {
-    match report(alloc, gateway, tally, faults) {
+    match report(alloc, gateway, journal, faults) {
         Ok(counts) => telephones.answer(counts.as_bytes()),
         Err(_) => telephones.answer(OUT_OF_MEMORY),
     }
@@ -165,7 +166,7 @@ fn answer_questions(
                 answer_question(alloc, gateway, telephones, &mut journal.trace, line);
             }
             Some(TelephoneRequest::Counts) => {
-                answer_counts(alloc, gateway, telephones, &journal.tally, faults);
+                answer_counts(alloc, gateway, telephones, journal, faults);
             }
             Some(TelephoneRequest::Stop) => return true,
             Some(TelephoneRequest::StopFromAfar) => telephones.answer(STOP_FROM_AFAR),
@@ -205,19 +206,6 @@ fn settle(gateway: &Gateway, telephones: &mut CommandSocket, journal: &mut Journ
             journal.tally.heard(moment, gateway.outcomes());
         }
         _ => journal.trace.tell(TraceEntry::Taken),
-    }
-}
-
-/// Writes what was recorded and isn't written yet, as far as it is taken at once.
-pub fn write_records<R: Files + Print + Eprint>(
-    rt: &R,
-    journal: &mut Journal,
-    capture: &mut Option<R::File>,
-) {
-    journal.trace.record.print(rt);
-    journal.log.record.eprint(rt);
-    if let Some(file) = capture {
-        journal.capture.record.write(file);
     }
 }
 
@@ -279,28 +267,31 @@ fn end_turn<R: Net + Clock>(
 }
 
 // Gives the gateway a turn, before which what was recorded is written.
-fn serve_turn<R: Files + Net + Clock + Print + Eprint, S: Reception>(
-    rt: &R,
+fn serve_turn<R: Net + Clock, F: Write + Drop, S: Reception>(
     gateway: &mut Gateway,
     wire: &mut LiveWire<'_, R>,
-    outlets: &mut Outlets<R::File, S>,
+    outlets: &mut Outlets<F>,
+    site: &Option<Box<S>>,
 ) -> Served {
-    write_records(rt, &mut wire.journal, &mut outlets.capture);
-    wire.ends.due = next_due(gateway, &outlets.site);
+    let time = wire.ends.clock.now().time;
+    wire.journal.write(outlets, time);
+    wire.ends.is_offering = !outlets.are_taken();
+    wire.ends.due = next_due(gateway, site);
     gateway.serve(wire, 1)
 }
 
-/// Serves the wire until its end comes, and gives how often something failed. What happens is told by these outlets too.
-pub fn serve<R: Files + Net + Clock + RandomSource + Print + Eprint, S: Reception>(
+/// Serves the wire until its end comes, and gives how often something failed. What happens is told by these outlets, and by the site.
+pub fn serve<R: Net + Clock + RandomSource, F: Write + Drop, S: Reception>(
     rt: &R,
     alloc: Global,
     gateway: &mut Gateway,
     wire: &mut LiveWire<'_, R>,
-    outlets: &mut Outlets<R::File, S>,
+    outlets: &mut Outlets<F>,
+    site: &mut Option<Box<S>>,
 ) -> Faults {
     let mut faults = Faults::NONE;
     for _ in 0..u64::MAX {
-        let served = serve_turn(rt, gateway, wire, outlets);
+        let served = serve_turn(gateway, wire, outlets, site);
         faults.add(served);
         if served.ended {
             return faults;
@@ -314,7 +305,7 @@ pub fn serve<R: Files + Net + Clock + RandomSource + Print + Eprint, S: Receptio
             faults,
             is_refused,
         );
-        serve_site(rt, alloc, gateway, wire, &mut outlets.site, faults);
+        serve_site(rt, alloc, gateway, wire, site, faults);
     }
     faults
 }

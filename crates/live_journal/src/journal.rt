@@ -6,7 +6,7 @@ use crate::trace::{Trace, TraceEntry};
 use bad_network::Fate;
 use exchange_log::Way;
 use gateway_core::Input;
-use live_ends::Now;
+use live_ends::{Now, Written};
 use page_answers::{Board, Kind};
 use std::net::{Ipv4Addr, SocketAddrV4};
 use traces::Mark;
@@ -20,6 +20,8 @@ pub struct Journal {
     pub capture: Box<Capture>,
     /// What the page is shown, where there is one.
     pub board: Option<Box<Board>>,
+    /// What became of what was recorded.
+    pub written: Written,
     /// What was given at this turn.
     pub given: Option<Input>,
 }

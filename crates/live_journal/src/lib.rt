@@ -1,5 +1,5 @@
 //! What is kept and told of a gateway on a live network: its counts, its trace, the log for people, a capture, and what the page
-//! is shown. It opens no socket and no file; whoever serves tells it what goes over the wire, and writes what it has put.
+//! is shown. It opens no socket and no file; whoever serves tells it what goes over the wire, and gives it outlets for what it has put.
 #![tactic(auto)]
 
 mod capture;
@@ -11,6 +11,7 @@ mod message_tally;
 mod own_counts;
 mod picture;
 mod recent;
+mod recording;
 mod reporting;
 mod spoiling;
 mod text_counts;

@@ -1,12 +1,15 @@
 //! What the page is shown of the gateway.
 ghost use Rattle.std.specs.Prelude.{◌≤◌};
 
+use crate::journal::Journal;
 use crate::message_tally::MessageTally;
 use crate::reporting::Faults;
 use connections::{Connection, mode_text};
 use gateway_core::Gateway;
 use mg_packages::{Hook, signal_name};
-use page_answers::{CodeCount, ConnectionView, LineView, Picture, SignalView, VerbCount};
+use page_answers::{
+    CodeCount, ConnectionView, FileCount, LineView, Picture, SignalView, VerbCount,
+};
 use std::alloc::{AllocError, Global};
 
 fn signals_of(alloc: Global, gateway: &Gateway, line: u16) -> Result<Vec<SignalView>, AllocError>
@@ -71,6 +74,33 @@ fn put_answers(views: &mut Vec<CodeCount>, tally: &MessageTally) -> Result<(), A
     Ok(())
 }
 
+fn put_file(
+    alloc: Global,
+    views: &mut Vec<FileCount>,
+    file: &[u8],
+    number: u64,
+) -> Result<(), AllocError> {
+    views.push(FileCount {
+        file: Vec::from_slice(alloc, file)?,
+        number,
+    })?;
+    Ok(())
+}
+
+// What became of what was recorded.
+fn put_written(alloc: Global, picture: &mut Picture, journal: &Journal) -> Result<(), AllocError> {
+    let written = journal.written;
+    let views = &mut picture.counts.write_faults;
+    put_file(alloc, views, b"standard output", written.output)?;
+    put_file(alloc, views, b"standard error", written.error)?;
+    let capture = journal.capture.name.as_bytes();
+    if !capture.is_empty() {
+        put_file(alloc, views, capture, written.capture)?;
+    }
+    picture.counts.dropped_lines = written.dropped;
+    Ok(())
+}
+
 // What was counted.
 fn put_counts(
     picture: &mut Picture,
@@ -101,7 +131,7 @@ fn put_counts(
 pub fn picture_of(
     alloc: Global,
     gateway: &Gateway,
-    tally: &MessageTally,
+    journal: &Journal,
     faults: Faults,
 ) -> Result<Picture, AllocError> {
     let mut picture = Picture::new(alloc);
@@ -110,6 +140,7 @@ pub fn picture_of(
     for before in 0..gateway.lines() {
         picture.lines.push(line_view(alloc, gateway, before + 1)?)?;
     }
-    put_counts(&mut picture, tally, faults)?;
+    put_counts(&mut picture, &journal.tally, faults)?;
+    put_written(alloc, &mut picture, journal)?;
     Ok(picture)
 }

@@ -5,6 +5,7 @@ ghost use Rattle.gateway_core.specs.Wire.{counted};
 ghost use Rattle.page_answers.specs.Metrics.{code_text};
 ghost use Rattle.live_journal.specs.Reporting.{told, entry_text, datagrams_text, commands_text, texts_text, answer_text, answers_from, others_text, report_text};
 
+use crate::journal::Journal;
 use crate::message_tally::MessageTally;
 use gateway_core::{Gateway, Served};
 use mg_bytes::put_decimal;
@@ -202,10 +203,13 @@ fn text_of(bytes: Vec<u8>) -> Result<String, AllocError> {
 pub fn report(
     alloc: Global,
     gateway: &Gateway,
-    tally: &MessageTally,
+    journal: &Journal,
     faults: Faults,
 ) -> Result<String, AllocError> {
+    let tally = &*journal.tally;
     let mut text = Vec::new(alloc);
     put_report(alloc, &mut text, tally, lost_of(gateway), faults)?;
+    let capture = journal.capture.name.as_bytes();
+    journal.written.put_line(alloc, &mut text, capture)?;
     text_of(text)
 }

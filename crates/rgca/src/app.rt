@@ -4,12 +4,14 @@ use crate::ending::{Ending, check_words_ending, config_ending};
 use crate::words::{Settings, WordFault, read_words};
 use agent_texts::{AgentConfig, ConfigRefusal, Place, missing, read_config, too_long};
 use live_agent::{ServeFault, WireSettings, check_gateway, serve_agent};
+use live_ends::{Outlets, Stream, hold_standard};
 use rgw_scripts::{LIMIT, PlayFault, read_limited};
-use std::alloc::Global;
+use std::alloc::{AllocError, Global};
 use std::env;
 use std::fs::File;
-use std::io::ErrorKind;
+use std::io::{ErrorKind, Write};
 use std::net::Net;
+use std::os::fd::AsRawFd;
 use std::rt::{Clock, Env, Files};
 use system_reasons::{reason_of, reason_of_reader};
 
@@ -111,76 +113,101 @@ fn served_ending<'w>(fault: ServeFault, wire: WireSettings, settings: &Settings<
 }
 
 // Serves with what is configured.
-fn serve_with<'w, R: Files + Net + Clock + Print + Eprint>(
+fn serve_with<'w, R: Files + Net + Clock>(
     rt: &R,
     alloc: Global,
     settings: &Settings<'w>,
     config: &AgentConfig,
+    outlets: &mut Outlets<R::File>,
 ) -> Result<(), Ending<'w>> {
     let wire = wire_settings(settings, config);
-    match serve_agent(rt, alloc, config, settings.route, wire, settings.capture) {
+    match serve_agent(
+        rt,
+        alloc,
+        config,
+        settings.route,
+        wire,
+        settings.capture,
+        outlets,
+    ) {
         Ok(()) => Ok(()),
         Err(fault) => Err(served_ending(fault, wire, settings)),
     }
 }
 
 // Does what the settings ask.
-fn perform<'w, R: Files + Net + Clock + Print + Eprint>(
+fn perform<'w, R: Files + Net + Clock>(
     rt: &R,
     alloc: Global,
     settings: &Settings<'w>,
+    outlets: &mut Outlets<R::File>,
 ) -> Result<(), Ending<'w>> {
     let file = settings.config;
     let text = config_text(rt, alloc, file)?;
     match config_of(alloc, settings, text.as_slice()) {
-        Ok(config) => serve_with(rt, alloc, settings, &config),
+        Ok(config) => serve_with(rt, alloc, settings, &config, outlets),
         Err(refusal) => Err(config_ending(file, refusal)),
     }
 }
 
 // How the program with these words ends.
-fn ending_of<'w, R: AllocGlobal + Files + Net + Clock + Print + Eprint>(
+fn ending_of<'w, R: AllocGlobal + Files + Net + Clock>(
     rt: &R,
     words: &'w [String],
+    outlets: &mut Outlets<R::File>,
 ) -> Ending<'w> {
-    let settings = match read_words(rt, words) {
+    let settings = match read_words(rt.alloc(), words, &mut outlets.error) {
         Ok(settings) => settings,
         Err(fault) => return Ending::from(fault),
     };
-    match perform(rt, rt.alloc(), &settings) {
+    match perform(rt, rt.alloc(), &settings, outlets) {
         Ok(()) => Ending::Served,
         Err(ending) => ending,
     }
 }
 
-// Says on standard error what went wrong, if anything did.
-fn tell_fault<R: Eprint>(rt: &R, ending: &Ending<'_>) -> u8 {
-    // Nobody is left who could be told that standard error failed.
-    let _ = eprint!(rt; "{ending}");
-    ending.status()
+// What a program says at its end.
+fn ending_text(alloc: Global, ending: &Ending<'_>) -> Result<String, AllocError> {
+    format!(in alloc; "{ending}")
 }
 
-// Says how the program ended: what its words ask goes to standard output.
-fn tell<R: Print + Eprint>(rt: &R, ending: &Ending<'_>) -> u8 {
+// Says how the program ends, what its words ask on standard output, and gives its status: what is said is offered for a second, and
+// where that is what was asked, and isn't taken, it's a fault.
+fn tell<R: AllocGlobal + Clock, F: Write + Drop>(
+    rt: &R,
+    outlets: &mut Outlets<F>,
+    ending: &Ending<'_>,
+) -> u8 {
+    let said = ending_text(rt.alloc(), ending);
+    let text = match &said {
+        Ok(text) => text.as_bytes(),
+        Err(_) => b"out of memory\n",
+    };
     match ending {
-        Ending::Help | Ending::CheckHelp | Ending::Version => match print!(rt; "{ending}") {
-            Ok(()) => ending.status(),
-            Err(_) => tell_fault(rt, &Ending::Write),
-        },
-        _ => tell_fault(rt, ending),
+        Ending::Help | Ending::CheckHelp | Ending::Version => {
+            outlets.output.say(text);
+            outlets.finish(rt, b"", 0);
+        }
+        _ => outlets.finish(rt, text, 0),
+    }
+    if outlets.output.is_open() {
+        ending.status()
+    } else {
+        Ending::Write.status()
     }
 }
 
 // How the program ends by a check with these words.
-fn checked<'w, R: AllocGlobal + Net + Clock + Print + Eprint>(
+fn checked<'w, R: AllocGlobal + Net + Clock, F: Write + Drop>(
     rt: &R,
     words: &'w [String],
+    outlets: &mut Outlets<F>,
 ) -> Ending<'w> {
-    let settings = match read_check_words(rt, words) {
+    let settings = match read_check_words(rt.alloc(), words, &mut outlets.error) {
         Ok(settings) => settings,
         Err(fault) => return check_words_ending(fault),
     };
-    let status = match check_gateway(rt, settings) {
+    let status = match check_gateway(rt, settings, &mut outlets.output) {
         Ok(status) => status,
         Err(fault) => return Ending::from(fault),
     };
@@ -195,13 +222,34 @@ fn check_words(words: &[String]) -> Option<&[String]> {
     }
 }
 
-/// Runs the program, and gives its exit status.
-pub fn run<R: AllocGlobal + Env + Files + Net + Clock + Print + Eprint>(rt: &R) -> u8 {
+// Runs the program with these outlets, and gives its exit status.
+fn run_with<R: AllocGlobal + Env + Files + Net + Clock>(
+    rt: &R,
+    outlets: &mut Outlets<R::File>,
+) -> u8 {
     match words_of(rt) {
-        Ok(words) => match check_words(words.as_slice()) {
-            Some(asked) => tell(rt, &checked(rt, asked)),
-            None => tell(rt, &ending_of(rt, words.as_slice())),
-        },
-        Err(fault) => tell(rt, &Ending::from(fault)),
+        Ok(words) => {
+            let ending = match check_words(words.as_slice()) {
+                Some(asked) => checked(rt, asked, outlets),
+                None => ending_of(rt, words.as_slice(), outlets),
+            };
+            tell(rt, outlets, &ending)
+        }
+        Err(fault) => tell(rt, outlets, &Ending::from(fault)),
+    }
+}
+
+/// Runs the program, and gives its exit status.
+pub fn run<R: AllocGlobal + Env + Files + Net + Clock>(rt: &R) -> u8
+where
+    R::File: AsRawFd,
+{
+    let _held = hold_standard(rt, rt.alloc());
+    match Outlets::open(rt, rt.alloc()) {
+        Ok(mut outlets) => run_with(rt, &mut outlets),
+        Err(_) => {
+            let _ = Stream::error(rt).take(b"out of memory\n");
+            Ending::OutOfMemory.status()
+        }
     }
 }

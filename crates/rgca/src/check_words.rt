@@ -3,7 +3,9 @@ use crate::help::CHECK_USAGE;
 use crate::words::{WordFault, address_behind, fault_of, flag_word};
 use clap::{Arg, ArgMatches, Command};
 use live_agent::CheckSettings;
+use live_ends::Outlet;
 use std::alloc::{AllocError, Global};
+use std::io::Write;
 use std::net::SocketAddrV4;
 
 // So many characters the local name of an endpoint has at most (RFC 3435, 2.1.2).
@@ -87,13 +89,14 @@ fn settings_in<'a>(matches: &ArgMatches<'a>) -> Result<CheckSettings<'a>, WordFa
     })
 }
 
-/// Reads the words of a check, of which the first is `check`; standard error says which are wrong.
-pub fn read_check_words<'a, R: AllocGlobal + Eprint>(
-    rt: &R,
+/// Reads the words of a check, of which the first is `check`; this outlet says which are wrong.
+pub fn read_check_words<'a, F: Write + Drop>(
+    alloc: Global,
     words: &'a [String],
+    said: &mut Outlet<F>,
 ) -> Result<CheckSettings<'a>, WordFault> {
-    match command(rt.alloc())?.try_get_matches_from(words) {
+    match command(alloc)?.try_get_matches_from(words) {
         Ok(matches) => settings_in(&matches),
-        Err(fault) => Err(fault_of(rt, &fault)),
+        Err(fault) => Err(fault_of(alloc, &fault, said)),
     }
 }

@@ -87,7 +87,7 @@ pub enum Ending<'a> {
     Clock,
     /// The clock, or what tells of sockets, failed in a check.
     System,
-    /// Standard output or standard error can't be written.
+    /// What was recorded or asked can't be written, and standard error said so at once.
     Write,
     /// Memory was refused.
     OutOfMemory,
@@ -199,7 +199,7 @@ fn put_file<W: fmt::Write>(
 impl<'a> fmt::Display for Ending<'a> {
     fn fmt<W: fmt::Write>(&self, f: &mut fmt::Formatter<W>) -> fmt::Result {
         match self {
-            Ending::Served | Ending::Checked { .. } | Ending::Told => Ok(()),
+            Ending::Served | Ending::Checked { .. } | Ending::Told | Ending::Write => Ok(()),
             Ending::Help => put_pieces(f, &HELP),
             Ending::CheckHelp => put_pieces(f, &CHECK_HELP),
             Ending::Version => put_pieces(f, &VERSIONS),
@@ -242,7 +242,6 @@ impl<'a> fmt::Display for Ending<'a> {
             }
             Ending::Clock => f.write_str("clock fault\n"),
             Ending::System => f.write_str("clock or socket fault\n"),
-            Ending::Write => f.write_str("write fault\n"),
             Ending::OutOfMemory => f.write_str("out of memory\n"),
         }
     }

@@ -3,7 +3,9 @@ use crate::help::{CONTROL, USAGE, VERSION};
 use bad_network::{Spoiling, SpoilingFault};
 use clap::error::ErrorKind;
 use clap::{Arg, ArgAction, ArgMatches, Command, Error};
+use live_ends::Outlet;
 use std::alloc::{AllocError, Global};
+use std::io::Write;
 use std::net::SocketAddrV4;
 
 /// What the program is asked to do.
@@ -139,8 +141,8 @@ fn spoiling_behind(matches: &ArgMatches<'_>) -> Result<Option<Spoiling>, WordFau
     }
 }
 
-/// Why no settings are found in words, by clap's error: which words are wrong goes to standard error.
-pub fn fault_of<R: Eprint>(rt: &R, fault: &Error) -> WordFault {
+/// Why no settings are found in words, by clap's error: this outlet says which words are wrong.
+pub fn fault_of<F: Write + Drop>(alloc: Global, fault: &Error, said: &mut Outlet<F>) -> WordFault {
     let kind = fault.kind();
     if kind == ErrorKind::OutOfMemory {
         return WordFault::OutOfMemory;
@@ -151,9 +153,13 @@ pub fn fault_of<R: Eprint>(rt: &R, fault: &Error) -> WordFault {
     if kind == ErrorKind::DisplayVersion {
         return WordFault::Version;
     }
-    // Nobody is left who could be told that standard error failed.
-    let _ = eprint!(rt; "{fault}");
-    WordFault::Told
+    match format!(in alloc; "{fault}") {
+        Ok(text) => {
+            said.say(text.as_bytes());
+            WordFault::Told
+        }
+        Err(_) => WordFault::OutOfMemory,
+    }
 }
 
 fn settings_in<'a>(matches: &ArgMatches<'a>) -> Result<Settings<'a>, WordFault> {
@@ -175,13 +181,14 @@ fn settings_in<'a>(matches: &ArgMatches<'a>) -> Result<Settings<'a>, WordFault> 
     })
 }
 
-/// Reads the words of a command line, of which the first is the program's name; standard error says which are wrong.
-pub fn read_words<'a, R: AllocGlobal + Eprint>(
-    rt: &R,
+/// Reads the words of a command line, of which the first is the program's name; this outlet says which are wrong.
+pub fn read_words<'a, F: Write + Drop>(
+    alloc: Global,
     words: &'a [String],
+    said: &mut Outlet<F>,
 ) -> Result<Settings<'a>, WordFault> {
-    match command(rt.alloc())?.try_get_matches_from(words) {
+    match command(alloc)?.try_get_matches_from(words) {
         Ok(matches) => settings_in(&matches),
-        Err(fault) => Err(fault_of(rt, &fault)),
+        Err(fault) => Err(fault_of(alloc, &fault, said)),
     }
 }

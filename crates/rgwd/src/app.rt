@@ -1,21 +1,21 @@
 //! The program: reads its words and its configuration, opens its sockets, and serves.
 use crate::ending::Ending;
-use crate::opening::{Opened, known, open};
-use crate::reception::PageReception;
+use crate::opening::{Opened, known, open, open_capture};
 use crate::replaying::{REPLAY, replay_trace};
 use crate::starting::{Begun, Start};
 use crate::telling::{TELL, tell_line};
 use crate::words::{Settings, WordFault, read_words};
 use config_faults::{Flaw, flaw_of, told, told_setup};
 use gateway_core::Gateway;
-use live_ends::{Record, RecordState, error_takes};
-use live_gateway::{Ends, answer_stop, finish, serve, write_records};
-use live_journal::{Faults, Journal, TraceEntry, report};
+use live_ends::{Outlets, RecordState, Stream, hold_standard};
+use live_gateway::{Ends, answer_stop, serve};
+use live_journal::{Journal, TraceEntry, report};
 use rgw_play::{PlayFault, gateway_from, read_limited};
 use std::alloc::{AllocError, Global};
 use std::fs::File;
-use std::io::ErrorKind;
+use std::io::{ErrorKind, Write};
 use std::net::Net;
+use std::os::fd::AsRawFd;
 use std::random::RandomSource;
 use std::rt::{Clock, Env, Files};
 use std::thread::sleep;
@@ -70,84 +70,88 @@ fn config_text<'w, R: Files>(rt: &R, alloc: Global, file: &'w str) -> Result<Vec
     }
 }
 
+// Where the sockets are, and how it starts, as a line; none where a socket doesn't tell where it is.
+fn start_line<R: Net + Clock>(
+    alloc: Global,
+    opened: &Opened<'_, R>,
+    begun: Begun,
+) -> Result<String, AllocError> {
+    let ends = &opened.wire.ends;
+    let (Some(listen), Some(phones)) = (
+        known(ends.socket.local_addr()),
+        known(ends.telephones.address()),
+    ) else {
+        return Ok(String::new(alloc));
+    };
+    let Some(reception) = &opened.site else {
+        return format!(in alloc; "listen {listen} phones {phones} {begun}\n");
+    };
+    match reception.site.address() {
+        Some(http) => format!(in alloc; "listen {listen} phones {phones} http {http} {begun}\n"),
+        None => Ok(String::new(alloc)),
+    }
+}
+
 // Says on standard error where the sockets are, and how it starts.
-fn tell_start<R: Net + Clock + Eprint>(
-    rt: &R,
-    ends: &Ends<'_, R>,
-    site: &Option<Box<PageReception>>,
+fn tell_start<R: Net + Clock, F: Write + Drop>(
+    alloc: Global,
+    outlets: &mut Outlets<F>,
+    opened: &Opened<'_, R>,
     begun: Begun,
 ) {
-    let Some(listen) = known(ends.socket.local_addr()) else {
-        return;
-    };
-    let Some(phones) = known(ends.telephones.address()) else {
-        return;
-    };
-    let Some(reception) = site else {
-        let _ = eprintln!(rt; "listen {listen} phones {phones} {begun}");
-        return;
-    };
-    if let Some(http) = reception.site.address() {
-        let _ = eprintln!(rt; "listen {listen} phones {phones} http {http} {begun}");
+    // For want of memory that line alone isn't said.
+    if let Ok(line) = start_line(alloc, opened, begun) {
+        outlets.error.say(line.as_bytes());
     }
+    outlets.offer();
 }
 
-// How the program ends where a record stands so: as it ends otherwise, where that was written to its end.
-fn record_ending<'a>(
-    state: RecordState,
-    unwritten: Ending<'a>,
-    otherwise: Ending<'a>,
-) -> Ending<'a> {
-    match state {
-        RecordState::Off | RecordState::On => otherwise,
-        RecordState::OutOfMemory => Ending::OutOfMemory,
-        RecordState::Write => unwritten,
+// Whether memory was refused for a record.
+fn is_refused(state: RecordState) -> bool {
+    matches!(state, RecordState::OutOfMemory)
+}
+
+// How the program ends that served: whether all its records were written to their ends. Of one that couldn't be written it was said at
+// once.
+fn served_ending<F: Write + Drop>(journal: &Journal, outlets: &Outlets<F>) -> Ending<'static> {
+    if is_refused(journal.trace.record.state())
+        || is_refused(journal.log.record.state())
+        || is_refused(journal.capture.record.state())
+    {
+        return Ending::OutOfMemory;
     }
-}
-
-// How the program ends that served: by the first of its records that wasn't written to its end.
-fn served_ending<'a>(journal: &Journal, capture: Option<&'a str>) -> Ending<'a> {
-    let file = capture.unwrap_or("");
-    let captured = journal.capture.record.state();
-    let unwritten = Ending::Unwritable { file, reason: "" };
-    let ending = record_ending(captured, unwritten, Ending::Served);
-    let ending = record_ending(journal.log.record.state(), Ending::Write, ending);
-    record_ending(journal.trace.record.state(), Ending::Write, ending)
-}
-
-// What was counted, to be written.
-fn counts_of(
-    alloc: Global,
-    gateway: &Gateway,
-    journal: &Journal,
-    faults: Faults,
-) -> Result<Record, AllocError> {
-    let text = report(alloc, gateway, &journal.tally, faults)?;
-    let mut counts = Record::new(alloc, true);
-    counts.out.extend_from_slice(text.as_bytes())?;
-    Ok(counts)
+    let written = outlets.written();
+    if written.output > 0 || written.error > 0 || written.capture > 0 {
+        return Ending::Write;
+    }
+    Ending::Served
 }
 
 // Serves until the end, writes what was recorded, and says what was counted.
-fn serve_to_end<'w, R: Files + Net + Clock + RandomSource + Print + Eprint>(
+fn serve_to_end<R: Files + Net + Clock + RandomSource>(
     rt: &R,
     alloc: Global,
-    settings: &Settings<'w>,
     gateway: &mut Gateway,
-    opened: &mut Opened<'_, R, R::File>,
-) -> Ending<'w> {
-    let faults = serve(rt, alloc, gateway, &mut opened.wire, &mut opened.outlets);
+    opened: &mut Opened<'_, R>,
+    outlets: &mut Outlets<R::File>,
+) -> Ending<'static> {
+    let faults = serve(
+        rt,
+        alloc,
+        gateway,
+        &mut opened.wire,
+        outlets,
+        &mut opened.site,
+    );
+    let time = opened.wire.ends.clock.now().time;
     let journal = &mut opened.wire.journal;
     journal.trace.tell(TraceEntry::End);
-    let Ok(mut counts) = counts_of(alloc, gateway, journal, faults) else {
-        write_records(rt, journal, &mut opened.outlets.capture);
+    journal.write(outlets, time);
+    let Ok(counts) = report(alloc, gateway, journal, faults) else {
         return Ending::OutOfMemory;
     };
-    if finish(rt, journal, &mut opened.outlets.capture, &mut counts) {
-        served_ending(journal, settings.capture)
-    } else {
-        Ending::Write
-    }
+    outlets.finish(rt, counts.as_bytes(), time);
+    served_ending(journal, outlets)
 }
 
 // Waits as long as a start waits, before its clock begins: so what is recorded of the gateway doesn't tell it.
@@ -162,102 +166,139 @@ fn wait_first<R: Net + Clock>(rt: &R, ends: &mut Ends<'_, R>, begun: Begun) -> i
 }
 
 // Says on standard error where the sockets are, serves until the end, and answers who asked for that once all is written.
-fn serve_opened<'w, R: Files + Net + Clock + RandomSource + Print + Eprint>(
+fn serve_opened<R: Files + Net + Clock + RandomSource>(
+    rt: &R,
+    alloc: Global,
+    start: Start,
+    gateway: &mut Gateway,
+    opened: &mut Opened<'_, R>,
+    outlets: &mut Outlets<R::File>,
+) -> Ending<'static> {
+    let begun = start.begun(gateway.setup().names.domain.as_bytes());
+    tell_start(alloc, outlets, opened, begun);
+    if wait_first(rt, &mut opened.wire.ends, begun).is_err() {
+        return Ending::Clock;
+    }
+    let ending = serve_to_end(rt, alloc, gateway, opened, outlets);
+    answer_stop(alloc, &mut opened.wire.ends.telephones);
+    ending
+}
+
+// What is said of the sockets that would be opened.
+fn sockets_line(alloc: Global, settings: &Settings<'_>, lines: &str) -> Result<String, AllocError> {
+    let (listen, phones) = (settings.listen, settings.phones);
+    match settings.http {
+        Some(http) => {
+            format!(in alloc; "{lines}sockets: --listen {listen} --phones {phones} --http {http}\n")
+        }
+        None => format!(in alloc; "{lines}sockets: --listen {listen} --phones {phones}\n"),
+    }
+}
+
+// What a gateway will be, and where its sockets would be.
+fn told_gateway(
+    alloc: Global,
+    settings: &Settings<'_>,
+    gateway: &Gateway,
+) -> Result<String, AllocError> {
+    let lines = told_setup(alloc, gateway.setup())?;
+    sockets_line(
+        alloc,
+        settings,
+        str::from_utf8(lines.as_slice()).unwrap_or(""),
+    )
+}
+
+// Says on standard output what this gateway will be.
+fn check_gateway<F: Write + Drop>(
+    alloc: Global,
+    settings: &Settings<'_>,
+    gateway: &Gateway,
+    outlets: &mut Outlets<F>,
+) -> Ending<'static> {
+    match told_gateway(alloc, settings, gateway) {
+        Ok(text) => {
+            outlets.output.say(text.as_bytes());
+            Ending::Checked
+        }
+        Err(_) => Ending::OutOfMemory,
+    }
+}
+
+// Makes the file for a capture, if one is asked for, once all sockets are had, and serves.
+fn serve_captured<'w, R: Files + Net + Clock + RandomSource>(
     rt: &R,
     alloc: Global,
     settings: &Settings<'w>,
     start: Start,
     gateway: &mut Gateway,
-    opened: &mut Opened<'_, R, R::File>,
+    opened: &mut Opened<'_, R>,
+    outlets: &mut Outlets<R::File>,
 ) -> Ending<'w> {
-    let begun = start.begun(gateway.setup().names.domain.as_bytes());
-    tell_start(rt, &opened.wire.ends, &opened.outlets.site, begun);
-    if wait_first(rt, &mut opened.wire.ends, begun).is_err() {
-        return Ending::Clock;
-    }
-    let ending = serve_to_end(rt, alloc, settings, gateway, opened);
-    answer_stop(alloc, &mut opened.wire.ends.telephones);
-    ending
-}
-
-// Says on standard output what the gateway will be, and where its sockets would be.
-fn tell_gateway<'w, R: Print>(rt: &R, settings: &Settings<'w>, lines: &str) -> Ending<'w> {
-    let (listen, phones) = (settings.listen, settings.phones);
-    let said = match settings.http {
-        Some(http) => {
-            println!(rt; "{lines}sockets: --listen {listen} --phones {phones} --http {http}")
+    match open_capture(rt, alloc, settings) {
+        Ok(capture) => {
+            outlets.capture = capture;
+            serve_opened(rt, alloc, start, gateway, opened, outlets)
         }
-        None => println!(rt; "{lines}sockets: --listen {listen} --phones {phones}"),
-    };
-    match said {
-        Ok(()) => Ending::Checked,
-        Err(_) => Ending::Write,
-    }
-}
-
-// Says on standard output what this gateway will be.
-fn check_gateway<'w, R: Print>(
-    rt: &R,
-    alloc: Global,
-    settings: &Settings<'w>,
-    gateway: &Gateway,
-) -> Ending<'w> {
-    match told_setup(alloc, gateway.setup()) {
-        Ok(lines) => tell_gateway(rt, settings, str::from_utf8(lines.as_slice()).unwrap_or("")),
-        Err(_) => Ending::OutOfMemory,
+        Err(unopened) => unopened.ending(settings),
     }
 }
 
 // Serves with a gateway of this configuration over the sockets that were asked for; or says what it will be.
-fn serve_with<'w, R: Files + Net + Clock + RandomSource + Print + Eprint>(
+fn serve_with<'w, R: Files + Net + Clock + RandomSource>(
     rt: &R,
     alloc: Global,
     settings: &Settings<'w>,
     start: Start,
     config: &[u8],
     gateway: &mut Gateway,
+    outlets: &mut Outlets<R::File>,
 ) -> Ending<'w> {
     if settings.check {
-        return check_gateway(rt, alloc, settings, gateway);
+        return check_gateway(alloc, settings, gateway, outlets);
     }
     match open(rt, alloc, settings, config, gateway) {
-        Ok(mut opened) => serve_opened(rt, alloc, settings, start, gateway, &mut opened),
+        Ok(mut opened) => serve_captured(rt, alloc, settings, start, gateway, &mut opened, outlets),
         Err(unopened) => unopened.ending(settings),
     }
 }
 
 // Does the same with the configuration in this text, which has no flaw.
-fn serve_config<'w, R: Files + Net + Clock + RandomSource + Print + Eprint>(
+fn serve_config<'w, R: Files + Net + Clock + RandomSource>(
     rt: &R,
     alloc: Global,
     settings: &Settings<'w>,
     text: &[u8],
+    outlets: &mut Outlets<R::File>,
 ) -> Ending<'w> {
     let Some(start) = Start::now(rt, settings) else {
         return Ending::NoTimeOfDay;
     };
     match gateway_from(alloc, text, start.first.number()) {
-        Ok(mut gateway) => serve_with(rt, alloc, settings, start, text, &mut gateway),
+        Ok(mut gateway) => serve_with(rt, alloc, settings, start, text, &mut gateway, outlets),
         // Without a flaw memory alone is refused.
         Err(_) => Ending::OutOfMemory,
     }
 }
 
+// Which flaw the configuration in this text of a file has.
+fn flaw_line(alloc: Global, file: &str, text: &[u8], flaw: Flaw) -> Result<String, AllocError> {
+    let line = told(alloc, text, flaw)?;
+    let line = str::from_utf8(line.as_slice()).unwrap_or("");
+    format!(in alloc; "{file}: {line}\n")
+}
+
 // Says on standard error which flaw the configuration in this text has.
-fn tell_flaw<'w, R: Eprint>(
-    rt: &R,
+fn tell_flaw<F: Write + Drop>(
     alloc: Global,
-    file: &'w str,
+    file: &str,
     text: &[u8],
     flaw: Flaw,
-) -> Ending<'w> {
-    match told(alloc, text, flaw) {
+    outlets: &mut Outlets<F>,
+) -> Ending<'static> {
+    match flaw_line(alloc, file, text, flaw) {
         Ok(line) => {
-            let line = str::from_utf8(line.as_slice()).unwrap_or("");
-            // Nobody is left who could be told that standard error failed; nor is one that doesn't read waited for.
-            if error_takes() {
-                let _ = eprintln!(rt; "{file}: {line}");
-            }
+            outlets.error.say(line.as_bytes());
             Ending::Told
         }
         Err(_) => Ending::OutOfMemory,
@@ -265,61 +306,73 @@ fn tell_flaw<'w, R: Eprint>(
 }
 
 // Does what the settings ask with the configuration in this text.
-fn perform_with<'w, R: Files + Net + Clock + RandomSource + Print + Eprint>(
+fn perform_with<'w, R: Files + Net + Clock + RandomSource>(
     rt: &R,
     alloc: Global,
     settings: &Settings<'w>,
     text: &[u8],
+    outlets: &mut Outlets<R::File>,
 ) -> Ending<'w> {
     match flaw_of(alloc, text) {
-        Ok(None) => serve_config(rt, alloc, settings, text),
-        Ok(Some(flaw)) => tell_flaw(rt, alloc, settings.config, text, flaw),
+        Ok(None) => serve_config(rt, alloc, settings, text, outlets),
+        Ok(Some(flaw)) => tell_flaw(alloc, settings.config, text, flaw, outlets),
         Err(_) => Ending::OutOfMemory,
     }
 }
 
 // Does what the settings ask.
-fn perform<'w, R: Files + Net + Clock + RandomSource + Print + Eprint>(
+fn perform<'w, R: Files + Net + Clock + RandomSource>(
     rt: &R,
     alloc: Global,
     settings: &Settings<'w>,
+    outlets: &mut Outlets<R::File>,
 ) -> Ending<'w> {
     match config_text(rt, alloc, settings.config) {
-        Ok(text) => perform_with(rt, alloc, settings, text.as_slice()),
+        Ok(text) => perform_with(rt, alloc, settings, text.as_slice(), outlets),
         Err(ending) => ending,
     }
 }
 
 // How the program with these words ends.
-fn ending_of<'w, R: AllocGlobal + Files + Net + Clock + RandomSource + Print + Eprint>(
+fn ending_of<'w, R: AllocGlobal + Files + Net + Clock + RandomSource>(
     rt: &R,
     words: &'w [String],
+    outlets: &mut Outlets<R::File>,
 ) -> Ending<'w> {
-    let settings = match read_words(rt, words) {
+    let settings = match read_words(rt.alloc(), words, &mut outlets.error) {
         Ok(settings) => settings,
         Err(fault) => return Ending::from(fault),
     };
-    perform(rt, rt.alloc(), &settings)
+    perform(rt, rt.alloc(), &settings, outlets)
 }
 
-// Says on standard error what went wrong, if anything did.
-fn tell_fault<R: Eprint>(rt: &R, ending: Ending<'_>) -> u8 {
-    // Nobody is left who could be told that standard error failed; nor is one that doesn't read waited for.
-    if error_takes() {
-        let _ = eprint!(rt; "{ending}");
-    }
-    ending.status()
+// What a program says at its end.
+fn ending_text(alloc: Global, ending: Ending<'_>) -> Result<String, AllocError> {
+    format!(in alloc; "{ending}")
 }
 
-// Says how the program ended: what its words ask goes to standard output.
-fn tell<R: Print + Eprint>(rt: &R, ending: Ending<'_>) -> u8 {
-    let is_asked = matches!(ending, Ending::Help | Ending::Version);
-    if !is_asked {
-        return tell_fault(rt, ending);
+// Says how the program ends, what its words ask on standard output, and gives its status: what is said is offered for a second, and
+// where that is what was asked, and isn't taken, it's a fault.
+fn tell<R: AllocGlobal + Files + Clock>(
+    rt: &R,
+    outlets: &mut Outlets<R::File>,
+    ending: Ending<'_>,
+) -> u8 {
+    let said = ending_text(rt.alloc(), ending);
+    let text = match &said {
+        Ok(text) => text.as_bytes(),
+        Err(_) => b"out of memory\n",
+    };
+    if matches!(ending, Ending::Help | Ending::Version) {
+        outlets.output.say(text);
+        outlets.finish(rt, b"", 0);
+    } else {
+        outlets.finish(rt, text, 0);
     }
-    match print!(rt; "{ending}") {
-        Ok(()) => ending.status(),
-        Err(_) => tell_fault(rt, Ending::Write),
+    if outlets.output.is_open() {
+        ending.status()
+    } else {
+        Ending::Write.status()
     }
 }
 
@@ -332,25 +385,45 @@ fn words_behind<'w>(first: &str, words: &'w [String]) -> Option<&'w [String]> {
 }
 
 // How the program with these words ends, whatever they ask for.
-fn ending_by<'w, R: AllocGlobal + Files + Net + Clock + RandomSource + Print + Eprint>(
+fn ending_by<'w, R: AllocGlobal + Files + Net + Clock + RandomSource>(
     rt: &R,
     words: &'w [String],
+    outlets: &mut Outlets<R::File>,
 ) -> Ending<'w> {
     if let Some(asked) = words_behind(TELL, words) {
-        return tell_line(rt, asked);
+        return tell_line(rt, asked, &mut outlets.output);
     }
     match words_behind(REPLAY, words) {
-        Some(asked) => replay_trace(rt, asked),
-        None => ending_of(rt, words),
+        Some(asked) => replay_trace(rt, asked, outlets),
+        None => ending_of(rt, words, outlets),
+    }
+}
+
+// Runs the program with these outlets, and gives its exit status.
+fn run_with<R: AllocGlobal + Env + Files + Net + Clock + RandomSource>(
+    rt: &R,
+    outlets: &mut Outlets<R::File>,
+) -> u8 {
+    match words_of(rt) {
+        Ok(words) => {
+            let ending = ending_by(rt, words.as_slice(), outlets);
+            tell(rt, outlets, ending)
+        }
+        Err(fault) => tell(rt, outlets, Ending::from(fault)),
     }
 }
 
 /// Runs the program, and gives its exit status.
-pub fn run<R: AllocGlobal + Env + Files + Net + Clock + RandomSource + Print + Eprint>(
-    rt: &R,
-) -> u8 {
-    match words_of(rt) {
-        Ok(words) => tell(rt, ending_by(rt, words.as_slice())),
-        Err(fault) => tell(rt, Ending::from(fault)),
+pub fn run<R: AllocGlobal + Env + Files + Net + Clock + RandomSource>(rt: &R) -> u8
+where
+    R::File: AsRawFd,
+{
+    let _held = hold_standard(rt, rt.alloc());
+    match Outlets::open(rt, rt.alloc()) {
+        Ok(mut outlets) => run_with(rt, &mut outlets),
+        Err(_) => {
+            let _ = Stream::error(rt).take(b"out of memory\n");
+            Ending::OutOfMemory.status()
+        }
     }
 }

@@ -67,7 +67,7 @@ pub enum Ending<'a> {
     },
     /// The clock can't be read.
     Clock,
-    /// The trace can't be written.
+    /// What was recorded or asked can't be written, and standard error said so at once.
     Write,
     /// Memory was refused.
     OutOfMemory,
@@ -149,7 +149,6 @@ fn fault_of(ending: Ending<'_>) -> &'static str {
         Ending::Unwritable { .. } => ": write fault",
         Ending::NoTimeOfDay => NO_TIME_OF_DAY,
         Ending::Clock => "clock fault",
-        Ending::Write => "write fault",
         Ending::OutOfMemory => "out of memory",
         _ => "",
     }
@@ -178,7 +177,7 @@ impl<'a> fmt::Display for Ending<'a> {
     fn fmt<W: fmt::Write>(&self, f: &mut fmt::Formatter<W>) -> fmt::Result {
         match *self {
             Ending::Served | Ending::Told | Ending::Checked | Ending::Answered => Ok(()),
-            Ending::Replayed | Ending::Differs | Ending::NoTrace => Ok(()),
+            Ending::Replayed | Ending::Differs | Ending::NoTrace | Ending::Write => Ok(()),
             Ending::Usage => put_pieces(f, &["usage: ", USAGE, "\n"]),
             Ending::Help => put_pieces(f, &HELP),
             Ending::Version => put_pieces(f, &VERSIONS),

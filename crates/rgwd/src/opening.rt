@@ -8,14 +8,13 @@ use crate::reception::PageReception;
 use crate::words::Settings;
 use bad_network::BadNetwork;
 use gateway_core::Gateway;
-use live_ends::{CommandSocket, LiveClock, Readiness};
-use live_gateway::{Ends, LiveWire, Outlets, boxed};
+use live_ends::{CommandSocket, LiveClock, Outlet, Readiness, Written, make_for_owner};
+use live_gateway::{Ends, LiveWire, boxed};
 use live_journal::{Capture, Journal, Log, MessageTally, Trace, TraceEntry};
 use live_page::Site;
 use mio::net::UdpSocket;
 use page_answers::Board;
 use std::alloc::{AllocError, Global};
-use std::fs::File;
 use std::io;
 use std::io::ErrorKind;
 use std::net::{Ipv4Addr, Net, SocketAddr, SocketAddrV4};
@@ -49,11 +48,11 @@ pub enum Unopened {
     },
 }
 
-/// What serves: a wire, and the outlets.
+/// What serves: a wire, and the site, where there is one.
 #[derive(Drop)]
-pub struct Opened<'a, R, F> {
+pub struct Opened<'a, R> {
     pub wire: LiveWire<'a, R>,
-    pub outlets: Outlets<F, PageReception>,
+    pub site: Option<Box<PageReception>>,
 }
 
 impl From<AllocError> for Unopened {
@@ -164,13 +163,17 @@ fn open_ends<'a, R: Net + Clock>(
     Ok(Ends::new(alloc, socket, telephones, ready, network, clock, end)?)
 }
 
-// The file for a capture, if one is asked for.
-fn open_capture<R: Files>(rt: &R, settings: &Settings<'_>) -> Result<Option<R::File>, Unopened> {
+/// The file for a capture, if one is asked for. To be made once all sockets are had: so none is left where a program doesn't start.
+pub fn open_capture<R: Files>(
+    rt: &R,
+    alloc: Global,
+    settings: &Settings<'_>,
+) -> Result<Option<Outlet<R::File>>, Unopened> {
     let Some(file) = settings.capture else {
         return Ok(None);
     };
-    match File::create(rt, file) {
-        Ok(made) => Ok(Some(made)),
+    match make_for_owner(rt, file) {
+        Ok(stream) => Ok(Some(Outlet::new(alloc, file, stream)?)),
         Err(fault) => Err(refused(Opening::Capture, fault.kind())),
     }
 }
@@ -233,28 +236,17 @@ fn journal_of(
     let log = boxed(alloc, Log::new(alloc, settings.log, gateway)?)?;
     let first = gateway.setup().first;
     let trace = boxed(alloc, trace_of(alloc, settings.trace, config, first))?;
-    let capture = Capture::new(alloc, settings.capture.is_some(), here);
+    let capture = boxed(alloc, Capture::new(alloc, settings.capture, here)?)?;
     let journal = Journal {
         tally,
         trace,
         log,
-        capture: boxed(alloc, capture)?,
+        capture,
         board,
+        written: Written::ALL,
         given: None,
     };
     boxed(alloc, journal)
-}
-
-// The outlets that are asked for.
-fn open_outlets<R: Files + Net>(
-    rt: &R,
-    alloc: Global,
-    settings: &Settings<'_>,
-    ready: &Readiness,
-) -> Result<Outlets<R::File, PageReception>, Unopened> {
-    let capture = open_capture(rt, settings)?;
-    let site = open_site(rt, alloc, settings, ready)?;
-    Ok(Outlets { capture, site })
 }
 
 // The address that a capture tells of the gateway, whose socket is there: that of its media where the socket is at any address of
@@ -271,32 +263,32 @@ fn captured_address(socket: SocketAddrV4, media: Ipv4Addr) -> SocketAddrV4
     }
 }
 
-// A wire with these ends, whose trace has begun, and the outlets.
-fn assembled<'a, R: Net + Clock, F: Drop>(
+// A wire with these ends, whose trace has begun, and the site.
+fn assembled<'a, R: Net + Clock>(
     alloc: Global,
     settings: &Settings<'_>,
     config: &[u8],
     gateway: &Gateway,
     ends: Box<Ends<'a, R>>,
-    outlets: Outlets<F, PageReception>,
-) -> Result<Opened<'a, R, F>, AllocError> {
+    site: Option<Box<PageReception>>,
+) -> Result<Opened<'a, R>, AllocError> {
     let socket = known(ends.socket.local_addr()).unwrap_or(settings.listen);
     let here = captured_address(socket, gateway.setup().media_address);
-    let board = board_of(alloc, &outlets.site)?;
+    let board = board_of(alloc, &site)?;
     let journal = journal_of(alloc, settings, config, gateway, here, board)?;
     let wire = LiveWire::new(ends, journal);
-    Ok(Opened { wire, outlets })
+    Ok(Opened { wire, site })
 }
 
-/// A wire for this gateway over the sockets that are asked for, whose trace has begun with this configuration; and the outlets.
-pub fn open<'a, R: Files + Net + Clock>(
+/// A wire for this gateway over the sockets that are asked for, whose trace has begun with this configuration; and the site.
+pub fn open<'a, R: Net + Clock>(
     rt: &'a R,
     alloc: Global,
     settings: &Settings<'_>,
     config: &[u8],
     gateway: &Gateway,
-) -> Result<Opened<'a, R, R::File>, Unopened> {
+) -> Result<Opened<'a, R>, Unopened> {
     let ends = open_ends(rt, alloc, settings, gateway)?;
-    let outlets = open_outlets(rt, alloc, settings, &ends.ready)?;
-    Ok(assembled(alloc, settings, config, gateway, ends, outlets)?)
+    let site = open_site(rt, alloc, settings, &ends.ready)?;
+    Ok(assembled(alloc, settings, config, gateway, ends, site)?)
 }

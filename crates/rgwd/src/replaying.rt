@@ -1,12 +1,12 @@
 //! Replays a trace, and says whether each line that went out is what the gateway sends for the lines before it.
 use crate::ending::Ending;
 use crate::words::WordFault;
-use live_ends::error_takes;
-use std::alloc::Global;
+use live_ends::Outlets;
+use std::alloc::{AllocError, Global};
 use std::fs::File;
 use std::io::{BufReader, ErrorKind, Write};
 use std::rt::Files;
-use std::{io, str};
+use std::str;
 use system_reasons::reason_of;
 use traces::{ReplayFault, Verdict, put_verdict, replay};
 
@@ -58,27 +58,22 @@ fn ending_by(verdict: &Verdict) -> Ending<'static> {
 }
 
 // Says on standard output what is found; of what is no trace on standard error.
-fn tell_verdict<'w, R: AllocGlobal + Print + Eprint>(
-    rt: &R,
-    file: &'w str,
+fn tell_verdict<F: Write + Drop>(
+    alloc: Global,
+    file: &str,
     verdict: &Verdict,
-) -> Ending<'w> {
-    let mut text = Vec::new(rt.alloc());
-    if put_verdict(rt.alloc(), &mut text, verdict).is_err() {
-        return Ending::OutOfMemory;
-    }
+    outlets: &mut Outlets<F>,
+) -> Result<Ending<'static>, AllocError> {
+    let mut text = Vec::new(alloc);
+    put_verdict(alloc, &mut text, verdict)?;
     if matches!(verdict, Verdict::Broken { .. }) {
         let line = str::from_utf8(text.as_slice()).unwrap_or("");
-        // Nobody is left who could be told that standard error failed; nor is one that doesn't read waited for.
-        if error_takes() {
-            let _ = eprint!(rt; "{file}: {line}");
-        }
-        return Ending::NoTrace;
+        let said = format!(in alloc; "{file}: {line}")?;
+        outlets.error.say(said.as_bytes());
+    } else {
+        outlets.output.say(text.as_slice());
     }
-    match io::writer(rt).write_all(text.as_slice()) {
-        Ok(()) => ending_by(verdict),
-        Err(_) => Ending::Write,
-    }
+    Ok(ending_by(verdict))
 }
 
 // The file that the words behind `--replay` name, alone.
@@ -94,16 +89,19 @@ fn file_in(words: &[String]) -> Result<&str, WordFault> {
 }
 
 /// Replays the trace in the file that the words behind `--replay` name, and says what is found: how the program ends by that.
-pub fn replay_trace<'w, R: AllocGlobal + Files + Print + Eprint>(
+pub fn replay_trace<'w, R: AllocGlobal + Files>(
     rt: &R,
     words: &'w [String],
+    outlets: &mut Outlets<R::File>,
 ) -> Ending<'w> {
     let file = match file_in(words) {
         Ok(file) => file,
         Err(fault) => return Ending::from(fault),
     };
     match verdict_of(rt, rt.alloc(), file) {
-        Ok(verdict) => tell_verdict(rt, file, &verdict),
+        Ok(verdict) => {
+            tell_verdict(rt.alloc(), file, &verdict, outlets).unwrap_or(Ending::OutOfMemory)
+        }
         Err(ending) => ending,
     }
 }

@@ -1,6 +1,7 @@
 //! Sends a line to a gateway's telephones, and prints what they answer.
 use crate::ending::Ending;
 use crate::words::{WordFault, address_of};
+use live_ends::Outlet;
 use std::alloc::Global;
 use std::io;
 use std::io::{ErrorKind, Write};
@@ -153,26 +154,22 @@ fn answer_to<R: AllocGlobal + Net + Clock>(
     Ok(room)
 }
 
-// Prints an answer, as it came.
-fn put_answer<R: Print>(rt: &R, answer: &[u8]) -> Ending<'static> {
-    match io::writer(rt).write_all(answer) {
-        Ok(()) => Ending::Answered,
-        Err(_) => Ending::Write,
-    }
-}
-
 /// Sends the line that the words behind `--tell` say to the telephones at the address that they name, and prints the answer: how
 /// the program ends by that.
-pub fn tell_line<R: AllocGlobal + Net + Clock + Print>(
+pub fn tell_line<R: AllocGlobal + Net + Clock, F: Write + Drop>(
     rt: &R,
     words: &[String],
+    printed: &mut Outlet<F>,
 ) -> Ending<'static> {
     let telling = match telling_of(rt.alloc(), words) {
         Ok(telling) => telling,
         Err(fault) => return Ending::from(fault),
     };
     match answer_to(rt, &telling) {
-        Ok(answer) => put_answer(rt, answer.as_slice()),
+        Ok(answer) => {
+            printed.say(answer.as_slice());
+            Ending::Answered
+        }
         Err(ending) => ending,
     }
 }

@@ -3,8 +3,10 @@ use crate::help::{LISTEN, PHONES, USAGE, VERSION};
 use bad_network::{Spoiling, SpoilingFault};
 use clap::error::ErrorKind;
 use clap::{Arg, ArgAction, ArgMatches, Command, Error};
+use live_ends::Outlet;
 use new_start::{FirstNumber, spread_in};
 use std::alloc::{AllocError, Global};
+use std::io::Write;
 use std::net::SocketAddrV4;
 
 /// What the program is asked to do.
@@ -159,7 +161,7 @@ fn longest_wait_in(matches: &ArgMatches<'_>) -> Result<Option<u32>, WordFault> {
 }
 
 // Why no settings are found in words, by the kind of clap's error: which words are wrong goes to standard error.
-fn fault_of<R: Eprint>(rt: &R, fault: &Error) -> WordFault {
+fn fault_of<F: Write + Drop>(alloc: Global, fault: &Error, said: &mut Outlet<F>) -> WordFault {
     let kind = fault.kind();
     if kind == ErrorKind::OutOfMemory {
         return WordFault::OutOfMemory;
@@ -170,9 +172,13 @@ fn fault_of<R: Eprint>(rt: &R, fault: &Error) -> WordFault {
     if kind == ErrorKind::DisplayVersion {
         return WordFault::Version;
     }
-    // Nobody is left who could be told that standard error failed.
-    let _ = eprint!(rt; "{fault}");
-    WordFault::Told
+    match format!(in alloc; "{fault}") {
+        Ok(text) => {
+            said.say(text.as_bytes());
+            WordFault::Told
+        }
+        Err(_) => WordFault::OutOfMemory,
+    }
 }
 
 fn settings_in<'a>(matches: &ArgMatches<'a>) -> Result<Settings<'a>, WordFault> {
@@ -208,24 +214,26 @@ fn settings_in<'a>(matches: &ArgMatches<'a>) -> Result<Settings<'a>, WordFault> 
 }
 
 // What words say to a command.
-fn settings_by<'a, R: Eprint>(
-    rt: &R,
+fn settings_by<'a, F: Write + Drop>(
+    alloc: Global,
     command: Command<'a>,
     words: &'a [String],
+    said: &mut Outlet<F>,
 ) -> Result<Settings<'a>, WordFault> {
     match command.try_get_matches_from(words) {
         Ok(matches) => settings_in(&matches),
-        Err(fault) => Err(fault_of(rt, &fault)),
+        Err(fault) => Err(fault_of(alloc, &fault, said)),
     }
 }
 
-/// Reads the words of a command line, of which the first is the program's name; standard error says which are wrong.
-pub fn read_words<'a, R: AllocGlobal + Eprint>(
-    rt: &R,
+/// Reads the words of a command line, of which the first is the program's name; this outlet says which are wrong.
+pub fn read_words<'a, F: Write + Drop>(
+    alloc: Global,
     words: &'a [String],
+    said: &mut Outlet<F>,
 ) -> Result<Settings<'a>, WordFault> {
-    match command(rt.alloc()) {
-        Ok(command) => settings_by(rt, command, words),
+    match command(alloc) {
+        Ok(command) => settings_by(alloc, command, words, said),
         Err(_) => Err(WordFault::OutOfMemory),
     }
 }

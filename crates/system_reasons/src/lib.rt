@@ -23,6 +23,15 @@ pub fn reason_of(kind: ErrorKind) -> &'static str {
     if kind == ErrorKind::IsADirectory {
         return ": is a directory";
     }
+    if kind == ErrorKind::AlreadyExists {
+        return ": exists already";
+    }
+    if kind == ErrorKind::StorageFull {
+        return ": no space left";
+    }
+    if kind == ErrorKind::BrokenPipe {
+        return ": nobody reads it any more";
+    }
     ""
 }
 

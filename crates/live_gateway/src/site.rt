@@ -1,4 +1,4 @@
-//! Where what happens is told besides the network: a capture's file, and the page.
+//! Where the page is, if there is one: who asks for it is served between the turns.
 use crate::live_wire::LiveWire;
 use crate::reception::Reception;
 use gateway_core::Gateway;
@@ -9,13 +9,6 @@ use std::alloc::Global;
 use std::net::Net;
 use std::random::RandomSource;
 use std::rt::Clock;
-
-/// The outlets of a gateway, each where it is asked for.
-#[derive(Drop)]
-pub struct Outlets<F, S> {
-    pub capture: Option<F>,
-    pub site: Option<Box<S>>,
-}
 
 /// The earlier of two moments.
 pub fn earlier(one: Option<u64>, other: Option<u64>) -> Option<u64> {
@@ -41,7 +34,7 @@ fn ask(alloc: Global, board: &mut Board, telephones: &mut CommandSocket) {
 
 // The page is shown the gateway as it is now.
 fn show(alloc: Global, gateway: &Gateway, journal: &mut Journal, faults: Faults) {
-    let Ok(picture) = picture_of(alloc, gateway, &journal.tally, faults) else {
+    let Ok(picture) = picture_of(alloc, gateway, journal, faults) else {
         return;
     };
     if let Some(board) = &mut journal.board {

@@ -1,0 +1,29 @@
+//! The standard streams of a program that was started without some of them.
+use std::alloc::Global;
+use std::fs::OpenOptions;
+use std::io;
+use std::os::fd::AsRawFd;
+use std::rt::Files;
+
+// The last number of a standard stream.
+const LAST: i32 = 2;
+
+/// Holds the null device at those numbers of standard streams that aren't open, so that no file and no socket that is opened later
+/// comes to stand there. To be called first, and kept to the end.
+pub fn hold_standard<R: Files>(rt: &R, alloc: Global) -> io::Result<Vec<R::File>>
+where
+    R::File: AsRawFd,
+{
+    let mut held = Vec::new(alloc);
+    for _ in 0..=LAST {
+        let file = OpenOptions::new()
+            .read(true)
+            .write(true)
+            .open(rt, "/dev/null")?;
+        if file.as_raw_fd() > LAST {
+            break;
+        }
+        held.push(file)?;
+    }
+    Ok(held)
+}
