@@ -1,0 +1,8 @@
+use Rattle.turns.proofs.ScheduleLaws.{pause_without_ticks, pause_gets_less}
+use Rattle.turns.proofs.laws.a_pause_is_read_at_the_moment_before_it.Goals as goal
+
+pub returns-clause-no_tick : goal.returns-clause-no_tick
+returns-clause-no_tick c = pause_without_ticks
+
+pub returns-clause-one_less : goal.returns-clause-one_less
+returns-clause-one_less c = pause_gets_less

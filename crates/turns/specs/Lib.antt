@@ -1,0 +1,5 @@
+pub mod Circle
+pub mod Clock
+pub mod Schedule
+pub mod Runs
+pub mod Example

@@ -1,0 +1,107 @@
+//! Worked examples of what comes next, as theorems: each sentence of a definition has one that a slip in it breaks.
+#![tactic(auto, unfolding(crate::proofs::Computing::on_examples))]
+
+ghost use Rattle.std.specs.Prelude.{◌≡◌, true, false, [], ◌∷◌, Some, None};
+ghost use Rattle.turns.specs.declared.circle.Source.TheVariants as sources;
+ghost use Rattle.turns.specs.declared.schedule.Mode.TheVariants.{Reading};
+ghost use Rattle.turns.specs.declared.turn.Turn.TheVariants.{End, Look, Wait, Tick, Command, Datagram, Visit, Note};
+ghost use Rattle.turns.specs.Circle.{first_ready};
+ghost use Rattle.turns.specs.Clock.{wait_until};
+ghost use Rattle.turns.specs.Schedule.{opening};
+ghost use Rattle.turns.specs.Runs.{turns_from, schedule_after, reading};
+ghost use Rattle.turns.specs.Example.{ready, nobody, standing, having_read, due_at, ending_at, asleep, wakes_at};
+
+/// Behind the one that had the last turn come the others in their circle, and that one at last.
+pub fn sources_have_their_turns_in_a_circle()
+    ensures clock { first_ready true (ready true true true) sources.Visitors ≡ Some sources.Clock }
+    ensures commands { first_ready true (ready true true true) sources.Clock ≡ Some sources.Commands }
+    ensures datagrams { first_ready true (ready true true true) sources.Commands ≡ Some sources.Datagrams }
+    ensures visitors { first_ready true (ready true true true) sources.Datagrams ≡ Some sources.Visitors }
+    ensures passed_over { first_ready false (ready false true true) sources.Visitors ≡ Some sources.Datagrams }
+    ensures itself { first_ready false (ready false true false) sources.Datagrams ≡ Some sources.Datagrams }
+    ensures nobody { first_ready false nobody sources.Clock ≡ None }
+{}
+
+/// Where nothing is ready it sleeps until something falls due or the end comes, a second at most and a ms at least.
+pub fn an_idle_one_sleeps()
+    ensures a_second { turns_from (opening 0) (standing 0 0 nobody ∷ []) ≡ Wait 1000 ∷ [] }
+    ensures due { wait_until (due_at 250 (standing 100 100 nobody)) ≡ 250 }
+    ensures far { wait_until (due_at 5000 (standing 100 100 nobody)) ≡ 1100 }
+    ensures end { wait_until (ending_at 300 (due_at 400 (standing 100 100 nobody))) ≡ 300 }
+    ensures past { wait_until (due_at 90 (standing 100 100 nobody)) ≡ 101 }
+    ensures round { turns_from asleep (standing 7 0 (ready true true true) ∷ []) ≡ Tick 7 ∷ [] }
+{}
+
+/// Who is ready has a turn after one of each other.
+pub fn each_has_a_turn()
+    ensures all { turns_from asleep (standing 7 0 (ready true true true) ∷ standing 8 7 (ready true true true)
+        ∷ standing 8 7 (ready true true true) ∷ standing 8 7 (ready true true true) ∷ standing 8 7 (ready true true true) ∷ [])
+        ≡ Tick 7 ∷ Command ∷ Datagram ∷ Visit ∷ Tick 8 ∷ [] }
+    ensures flood { turns_from asleep (standing 7 7 (ready false true false) ∷ standing 7 7 (ready false true false)
+        ∷ standing 7 7 (ready true true false) ∷ standing 7 7 (ready true true false) ∷ [])
+        ≡ Datagram ∷ Datagram ∷ Command ∷ Datagram ∷ [] }
+{}
+
+/// After 2 ms without a look it is looked before anybody has a turn, and once.
+pub fn it_is_looked_for_what_has_come()
+    ensures late { turns_from asleep (standing 7 7 (ready false true false) ∷ standing 8 8 (ready false true false)
+        ∷ standing 9 9 (ready false true false) ∷ standing 9 9 (ready true true false) ∷ [])
+        ≡ Datagram ∷ Datagram ∷ Look ∷ Command ∷ [] }
+    ensures slow { turns_from asleep (standing 7 7 (ready false true false) ∷ standing 9 9 (ready false true false)
+        ∷ standing 12 12 (ready false true false) ∷ standing 15 15 (ready false true false) ∷ [])
+        ≡ Datagram ∷ Look ∷ Datagram ∷ Look ∷ [] }
+    ensures first { turns_from (opening 0) (standing 1 0 (ready false true false) ∷ standing 2 1 (ready false true false) ∷ [])
+        ≡ Tick 1 ∷ Look ∷ [] }
+    ensures idle { turns_from (opening 0) (standing 5 5 nobody ∷ []) ≡ Wait 1005 ∷ [] }
+{}
+
+/// Who wakes more than 500 ms too late was stopped: what came meanwhile is read before the clock goes on, and then the clock catches
+/// up, by a second at a time, before anything else comes.
+pub fn a_pause_is_read_first()
+    ensures not_late { turns_from asleep (wakes_at 1500) ≡ Tick 1000 ∷ [] }
+    ensures late { turns_from asleep (wakes_at 1501) ≡ Look ∷ [] }
+    ensures whole { turns_from asleep (standing 4200 0 nobody
+        ∷ standing 4200 0 (ready true true true) ∷ having_read 1 (standing 4200 0 (ready true true true))
+        ∷ having_read 2 (standing 4201 0 (ready false true true)) ∷ having_read 3 (standing 4202 0 (ready false true true))
+        ∷ having_read 3 (standing 4202 0 (ready false false true)) ∷ having_read 3 (standing 4203 0 (ready false true true))
+        ∷ having_read 3 (standing 4203 1000 (ready false true true)) ∷ having_read 3 (standing 4203 2000 (ready false true true))
+        ∷ having_read 3 (standing 4203 3000 (ready false true true)) ∷ having_read 3 (standing 4203 4000 (ready false true true))
+        ∷ having_read 3 (standing 4203 4203 (ready false true true)) ∷ [])
+        ≡ Look ∷ Command ∷ Datagram ∷ Datagram ∷ Datagram ∷ Note (record { lateness = 3200; read = Some 3 })
+        ∷ Tick 1000 ∷ Tick 2000 ∷ Tick 3000 ∷ Tick 4000 ∷ Tick 4203 ∷ Look ∷ [] }
+    ensures once { turns_from asleep (standing 4200 0 nobody ∷ standing 9200 0 (ready false true false)
+        ∷ standing 9200 0 nobody ∷ standing 9200 0 nobody ∷ [])
+        ≡ Look ∷ Datagram ∷ Note (record { lateness = 3200; read = Some 0 }) ∷ Tick 1000 ∷ [] }
+{}
+
+/// Of what came in a pause so much is read in 4,096 turns, and no more.
+pub fn a_flood_in_a_pause_is_cut_off()
+    ensures most { (schedule_after asleep (wakes_at 1501)).mode ≡ Reading 501 0 4096 }
+    ensures before { (schedule_after asleep (having_read 7 (standing 1501 0 nobody) ∷ [])).mode ≡ Reading 501 7 4096 }
+    ensures one_less { (schedule_after (reading asleep 501 0 4096) (wakes_at 1502)).mode ≡ Reading 501 0 4095 }
+    ensures last { turns_from (reading asleep 3200 7 1) (having_read 7 (standing 4200 0 (ready false true false))
+        ∷ having_read 8 (standing 4200 0 (ready false true false)) ∷ []) ≡ Datagram ∷ Note (record { lateness = 3200; read = Some 1 }) ∷ [] }
+{}
+
+/// What came in a pause of more than 150 s isn't read first.
+pub fn after_a_long_pause_ticks_come_first()
+    ensures not_too_long { turns_from asleep (wakes_at 151000) ≡ Look ∷ [] }
+    ensures too_long { turns_from asleep (standing 151001 0 (ready false true false) ∷ standing 151001 0 (ready false true false) ∷ [])
+        ≡ Note (record { lateness = 150001; read = None }) ∷ Tick 1000 ∷ [] }
+{}
+
+/// A tick that was refused is due again a ms later; behind a pause so many are tried as the clock is behind.
+pub fn a_refused_tick_waits_for_a_ms()
+    ensures now { turns_from asleep (standing 7 0 nobody ∷ standing 7 0 nobody ∷ standing 8 0 nobody ∷ [])
+        ≡ Tick 7 ∷ Wait 1007 ∷ Tick 8 ∷ [] }
+    ensures pause { turns_from asleep (standing 2600 0 nobody ∷ standing 2600 0 nobody ∷ standing 2600 0 nobody
+        ∷ standing 2600 0 nobody ∷ standing 2600 0 nobody ∷ standing 2600 0 (ready false true false) ∷ [])
+        ≡ Look ∷ Note (record { lateness = 1600; read = Some 0 }) ∷ Tick 1000 ∷ Tick 1000 ∷ Tick 1000 ∷ Datagram ∷ [] }
+{}
+
+/// The end comes before all else, once ticks have come to it.
+pub fn the_end_comes_first()
+    ensures reached { turns_from asleep (ending_at 500 (standing 900 500 (ready true true true)) ∷ []) ≡ End ∷ [] }
+    ensures not_yet { turns_from asleep (ending_at 500 (standing 900 499 nobody) ∷ []) ≡ Tick 900 ∷ [] }
+    ensures paused { turns_from asleep (ending_at 0 (standing 9000 0 (ready true true true)) ∷ []) ≡ End ∷ [] }
+{}
