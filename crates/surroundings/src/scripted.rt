@@ -1,0 +1,209 @@
+//! A program's surroundings in memory, by a script.
+ghost use Rattle.std.specs.Prelude.{◌≡◌, ◌≤◌, ◌<◌, length, IfSome};
+
+use crate::keeping::{SentDatagram, keep};
+use crate::surroundings::{Fault, Surroundings, Told};
+use std::alloc::{AllocError, Global};
+use std::collections::VecDeque;
+use std::net::{SocketAddr, SocketAddrV4};
+
+// The time of day at the start, in microseconds since 1970: 2026-01-01 00:00:00.
+const OPENED: u64 = 1_767_225_600_000_000;
+
+const MICROSECONDS: u64 = 1000;
+
+/// What happens to a program.
+#[derive(Drop)]
+pub enum Happening {
+    /// A datagram comes.
+    Datagram {
+        source: SocketAddrV4,
+        bytes: Vec<u8>,
+    },
+    /// A datagram of lines comes from who types.
+    Lines {
+        from: SocketAddr,
+        text: Vec<u8>,
+    },
+    /// The program is stopped for so long, in ms.
+    Pause {
+        ms: u64,
+    },
+    /// The next datagram that is sent can't be.
+    SendFault,
+}
+
+/// When something happens, in ms.
+#[derive(Drop)]
+pub struct Coming {
+    pub moment: u64,
+    pub what: Happening,
+}
+
+/// Surroundings in which things happen at their moments, and that keep what is sent and answered. Its clock goes on by waits alone.
+#[derive(Drop)]
+pub struct Scripted {
+    alloc: Global,
+    moment: u64,
+    coming: VecDeque<Coming>,
+    /// What was sent, and what was answered, each in its order.
+    pub sent: Vec<SentDatagram>,
+    pub answers: Vec<Vec<u8>>,
+    // No copy of what was sent is missing.
+    pub(crate) is_whole: bool,
+    is_failing: bool,
+}
+
+// Puts as much as there is room for at the front of the room: how much that is.
+fn fill(room: &mut [u8], bytes: &[u8]) -> usize
+    ensures length { length room.new ≡ length room.old }
+    ensures within { result ≤ length room.new }
+{
+    let len = bytes.len().min(room.len());
+    room[..len].copy_from_slice(&bytes[..len]);
+    len
+}
+
+impl Scripted {
+    /// At moment 0; nothing is to happen.
+    pub fn new(alloc: Global) -> Scripted {
+        Scripted {
+            alloc,
+            moment: 0,
+            coming: VecDeque::new(alloc),
+            sent: Vec::new(alloc),
+            answers: Vec::new(alloc),
+            is_whole: true,
+            is_failing: false,
+        }
+    }
+
+    /// This happens behind all that was to happen so far, and at no earlier moment.
+    pub fn add(&mut self, coming: Coming) -> Result<(), AllocError> {
+        self.coming.push_back(coming)?;
+        Ok(())
+    }
+
+    // The place of the first datagram, or of the first lines, that have come.
+    fn place_of(&self, is_lines: bool) -> Option<usize>
+        ensures { IfSome result (λ place. place < length self.now.coming.items) }
+    {
+        for place in 0..self.coming.len() {
+            let coming = &self.coming[place];
+            if coming.moment > self.moment {
+                return None;
+            }
+            if is_asked(&coming.what, is_lines) {
+                return Some(place);
+            }
+        }
+        None
+    }
+
+    // What stands at this place has happened.
+    fn take(&mut self, place: usize) -> Option<Happening>
+        ensures sent { self.new.sent ≡ self.old.sent }
+        ensures whole { self.new.is_whole ≡ self.old.is_whole }
+    {
+        match self.coming.remove(place) {
+            Some(Coming { what, .. }) => Some(what),
+            None => None,
+        }
+    }
+
+    // The program goes on: what stops it, or lets a send fail, happens if it is next, and by then.
+    fn go_on(&mut self, until: u64)
+        ensures sent { self.new.sent ≡ self.old.sent }
+        ensures whole { self.new.is_whole ≡ self.old.is_whole }
+    {
+        let Some(coming) = self.coming.front() else {
+            self.moment = until;
+            return;
+        };
+        let next = coming.moment.max(self.moment);
+        if next > until {
+            self.moment = until;
+            return;
+        }
+        self.moment = next;
+        match &coming.what {
+            Happening::Pause { ms } => self.moment = next.saturating_add(*ms),
+            Happening::SendFault => self.is_failing = true,
+            Happening::Datagram { .. } | Happening::Lines { .. } => return,
+        }
+        let _ = self.take(0);
+    }
+}
+
+// Whether it is a datagram, or lines.
+fn is_asked(what: &Happening, is_lines: bool) -> bool {
+    match what {
+        Happening::Datagram { .. } => !is_lines,
+        Happening::Lines { .. } => is_lines,
+        Happening::Pause { .. } | Happening::SendFault => false,
+    }
+}
+
+impl Surroundings for Scripted {
+    ghost use Rattle.surroundings.specs.Keeping.{told_by};
+
+    ghost sent = { told_by };
+
+    fn moment(&self) -> Result<u64, Fault> {
+        Ok(self.moment)
+    }
+
+    fn time(&self) -> u64 {
+        OPENED.saturating_add(self.moment.saturating_mul(MICROSECONDS))
+    }
+
+    fn told(&self) -> Told {
+        Told {
+            lines: self.place_of(true).is_some(),
+            datagrams: self.place_of(false).is_some(),
+        }
+    }
+
+    fn wait(&mut self, longest: u64) -> Result<(), Fault> {
+        self.go_on(self.moment.saturating_add(longest));
+        Ok(())
+    }
+
+    fn receive(&mut self, room: &mut [u8]) -> Result<Option<(SocketAddrV4, usize)>, Fault> {
+        let Some(place) = self.place_of(false) else {
+            return Ok(None);
+        };
+        match self.take(place) {
+            Some(Happening::Datagram { source, bytes }) => {
+                Ok(Some((source, fill(room, bytes.as_slice()))))
+            }
+            _ => Ok(None),
+        }
+    }
+
+    fn send(&mut self, to: SocketAddrV4, bytes: &[u8]) -> Result<(), Fault> {
+        if keep(self.alloc, &mut self.sent, self.moment, to, bytes).is_err() {
+            self.is_whole = false;
+        }
+        if self.is_failing {
+            self.is_failing = false;
+            return Err(Fault);
+        }
+        Ok(())
+    }
+
+    fn hear(&mut self, room: &mut [u8]) -> Option<(SocketAddr, usize)> {
+        let place = self.place_of(true)?;
+        match self.take(place) {
+            Some(Happening::Lines { from, text }) => Some((from, fill(room, text.as_slice()))),
+            _ => None,
+        }
+    }
+
+    fn answer(&mut self, _to: SocketAddr, text: &[u8]) {
+        // Where memory is refused the answer is lost, as on a network.
+        if let Ok(text) = Vec::from_slice(self.alloc, text) {
+            let _ = self.answers.push(text);
+        }
+    }
+}

@@ -1,0 +1,61 @@
+//! What a program stands on.
+ghost use Rattle.std.specs.Prelude.{◌≡◌, ◌≤◌, ◌∷◌, [], length, IfOk, IfSome};
+ghost use Rattle.surroundings.specs.Sending.{Grows};
+
+use std::net::{SocketAddr, SocketAddrV4};
+
+/// A socket or the clock failed.
+#[derive(Clone, Copy, PartialEq, Eq)]
+pub struct Fault;
+
+/// Of which sockets it was told that something may have come, and which weren't found empty since.
+#[derive(Clone, Copy)]
+pub struct Told {
+    pub lines: bool,
+    pub datagrams: bool,
+}
+
+/// A socket for datagrams, another for lines, a clock, and a wait for all of them.
+///
+/// It says whether it tells what was handed to it: one in memory does, sockets don't. No call waits but `wait`.
+pub trait Surroundings {
+    ghost use Rattle.std.specs.Prelude.{List, Option};
+    ghost use Rattle.surroundings.specs.Sending.{Sent};
+
+    /// All datagrams that were handed to it to be sent, in order, where it tells.
+    ghost sent: { Self → Option (List Sent) };
+
+    /// How long it is since the start, in ms.
+    fn moment(&self) -> Result<u64, Fault>;
+
+    /// What time it is, in microseconds since 1970 began, in UTC. A change of the time of day since the start isn't in it.
+    fn time(&self) -> u64;
+
+    /// Of which sockets it was told that something may have come.
+    fn told(&self) -> Told;
+
+    /// Waits until something comes, but no longer than this, in ms; at 0 it only asks what has come.
+    fn wait(&mut self, longest: u64) -> Result<(), Fault>
+        ensures { sent self.new ≡ sent self.old };
+
+    /// A datagram, put at the start of the room, if one has come: from where, and how long it is. One that is longer than the room
+    /// fills it.
+    fn receive(&mut self, room: &mut [u8]) -> Result<Option<(SocketAddrV4, usize)>, Fault>
+        ensures length { length room.new ≡ length room.old }
+        ensures within { IfOk result (λ found. IfSome found (λ p. p.1 ≤ length room.new)) }
+        ensures kept { sent self.new ≡ sent self.old };
+
+    /// Sends a datagram. After a fault it counts as lost in the network.
+    fn send(&mut self, to: SocketAddrV4, bytes: &[u8]) -> Result<(), Fault>
+        ensures { Grows (sent self.old) (record { to = to; bytes = bytes.now } ∷ []) (sent self.new) };
+
+    /// A datagram of lines of who types, put at the start of the room, if one has come: from whom, and how long it is.
+    fn hear(&mut self, room: &mut [u8]) -> Option<(SocketAddr, usize)>
+        ensures length { length room.new ≡ length room.old }
+        ensures within { IfSome result (λ p. p.1 ≤ length room.new) }
+        ensures kept { sent self.new ≡ sent self.old };
+
+    /// Answers who typed. What can't be sent is lost.
+    fn answer(&mut self, to: SocketAddr, text: &[u8])
+        ensures { sent self.new ≡ sent self.old };
+}
