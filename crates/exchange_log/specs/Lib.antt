@@ -10,4 +10,5 @@ pub mod TimeOfDay
 pub mod Messages
 pub mod Notes
 pub mod Lines
+pub mod Pausing
 pub mod Example

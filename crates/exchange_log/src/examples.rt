@@ -11,6 +11,7 @@ ghost use Rattle.exchange_log.specs.TimeOfDay.{date_of, time_of_day, date_and_ti
 ghost use Rattle.exchange_log.specs.Messages.{message_shown, header_of};
 ghost use Rattle.exchange_log.specs.Notes.{note_text, notice_text};
 ghost use Rattle.exchange_log.specs.Lines.{message_line, note_line, notice_line, given_up_line, refused_line};
+ghost use Rattle.exchange_log.specs.Pausing.{pause_line};
 ghost use Rattle.exchange_log.specs.Example.{stamp_at, noon, own};
 
 /// A day has 24 hours of 60 minutes of 60 seconds of 1,000 milliseconds; what is below a millisecond isn't shown.
@@ -121,6 +122,14 @@ pub fn a_message_is_shown_in_one_line()
     ensures late { message_shown own (codes "\r\nAUEP 1 a@b MGCP 1.0\r\n") ≡ codes " AUEP 1 a@b MGCP 1.0" }
     ensures stray { message_shown own (codes "AUEP 1 a\n" ++ 27 ∷ codes "c\n") ≡ codes " AUEP 1 a " ++ 92 ∷ codes "x1bc" }
     ensures nothing { message_shown own [] ≡ [] }
+{}
+
+/// A pause is noted in seconds, rounded, with how many datagrams had come, where that was counted.
+pub fn pauses_are_noted()
+    ensures several { pause_line 43387123000 30600 (Some 12) ≡ codes "12:03:07.123 ! paused for 31 s, 12 datagrams were waiting\n" }
+    ensures one { pause_line 43387123000 1499 (Some 1) ≡ codes "12:03:07.123 ! paused for 1 s, 1 datagram was waiting\n" }
+    ensures none { pause_line 43387123000 501 (Some 0) ≡ codes "12:03:07.123 ! paused for 1 s, 0 datagrams were waiting\n" }
+    ensures uncounted { pause_line 43387123000 200000 None ≡ codes "12:03:07.123 ! paused for 200 s\n" }
 {}
 
 /// What is noted, of each kind.

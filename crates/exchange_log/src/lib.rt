@@ -29,6 +29,7 @@ mod messages;
 mod note;
 mod octets;
 mod packet;
+mod pausing;
 mod stamp;
 mod time;
 
@@ -38,4 +39,5 @@ pub use crate::grouping::put_number;
 pub use crate::logging::{put_given_up, put_message, put_note, put_notice, put_refused};
 pub use crate::note::{Note, Notice};
 pub use crate::packet::Packet;
+pub use crate::pausing::put_pause;
 pub use crate::stamp::{Stamp, Way};

@@ -1,0 +1,18 @@
+-- What is noted of a pause of the program.
+use Rattle.std.specs.Prelude.{ℕ, ◌+◌, ◌/◌, ◌%◌, ◌==◌, nat_le, codes, decimal, if◌then◌else◌, List, [], ◌++◌, Option, Some, None}
+use Rattle.exchange_log.specs.TimeOfDay.{time_of_day}
+
+-- ms as seconds, rounded
+abbrev pub seconds : ℕ → ℕ
+seconds ms = if nat_le 500 (ms % 1000) then ms / 1000 + 1 else ms / 1000
+
+-- how many datagrams had come meanwhile, where that was counted
+abbrev pub waiting_text : Option ℕ → List ℕ
+waiting_text None = []
+waiting_text (Some number) =
+    codes ", " ++ decimal number ++ (if number == 1 then codes " datagram was waiting" else codes " datagrams were waiting")
+
+-- it went on so much later than it was to, in ms
+unfoldable pub pause_line : ℕ → ℕ → Option ℕ → List ℕ
+pause_line moment lateness waiting =
+    time_of_day moment ++ codes " ! paused for " ++ decimal (seconds lateness) ++ codes " s" ++ waiting_text waiting ++ codes "\n"
