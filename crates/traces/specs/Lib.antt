@@ -3,3 +3,4 @@ pub mod Head
 pub mod Replaying
 pub mod Example
 pub mod Running
+pub mod Writing

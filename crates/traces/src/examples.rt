@@ -12,7 +12,8 @@ ghost use Rattle.traces.specs.Telling.{told, told_first, told_mark, is_mark};
 ghost use Rattle.traces.specs.Replaying.{goes_on, tells, differs, is_broken, may_end, next};
 ghost use Rattle.traces.specs.Head.{first_told_in};
 ghost use Rattle.traces.specs.Running.{opening_run, run_from};
-ghost use Rattle.traces.specs.Example.{owing, comes_first, comes_where};
+ghost use Rattle.traces.specs.Writing.{written, whole_text, opening_script, became};
+ghost use Rattle.traces.specs.Example.{owing, comes_first, comes_where, quiet_tick, loud_tick, asks_in_vain, comes};
 
 /// A datagram that goes out is told by its address, without its moment, and by its lines; so is a refusal by its line.
 pub fn what_is_shown_is_told()
@@ -108,4 +109,25 @@ pub fn lines_are_replayed_in_turn()
         ∷ codes "show 17\n" ∷ codes "| ! 4 NoSuchLine\n" ∷ [])) ≡ Some (give (phone 1 OnHook) ∷ ask 17 ∷ []) }
     ensures differs { run_from example opening_run (codes "| ! 5 PhoneState\n" ∷ []) ≡ None }
     ensures broken { run_from example opening_run (codes "hello\n" ∷ []) ≡ None }
+{}
+
+/// What came in is written as a script has it, and behind it what it showed.
+pub fn what_came_in_is_written()
+    ensures bytes { written opening_script (comes (13 ∷ 10 ∷ 171 ∷ []) ∷ []) ≡ codes "raw 127.0.0.1:2727 0d0aab\n" }
+    ensures none { written opening_script (comes [] ∷ []) ≡ codes "from 127.0.0.1:2727\n--\n" }
+    ensures line { written opening_script (asks_in_vain ∷ []) ≡ codes "show 9\n| ! 4 NoSuchLine\n" }
+    ensures mark { written opening_script (became Unsent 1 ∷ []) ≡ codes "| ! not sent 1\n" }
+{}
+
+/// A tick is told where something is sent at it, before what comes next, before one that would go on by more than a second, and at
+/// the end.
+pub fn ticks_are_told_together()
+    ensures quiet { written opening_script (quiet_tick 500 ∷ quiet_tick 1000 ∷ []) ≡ [] }
+    ensures loud { written opening_script (quiet_tick 5 ∷ loud_tick 7 ∷ []) ≡ codes "at 7\n| > 127.0.0.1:2727\n| 200 1 OK\n| --\n" }
+    ensures next { written opening_script (quiet_tick 500 ∷ quiet_tick 900 ∷ asks_in_vain ∷ asks_in_vain ∷ [])
+        ≡ codes "at 900\nshow 9\n| ! 4 NoSuchLine\nshow 9\n| ! 4 NoSuchLine\n" }
+    ensures far { written opening_script (quiet_tick 500 ∷ quiet_tick 1001 ∷ []) ≡ codes "at 500\n" }
+    ensures again { written opening_script (quiet_tick 500 ∷ quiet_tick 1001 ∷ quiet_tick 1500 ∷ []) ≡ codes "at 500\n" }
+    ensures end { whole_text (quiet_tick 500 ∷ quiet_tick 700 ∷ []) ≡ codes "at 700\n" }
+    ensures at_end_already { whole_text (loud_tick 7 ∷ []) ≡ written opening_script (loud_tick 7 ∷ []) }
 {}

@@ -10,6 +10,7 @@ mod head;
 pub mod laws;
 mod replaying;
 mod reporting;
+mod script;
 mod steps;
 mod telling;
 mod verdict;
@@ -18,9 +19,10 @@ mod wording;
 pub use crate::head::{first_in, is_head_end};
 pub use crate::replaying::{Progress, Replay};
 pub use crate::reporting::replay;
+pub use crate::script::Script;
 pub use crate::steps::shown_by;
 pub use crate::telling::{
-    Mark, broken_off_line, is_mark, put_first, put_mark, put_sent, put_shown,
+    Mark, broken_off_line, is_mark, put_first, put_mark, put_outputs, put_sent, put_shown,
 };
 pub use crate::verdict::{ReplayFault, Verdict};
 pub use crate::wording::put_verdict;

@@ -7,7 +7,7 @@ ghost use Rattle.rgw_scripts.specs.Printing.{printed_line, refusal_line, shown_l
 ghost use Rattle.traces.specs.Telling.{told_output, told_text};
 ghost use Rattle.traces.specs.Replaying.{move_in, Showed, Plays};
 
-use crate::telling::{put_sent, put_shown};
+use crate::telling::{put_outputs, put_shown};
 use gateway_core::{Event, Gateway, OutDatagram, Outputs, Refusal};
 use mg_bytes::OutOfMemory;
 use rgw_play::{LineStatus, ScriptStep, put_line, put_refusal, status_of};
@@ -18,9 +18,7 @@ fn sent_text(alloc: Global, datagrams: &[OutDatagram]) -> Result<Vec<u8>, OutOfM
     ensures { IfOk result (λ text. text.items ≡ flat_map told_output datagrams.now) }
 {
     let mut text = Vec::new(alloc);
-    for datagram in datagrams {
-        put_sent(alloc, &mut text, datagram.to, datagram.bytes.as_bytes())?;
-    }
+    put_outputs(alloc, &mut text, datagrams)?;
     Ok(text)
 }
 

@@ -4,9 +4,10 @@ ghost use Rattle.std.specs.List.{flat_map};
 ghost use Rattle.std.specs.Net.Text.{socket_v4_text};
 ghost use Rattle.mg_bytes.specs.Lines.{lines_of};
 ghost use Rattle.rgw_scripts.specs.Printing.{printed_line};
-ghost use Rattle.traces.specs.Telling.{told_line, told_text, told_datagram, told_first, told_mark, broken_off, begins, mark, number_behind, is_mark};
+ghost use Rattle.traces.specs.Telling.{told_line, told_text, told_datagram, told_output, told_first, told_mark, broken_off, begins, mark, number_behind, is_mark};
 
 use mg_bytes::{OutOfMemory, decimal, lines, put_decimal};
+use plain_machine::OutDatagram;
 use std::alloc::Global;
 use std::net::SocketAddrV4;
 
@@ -72,6 +73,20 @@ pub fn put_sent(
     put_line(out, line.as_bytes())?;
     put_shown(out, bytes)?;
     put_line(out, b"--")
+}
+
+/// Puts datagrams that go out.
+pub fn put_outputs(
+    alloc: Global,
+    out: &mut Vec<u8>,
+    datagrams: &[OutDatagram],
+) -> Result<(), OutOfMemory>
+    ensures { OnOk result (out.new.items ≡ out.old.items ++ flat_map told_output datagrams.now) }
+{
+    for datagram in datagrams {
+        put_sent(alloc, out, datagram.to, datagram.bytes.as_bytes())?;
+    }
+    Ok(())
 }
 
 // Puts words, a number behind them, and the end of a line.

@@ -1,7 +1,0 @@
-use Rattle.std.proofs.Common.{◌≡◌, ◌++◌, drop}
-use Rattle.std.specs.List.{flat_map}
-use Rattle.traces.specs.Telling.{told_output}
-use Rattle.traces.proofs.steps.sent_text.Given as goal
-
-abbrev pub invariant-loop-datagram : goal.invariant-loop-datagram
-invariant-loop-datagram l = l.text.items ++ flat_map told_output (drop l.datagram-index l.datagrams) ≡ flat_map told_output l.datagrams
