@@ -1,0 +1,355 @@
+-- How entries follow one another.
+use Rattle.std.proofs.Common.{◌≡◌, ℕ, Bool, true, false, List, [], ◌∷◌, ◌++◌, map, Option, Some, None, refl, sym, ◌∙◌, ap, subst, append_assoc, append-nil}
+use Rattle.std.specs.Prelude.{IfSome, ⊤}
+use Rattle.std.specs.List.{flat_map}
+use Rattle.std.proofs.lemmas.List.{map-append, take_more}
+use Rattle.std.proofs.lemmas.Grind.{flat_map-append}
+use Rattle.surroundings.specs.Sending.{Sent, Grows}
+use Rattle.transmission.specs.declared.output.OutDatagram.{OutDatagram}
+use Rattle.plain_machine.specs.declared.setup.Setup.{Setup}
+use Rattle.plain_machine.specs.declared.refusal.Refusal.{Refusal}
+use Rattle.plain_machine.specs.declared.refusal.Refusal.TheVariants.{OutOfMemory}
+use Rattle.plain_machine.specs.Event.{GatewayEvent}
+use Rattle.plain_machine.specs.Lists.{plain, outputs_from, refusal_at}
+use Rattle.plain_machine.specs.Refusing.{Ends}
+use Rattle.plain_machine.proofs.EndLaws.{ends_fine, ends_cause}
+use Rattle.gateway_core.specs.GatewayState.{GatewayState}
+use Rattle.gateway_core.specs.Stands.{Stands, Took}
+use Rattle.gateway_core.proofs.StandLemmas.{took_none}
+use Rattle.rgw_scripts.specs.Moves.{Move, Shown, Went, give, ask, sends, refuses, event_went, move_went}
+use Rattle.traces.specs.declared.script.Script.{Script}
+use Rattle.traces.specs.declared.telling.Mark.{Mark}
+use Rattle.rgw_scripts.specs.Printing.{printed_line, refusal_line}
+use Rattle.traces.specs.Telling.{told, told_mark, told_text}
+use Rattle.traces.specs.Writing.{Entry, Input, typed, clock_text, at_clock, showed, became, Says, IsPlay, taken_after, sent_at, sent_in, input_text, after_input, entry_text, after_entry, written, script_after}
+use Rattle.live_play.specs.Running.{Live, live, sent_of, Ran, AreMarks, HandsOut}
+
+-- ---- what is told
+
+pub grows_on : {A : Type 0} (a b c : Option (List A)) (xs ys : List A) → Grows a xs b → Grows b ys c → Grows a (xs ++ ys) c
+grows_on None b c xs ys g h = subst (λ o. Grows o ys c) g h
+grows_on (Some x) None c xs ys g h = subst (λ o. Grows (Some x) (xs ++ ys) o) (sym h) tt
+grows_on (Some x) (Some y) None xs ys g h = tt
+grows_on (Some x) (Some y) (Some z) xs ys g h = h ∙ ap (λ l. l ++ ys) g ∙ append_assoc x xs ys
+
+pub grows_nothing : {A : Type 0} (a : Option (List A)) → Grows a [] a
+grows_nothing None = refl
+grows_nothing (Some x) = sym (append-nil x)
+
+pub ends_all : {A : Type 0} (a b : Option (List A)) (xs : List A) → b ≡ None → Grows a xs b
+ends_all None b xs none = none
+ends_all (Some x) b xs none = subst (λ o. Grows (Some x) xs o) (sym none) tt
+
+pub if_none : {A : Type 0} (o : Option A) (P : A → Type 0) → o ≡ None → IfSome o P
+if_none None P none = tt
+if_none (Some x) P none = absurd cc
+
+-- what follows what was told, by a script that is known where there is a trace
+then_told : (a b c : Option (List ℕ)) (xs : List ℕ) (s t : Script) (entries : List Entry) → Grows a xs b → IfSome b (λ text. t ≡ s) → Grows b (written t entries) c
+    → Grows a (xs ++ written s entries) c
+then_told a None c xs s t entries g is h = ends_all a c (xs ++ written s entries) h
+then_told a (Some y) c xs s t entries g is h = grows_on a (Some y) c xs (written s entries) g (subst (λ (u : Script). Grows (Some y) (written u entries) c) is h)
+
+if_told : (b c : Option (List ℕ)) (xs : List ℕ) (s t u : Script) → Grows b xs c → IfSome b (λ text. t ≡ s) → u ≡ t → IfSome c (λ text. u ≡ s)
+if_told None c xs s t u g is same = subst (λ (o : Option (List ℕ)). IfSome o (λ text. u ≡ s)) (sym g) tt
+if_told (Some y) None xs s t u g is same = tt
+if_told (Some y) (Some z) xs s t u g is same = same ∙ is
+
+-- ---- marks
+
+marks_send_nothing : (marks : List Entry) → AreMarks marks → sent_in marks ≡ []
+marks_send_nothing [] are = refl
+marks_send_nothing (showed input move shown ∷ marks) are = absurd are
+marks_send_nothing (became mark place ∷ marks) are = marks_send_nothing marks are
+
+marks_take_nothing : (setup : Setup) (before : List GatewayEvent) (marks : List Entry) → AreMarks marks → taken_after setup before marks ≡ before
+marks_take_nothing setup before [] are = refl
+marks_take_nothing setup before (showed input move shown ∷ marks) are = absurd are
+marks_take_nothing setup before (became mark place ∷ marks) are = marks_take_nothing setup before marks are
+
+marks_are_play : (setup : Setup) (before : List GatewayEvent) (marks : List Entry) → AreMarks marks → IsPlay setup before marks
+marks_are_play setup before [] are = tt
+marks_are_play setup before (showed input move shown ∷ marks) are = absurd are
+marks_are_play setup before (became mark place ∷ marks) are = marks_are_play setup before marks are
+
+marks_pass_no_time : (script : Script) (marks : List Entry) → AreMarks marks → script_after script marks ≡ script
+unfolding script_after
+marks_pass_no_time script [] are = refl
+marks_pass_no_time script (showed input move shown ∷ marks) are = absurd are
+marks_pass_no_time script (became mark place ∷ marks) are = marks_pass_no_time script marks are
+
+written_marks : (script : Script) (marks more : List Entry) → AreMarks marks → written script (marks ++ more) ≡ written script marks ++ written script more
+unfolding written
+written_marks script [] more are = refl
+written_marks script (showed input move shown ∷ marks) more are = absurd are
+written_marks script (became mark place ∷ marks) more are =
+    ap (λ (l : List ℕ). told_mark mark place ++ l) (written_marks script marks more are) ∙ sym (append_assoc (told_mark mark place) (written script marks) (written script more))
+
+more_marks : (marks more : List Entry) → AreMarks marks → AreMarks more → AreMarks (marks ++ more)
+more_marks [] more are they = they
+more_marks (showed input move shown ∷ marks) more are they = absurd are
+more_marks (became mark place ∷ marks) more are they = more_marks marks more are they
+
+-- ---- datagrams that are handed out
+
+pub hands_nothing : (was : Live) → HandsOut was [] [] was
+unfolding written
+hands_nothing was = record {
+  marks = tt;
+  gateway = refl;
+  handed = grows_nothing was.handed;
+  told = grows_nothing was.told;
+  script = refl;
+}
+
+hands_on : (was mid is : Live) (some more : List OutDatagram) (marks others : List Entry) → HandsOut was some marks mid → HandsOut mid more others is
+    → HandsOut was (some ++ more) (marks ++ others) is
+hands_on was mid is some more marks others a b = record {
+  marks = more_marks marks others a.marks b.marks;
+  gateway = b.gateway ∙ a.gateway;
+  handed = rw (map-append sent_of some more) (grows_on was.handed mid.handed is.handed (map sent_of some) (map sent_of more) a.handed b.handed);
+  told = rw (written_marks was.script marks others a.marks)
+      (grows_on was.told mid.told is.told (written was.script marks) (written was.script others) a.told
+      (subst (λ (s : Script). Grows mid.told (written s others) is.told) a.script b.told));
+  script = b.script ∙ a.script;
+}
+
+pub one_more : (was mid is : Live) (datagrams : List OutDatagram) (place : ℕ) (d : OutDatagram) → place < length datagrams
+    → (marks : List Entry) × HandsOut was (take place datagrams) marks mid
+    → (marks : List Entry) × HandsOut mid (get_or datagrams place d ∷ []) marks is
+    → (marks : List Entry) × HandsOut was (take (place + 1) datagrams) marks is
+one_more was mid is datagrams place d inside a b =
+    (a.0 ++ b.0, rw (take_more datagrams place d inside) (hands_on was mid is (take place datagrams) (get_or datagrams place d ∷ []) a.0 b.0 a.1 b.1))
+
+pub hands_one : (was is : Live) (datagram : OutDatagram) → is.gateway ≡ was.gateway → Grows was.handed (sent_of datagram ∷ []) is.handed → is.told ≡ was.told
+    → is.script ≡ was.script → HandsOut was (datagram ∷ []) [] is
+unfolding written
+hands_one was is datagram gateway handed told script = record {
+  marks = tt;
+  gateway = gateway;
+  handed = handed;
+  told = subst (λ (o : Option (List ℕ)). Grows was.told [] o) (sym told) (grows_nothing was.told);
+  script = script;
+}
+
+pub hands_marked : (was is : Live) (datagram : OutDatagram) (mark : Mark) (place : ℕ) → is.gateway ≡ was.gateway → Grows was.handed (sent_of datagram ∷ []) is.handed
+    → Grows was.told (told_mark mark place) is.told → is.script ≡ was.script → HandsOut was (datagram ∷ []) (became mark place ∷ []) is
+unfolding written
+hands_marked was is datagram mark place gateway handed told script = record {
+  marks = tt;
+  gateway = gateway;
+  handed = handed;
+  told = rw (append-nil (told_mark mark place)) told;
+  script = script;
+}
+
+-- so it is in a loop over datagrams
+pub none_handed : (was : Live) → (marks : List Entry) × HandsOut was [] marks was
+none_handed was = ([], hands_nothing was)
+
+pub one_handed : (was is : Live) (datagram : OutDatagram) → is.gateway ≡ was.gateway → Grows was.handed (sent_of datagram ∷ []) is.handed → is.told ≡ was.told
+    → is.script ≡ was.script → (marks : List Entry) × HandsOut was (datagram ∷ []) marks is
+one_handed was is datagram gateway handed told script = ([], hands_one was is datagram gateway handed told script)
+
+pub one_marked : (was is : Live) (datagram : OutDatagram) (mark : Mark) (place : ℕ) → is.gateway ≡ was.gateway → Grows was.handed (sent_of datagram ∷ []) is.handed
+    → Grows was.told (told_mark mark place) is.told → is.script ≡ was.script → (marks : List Entry) × HandsOut was (datagram ∷ []) marks is
+one_marked was is datagram mark place gateway handed told script = (became mark place ∷ [], hands_marked was is datagram mark place gateway handed told script)
+
+-- ---- entries
+
+pub ran_nothing : (was is : Live) → Took was.gateway [] is.gateway [] [] → is.handed ≡ was.handed → is.told ≡ was.told → is.script ≡ was.script → Ran was [] is
+unfolding written script_after
+ran_nothing was is took handed told script = record {
+  setup = took.setup;
+  stands = λ before s. rw (append-nil before) at (took.stands before s);
+  play = λ before s. tt;
+  handed = subst (λ (o : Option (List Sent)). Grows was.handed [] o) (sym handed) (grows_nothing was.handed);
+  told = subst (λ (o : Option (List ℕ)). Grows was.told [] o) (sym told) (grows_nothing was.told);
+  script = if_some is.told script;
+} where
+  if_some : (o : Option (List ℕ)) → is.script ≡ was.script → IfSome o (λ text. is.script ≡ was.script)
+  if_some None same = tt
+  if_some (Some text) same = same
+
+event_taken : (setup : Setup) (before : List GatewayEvent) (event : GatewayEvent) → Ends (plain setup before) event None
+    → move_went setup before (give event) ≡ record { shown = sends (outputs_from setup (plain setup before) (event ∷ [])) ∷ []; taken = before ++ event ∷ [] }
+unfolding move_went
+event_taken setup before event ends = ap (λ (r : Option Refusal). event_went setup before event r) (ends_fine (plain setup before) event ends)
+
+event_refused : (setup : Setup) (before : List GatewayEvent) (event : GatewayEvent) (refusal : Refusal) → (refusal ≡ OutOfMemory → ⊥)
+    → Ends (plain setup before) event (Some refusal) → move_went setup before (give event) ≡ record { shown = refuses refusal ∷ []; taken = before }
+unfolding move_went
+event_refused setup before event refusal other ends = ap (λ (r : Option Refusal). event_went setup before event r) (ends_cause (plain setup before) event refusal other ends)
+
+-- an event was taken, its entry told, and its datagrams handed out
+pub ran_sent : (was mid is : Live) (input : Input) (event : GatewayEvent) (outputs : List OutDatagram) (marks : List Entry) → Says input (give event)
+    → Took was.gateway (event ∷ []) mid.gateway [] outputs
+    → ((before : List GatewayEvent) → Stands was.gateway before → Ends (plain was.gateway.setup before) event None)
+    → mid.handed ≡ was.handed → Grows was.told (input_text was.script input (sends outputs)) mid.told
+    → IfSome mid.told (λ text. mid.script ≡ after_input was.script input (sends outputs))
+    → HandsOut mid outputs marks is → Ran was (showed input (give event) (sends outputs) ∷ marks) is
+unfolding written script_after
+ran_sent was mid is input event outputs marks says took ends kept told script hands = record {
+  setup = ap (λ (g : GatewayState). g.setup) hands.gateway ∙ took.setup;
+  stands = λ before s. subst (λ (g : GatewayState). Stands g (taken_after was.gateway.setup before (showed input (give event) (sends outputs) ∷ marks))) (sym hands.gateway)
+      (subst (Stands mid.gateway) (sym (taken_here before s)) (took.stands before s));
+  play = λ before s. (says, shown_here before s, marks_are_play was.gateway.setup (move_went was.gateway.setup before (give event)).taken marks hands.marks);
+  handed = rw (all_sent) (subst (λ (o : Option (List Sent)). Grows o (map sent_of outputs) is.handed) kept hands.handed);
+  told = then_told was.told mid.told is.told (input_text was.script input (sends outputs)) (after_input was.script input (sends outputs)) mid.script marks told script hands.told;
+  script = rw (marks_pass_no_time (after_input was.script input (sends outputs)) marks hands.marks)
+      (if_told mid.told is.told (written mid.script marks) (after_input was.script input (sends outputs)) mid.script is.script hands.told script hands.script);
+} where
+  all_sent : sent_in (showed input (give event) (sends outputs) ∷ marks) ≡ outputs
+  all_sent = ap (λ (l : List OutDatagram). outputs ++ l) (marks_send_nothing marks hands.marks) ∙ append-nil outputs
+
+  taken_here : (before : List GatewayEvent) → Stands was.gateway before
+      → taken_after was.gateway.setup before (showed input (give event) (sends outputs) ∷ marks) ≡ before ++ event ∷ []
+  taken_here before s = marks_take_nothing was.gateway.setup (move_went was.gateway.setup before (give event)).taken marks hands.marks
+      ∙ ap (λ (w : Went). w.taken) (event_taken was.gateway.setup before event (ends before s))
+
+  shown_here : (before : List GatewayEvent) → Stands was.gateway before → (move_went was.gateway.setup before (give event)).shown ≡ sends outputs ∷ []
+  shown_here before s = ap (λ (w : Went). w.shown) (event_taken was.gateway.setup before event (ends before s))
+      ∙ ap (λ (l : List OutDatagram). sends l ∷ []) (sym (took.sent before s))
+
+-- nothing was sent: a line was answered
+pub ran_answered : (was is : Live) (input : Input) (move : Move) (shown : Shown) → Says input move
+    → is.gateway.setup ≡ was.gateway.setup
+    → ((before : List GatewayEvent) → Stands was.gateway before → Stands is.gateway before)
+    → ((before : List GatewayEvent) → Stands was.gateway before → move_went was.gateway.setup before move ≡ record { shown = shown ∷ []; taken = before })
+    → sent_at (showed input move shown) ≡ [] → is.handed ≡ was.handed
+    → Grows was.told (input_text was.script input shown) is.told
+    → IfSome is.told (λ text. is.script ≡ after_input was.script input shown) → Ran was (showed input move shown ∷ []) is
+unfolding written script_after
+ran_answered was is input move shown says setup stands went none handed told script = record {
+  setup = setup;
+  stands = λ before s. subst (Stands is.gateway) (sym (ap (λ (w : Went). w.taken) (went before s))) (stands before s);
+  play = λ before s. (says, ap (λ (w : Went). w.shown) (went before s), tt);
+  handed = rw (none) (subst (λ (o : Option (List Sent)). Grows was.handed [] o) (sym handed) (grows_nothing was.handed));
+  told = rw (append-nil (input_text was.script input shown)) told;
+  script = script;
+}
+
+-- ---- runs one after the other
+
+written_more : (script : Script) (a b : List Entry) → written script (a ++ b) ≡ written script a ++ written (script_after script a) b
+unfolding written script_after
+written_more script [] b = refl
+written_more script (entry ∷ a) b =
+    ap (λ (l : List ℕ). entry_text script entry ++ l) (written_more (after_entry script entry) a b)
+    ∙ sym (append_assoc (entry_text script entry) (written (after_entry script entry) a) (written (script_after (after_entry script entry) a) b))
+
+script_more : (script : Script) (a b : List Entry) → script_after script (a ++ b) ≡ script_after (script_after script a) b
+unfolding script_after
+script_more script [] b = refl
+script_more script (entry ∷ a) b = script_more (after_entry script entry) a b
+
+taken_more : (setup : Setup) (before : List GatewayEvent) (a b : List Entry) → taken_after setup before (a ++ b) ≡ taken_after setup (taken_after setup before a) b
+taken_more setup before [] b = refl
+taken_more setup before (showed input move shown ∷ a) b = taken_more setup (move_went setup before move).taken a b
+taken_more setup before (became mark place ∷ a) b = taken_more setup before a b
+
+play_more : (setup : Setup) (before : List GatewayEvent) (a b : List Entry) → IsPlay setup before a → IsPlay setup (taken_after setup before a) b → IsPlay setup before (a ++ b)
+play_more setup before [] b p q = q
+play_more setup before (showed input move shown ∷ a) b p q = (p.0, p.1, play_more setup (move_went setup before move).taken a b p.2 q)
+play_more setup before (became mark place ∷ a) b p q = play_more setup before a b p q
+
+pub ran_on : (was mid is : Live) (a b : List Entry) → Ran was a mid → Ran mid b is → Ran was (a ++ b) is
+ran_on was mid is a b p q = record {
+  setup = q.setup ∙ p.setup;
+  stands = λ before s. rw (taken_more was.gateway.setup before a b)
+      (subst (λ (x : Setup). Stands is.gateway (taken_after x (taken_after was.gateway.setup before a) b)) p.setup (q.stands (taken_after was.gateway.setup before a) (p.stands before s)));
+  play = λ before s. play_more was.gateway.setup before a b (p.play before s)
+      (subst (λ (x : Setup). IsPlay x (taken_after was.gateway.setup before a) b) p.setup (q.play (taken_after was.gateway.setup before a) (p.stands before s)));
+  handed = rw (flat_map-append sent_at a b, map-append sent_of (sent_in a) (sent_in b))
+      (grows_on was.handed mid.handed is.handed (map sent_of (sent_in a)) (map sent_of (sent_in b)) p.handed q.handed);
+  told = rw (written_more was.script a b) (then_told was.told mid.told is.told (written was.script a) (script_after was.script a) mid.script b p.told p.script q.told);
+  script = rw (script_more was.script a b) (by_told mid.told is.told p.script q.script q.told);
+} where
+  by_told : (m o : Option (List ℕ)) → IfSome m (λ text. mid.script ≡ script_after was.script a) → IfSome o (λ text. is.script ≡ script_after mid.script b)
+      → Grows m (written mid.script b) o → IfSome o (λ text. is.script ≡ script_after (script_after was.script a) b)
+  by_told None o known last grows = subst (λ (x : Option (List ℕ)). IfSome x (λ text. is.script ≡ script_after (script_after was.script a) b)) (sym grows) tt
+  by_told (Some text) None known last grows = tt
+  by_told (Some text) (Some more) known last grows = subst (λ (x : Script). is.script ≡ script_after x b) known last
+
+-- ---- what is told of a run
+
+known : {A : Type 0} (a b : Option (List A)) (xs were are : List A) → Grows a xs b → a ≡ Some were → b ≡ Some are → are ≡ were ++ xs
+known None b xs were are g was is = absurd cc
+known (Some x) None xs were are g was is = absurd cc
+known (Some x) (Some y) xs were are g was is =
+    let first : x ≡ were = cc in
+    let second : y ≡ are = cc in
+    sym second ∙ g ∙ ap (λ l. l ++ xs) first
+
+pub handed_known : (was is : Live) (entries : List Entry) (were are : List Sent) → Ran was entries is → was.handed ≡ Some were → is.handed ≡ Some are
+    → are ≡ were ++ map sent_of (sent_in entries)
+handed_known was is entries were are r a b = known was.handed is.handed (map sent_of (sent_in entries)) were are r.handed a b
+
+pub told_known : (was is : Live) (entries : List Entry) (were are : List ℕ) → Ran was entries is → was.told ≡ Some were → is.told ≡ Some are
+    → are ≡ were ++ written was.script entries
+told_known was is entries were are r a b = known was.told is.told (written was.script entries) were are r.told a b
+
+pub script_known : (was is : Live) (entries : List Entry) (text : List ℕ) → Ran was entries is → is.told ≡ Some text → is.script ≡ script_after was.script entries
+script_known was is entries text r told = from (rw told at r.script) where
+  from : IfSome (Some text) (λ (t : List ℕ). is.script ≡ script_after was.script entries) → is.script ≡ script_after was.script entries
+  from same = same
+
+-- ---- one event or question
+
+pub goes_on_quietly : (was is : Live) → Took was.gateway [] is.gateway [] [] → is.handed ≡ was.handed → is.told ≡ was.told → is.script ≡ was.script
+    → (entries : List Entry) × Ran was entries is
+goes_on_quietly was is took handed told script = ([], ran_nothing was is took handed told script)
+
+pub goes_on_so : (was mid is : Live) (input : Input) (event : GatewayEvent) (outputs : List OutDatagram) → Says input (give event)
+    → Took was.gateway (event ∷ []) mid.gateway [] outputs
+    → ((before : List GatewayEvent) → Stands was.gateway before → Ends (plain was.gateway.setup before) event None)
+    → mid.handed ≡ was.handed → Grows was.told (input_text was.script input (sends outputs)) mid.told
+    → IfSome mid.told (λ text. mid.script ≡ after_input was.script input (sends outputs))
+    → (marks : List Entry) × HandsOut mid outputs marks is → (entries : List Entry) × Ran was entries is
+goes_on_so was mid is input event outputs says took ends kept told script hands =
+    (showed input (give event) (sends outputs) ∷ hands.0, ran_sent was mid is input event outputs hands.0 says took ends kept told script hands.1)
+
+-- an act that was refused, and not for want of memory
+pub goes_on_refused : (was is : Live) (line : List ℕ) (event : GatewayEvent) (refusal : Refusal) → Says (typed line) (give event) → (refusal ≡ OutOfMemory → ⊥)
+    → Took was.gateway [] is.gateway [] []
+    → ((before : List GatewayEvent) → Stands was.gateway before → Ends (plain was.gateway.setup before) event (Some refusal))
+    → is.handed ≡ was.handed → Grows was.told (clock_text was.script ++ printed_line line ++ told_text (printed_line (refusal_line refusal))) is.told
+    → IfSome is.told (λ text. is.script ≡ at_clock was.script) → (entries : List Entry) × Ran was entries is
+unfolding told
+goes_on_refused was is line event refusal says other took ends kept told script = (
+  showed (typed line) (give event) (refuses refusal) ∷ [],
+  ran_answered was is (typed line) (give event) (refuses refusal) says took.setup
+      (λ before s. rw (append-nil before) at (took.stands before s))
+      (λ before s. event_refused was.gateway.setup before event refusal other (ends before s)) refl kept told script,
+)
+
+-- ---- runs in a loop
+
+pub stays : (was : Live) → (entries : List Entry) × Ran was entries was
+stays was = goes_on_quietly was was (took_none was.gateway was.gateway [] [] refl refl refl (λ m same. same)) refl refl refl
+
+pub stays_so : (was is : Live) → is ≡ was → (entries : List Entry) × Ran was entries is
+stays_so was is same = subst (λ (x : Live). (entries : List Entry) × Ran was entries x) (sym same) (stays was)
+
+pub goes_on_then : (was mid is : Live) → (entries : List Entry) × Ran was entries mid → (entries : List Entry) × Ran mid entries is
+    → (entries : List Entry) × Ran was entries is
+goes_on_then was mid is a b = (a.0 ++ b.0, ran_on was mid is a.0 b.0 a.1 b.1)
+
+-- what a trace is told may be broken off where it is written
+pub written_off : (was is : Live) → is.gateway ≡ was.gateway → is.script ≡ was.script → is.handed ≡ was.handed → Grows was.told [] is.told
+    → (entries : List Entry) × Ran was entries is
+unfolding written script_after
+written_off was is gateway script handed told = (
+  [],
+  record {
+    setup = ap (λ (g : GatewayState). g.setup) gateway;
+    stands = λ before s. subst (λ (g : GatewayState). Stands g before) (sym gateway) s;
+    play = λ before s. tt;
+    handed = subst (λ (o : Option (List Sent)). Grows was.handed [] o) (sym handed) (grows_nothing was.handed);
+    told = told;
+    script = any_text is.told;
+  },
+) where
+  any_text : (o : Option (List ℕ)) → IfSome o (λ text. is.script ≡ was.script)
+  any_text None = tt
+  any_text (Some text) = script

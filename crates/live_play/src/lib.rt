@@ -1,0 +1,15 @@
+//! A gateway that runs live is a play: what it is given, asked and sends is, in order, what its trace says, and that can be played
+//! again.
+//!
+//! It waits for nothing and opens nothing. Whoever runs it gives it what comes, and is what its datagrams are handed to, and what its
+//! trace is told.
+#![tactic(auto)]
+
+mod ends;
+pub mod laws;
+mod play;
+mod trace_text;
+
+pub use crate::ends::{Outlet, Teller};
+pub use crate::play::LivePlay;
+pub use crate::trace_text::TraceText;

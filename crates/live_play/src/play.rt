@@ -1,0 +1,304 @@
+//! The play.
+ghost use Rattle.std.specs.Prelude.{◌≡◌, ◌++◌, ◌∷◌, [], List, Option, Some, None, IfSome, OnOk, OnErr, ℕ};
+ghost use Rattle.surroundings.specs.Sending.{Sent, Grows};
+ghost use Rattle.mg_bytes.specs.Words.{words};
+ghost use Rattle.rgw_scripts.specs.declared.step.ScriptStep.TheVariants.{Phone, Show};
+ghost use Rattle.rgw_scripts.specs.declared.step.ScriptLine.TheVariants.{Whole};
+ghost use Rattle.rgw_scripts.specs.Moves.{sends};
+ghost use Rattle.rgw_scripts.specs.Printing.{printed_line, refusal_line};
+ghost use Rattle.rgw_scripts.specs.Script.{line_in};
+ghost use Rattle.traces.specs.Telling.{told_mark, told_text};
+ghost use Rattle.traces.specs.Writing.{Entry, arrived, typed, tick_text, after_tick, input_text, at_clock, clock_text, opening_script};
+ghost use Rattle.live_play.specs.Running.{live, Ran, HandsOut, IsAnswer};
+
+use crate::ends::{Outlet, Teller};
+use gateway_core::{Event, Gateway, OutDatagram, Refusal};
+use mg_bytes::OutOfMemory;
+use mg_line::Act;
+use rgw_play::{put_line, put_refusal, status_of};
+use std::alloc::Global;
+use std::net::SocketAddrV4;
+use traces::{Mark, Script, put_mark};
+
+/// A gateway that runs, and its trace.
+#[derive(Drop)]
+pub struct LivePlay<T> {
+    alloc: Global,
+    pub gateway: Box<Gateway>,
+    script: Script,
+    // What its trace is told next.
+    text: Vec<u8>,
+    // What is answered to who asked last, or did something that was refused.
+    printed: Vec<u8>,
+    pub teller: T,
+}
+
+impl<T: Teller + Drop> LivePlay<T> {
+    /// The play of a gateway to which nothing has come, and of a trace that was told its head.
+    pub fn new(alloc: Global, gateway: Box<Gateway>, teller: T) -> LivePlay<T>
+        ensures gateway { result.gateway ≡ gateway }
+        ensures teller { result.teller ≡ teller }
+        ensures script { result.script ≡ opening_script }
+    {
+        LivePlay {
+            alloc,
+            gateway,
+            script: Script::starting(),
+            text: Vec::new(alloc),
+            printed: Vec::new(alloc),
+            teller,
+        }
+    }
+
+    /// What is answered to a line by which something was asked, or was done that was refused.
+    pub fn printed(&self) -> &[u8] {
+        self.printed.as_slice()
+    }
+
+    // The trace is told what was put for it, if memory was there for that.
+    #[tactic(auto, using(crate::proofs::RunLemmas::ends_all, crate::proofs::RunLemmas::if_none))]
+    fn tell(&mut self, put: Result<(), OutOfMemory>)
+        ensures told { (text : List ℕ) → OnOk put (self.old.text.items ≡ text) → Grows (T.told self.old.teller) text (T.told self.new.teller) }
+        ensures broken_off { OnErr put (T.told self.new.teller ≡ None) }
+        ensures gateway { self.new.gateway ≡ self.old.gateway }
+        ensures script { self.new.script ≡ self.old.script }
+        ensures printed { self.new.printed ≡ self.old.printed }
+    {
+        match put {
+            Ok(()) => self.teller.tell(self.text.as_slice()),
+            Err(_) => self.teller.break_off(),
+        }
+    }
+
+    // A tick, and what was sent at it.
+    #[tactic(auto, using(crate::proofs::RunLemmas::ends_all, crate::proofs::RunLemmas::if_none))]
+    fn tell_tick(&mut self, moment: u64, sent: &[OutDatagram])
+        ensures told { Grows (T.told self.old.teller) (tick_text self.old.script moment sent.now) (T.told self.new.teller) }
+        ensures script { IfSome (T.told self.new.teller) (λ text. self.new.script ≡ after_tick self.old.script moment sent.now) }
+        ensures gateway { self.new.gateway ≡ self.old.gateway }
+    {
+        if self.teller.is_telling() {
+            self.text.clear();
+            let put = self
+                .script
+                .put_tick(self.alloc, &mut self.text, moment, sent);
+            self.tell(put);
+        }
+    }
+
+    // A datagram that came, and what was sent at it.
+    #[tactic(auto, using(crate::proofs::RunLemmas::ends_all, crate::proofs::RunLemmas::if_none))]
+    fn tell_datagram(&mut self, source: SocketAddrV4, bytes: &[u8], sent: &[OutDatagram])
+        ensures told { Grows (T.told self.old.teller) (input_text self.old.script (arrived source bytes.now) (sends sent.now)) (T.told self.new.teller) }
+        ensures script { IfSome (T.told self.new.teller) (λ text. self.new.script ≡ at_clock self.old.script) }
+        ensures gateway { self.new.gateway ≡ self.old.gateway }
+    {
+        if self.teller.is_telling() {
+            self.text.clear();
+            let put = self
+                .script
+                .put_datagram(self.alloc, &mut self.text, source, bytes, sent);
+            self.tell(put);
+        }
+    }
+
+    // A line by which something was done, and what was sent at it.
+    #[tactic(auto, using(crate::proofs::RunLemmas::ends_all, crate::proofs::RunLemmas::if_none))]
+    fn tell_act(&mut self, line: &[u8], sent: &[OutDatagram])
+        ensures told { Grows (T.told self.old.teller) (input_text self.old.script (typed line.now) (sends sent.now)) (T.told self.new.teller) }
+        ensures script { IfSome (T.told self.new.teller) (λ text. self.new.script ≡ at_clock self.old.script) }
+        ensures gateway { self.new.gateway ≡ self.old.gateway }
+    {
+        if self.teller.is_telling() {
+            self.text.clear();
+            let put = self.script.put_act(self.alloc, &mut self.text, line, sent);
+            self.tell(put);
+        }
+    }
+
+    // A line, and what is answered to it.
+    #[tactic(auto, using(crate::proofs::RunLemmas::ends_all, crate::proofs::RunLemmas::if_none))]
+    fn tell_answered(&mut self, line: &[u8])
+        ensures told { Grows (T.told self.old.teller) (clock_text self.old.script ++ printed_line line.now ++ told_text self.old.printed.items) (T.told self.new.teller) }
+        ensures script { IfSome (T.told self.new.teller) (λ text. self.new.script ≡ at_clock self.old.script) }
+        ensures gateway { self.new.gateway ≡ self.old.gateway }
+    {
+        if self.teller.is_telling() {
+            self.text.clear();
+            let put = self
+                .script
+                .put_answered(self.alloc, &mut self.text, line, self.printed.as_slice());
+            self.tell(put);
+        }
+    }
+
+    // What became of the datagram at this place among those of this turn.
+    #[tactic(auto, using(crate::proofs::RunLemmas::ends_all, crate::proofs::RunLemmas::if_none))]
+    fn tell_mark(&mut self, mark: Mark, place: u64)
+        ensures told { Grows (T.told self.old.teller) (told_mark mark place) (T.told self.new.teller) }
+        ensures script { self.new.script ≡ self.old.script }
+        ensures gateway { self.new.gateway ≡ self.old.gateway }
+    {
+        if self.teller.is_telling() {
+            self.text.clear();
+            let put = put_mark(self.alloc, &mut self.text, mark, place);
+            self.tell(put);
+        }
+    }
+
+    // A datagram is handed out.
+    #[tactic(auto, using(crate::proofs::RunLemmas::one_handed, crate::proofs::RunLemmas::one_marked))]
+    fn hand<O: Outlet>(&mut self, out: &mut O, datagram: &OutDatagram, place: u64)
+        ensures { (marks : List Entry) × HandsOut
+            (live self.old.gateway.value self.old.script (T.told self.old.teller) (O.handed out.old)) (datagram.now ∷ []) marks
+            (live self.new.gateway.value self.new.script (T.told self.new.teller) (O.handed out.new)) }
+    {
+        if let Some(mark) = out.hand(datagram.to, datagram.bytes.as_bytes()) {
+            self.tell_mark(mark, place);
+        }
+    }
+
+    // Datagrams are handed out in their order.
+    #[tactic(auto, using(crate::proofs::RunLemmas::none_handed, crate::proofs::RunLemmas::one_more))]
+    fn hand_out<O: Outlet>(&mut self, out: &mut O, datagrams: &[OutDatagram])
+        ensures { (marks : List Entry) × HandsOut
+            (live self.old.gateway.value self.old.script (T.told self.old.teller) (O.handed out.old)) datagrams.now marks
+            (live self.new.gateway.value self.new.script (T.told self.new.teller) (O.handed out.new)) }
+    {
+        let mut place: u64 = 0;
+        for datagram in datagrams {
+            place = place.saturating_add(1);
+            self.hand(out, datagram, place);
+        }
+    }
+
+    /// The clock goes to this moment, in ms: what the gateway sends at it is handed out. A refused tick changes nothing.
+    #[tactic(auto, using(crate::proofs::RunLemmas::goes_on_so, crate::proofs::RunLemmas::goes_on_quietly))]
+    pub fn tick<O: Outlet>(&mut self, out: &mut O, moment: u64) -> Result<(), Refusal>
+        ensures { (entries : List Entry) × Ran
+            (live self.old.gateway.value self.old.script (T.told self.old.teller) (O.handed out.old)) entries
+            (live self.new.gateway.value self.new.script (T.told self.new.teller) (O.handed out.new)) }
+    {
+        match self.gateway.step(Event::Tick { moment }) {
+            Ok(outputs) => {
+                self.tell_tick(moment, outputs.as_slice());
+                self.hand_out(out, outputs.as_slice());
+                Ok(())
+            }
+            Err(refusal) => Err(refusal),
+        }
+    }
+
+    /// A datagram came from there: what the gateway sends at it is handed out. Where memory is refused for it nothing is changed.
+    #[tactic(auto, using(crate::proofs::RunLemmas::goes_on_so, crate::proofs::RunLemmas::goes_on_quietly))]
+    pub fn datagram<O: Outlet>(
+        &mut self,
+        out: &mut O,
+        source: SocketAddrV4,
+        bytes: &[u8],
+    ) -> Result<(), Refusal>
+        ensures { (entries : List Entry) × Ran
+            (live self.old.gateway.value self.old.script (T.told self.old.teller) (O.handed out.old)) entries
+            (live self.new.gateway.value self.new.script (T.told self.new.teller) (O.handed out.new)) }
+    {
+        match self.gateway.step(Event::Datagram { source, bytes }) {
+            Ok(outputs) => {
+                self.tell_datagram(source, bytes, outputs.as_slice());
+                self.hand_out(out, outputs.as_slice());
+                Ok(())
+            }
+            Err(refusal) => Err(refusal),
+        }
+    }
+
+    // An act was refused, and not for want of memory: why is put, and told.
+    fn tell_refusal(&mut self, line: &[u8], refusal: Refusal) -> Result<(), OutOfMemory>
+        ensures ok { OnOk result (Grows (T.told self.old.teller)
+            (clock_text self.old.script ++ printed_line line.now ++ told_text (printed_line (refusal_line refusal))) (T.told self.new.teller)) }
+        ensures ok_script { OnOk result (IfSome (T.told self.new.teller) (λ text. self.new.script ≡ at_clock self.old.script)) }
+        ensures err { OnErr result (T.told self.new.teller ≡ T.told self.old.teller) }
+        ensures err_script { OnErr result (self.new.script ≡ self.old.script) }
+        ensures gateway { self.new.gateway ≡ self.old.gateway }
+    {
+        self.printed.clear();
+        put_refusal(self.alloc, &mut self.printed, refusal)?;
+        self.tell_answered(line);
+        Ok(())
+    }
+
+    // The same, but that nothing is told where the refusal is want of memory.
+    fn refuse(&mut self, line: &[u8], refusal: Refusal) -> Refusal {
+        if refusal == Refusal::OutOfMemory {
+            return refusal;
+        }
+        match self.tell_refusal(line, refusal) {
+            Ok(()) => refusal,
+            Err(_) => Refusal::OutOfMemory,
+        }
+    }
+
+    /// Something is done at the telephone of a line, as a line of text said: what the gateway sends at it is handed out. A refused act
+    /// changes nothing; why it was refused is `printed`.
+    #[tactic(auto, using(crate::proofs::RunLemmas::goes_on_so, crate::proofs::RunLemmas::goes_on_quietly, crate::proofs::RunLemmas::goes_on_refused))]
+    pub fn act<O: Outlet>(
+        &mut self,
+        out: &mut O,
+        text: &[u8],
+        line: u16,
+        act: Act,
+    ) -> Result<(), Refusal>
+        requires { line_in (words text.now) ≡ Some (Whole (Phone line act)) }
+        ensures { (entries : List Entry) × Ran
+            (live self.old.gateway.value self.old.script (T.told self.old.teller) (O.handed out.old)) entries
+            (live self.new.gateway.value self.new.script (T.told self.new.teller) (O.handed out.new)) }
+    {
+        match self.gateway.step(Event::Phone { line, act }) {
+            Ok(outputs) => {
+                self.tell_act(text, outputs.as_slice());
+                self.hand_out(out, outputs.as_slice());
+                Ok(())
+            }
+            Err(refusal) => Err(self.refuse(text, refusal)),
+        }
+    }
+
+    // What a line is is put, to be answered, or that there is none.
+    fn put_status(&mut self, line: u16) -> Result<(), OutOfMemory>
+        ensures ok { OnOk result (IsAnswer self.old.gateway.value line self.new.printed.items) }
+        ensures teller { self.new.teller ≡ self.old.teller }
+        ensures script { self.new.script ≡ self.old.script }
+        ensures gateway { self.new.gateway ≡ self.old.gateway }
+    {
+        self.printed.clear();
+        if line >= 1 && line <= self.gateway.lines() {
+            let status = status_of(&self.gateway, line);
+            return put_line(self.alloc, &mut self.printed, &status);
+        }
+        put_refusal(self.alloc, &mut self.printed, Refusal::NoSuchLine)
+    }
+
+    /// Nothing comes any more: the trace is told to which moment its gateway has come.
+    #[tactic(auto, using(crate::proofs::RunLemmas::ends_all, crate::proofs::RunLemmas::if_none))]
+    pub fn end(&mut self)
+        ensures told { Grows (T.told self.old.teller) (clock_text self.old.script) (T.told self.new.teller) }
+        ensures gateway { self.new.gateway ≡ self.old.gateway }
+    {
+        if self.teller.is_telling() {
+            self.text.clear();
+            let put = self.script.put_clock(self.alloc, &mut self.text);
+            self.tell(put);
+        }
+    }
+
+    /// What a line is is asked, as a line of text said: the answer is `printed`.
+    pub fn ask(&mut self, text: &[u8], line: u16) -> Result<(), OutOfMemory>
+        requires { line_in (words text.now) ≡ Some (Whole (Show line)) }
+        ensures { (handed : Option (List Sent)) → (entries : List Entry) × Ran
+            (live self.old.gateway.value self.old.script (T.told self.old.teller) handed) entries
+            (live self.new.gateway.value self.new.script (T.told self.new.teller) handed) }
+    {
+        self.put_status(line)?;
+        self.tell_answered(text);
+        Ok(())
+    }
+}
