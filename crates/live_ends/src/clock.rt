@@ -83,13 +83,18 @@ impl<'a, R: Clock> LiveClock<'a, R> {
         self.ticked = ticked;
     }
 
+    /// How long it is since the start, in ms.
+    pub fn passed(&self) -> io::Result<u64> {
+        let passed = self.start.elapsed(self.rt)?.as_millis();
+        Ok(u64::try_from(passed).unwrap_or(u64::MAX))
+    }
+
     /// The moment to which the next tick goes: now, but at most a longest tick past the last one, and not before it.
     pub fn moment(&self) -> io::Result<u64>
         ensures back { IfOk result (λ moment. self.now.ticked ≤ moment) }
         ensures far { IfOk result (λ moment. moment ≤ self.now.ticked + LONGEST_TICK) }
     {
-        let passed = self.start.elapsed(self.rt)?.as_millis();
-        let now = u64::try_from(passed).unwrap_or(u64::MAX);
+        let now = self.passed()?;
         Ok(next_moment(self.ticked, now))
     }
 }

@@ -61,6 +61,16 @@ impl Readiness {
         socket: &mut UdpSocket,
         commands: &mut CommandSocket,
     ) -> io::Result<Readiness> {
+        Readiness::watch_both(rt, alloc, socket, &mut commands.socket)
+    }
+
+    /// The same of two sockets, of which the second one is for commands.
+    pub fn watch_both<R: Net>(
+        rt: &R,
+        alloc: Global,
+        socket: &mut UdpSocket,
+        commands: &mut UdpSocket,
+    ) -> io::Result<Readiness> {
         let Ok(events) = Events::with_capacity(alloc, SOCKETS) else {
             return Err(io::Error::from(ErrorKind::OutOfMemory));
         };
@@ -68,7 +78,7 @@ impl Readiness {
         poll.registry()
             .register(socket, Token(SOCKET), Interest::READABLE)?;
         poll.registry()
-            .register(&mut commands.socket, Token(COMMANDS), Interest::READABLE)?;
+            .register(commands, Token(COMMANDS), Interest::READABLE)?;
         Ok(Readiness {
             poll,
             events,
@@ -96,6 +106,19 @@ impl Readiness {
     /// Nothing was told of the site's visitors.
     pub fn forget_visits(&mut self) {
         self.visits = [NO_VISIT; MOST_VISITORS];
+    }
+
+    /// Whether anything was told of a site's sockets.
+    pub fn has_visits(&self) -> bool {
+        if self.listener {
+            return true;
+        }
+        for visit in self.visits.iter() {
+            if visit.is_readable || visit.is_writable {
+                return true;
+            }
+        }
+        false
     }
 
     /// Whether a datagram or a command may have come.

@@ -1,20 +1,21 @@
-//! The gateway on a live network: how the program `rgwd` serves.
+//! The loop of the program `rgwd`: a turn at a time, as a schedule says what comes next.
 //!
-//! A wire of two sockets and the machine's clock gives the gateway its inputs, a turn at a time, and takes its datagrams.
-//! What goes over it is told to a journal, and shown on a page where that is asked for.
+//! It stands on surroundings, which are the machine's sockets and clock, or a script in memory; on a bad network before these, where
+//! one is asked for; and on visitors of a page, where there is one. What goes over it is told to a journal and to a trace.
 #![tactic(auto)]
 
+mod answering;
 mod boxing;
-mod ends;
-mod live_wire;
-mod passage;
-mod reception;
-mod session;
-mod site;
+mod desk;
+mod exchange;
+mod kept_records;
+mod recorder;
 mod telephones;
+mod visitors;
 
 pub use crate::boxing::boxed;
-pub use crate::ends::Ends;
-pub use crate::live_wire::LiveWire;
-pub use crate::reception::Reception;
-pub use crate::session::{answer_stop, serve};
+pub use crate::desk::Desk;
+pub use crate::exchange::Exchange;
+pub use crate::kept_records::KeptRecords;
+pub use crate::recorder::Recorder;
+pub use crate::visitors::{NoVisitors, Visitors};

@@ -1,5 +1,9 @@
 //! What the lines ask for that come to the telephones' socket.
-use live_ends::CommandSocket;
+ghost use Rattle.std.specs.Prelude.{◌≡◌, Some};
+ghost use Rattle.mg_bytes.specs.Words.{words as words_of};
+ghost use Rattle.rgw_scripts.specs.Script.{line_in};
+ghost use Rattle.live_gateway.specs.Asking.{AsksFor};
+
 use mg_line::Act;
 use rgw_play::{ScriptLine, ScriptStep, line_in};
 use std::alloc::Global;
@@ -24,7 +28,9 @@ pub enum TelephoneRequest {
 }
 
 // What a step asks for.
-fn request_of(step: &ScriptStep) -> TelephoneRequest {
+fn request_of(step: &ScriptStep) -> TelephoneRequest
+    ensures { AsksFor result (Some (Whole step.now)) }
+{
     match step {
         ScriptStep::Phone { line, act } => TelephoneRequest::Act {
             line: *line,
@@ -36,7 +42,9 @@ fn request_of(step: &ScriptStep) -> TelephoneRequest {
 }
 
 // What a line asks for of a telephone.
-fn telephone_request(alloc: Global, line: &[u8]) -> TelephoneRequest {
+fn telephone_request(alloc: Global, line: &[u8]) -> TelephoneRequest
+    ensures { AsksFor result (line_in (words_of line.now)) }
+{
     let Ok(said) = line_in(alloc, line) else {
         return TelephoneRequest::OutOfMemory;
     };
@@ -46,20 +54,14 @@ fn telephone_request(alloc: Global, line: &[u8]) -> TelephoneRequest {
     }
 }
 
-// What a `stop` asks for.
-fn stop_request(telephones: &CommandSocket) -> TelephoneRequest {
-    if telephones.is_from_loopback() {
-        TelephoneRequest::Stop
-    } else {
-        TelephoneRequest::StopFromAfar
-    }
-}
-
-/// What the line asks for that is to be answered next, if one is.
-pub fn next_request(alloc: Global, telephones: &CommandSocket) -> Option<TelephoneRequest> {
-    match telephones.line()? {
-        b"counts" => Some(TelephoneRequest::Counts),
-        b"stop" => Some(stop_request(telephones)),
-        line => Some(telephone_request(alloc, line)),
+/// What a line asks for, which came from this machine or from another one.
+pub fn request_in(alloc: Global, line: &[u8], is_from_loopback: bool) -> TelephoneRequest
+    ensures { AsksFor result (line_in (words_of line.now)) }
+{
+    match line {
+        b"counts" => TelephoneRequest::Counts,
+        b"stop" if is_from_loopback => TelephoneRequest::Stop,
+        b"stop" => TelephoneRequest::StopFromAfar,
+        line => telephone_request(alloc, line),
     }
 }

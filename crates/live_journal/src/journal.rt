@@ -1,29 +1,24 @@
-//! What is kept of the turn under way, for its count and its records.
+//! What is kept of what goes between a gateway and others: its counts and its records.
 use crate::capture::Capture;
 use crate::log::Log;
 use crate::message_tally::MessageTally;
-use crate::trace::{Trace, TraceEntry};
 use bad_network::Fate;
 use exchange_log::Way;
-use gateway_core::Input;
+use gateway_core::Gateway;
 use live_ends::{Now, Written};
 use page_answers::{Board, Kind};
 use std::net::{Ipv4Addr, SocketAddrV4};
-use traces::Mark;
 
-/// The journal of a wire. What is large stands in boxes.
+/// The journal of a gateway. What is large stands in boxes.
 #[derive(Drop)]
 pub struct Journal {
     pub tally: Box<MessageTally>,
-    pub trace: Box<Trace>,
     pub log: Box<Log>,
     pub capture: Box<Capture>,
     /// What the page is shown, where there is one.
     pub board: Option<Box<Board>>,
     /// What became of what was recorded.
     pub written: Written,
-    /// What was given at this turn.
-    pub given: Option<Input>,
 }
 
 impl Journal {
@@ -37,7 +32,6 @@ impl Journal {
 
     /// A line of the telephones is given to the gateway.
     pub fn act(&mut self, now: Now, line: &[u8]) {
-        self.trace.tell(TraceEntry::Line { line });
         self.show(now.clock, Kind::Act, None, line);
     }
 
@@ -46,19 +40,30 @@ impl Journal {
         self.show(moment, Kind::Told, None, text);
     }
 
-    /// A datagram is given to the gateway.
-    pub fn datagram(&mut self, now: Now, source: SocketAddrV4, bytes: &[u8]) {
+    /// A datagram comes for the gateway, so late, in ms.
+    pub fn came(&mut self, now: Now, source: SocketAddrV4, bytes: &[u8], late: u64) {
         self.tally.received();
-        self.trace.tell(TraceEntry::Datagram { source, bytes });
         self.log.receive(now, source, bytes);
         self.capture.pass(now.time, Way::Came, source, bytes);
         self.show(now.clock, Kind::Received, Some(source), bytes);
+        self.log.spoil(now, source, Fate::Once { late });
+    }
+
+    /// The gateway took the datagram that came last, which `Gateway::outcomes` tells of: its texts are counted, and why commands were
+    /// refused is told.
+    pub fn heard(&mut self, gateway: &Gateway) {
+        self.tally.heard(gateway.now(), gateway.outcomes());
+        self.log.explain(&gateway.setup().names);
+    }
+
+    /// A datagram was sent to the gateway, and a bad network lost it.
+    pub fn lost(&mut self, now: Now, source: SocketAddrV4, bytes: &[u8]) {
+        self.log.lose(now, source, bytes);
     }
 
     /// A datagram is sent.
     pub fn sent(&mut self, now: Now, to: SocketAddrV4, bytes: &[u8]) {
         self.tally.sent(now.clock, bytes);
-        self.trace.tell(TraceEntry::Sent { to, bytes });
         self.log.send(now, to, bytes);
         self.capture.pass(now.time, Way::Sent, to, bytes);
         self.show(now.clock, Kind::Sent, Some(to), bytes);
@@ -66,15 +71,11 @@ impl Journal {
 
     /// The datagram that was sent last has this fate.
     pub fn spoilt(&mut self, now: Now, to: SocketAddrV4, fate: Fate) {
-        if matches!(fate, Fate::Lost) {
-            self.trace.tell(TraceEntry::Became { mark: Mark::Lost });
-        }
         self.log.spoil(now, to, fate);
     }
 
     /// The datagram that was sent last didn't leave.
     pub fn unsent(&mut self, now: Now, to: SocketAddrV4) {
-        self.trace.tell(TraceEntry::Became { mark: Mark::Unsent });
         self.log.fail_to_send(now, to);
     }
 }

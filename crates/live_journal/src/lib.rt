@@ -25,4 +25,4 @@ pub use crate::own_counts::OwnCounts;
 pub use crate::picture::picture_of;
 pub use crate::reporting::{Faults, report};
 pub use crate::text_counts::TextCounts;
-pub use crate::trace::{Trace, TraceEntry};
+pub use crate::trace::Trace;

@@ -1,13 +1,12 @@
 //! What is told at the end: counts, one kind a line.
 ghost use Rattle.std.specs.Prelude.{◌≡◌, ◌++◌, OnOk};
 ghost use Rattle.std.specs.List.{flat_map};
-ghost use Rattle.gateway_core.specs.Wire.{counted};
 ghost use Rattle.page_answers.specs.Metrics.{code_text};
 ghost use Rattle.live_journal.specs.Reporting.{told, entry_text, datagrams_text, commands_text, texts_text, answer_text, answers_from, others_text, report_text};
 
 use crate::journal::Journal;
 use crate::message_tally::MessageTally;
-use gateway_core::{Gateway, Served};
+use gateway_core::Gateway;
 use mg_bytes::put_decimal;
 use std::alloc::{AllocError, Global};
 
@@ -29,17 +28,6 @@ impl Faults {
         receive: 0,
         send: 0,
     };
-
-    /// What came of some turns more.
-    pub fn add(&mut self, served: Served)
-        ensures refused { self.new.refused ≡ counted self.old.refused served.refused }
-        ensures receive { self.new.receive ≡ counted self.old.receive served.receive_faults }
-        ensures send { self.new.send ≡ counted self.old.send served.send_faults }
-    {
-        self.refused = self.refused.saturating_add(served.refused);
-        self.receive = self.receive.saturating_add(served.receive_faults);
-        self.send = self.send.saturating_add(served.send_faults);
-    }
 }
 
 // How many events of all lines were lost.

@@ -1,7 +1,7 @@
 //! What the log says of a network that spoils what goes over it, or takes nothing.
 use crate::log::Log;
 use bad_network::Fate;
-use exchange_log::{Note, Stamp, Way, put_message, put_note};
+use exchange_log::{Note, Stamp, Way, put_message, put_note, put_pause};
 use live_ends::Now;
 use mg_bytes::OutOfMemory;
 use piggyback::parts;
@@ -55,6 +55,16 @@ impl Log {
     pub fn spoil(&mut self, now: Now, peer: SocketAddrV4, fate: Fate) {
         if let Some(note) = note_of(fate) {
             self.note(now, peer, note);
+        }
+    }
+
+    /// The program was stopped and went on so much later than it was to, in ms, and so many datagrams had come, where that is known.
+    pub fn pause(&mut self, now: Now, lateness: u64, read: Option<u64>) {
+        if !self.record.is_on() {
+            return;
+        }
+        if put_pause(self.alloc, &mut self.record.out, now.time, lateness, read).is_err() {
+            self.record.refuse();
         }
     }
 

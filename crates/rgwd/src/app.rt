@@ -1,15 +1,15 @@
 //! The program: reads its words and its configuration, opens its sockets, and serves.
 use crate::ending::Ending;
-use crate::opening::{Opened, known, open, open_capture};
+use crate::opening::{Opened, open, open_capture};
 use crate::replaying::{REPLAY, replay_trace};
 use crate::starting::{Begun, Start};
 use crate::telling::{TELL, tell_line};
 use crate::words::{Settings, WordFault, read_words};
 use config_faults::{Flaw, flaw_of, told, told_setup};
 use gateway_core::Gateway;
-use live_ends::{Outlets, RecordState, Stream, hold_standard};
-use live_gateway::{Ends, answer_stop, serve};
-use live_journal::{Journal, TraceEntry, report};
+use live_ends::{Live, Outlets, RecordState, Stream, hold_standard};
+use live_gateway::{Desk, boxed};
+use live_journal::{Journal, Trace, report};
 use rgw_play::{PlayFault, gateway_from, read_limited};
 use std::alloc::{AllocError, Global};
 use std::fs::File;
@@ -76,14 +76,10 @@ fn start_line<R: Net + Clock>(
     opened: &Opened<'_, R>,
     begun: Begun,
 ) -> Result<String, AllocError> {
-    let ends = &opened.wire.ends;
-    let (Some(listen), Some(phones)) = (
-        known(ends.socket.local_addr()),
-        known(ends.telephones.address()),
-    ) else {
+    let Ok((listen, phones)) = opened.desk.exchange.around.addresses() else {
         return Ok(String::new(alloc));
     };
-    let Some(reception) = &opened.site else {
+    let Some(reception) = &opened.visitors else {
         return format!(in alloc; "listen {listen} phones {phones} {begun}\n");
     };
     match reception.site.address() {
@@ -113,8 +109,12 @@ fn is_refused(state: RecordState) -> bool {
 
 // How the program ends that served: whether all its records were written to their ends. Of one that couldn't be written it was said at
 // once.
-fn served_ending<F: Write + Drop>(journal: &Journal, outlets: &Outlets<F>) -> Ending<'static> {
-    if is_refused(journal.trace.record.state())
+fn served_ending<F: Write + Drop>(
+    journal: &Journal,
+    trace: &Trace,
+    outlets: &Outlets<F>,
+) -> Ending<'static> {
+    if is_refused(trace.record.state())
         || is_refused(journal.log.record.state())
         || is_refused(journal.capture.record.state())
     {
@@ -127,39 +127,48 @@ fn served_ending<F: Write + Drop>(journal: &Journal, outlets: &Outlets<F>) -> En
     Ending::Served
 }
 
+// What was counted.
+fn counts_of<R: Net + Clock>(
+    alloc: Global,
+    desk: &Desk<Live<'_, R>, Trace>,
+) -> Result<String, AllocError> {
+    let exchange = &desk.exchange;
+    report(
+        alloc,
+        &desk.play.gateway,
+        &exchange.journal,
+        exchange.faults,
+    )
+}
+
 // Serves until the end, writes what was recorded, and says what was counted.
 fn serve_to_end<R: Files + Net + Clock + RandomSource>(
     rt: &R,
     alloc: Global,
-    gateway: &mut Gateway,
     opened: &mut Opened<'_, R>,
     outlets: &mut Outlets<R::File>,
 ) -> Ending<'static> {
-    let faults = serve(
-        rt,
-        alloc,
-        gateway,
-        &mut opened.wire,
-        outlets,
-        &mut opened.site,
-    );
-    let time = opened.wire.ends.clock.now().time;
-    let journal = &mut opened.wire.journal;
-    journal.trace.tell(TraceEntry::End);
-    journal.write(outlets, time);
-    let Ok(counts) = report(alloc, gateway, journal, faults) else {
+    opened.desk.run(&mut opened.visitors, outlets);
+    opened.desk.play.end();
+    opened.desk.write(outlets);
+    let Ok(counts) = counts_of(alloc, &opened.desk) else {
         return Ending::OutOfMemory;
     };
+    let time = opened.desk.exchange.now.time;
     outlets.finish(rt, counts.as_bytes(), time);
-    served_ending(journal, outlets)
+    served_ending(
+        &opened.desk.exchange.journal,
+        &opened.desk.play.teller,
+        outlets,
+    )
 }
 
 // Waits as long as a start waits, before its clock begins: so what is recorded of the gateway doesn't tell it.
-fn wait_first<R: Net + Clock>(rt: &R, ends: &mut Ends<'_, R>, begun: Begun) -> io::Result<()> {
+fn wait_first<R: Net + Clock>(rt: &R, live: &mut Live<'_, R>, begun: Begun) -> io::Result<()> {
     match begun.waits {
         Some(waits) => {
             sleep(rt, Duration::from_millis(waits));
-            ends.clock.begin_anew()
+            live.clock.begin_anew()
         }
         None => Ok(()),
     }
@@ -169,18 +178,16 @@ fn wait_first<R: Net + Clock>(rt: &R, ends: &mut Ends<'_, R>, begun: Begun) -> i
 fn serve_opened<R: Files + Net + Clock + RandomSource>(
     rt: &R,
     alloc: Global,
-    start: Start,
-    gateway: &mut Gateway,
+    begun: Begun,
     opened: &mut Opened<'_, R>,
     outlets: &mut Outlets<R::File>,
 ) -> Ending<'static> {
-    let begun = start.begun(gateway.setup().names.domain.as_bytes());
     tell_start(alloc, outlets, opened, begun);
-    if wait_first(rt, &mut opened.wire.ends, begun).is_err() {
+    if wait_first(rt, &mut opened.desk.exchange.around, begun).is_err() {
         return Ending::Clock;
     }
-    let ending = serve_to_end(rt, alloc, gateway, opened, outlets);
-    answer_stop(alloc, &mut opened.wire.ends.telephones);
+    let ending = serve_to_end(rt, alloc, opened, outlets);
+    opened.desk.answer_stop();
     ending
 }
 
@@ -230,15 +237,14 @@ fn serve_captured<'w, R: Files + Net + Clock + RandomSource>(
     rt: &R,
     alloc: Global,
     settings: &Settings<'w>,
-    start: Start,
-    gateway: &mut Gateway,
+    begun: Begun,
     opened: &mut Opened<'_, R>,
     outlets: &mut Outlets<R::File>,
 ) -> Ending<'w> {
     match open_capture(rt, alloc, settings) {
         Ok(capture) => {
             outlets.capture = capture;
-            serve_opened(rt, alloc, start, gateway, opened, outlets)
+            serve_opened(rt, alloc, begun, opened, outlets)
         }
         Err(unopened) => unopened.ending(settings),
     }
@@ -251,15 +257,24 @@ fn serve_with<'w, R: Files + Net + Clock + RandomSource>(
     settings: &Settings<'w>,
     start: Start,
     config: &[u8],
-    gateway: &mut Gateway,
+    gateway: Box<Gateway>,
     outlets: &mut Outlets<R::File>,
 ) -> Ending<'w> {
     if settings.check {
-        return check_gateway(alloc, settings, gateway, outlets);
+        return check_gateway(alloc, settings, &gateway, outlets);
     }
+    let begun = start.begun(gateway.setup().names.domain.as_bytes());
     match open(rt, alloc, settings, config, gateway) {
-        Ok(mut opened) => serve_captured(rt, alloc, settings, start, gateway, &mut opened, outlets),
+        Ok(mut opened) => serve_captured(rt, alloc, settings, begun, &mut opened, outlets),
         Err(unopened) => unopened.ending(settings),
+    }
+}
+
+// A gateway of the configuration in this text, which has no flaw: without one memory alone is refused.
+fn gateway_of(alloc: Global, text: &[u8], start: Start) -> Result<Box<Gateway>, AllocError> {
+    match gateway_from(alloc, text, start.first.number()) {
+        Ok(gateway) => boxed(alloc, gateway),
+        Err(_) => Err(AllocError),
     }
 }
 
@@ -274,9 +289,8 @@ fn serve_config<'w, R: Files + Net + Clock + RandomSource>(
     let Some(start) = Start::now(rt, settings) else {
         return Ending::NoTimeOfDay;
     };
-    match gateway_from(alloc, text, start.first.number()) {
-        Ok(mut gateway) => serve_with(rt, alloc, settings, start, text, &mut gateway, outlets),
-        // Without a flaw memory alone is refused.
+    match gateway_of(alloc, text, start) {
+        Ok(gateway) => serve_with(rt, alloc, settings, start, text, gateway, outlets),
         Err(_) => Ending::OutOfMemory,
     }
 }

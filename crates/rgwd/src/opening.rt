@@ -8,17 +8,17 @@ use crate::reception::PageReception;
 use crate::words::Settings;
 use bad_network::BadNetwork;
 use gateway_core::Gateway;
-use live_ends::{CommandSocket, LiveClock, Outlet, Readiness, Written, make_for_owner};
-use live_gateway::{Ends, LiveWire, boxed};
-use live_journal::{Capture, Journal, Log, MessageTally, Trace, TraceEntry};
+use live_ends::{Live, Now, Outlet, Written, bind, make_for_owner};
+use live_gateway::{Desk, Exchange, boxed};
+use live_journal::{Capture, Journal, Log, MessageTally, Trace};
 use live_page::Site;
-use mio::net::UdpSocket;
+use live_play::LivePlay;
 use page_answers::Board;
 use std::alloc::{AllocError, Global};
-use std::io;
 use std::io::ErrorKind;
 use std::net::{Ipv4Addr, Net, SocketAddr, SocketAddrV4};
 use std::rt::{Clock, Files};
+use surroundings::{Lines, Surroundings};
 use system_reasons::reason_of;
 
 /// What is opened.
@@ -48,11 +48,11 @@ pub enum Unopened {
     },
 }
 
-/// What serves: a wire, and the site, where there is one.
+/// What serves: a gateway over the machine's sockets, and visitors of its page.
 #[derive(Drop)]
 pub struct Opened<'a, R> {
-    pub wire: LiveWire<'a, R>,
-    pub site: Option<Box<PageReception>>,
+    pub desk: Box<Desk<Live<'a, R>, Trace>>,
+    pub visitors: Option<Box<PageReception>>,
 }
 
 impl From<AllocError> for Unopened {
@@ -107,60 +107,38 @@ impl Unopened {
     }
 }
 
-fn open_socket<R: Net>(rt: &R, address: SocketAddrV4) -> Result<UdpSocket, Unopened> {
-    match UdpSocket::bind(rt, SocketAddr::V4(address)) {
-        Ok(socket) => Ok(socket),
-        Err(fault) => Err(refused(Opening::Listen, fault.kind())),
-    }
-}
-
-fn open_telephones<R: Net>(
-    rt: &R,
-    alloc: Global,
-    address: SocketAddrV4,
-    socket: &UdpSocket,
-) -> Result<Box<CommandSocket>, Unopened> {
-    match CommandSocket::open(rt, alloc, address, socket) {
-        Ok(telephones) => Ok(boxed(alloc, telephones)?),
-        Err(fault) => Err(refused(Opening::Phones, fault.kind())),
-    }
-}
-
-// What watches these sockets.
-fn watch<R: Net>(
-    rt: &R,
-    alloc: Global,
-    socket: &mut UdpSocket,
-    telephones: &mut CommandSocket,
-) -> Result<Box<Readiness>, Unopened> {
-    match Readiness::watch(rt, alloc, socket, telephones) {
-        Ok(ready) => Ok(boxed(alloc, ready)?),
-        Err(fault) => Err(refused(Opening::Listen, fault.kind())),
-    }
-}
-
 // The sockets and the clock.
-fn open_ends<'a, R: Net + Clock>(
+fn open_sockets<'a, R: Net + Clock>(
     rt: &'a R,
     alloc: Global,
     settings: &Settings<'_>,
+) -> Result<Live<'a, R>, Unopened> {
+    let socket = match bind(rt, settings.listen) {
+        Ok(socket) => socket,
+        Err(fault) => return Err(refused(Opening::Listen, fault.kind())),
+    };
+    let phones = match bind(rt, settings.phones) {
+        Ok(phones) => phones,
+        Err(fault) => return Err(refused(Opening::Phones, fault.kind())),
+    };
+    match Live::watch(rt, alloc, socket, phones) {
+        Ok(live) => Ok(live),
+        Err(fault) => Err(refused(Opening::Listen, fault.kind())),
+    }
+}
+
+// The bad network, if one is asked for.
+fn network_of(
+    alloc: Global,
+    settings: &Settings<'_>,
     gateway: &Gateway,
-) -> Result<Box<Ends<'a, R>>, Unopened> {
-    let mut socket = open_socket(rt, settings.listen)?;
-    let mut telephones = open_telephones(rt, alloc, settings.phones, &socket)?;
-    let Ok(clock) = LiveClock::start(rt) else {
-        return Err(Unopened::Clock);
+) -> Result<Option<Box<BadNetwork>>, AllocError> {
+    let Some(spoiling) = settings.network else {
+        return Ok(None);
     };
-    let ready = watch(rt, alloc, &mut socket, &mut telephones)?;
-    let network = match settings.network {
-        Some(spoiling) => {
-            let domain = gateway.setup().names.domain.as_bytes();
-            Some(BadNetwork::new(alloc, spoiling.with_name(domain)))
-        }
-        None => None,
-    };
-    let end = settings.stop_after;
-    Ok(Ends::new(alloc, socket, telephones, ready, network, clock, end)?)
+    let domain = gateway.setup().names.domain.as_bytes();
+    let network = BadNetwork::new(alloc, spoiling.with_name(domain));
+    Ok(Some(boxed(alloc, network)?))
 }
 
 /// The file for a capture, if one is asked for. To be made once all sockets are had: so none is left where a program doesn't start.
@@ -183,22 +161,14 @@ fn open_site<R: Net>(
     rt: &R,
     alloc: Global,
     settings: &Settings<'_>,
-    ready: &Readiness,
+    live: &Live<'_, R>,
 ) -> Result<Option<Box<PageReception>>, Unopened> {
     let Some(address) = settings.http else {
         return Ok(None);
     };
-    match Site::open(rt, alloc, address, ready) {
+    match Site::open(rt, alloc, address, &live.ready) {
         Ok(site) => Ok(Some(boxed(alloc, PageReception { site })?)),
         Err(fault) => Err(refused(Opening::Http, fault.kind())),
-    }
-}
-
-/// An address of the kind that sockets here have, where it is known.
-pub fn known(address: io::Result<SocketAddr>) -> Option<SocketAddrV4> {
-    match address {
-        Ok(SocketAddr::V4(address)) => Some(address),
-        _ => None,
     }
 }
 
@@ -213,38 +183,21 @@ fn board_of(
     }
 }
 
-// A trace that has begun.
-fn trace_of(alloc: Global, is_on: bool, config: &[u8], first: u32) -> Trace {
-    let mut trace = Trace::new(alloc, is_on);
-    trace.tell(TraceEntry::Config {
-        text: config,
-        first,
-    });
-    trace
-}
-
 // The journal of this gateway, whose datagrams are captured as those of this address.
 fn journal_of(
     alloc: Global,
     settings: &Settings<'_>,
-    config: &[u8],
     gateway: &Gateway,
     here: SocketAddrV4,
     board: Option<Box<Board>>,
 ) -> Result<Box<Journal>, AllocError> {
-    let tally = boxed(alloc, MessageTally::new(alloc)?)?;
-    let log = boxed(alloc, Log::new(alloc, settings.log, gateway)?)?;
-    let first = gateway.setup().first;
-    let trace = boxed(alloc, trace_of(alloc, settings.trace, config, first))?;
-    let capture = boxed(alloc, Capture::new(alloc, settings.capture, here)?)?;
+    let capture = Capture::new(alloc, settings.capture, here)?;
     let journal = Journal {
-        tally,
-        trace,
-        log,
-        capture,
+        tally: boxed(alloc, MessageTally::new(alloc)?)?,
+        log: boxed(alloc, Log::new(alloc, settings.log, gateway)?)?,
+        capture: boxed(alloc, capture)?,
         board,
         written: Written::ALL,
-        given: None,
     };
     boxed(alloc, journal)
 }
@@ -263,32 +216,55 @@ fn captured_address(socket: SocketAddrV4, media: Ipv4Addr) -> SocketAddrV4
     }
 }
 
-// A wire with these ends, whose trace has begun, and the site.
-fn assembled<'a, R: Net + Clock>(
+// The way between this gateway and others.
+fn exchange_of<'a, R: Net + Clock>(
+    alloc: Global,
+    settings: &Settings<'_>,
+    gateway: &Gateway,
+    live: Live<'a, R>,
+    board: Option<Box<Board>>,
+) -> Result<Box<Exchange<Live<'a, R>>>, AllocError> {
+    let socket = match live.addresses() {
+        Ok((SocketAddr::V4(socket), _)) => socket,
+        _ => settings.listen,
+    };
+    let here = captured_address(socket, gateway.setup().media_address);
+    let journal = journal_of(alloc, settings, gateway, here, board)?;
+    let network = network_of(alloc, settings, gateway)?;
+    let now = Now {
+        clock: 0,
+        time: live.time(),
+    };
+    boxed(alloc, Exchange::new(live, network, journal, now))
+}
+
+// A desk for this gateway, whose trace has its head.
+fn desk_of<'a, R: Net + Clock>(
     alloc: Global,
     settings: &Settings<'_>,
     config: &[u8],
-    gateway: &Gateway,
-    ends: Box<Ends<'a, R>>,
-    site: Option<Box<PageReception>>,
-) -> Result<Opened<'a, R>, AllocError> {
-    let socket = known(ends.socket.local_addr()).unwrap_or(settings.listen);
-    let here = captured_address(socket, gateway.setup().media_address);
-    let board = board_of(alloc, &site)?;
-    let journal = journal_of(alloc, settings, config, gateway, here, board)?;
-    let wire = LiveWire::new(ends, journal);
-    Ok(Opened { wire, site })
+    gateway: Box<Gateway>,
+    exchange: Box<Exchange<Live<'a, R>>>,
+) -> Result<Box<Desk<Live<'a, R>, Trace>>, AllocError> {
+    let trace = Trace::new(alloc, settings.trace, config, gateway.setup().first);
+    let play = boxed(alloc, LivePlay::new(alloc, gateway, trace))?;
+    let lines = boxed(alloc, Lines::new(alloc)?)?;
+    let desk = Desk::new(alloc, play, exchange, lines, settings.stop_after);
+    boxed(alloc, desk)
 }
 
-/// A wire for this gateway over the sockets that are asked for, whose trace has begun with this configuration; and the site.
+/// A desk for this gateway over the sockets that are asked for, whose trace has begun with this configuration; and its visitors.
 pub fn open<'a, R: Net + Clock>(
     rt: &'a R,
     alloc: Global,
     settings: &Settings<'_>,
     config: &[u8],
-    gateway: &Gateway,
+    gateway: Box<Gateway>,
 ) -> Result<Opened<'a, R>, Unopened> {
-    let ends = open_ends(rt, alloc, settings, gateway)?;
-    let site = open_site(rt, alloc, settings, &ends.ready)?;
-    Ok(assembled(alloc, settings, config, gateway, ends, site)?)
+    let live = open_sockets(rt, alloc, settings)?;
+    let visitors = open_site(rt, alloc, settings, &live)?;
+    let board = board_of(alloc, &visitors)?;
+    let exchange = exchange_of(alloc, settings, &gateway, live, board)?;
+    let desk = desk_of(alloc, settings, config, gateway, exchange)?;
+    Ok(Opened { desk, visitors })
 }

@@ -1,9 +1,11 @@
 //! The page's site, as the gateway's loop serves it.
-use live_ends::Readiness;
-use live_gateway::Reception;
+use live_ends::Live;
+use live_gateway::Visitors;
 use live_page::Site;
 use page_answers::Board;
+use std::net::Net;
 use std::random::RandomSource;
+use std::rt::Clock;
 
 /// The site at which the page is asked for.
 #[derive(Drop)]
@@ -11,26 +13,25 @@ pub struct PageReception {
     pub site: Site,
 }
 
-impl Reception for PageReception {
-    fn attend<R: RandomSource>(&mut self, rt: &R, ready: &mut Readiness, now: u64) {
-        self.site.close_late(now);
-        self.site.look(ready);
-        self.site.accept(rt, ready, now);
-    }
-
-    fn has_turn(&self) -> bool {
-        self.site.has_turn()
-    }
-
-    fn is_busy(&self) -> bool {
-        self.site.is_busy()
+impl<'a, R: Net + Clock + RandomSource> Visitors<Live<'a, R>> for PageReception {
+    fn is_ready(&self, around: &Live<'a, R>, moment: u64) -> bool {
+        if self.site.is_busy() || around.ready.has_visits() {
+            return true;
+        }
+        match self.site.next_deadline() {
+            Some(deadline) => deadline <= moment,
+            None => false,
+        }
     }
 
     fn next_deadline(&self) -> Option<u64> {
         self.site.next_deadline()
     }
 
-    fn turn(&mut self, board: &mut Board, now: u64) {
-        self.site.turn(board, now);
+    fn turn(&mut self, around: &mut Live<'a, R>, board: &mut Board, moment: u64) {
+        self.site.close_late(moment);
+        self.site.look(&mut around.ready);
+        self.site.accept(around.rt, &around.ready, moment);
+        self.site.turn(board, moment);
     }
 }

@@ -1,0 +1,129 @@
+//! The machine's sockets and clock, as a loop stands on them.
+ghost use Rattle.std.specs.Prelude.{◌≡◌};
+
+use crate::clock::LiveClock;
+use crate::readiness::Readiness;
+use mio::net::UdpSocket;
+use std::alloc::Global;
+use std::io;
+use std::io::ErrorKind;
+use std::net::{Net, SocketAddr, SocketAddrV4};
+use std::rt::Clock;
+use surroundings::{Fault, Surroundings, Told};
+
+/// A socket for datagrams, another for lines of who types, and the machine's clock. What was handed to sockets isn't told.
+#[derive(Drop)]
+pub struct Live<'a, R> {
+    pub rt: &'a R,
+    socket: UdpSocket,
+    commands: UdpSocket,
+    /// What the system told of its sockets, and of a page's.
+    pub ready: Box<Readiness>,
+    pub clock: LiveClock<'a, R>,
+}
+
+/// A socket at this address, that is waited for.
+pub fn bind<R: Net>(rt: &R, address: SocketAddrV4) -> io::Result<UdpSocket> {
+    UdpSocket::bind(rt, SocketAddr::V4(address))
+}
+
+// The socket gave nothing for this reason: whether it failed. One that is empty isn't looked at again before it is told.
+fn has_failed(is_told: &mut bool, kind: ErrorKind) -> bool {
+    if kind == ErrorKind::WouldBlock {
+        *is_told = false;
+        return false;
+    }
+    kind != ErrorKind::Interrupted
+}
+
+impl<'a, R: Net + Clock> Live<'a, R> {
+    /// These sockets, and the clock at moment 0. To each something may have come already.
+    pub fn watch(
+        rt: &'a R,
+        alloc: Global,
+        mut socket: UdpSocket,
+        mut commands: UdpSocket,
+    ) -> io::Result<Live<'a, R>> {
+        let ready = Readiness::watch_both(rt, alloc, &mut socket, &mut commands)?;
+        let Ok(ready) = Box::new(alloc, ready) else {
+            return Err(io::Error::from(ErrorKind::OutOfMemory));
+        };
+        Ok(Live {
+            rt,
+            socket,
+            commands,
+            ready,
+            clock: LiveClock::start(rt)?,
+        })
+    }
+
+    /// The addresses of its sockets.
+    pub fn addresses(&self) -> io::Result<(SocketAddr, SocketAddr)> {
+        Ok((self.socket.local_addr()?, self.commands.local_addr()?))
+    }
+}
+
+impl<R: Net + Clock> Surroundings for Live<'_, R> {
+    ghost use Rattle.std.specs.Prelude.{None};
+
+    ghost sent = { λ live. None };
+
+    fn moment(&self) -> Result<u64, Fault> {
+        match self.clock.passed() {
+            Ok(passed) => Ok(passed),
+            Err(_) => Err(Fault),
+        }
+    }
+
+    fn time(&self) -> u64 {
+        self.clock.now().time
+    }
+
+    fn told(&self) -> Told {
+        Told {
+            lines: self.ready.commands,
+            datagrams: self.ready.socket,
+        }
+    }
+
+    fn wait(&mut self, longest: u64) -> Result<(), Fault> {
+        match self.ready.wait(longest) {
+            Ok(()) => Ok(()),
+            Err(_) => Err(Fault),
+        }
+    }
+
+    fn receive(&mut self, room: &mut [u8]) -> Result<Option<(SocketAddrV4, usize)>, Fault> {
+        match self.socket.recv_from(room) {
+            Ok((len, SocketAddr::V4(source))) => Ok(Some((source, len))),
+            Ok(_) => Ok(None),
+            Err(fault) => {
+                if has_failed(&mut self.ready.socket, fault.kind()) {
+                    return Err(Fault);
+                }
+                Ok(None)
+            }
+        }
+    }
+
+    fn send(&mut self, to: SocketAddrV4, bytes: &[u8]) -> Result<(), Fault> {
+        match self.socket.send_to(bytes, SocketAddr::V4(to)) {
+            Ok(len) if len == bytes.len() => Ok(()),
+            _ => Err(Fault),
+        }
+    }
+
+    fn hear(&mut self, room: &mut [u8]) -> Option<(SocketAddr, usize)> {
+        match self.commands.recv_from(room) {
+            Ok((len, source)) => Some((source, len)),
+            Err(_) => {
+                self.ready.commands = false;
+                None
+            }
+        }
+    }
+
+    fn answer(&mut self, to: SocketAddr, text: &[u8]) {
+        let _ = self.commands.send_to(text, to);
+    }
+}

@@ -1,0 +1,3 @@
+pub mod Exchanging
+pub mod Asking
+pub mod Desk

@@ -1,0 +1,299 @@
+//! The loop: it asks what comes next, and does that.
+ghost use Rattle.std.specs.Prelude.{◌≡◌, [], List};
+ghost use Rattle.surroundings.specs.Sending.{Grows};
+ghost use Rattle.traces.specs.Writing.{Entry};
+ghost use Rattle.live_play.specs.Running.{Ran};
+ghost use Rattle.live_gateway.specs.Desk.{at_desk};
+
+use crate::answering::{
+    DONE, OUT_OF_MEMORY, UNKNOWN, answer_act, answer_counts, answer_question, show, take_act,
+};
+use crate::exchange::Exchange;
+use crate::recorder::Recorder;
+use crate::telephones::{TelephoneRequest, request_in};
+use crate::visitors::Visitors;
+use gateway_core::DATAGRAM_ROOM;
+use live_ends::STOP_FROM_AFAR;
+use live_play::{LivePlay, Teller};
+use std::alloc::Global;
+use surroundings::{Lines, Surroundings};
+use turns::{Ready, Schedule, Situation, Turn};
+
+/// A gateway that runs, all that it stands on, and what is kept of it.
+#[derive(Drop)]
+pub struct Desk<S, T> {
+    alloc: Global,
+    pub play: Box<LivePlay<T>>,
+    pub exchange: Box<Exchange<S>>,
+    pub lines: Box<Lines>,
+    schedule: Schedule,
+    // The moment at which nothing comes any more.
+    end: Option<u64>,
+}
+
+// The earlier of two moments.
+fn earlier(one: Option<u64>, other: Option<u64>) -> Option<u64> {
+    match (one, other) {
+        (Some(one), Some(other)) => Some(one.min(other)),
+        (Some(one), None) => Some(one),
+        (None, other) => other,
+    }
+}
+
+fn is_by(due: Option<u64>, moment: u64) -> bool {
+    match due {
+        Some(due) => due <= moment,
+        None => false,
+    }
+}
+
+impl<S: Surroundings + Drop, T: Teller + Drop> Desk<S, T> {
+    /// A gateway over this exchange, which ends at a moment of its clock, in ms, if one is given.
+    pub fn new(
+        alloc: Global,
+        play: Box<LivePlay<T>>,
+        exchange: Box<Exchange<S>>,
+        lines: Box<Lines>,
+        end: Option<u64>,
+    ) -> Desk<S, T> {
+        Desk {
+            alloc,
+            play,
+            exchange,
+            lines,
+            schedule: Schedule::starting_at(0),
+            end,
+        }
+    }
+
+    // What may come now, where ticks have come to one moment, and the machine's clock to another.
+    fn ready<V: Visitors<S>>(&self, visitors: &Option<Box<V>>, ticked: u64, moment: u64) -> Ready {
+        let told = self.exchange.around.told();
+        Ready {
+            commands: told.lines || !self.lines.is_empty(),
+            datagrams: told.datagrams || is_by(self.exchange.network_due(), ticked),
+            visitors: match visitors {
+                Some(visitors) => visitors.is_ready(&self.exchange.around, moment),
+                None => false,
+            },
+        }
+    }
+
+    // The moment at which something falls due next.
+    fn due<V: Visitors<S>>(&self, visitors: &Option<Box<V>>) -> Option<u64> {
+        let due = earlier(self.play.gateway.next_due(), self.exchange.network_due());
+        match visitors {
+            Some(visitors) => earlier(due, visitors.next_deadline()),
+            None => due,
+        }
+    }
+
+    // How things stand.
+    fn situation<V: Visitors<S>>(&mut self, visitors: &Option<Box<V>>) -> Situation
+        ensures { at_desk T.told S.sent self.new ≡ at_desk T.told S.sent self.old }
+    {
+        let ticked = self.play.gateway.now();
+        let moment = self.exchange.moment(ticked);
+        Situation {
+            moment,
+            ticked,
+            due: self.due(visitors),
+            end: self.end,
+            read: self.exchange.read,
+            ready: self.ready(visitors, ticked, moment),
+        }
+    }
+
+    // It begins now: what its start took isn't a pause.
+    fn begin(&mut self)
+        ensures { at_desk T.told S.sent self.new ≡ at_desk T.told S.sent self.old }
+    {
+        let moment = self.exchange.moment(self.play.gateway.now());
+        self.schedule = Schedule::starting_at(moment);
+    }
+
+    // The clock goes on.
+    #[tactic(auto, using(live_play::proofs::RunLemmas::stays_so))]
+    fn tick(&mut self, moment: u64)
+        ensures { (entries : List Entry) × Ran (at_desk T.told S.sent self.old) entries (at_desk T.told S.sent self.new) }
+    {
+        self.exchange.begin(moment);
+        if self.play.tick(&mut *self.exchange, moment).is_err() {
+            self.exchange.note_refusal();
+        }
+    }
+
+    // A datagram is taken, if one is there.
+    #[tactic(auto, using(live_play::proofs::RunLemmas::stays_so))]
+    fn datagram(&mut self)
+        ensures { (entries : List Entry) × Ran (at_desk T.told S.sent self.old) entries (at_desk T.told S.sent self.new) }
+    {
+        let mut room = [0u8; DATAGRAM_ROOM];
+        let Some((source, len)) = self.exchange.receive(&mut room) else {
+            return;
+        };
+        match self
+            .play
+            .datagram(&mut *self.exchange, source, &room[..len])
+        {
+            Ok(()) => self.exchange.heard(&self.play.gateway),
+            Err(_) => self.exchange.note_refusal(),
+        }
+    }
+
+    // This is answered to the line, which is done with.
+    #[tactic(auto, using(live_play::proofs::RunLemmas::stays_so))]
+    fn answer(&mut self, text: &[u8])
+        ensures { (entries : List Entry) × Ran (at_desk T.told S.sent self.old) entries (at_desk T.told S.sent self.new) }
+    {
+        self.lines.answer(&mut self.exchange.around, text);
+    }
+
+    // What the line asks for that is to be answered next is done.
+    #[tactic(auto, using(live_play::proofs::RunLemmas::stays_so, live_play::proofs::RunLemmas::stays))]
+    fn take_line(&mut self)
+        ensures { (entries : List Entry) × Ran (at_desk T.told S.sent self.old) entries (at_desk T.told S.sent self.new) }
+    {
+        let Some(text) = self.lines.line() else {
+            return;
+        };
+        match request_in(self.alloc, text, self.lines.is_from_loopback()) {
+            TelephoneRequest::Act { line, act } => {
+                let now = self.exchange.now;
+                self.exchange.journal.act(now, text);
+                let done = self.play.act(&mut *self.exchange, text, line, act);
+                if done.is_err() {
+                    self.exchange.note_refusal();
+                }
+                answer_act(
+                    &mut self.lines,
+                    &mut self.exchange,
+                    done,
+                    self.play.printed(),
+                );
+            }
+            TelephoneRequest::Show { line } => {
+                let asked = self.play.ask(text, line);
+                answer_question(
+                    &mut self.lines,
+                    &mut self.exchange,
+                    asked,
+                    self.play.printed(),
+                );
+            }
+            TelephoneRequest::Counts => {
+                answer_counts(
+                    self.alloc,
+                    &self.play.gateway,
+                    &mut self.lines,
+                    &mut self.exchange,
+                );
+            }
+            // Who asks for that is answered when the gateway has ended.
+            TelephoneRequest::Stop => self.end = Some(0),
+            TelephoneRequest::StopFromAfar => self.answer(STOP_FROM_AFAR),
+            TelephoneRequest::Unknown => self.answer(UNKNOWN),
+            TelephoneRequest::OutOfMemory => self.answer(OUT_OF_MEMORY),
+        }
+    }
+
+    // A line is taken, if one is there; behind the last one what the page asks for.
+    #[tactic(auto, using(live_play::proofs::RunLemmas::stays_so, live_play::proofs::RunLemmas::goes_on_then))]
+    fn command(&mut self)
+        ensures { (entries : List Entry) × Ran (at_desk T.told S.sent self.old) entries (at_desk T.told S.sent self.new) }
+    {
+        if self.lines.hear(&mut self.exchange.around) {
+            self.exchange.note_read();
+        }
+        self.take_line();
+        take_act(self.alloc, &mut self.exchange.journal, &mut self.lines);
+    }
+
+    // A visitor is served, if one is there.
+    #[tactic(auto, using(live_play::proofs::RunLemmas::stays_so))]
+    fn visit<V: Visitors<S>>(&mut self, visitors: &mut Option<Box<V>>, moment: u64)
+        ensures { (entries : List Entry) × Ran (at_desk T.told S.sent self.old) entries (at_desk T.told S.sent self.new) }
+    {
+        let faults = self.exchange.faults;
+        show(
+            self.alloc,
+            &self.play.gateway,
+            &mut self.exchange.journal,
+            faults,
+        );
+        if let Some(visitors) = visitors {
+            self.exchange.serve_visitor(&mut **visitors, moment);
+        }
+        take_act(self.alloc, &mut self.exchange.journal, &mut self.lines);
+    }
+
+    // A turn of somebody's, or a wait, where it is now this moment.
+    #[tactic(auto, using(live_play::proofs::RunLemmas::stays_so))]
+    fn do_turn<V: Visitors<S>>(&mut self, turn: Turn, visitors: &mut Option<Box<V>>, moment: u64)
+        ensures { (entries : List Entry) × Ran (at_desk T.told S.sent self.old) entries (at_desk T.told S.sent self.new) }
+    {
+        match turn {
+            Turn::Tick { moment } => self.tick(moment),
+            Turn::Command => self.command(),
+            Turn::Datagram => self.datagram(),
+            Turn::Visit => self.visit(visitors, moment),
+            Turn::Look => self.exchange.wait(0),
+            Turn::Wait { until } => self.exchange.wait(until.saturating_sub(moment)),
+            Turn::Note { pause } => self.exchange.note_pause(pause),
+            Turn::End => {}
+        }
+    }
+
+    /// Asks what comes next and does that: whether the end hasn't come.
+    #[tactic(auto, using(live_play::proofs::RunLemmas::stays_so, live_play::proofs::RunLemmas::goes_on_then))]
+    pub fn turn<V: Visitors<S>>(&mut self, visitors: &mut Option<Box<V>>) -> bool
+        ensures { (entries : List Entry) × Ran (at_desk T.told S.sent self.old) entries (at_desk T.told S.sent self.new) }
+    {
+        let at = self.situation(visitors);
+        let turn = self.schedule.next(at);
+        self.exchange.begin(at.ticked);
+        self.do_turn(turn, visitors, at.moment);
+        !matches!(turn, Turn::End)
+    }
+
+    /// Writes what was recorded at the turn that is over, as far as it is taken at once.
+    #[tactic(auto, using(live_play::proofs::RunLemmas::written_off))]
+    pub fn write<W: Recorder<T>>(&mut self, recorder: &mut W)
+        ensures { (entries : List Entry) × Ran (at_desk T.told S.sent self.old) entries (at_desk T.told S.sent self.new) }
+    {
+        let time = self.exchange.now.time;
+        recorder.write(&mut self.exchange.journal, &mut self.play.teller, time);
+        self.exchange.note_offering(recorder.is_offering());
+    }
+
+    /// Runs until the end comes, and writes after each turn what was recorded.
+    #[tactic(auto, using(live_play::proofs::RunLemmas::stays, live_play::proofs::RunLemmas::goes_on_then))]
+    pub fn run<V: Visitors<S>, W: Recorder<T>>(
+        &mut self,
+        visitors: &mut Option<Box<V>>,
+        recorder: &mut W,
+    )
+        ensures { (entries : List Entry) × Ran (at_desk T.told S.sent self.old) entries (at_desk T.told S.sent self.new) }
+    {
+        self.begin();
+        for _ in 0..u64::MAX {
+            let goes_on = self.turn(visitors);
+            self.write(recorder);
+            if !goes_on {
+                return;
+            }
+        }
+    }
+
+    /// The gateway has ended, and all is written that is told of it: who asked for the end is answered, where somebody did. What
+    /// stands behind that in the datagram isn't done.
+    pub fn answer_stop(&mut self) {
+        let is_asked = match self.lines.line() {
+            Some(b"stop") => self.lines.is_from_loopback(),
+            _ => false,
+        };
+        if is_asked {
+            self.lines.answer_all(&mut self.exchange.around, DONE);
+        }
+    }
+}

@@ -1,0 +1,310 @@
+//! What goes between the gateway and others: over sockets, behind a bad network where one is asked for; and its journal.
+ghost use Rattle.std.specs.Prelude.{◌≡◌, ◌≤◌, ◌∷◌, [], length, IfSome};
+ghost use Rattle.surroundings.specs.Sending.{Grows};
+ghost use Rattle.live_gateway.specs.Exchanging.{handed_by};
+
+use crate::visitors::Visitors;
+use bad_network::{BadNetwork, Fate, Packet, Way};
+use gateway_core::Gateway;
+use live_ends::{NEXT_OFFER, Now};
+use live_journal::{Faults, Journal};
+use live_play::Outlet;
+use std::net::SocketAddrV4;
+use surroundings::{Fault, Surroundings};
+use traces::Mark;
+use turns::Pause;
+
+/// The way between a gateway and others, and what is kept of what went over it.
+#[derive(Drop)]
+pub struct Exchange<S> {
+    pub around: S,
+    // What spoils what goes over it, where that is asked for.
+    network: Option<Box<BadNetwork>>,
+    pub journal: Box<Journal>,
+    /// What clocks say at the turn under way.
+    pub now: Now,
+    /// So many datagrams were read since the start, of lines too.
+    pub read: u64,
+    pub faults: Faults,
+    // Whether something that was recorded waits to be taken.
+    is_offering: bool,
+}
+
+// Puts as much as there is room for at the front of the room: how much that is.
+fn put_into(room: &mut [u8], bytes: &[u8]) -> usize
+    ensures length { length room.new ≡ length room.old }
+    ensures within { result ≤ length room.new }
+{
+    let len = bytes.len().min(room.len());
+    room[..len].copy_from_slice(&bytes[..len]);
+    len
+}
+
+// A visitor is answered by the board of a journal.
+fn serve_visitor<S: Surroundings, V: Visitors<S>>(
+    around: &mut S,
+    journal: &mut Journal,
+    visitors: &mut V,
+    moment: u64,
+)
+    ensures { S.sent around.new ≡ S.sent around.old }
+{
+    if let Some(board) = &mut journal.board {
+        visitors.turn(around, board, moment);
+    }
+}
+
+impl<S: Surroundings + Drop> Exchange<S> {
+    /// The way over these surroundings, over which nothing went.
+    pub fn new(
+        around: S,
+        network: Option<Box<BadNetwork>>,
+        journal: Box<Journal>,
+        now: Now,
+    ) -> Exchange<S> {
+        Exchange {
+            around,
+            network,
+            journal,
+            now,
+            read: 0,
+            faults: Faults::NONE,
+            is_offering: false,
+        }
+    }
+
+    /// A turn begins, where ticks have come to this moment, in ms.
+    pub fn begin(&mut self, ticked: u64)
+        ensures network { self.new.network ≡ self.old.network }
+        ensures around { self.new.around ≡ self.old.around }
+    {
+        self.now = Now {
+            clock: ticked,
+            time: self.around.time(),
+        };
+    }
+
+    /// The moment at which the network hands something out, in ms, if it will.
+    pub fn network_due(&self) -> Option<u64> {
+        match &self.network {
+            Some(network) => network.next_due(),
+            None => None,
+        }
+    }
+
+    /// Something of the surroundings failed.
+    pub fn note_fault(&mut self)
+        ensures network { self.new.network ≡ self.old.network }
+        ensures around { self.new.around ≡ self.old.around }
+    {
+        self.faults.receive = self.faults.receive.saturating_add(1);
+    }
+
+    /// How long it is since the start, in ms. A clock that fails stands still, at the moment to which ticks have come.
+    pub fn moment(&mut self, ticked: u64) -> u64
+        ensures network { self.new.network ≡ self.old.network }
+        ensures around { self.new.around ≡ self.old.around }
+    {
+        match self.around.moment() {
+            Ok(moment) => moment,
+            Err(_) => {
+                self.note_fault();
+                ticked
+            }
+        }
+    }
+
+    /// The gateway refused what it was given.
+    pub fn note_refusal(&mut self)
+        ensures network { self.new.network ≡ self.old.network }
+        ensures around { self.new.around ≡ self.old.around }
+    {
+        self.faults.refused = self.faults.refused.saturating_add(1);
+    }
+
+    /// A datagram of lines was read.
+    pub fn note_read(&mut self)
+        ensures network { self.new.network ≡ self.old.network }
+        ensures around { self.new.around ≡ self.old.around }
+    {
+        self.read = self.read.saturating_add(1);
+    }
+
+    /// The program was stopped, and goes on.
+    pub fn note_pause(&mut self, pause: Pause)
+        ensures network { self.new.network ≡ self.old.network }
+        ensures around { self.new.around ≡ self.old.around }
+    {
+        self.journal.log.pause(self.now, pause.lateness, pause.read);
+    }
+
+    /// The gateway took the datagram that came last: what its texts were is counted, and why commands were refused is told. What
+    /// that needs is what `Gateway::outcomes` tells.
+    pub fn heard(&mut self, gateway: &Gateway)
+        ensures network { self.new.network ≡ self.old.network }
+        ensures around { self.new.around ≡ self.old.around }
+    {
+        self.journal.heard(gateway);
+    }
+
+    /// A visitor is served, at this moment in ms, if one is there.
+    pub fn serve_visitor<V: Visitors<S>>(&mut self, visitors: &mut V, moment: u64)
+        ensures network { self.new.network ≡ self.old.network }
+        ensures sent { S.sent self.new.around ≡ S.sent self.old.around }
+    {
+        serve_visitor(&mut self.around, &mut self.journal, visitors, moment);
+    }
+
+    /// Something that was recorded waits to be taken, or nothing does.
+    pub fn note_offering(&mut self, is_offering: bool)
+        ensures network { self.new.network ≡ self.old.network }
+        ensures around { self.new.around ≡ self.old.around }
+    {
+        self.is_offering = is_offering;
+    }
+
+    /// Waits until something comes, but no longer than this, in ms, nor than until what waits to be taken is offered again.
+    pub fn wait(&mut self, longest: u64)
+        ensures { handed_by self.new.network (S.sent self.new.around) ≡ handed_by self.old.network (S.sent self.old.around) }
+    {
+        let longest = if self.is_offering {
+            longest.min(NEXT_OFFER)
+        } else {
+            longest
+        };
+        if self.around.wait(longest).is_err() {
+            self.note_fault();
+        }
+    }
+
+    // The next packet that the network hands out now, if there is one.
+    fn take_due(&mut self) -> Option<Packet>
+        ensures around { self.new.around ≡ self.old.around }
+        ensures handed { handed_by self.new.network (S.sent self.new.around) ≡ handed_by self.old.network (S.sent self.old.around) }
+    {
+        match &mut self.network {
+            Some(network) => network.take_due(self.now.clock),
+            None => None,
+        }
+    }
+
+    // A datagram that the network hands to the gateway now, if there is one. Those that go out now are sent; one that can't be is lost.
+    fn handed_over(&mut self, room: &mut [u8]) -> Option<(SocketAddrV4, usize)>
+        ensures length { length room.new ≡ length room.old }
+        ensures within { IfSome result (λ p. p.1 ≤ length room.new) }
+        ensures handed { handed_by self.new.network (S.sent self.new.around) ≡ handed_by self.old.network (S.sent self.old.around) }
+    {
+        for _ in 0..u16::MAX {
+            let packet = self.take_due()?;
+            if packet.way == Way::In {
+                let late = packet.due.saturating_sub(packet.offered);
+                let len = put_into(room, packet.bytes.as_bytes());
+                self.journal.came(self.now, packet.peer, &room[..len], late);
+                return Some((packet.peer, len));
+            }
+            let _ = self.around.send(packet.peer, packet.bytes.as_bytes());
+        }
+        None
+    }
+
+    // A datagram that has come goes over the network, which may lose it, or hand over another one.
+    fn pass(
+        &mut self,
+        source: SocketAddrV4,
+        len: usize,
+        room: &mut [u8],
+    ) -> Option<(SocketAddrV4, usize)>
+        requires { len ≤ length room.old }
+        ensures length { length room.new ≡ length room.old }
+        ensures within { IfSome result (λ p. p.1 ≤ length room.new) }
+        ensures handed { handed_by self.new.network (S.sent self.new.around) ≡ handed_by self.old.network (S.sent self.old.around) }
+    {
+        let Some(network) = &mut self.network else {
+            self.journal.came(self.now, source, &room[..len], 0);
+            return Some((source, len));
+        };
+        let is_lost = match network.offer(Way::In, source, &room[..len], self.now.clock) {
+            Ok(fate) => matches!(fate, Fate::Lost),
+            Err(_) => true,
+        };
+        if is_lost {
+            self.journal.lost(self.now, source, &room[..len]);
+            return None;
+        }
+        self.handed_over(room)
+    }
+
+    // A datagram of the socket, if one has come. One without a port can't be answered, and doesn't count.
+    fn read_socket(&mut self, room: &mut [u8]) -> Option<(SocketAddrV4, usize)>
+        ensures length { length room.new ≡ length room.old }
+        ensures within { IfSome result (λ p. p.1 ≤ length room.new) }
+        ensures handed { handed_by self.new.network (S.sent self.new.around) ≡ handed_by self.old.network (S.sent self.old.around) }
+    {
+        match self.around.receive(room) {
+            Ok(Some((source, len))) => {
+                self.read = self.read.saturating_add(1);
+                if source.port() > 0 {
+                    return Some((source, len));
+                }
+                None
+            }
+            Ok(None) => None,
+            Err(_) => {
+                self.note_fault();
+                None
+            }
+        }
+    }
+
+    /// A datagram for the gateway, put at the start of the room, if one has come: from where, and how long it is.
+    pub fn receive(&mut self, room: &mut [u8]) -> Option<(SocketAddrV4, usize)>
+        ensures length { length room.new ≡ length room.old }
+        ensures within { IfSome result (λ p. p.1 ≤ length room.new) }
+        ensures handed { handed_by self.new.network (S.sent self.new.around) ≡ handed_by self.old.network (S.sent self.old.around) }
+    {
+        if let Some(found) = self.handed_over(room) {
+            return Some(found);
+        }
+        let (source, len) = self.read_socket(room)?;
+        self.pass(source, len, room)
+    }
+
+    // Sends a datagram, over the network where there is one: what becomes of it.
+    fn send(&mut self, to: SocketAddrV4, bytes: &[u8]) -> Result<Fate, Fault>
+        ensures { Grows (handed_by self.old.network (S.sent self.old.around)) (record { to = to; bytes = bytes.now } ∷ [])
+            (handed_by self.new.network (S.sent self.new.around)) }
+    {
+        if let Some(network) = &mut self.network {
+            return match network.offer(Way::Out, to, bytes, self.now.clock) {
+                Ok(fate) => Ok(fate),
+                Err(_) => Err(Fault),
+            };
+        }
+        self.around.send(to, bytes)?;
+        Ok(Fate::Once { late: 0 })
+    }
+}
+
+impl<S: Surroundings + Drop> Outlet for Exchange<S> {
+    ghost use Rattle.live_gateway.specs.Exchanging.{handed_by};
+
+    ghost handed = { λ e. handed_by e.network (S.sent e.around) };
+
+    fn hand(&mut self, to: SocketAddrV4, bytes: &[u8]) -> Option<Mark> {
+        self.journal.sent(self.now, to, bytes);
+        match self.send(to, bytes) {
+            Ok(fate) => {
+                self.journal.spoilt(self.now, to, fate);
+                if matches!(fate, Fate::Lost) {
+                    return Some(Mark::Lost);
+                }
+                None
+            }
+            Err(_) => {
+                self.faults.send = self.faults.send.saturating_add(1);
+                self.journal.unsent(self.now, to);
+                Some(Mark::Unsent)
+            }
+        }
+    }
+}

@@ -1,0 +1,28 @@
+//! Where what was recorded is written.
+ghost use Rattle.std.specs.Prelude.{◌≡◌, []};
+ghost use Rattle.surroundings.specs.Sending.{Grows};
+
+use live_ends::Outlets;
+use live_journal::{Journal, Trace};
+use live_play::Teller;
+use std::io::Write;
+
+/// Where what was recorded is written.
+pub trait Recorder<T: Teller> {
+    /// Keeps what was recorded at a turn, at this moment, in microseconds since 1970, and writes as much of what is kept as is taken at once.
+    fn write(&mut self, journal: &mut Journal, trace: &mut T, time: u64)
+        ensures { Grows (T.told trace.old) [] (T.told trace.new) };
+
+    /// Whether something waits to be taken: so it is offered again soon, whether anything comes or not.
+    fn is_offering(&self) -> bool;
+}
+
+impl<F: Write + Drop> Recorder<Trace> for Outlets<F> {
+    fn write(&mut self, journal: &mut Journal, trace: &mut Trace, time: u64) {
+        journal.write(trace, self, time);
+    }
+
+    fn is_offering(&self) -> bool {
+        !self.are_taken()
+    }
+}

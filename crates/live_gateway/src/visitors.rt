@@ -1,0 +1,34 @@
+//! What the loop asks of the visitors of a page.
+ghost use Rattle.std.specs.Prelude.{◌≡◌};
+
+use page_answers::Board;
+use surroundings::Surroundings;
+
+/// Visitors of a page, who come over the same surroundings and are served between the gateway's turns.
+pub trait Visitors<S: Surroundings> {
+    /// Whether one has more to do at this moment, in ms, somebody may have come, or somebody's time is over.
+    fn is_ready(&self, around: &S, moment: u64) -> bool;
+
+    /// The moment at which somebody's time is over, in ms, if there is one.
+    fn next_deadline(&self) -> Option<u64>;
+
+    /// A turn: those whose time is over go, somebody is let in, and one who has more to do is answered by the board.
+    fn turn(&mut self, around: &mut S, board: &mut Board, moment: u64)
+        ensures { S.sent around.new ≡ S.sent around.old };
+}
+
+/// Nobody visits a page.
+#[derive(Clone, Copy)]
+pub struct NoVisitors;
+
+impl<S: Surroundings> Visitors<S> for NoVisitors {
+    fn is_ready(&self, _around: &S, _moment: u64) -> bool {
+        false
+    }
+
+    fn next_deadline(&self) -> Option<u64> {
+        None
+    }
+
+    fn turn(&mut self, _around: &mut S, _board: &mut Board, _moment: u64) {}
+}
