@@ -1,6 +1,6 @@
 -- What is noted of a pause of the program.
 use Rattle.std.specs.Prelude.{ℕ, ◌+◌, ◌/◌, ◌%◌, ◌==◌, nat_le, codes, decimal, if◌then◌else◌, List, [], ◌++◌, Option, Some, None}
-use Rattle.exchange_log.specs.TimeOfDay.{time_of_day}
+use Rattle.exchange_log.specs.TimeOfDay.{date_and_time}
 
 -- ms as seconds, rounded
 abbrev pub seconds : ℕ → ℕ
@@ -15,4 +15,4 @@ waiting_text (Some number) =
 -- it went on so much later than it was to, in ms
 unfoldable pub pause_line : ℕ → ℕ → Option ℕ → List ℕ
 pause_line moment lateness waiting =
-    time_of_day moment ++ codes " ! paused for " ++ decimal (seconds lateness) ++ codes " s" ++ waiting_text waiting ++ codes "\n"
+    date_and_time moment ++ codes " ! paused for " ++ decimal (seconds lateness) ++ codes " s" ++ waiting_text waiting ++ codes "\n"

@@ -126,10 +126,10 @@ pub fn a_message_is_shown_in_one_line()
 
 /// A pause is noted in seconds, rounded, with how many datagrams had come, where that was counted.
 pub fn pauses_are_noted()
-    ensures several { pause_line 43387123000 30600 (Some 12) ≡ codes "12:03:07.123 ! paused for 31 s, 12 datagrams were waiting\n" }
-    ensures one { pause_line 43387123000 1499 (Some 1) ≡ codes "12:03:07.123 ! paused for 1 s, 1 datagram was waiting\n" }
-    ensures none { pause_line 43387123000 501 (Some 0) ≡ codes "12:03:07.123 ! paused for 1 s, 0 datagrams were waiting\n" }
-    ensures uncounted { pause_line 43387123000 200000 None ≡ codes "12:03:07.123 ! paused for 200 s\n" }
+    ensures several { pause_line noon 30600 (Some 12) ≡ codes "1970-01-02T12:03:07.123Z ! paused for 31 s, 12 datagrams were waiting\n" }
+    ensures one { pause_line noon 1499 (Some 1) ≡ codes "1970-01-02T12:03:07.123Z ! paused for 1 s, 1 datagram was waiting\n" }
+    ensures none { pause_line noon 501 (Some 0) ≡ codes "1970-01-02T12:03:07.123Z ! paused for 1 s, 0 datagrams were waiting\n" }
+    ensures uncounted { pause_line noon 200000 None ≡ codes "1970-01-02T12:03:07.123Z ! paused for 200 s\n" }
 {}
 
 /// What is noted, of each kind.

@@ -2,7 +2,7 @@
 ghost use Rattle.std.specs.Prelude.{◌≡◌, ◌++◌, OnOk};
 ghost use Rattle.exchange_log.specs.Pausing.{seconds, waiting_text, pause_line};
 
-use crate::time::put_time;
+use crate::time::put_date_and_time;
 use mg_bytes::{OutOfMemory, put_decimal};
 use std::alloc::Global;
 
@@ -37,9 +37,9 @@ fn put_waiting(alloc: Global, out: &mut Vec<u8>, waiting: Option<u64>) -> Result
     Ok(())
 }
 
-/// Puts that the program was stopped, as `12:03:07.123 ! paused for 31 s, 12 datagrams were waiting`: when it went on, in microseconds
-/// since 1970, how much later than it was to, in ms, and how many datagrams had come meanwhile, where that was counted. After an
-/// error, which is for want of memory only, part of it may stand there.
+/// Puts that the program was stopped, as `2026-11-27T12:03:07.123Z ! paused for 31 s, 12 datagrams were waiting`: when it went on, in
+/// microseconds since 1970, how much later than it was to, in ms, and how many datagrams had come meanwhile, where that was counted.
+/// After an error, which is for want of memory only, part of it may stand there.
 #[tactic(auto, unfolding(crate::specs::Pausing::pause_line))]
 pub fn put_pause(
     alloc: Global,
@@ -50,7 +50,7 @@ pub fn put_pause(
 ) -> Result<(), OutOfMemory>
     ensures { OnOk result (out.new.items ≡ out.old.items ++ pause_line moment lateness waiting) }
 {
-    put_time(out, moment)?;
+    put_date_and_time(out, moment)?;
     out.extend_from_slice(b" ! paused for ")?;
     put_decimal(alloc, out, seconds(lateness))?;
     out.extend_from_slice(b" s")?;
