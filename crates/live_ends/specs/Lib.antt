@@ -1,3 +1,2 @@
 pub mod Backlog
-pub mod Requests
 pub mod Example

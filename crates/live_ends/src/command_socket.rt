@@ -3,12 +3,12 @@ ghost use Rattle.std.specs.Prelude.{◌↔◌, IsSomeAnd, IsTrue};
 ghost use Rattle.std.specs.Net.Addr.{IsLoopbackV4, IsLoopbackV6, MatchIp};
 ghost use Rattle.std.specs.Net.Socket.{socket_ip};
 
-use crate::requests::{is_from_any, next_request};
 use mg_bytes::lines;
 use mio::net::UdpSocket;
 use std::alloc::Global;
 use std::io;
 use std::net::{Ipv4Addr, Net, SocketAddr, SocketAddrV4};
+use surroundings::{is_own, next_request};
 
 /// What is answered to a line that asks for the program's end, and isn't from the loopback.
 pub const STOP_FROM_AFAR: &[u8] = b"! stop is taken from a loopback address alone, 127.0.0.0/8\n";
@@ -41,19 +41,11 @@ fn is_loopback(sender: Option<SocketAddr>) -> bool
     }
 }
 
-// The address of a socket; port 0, from which nothing comes, where it has none of the kind that sockets here have.
-fn address_of(socket: &UdpSocket) -> SocketAddrV4 {
+/// The address of a socket; port 0, from which nothing comes, where it has none of the kind that sockets here have.
+pub(crate) fn address_of(socket: &UdpSocket) -> SocketAddrV4 {
     match socket.local_addr() {
         Ok(SocketAddr::V4(address)) => address,
         Ok(SocketAddr::V6(_)) | Err(_) => SocketAddrV4::new(Ipv4Addr::UNSPECIFIED, 0),
-    }
-}
-
-// Whether what has this sender came from one of these sockets.
-fn is_own(own: &[SocketAddrV4], sender: SocketAddr) -> bool {
-    match sender {
-        SocketAddr::V4(sender) => is_from_any(own, sender),
-        SocketAddr::V6(_) => false,
     }
 }
 

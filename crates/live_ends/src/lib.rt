@@ -15,7 +15,6 @@ mod outlet;
 mod outlets;
 mod readiness;
 mod record;
-mod requests;
 mod standing;
 mod stream;
 mod written;

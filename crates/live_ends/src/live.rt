@@ -2,6 +2,7 @@
 ghost use Rattle.std.specs.Prelude.{◌≡◌};
 
 use crate::clock::LiveClock;
+use crate::command_socket::address_of;
 use crate::readiness::Readiness;
 use mio::net::UdpSocket;
 use std::alloc::Global;
@@ -17,6 +18,8 @@ pub struct Live<'a, R> {
     pub rt: &'a R,
     socket: UdpSocket,
     commands: UdpSocket,
+    // Their addresses.
+    own: [SocketAddrV4; 2],
     /// What the system told of its sockets, and of a page's.
     pub ready: Box<Readiness>,
     pub clock: LiveClock<'a, R>,
@@ -44,6 +47,7 @@ impl<'a, R: Net + Clock> Live<'a, R> {
         mut socket: UdpSocket,
         mut commands: UdpSocket,
     ) -> io::Result<Live<'a, R>> {
+        let own = [address_of(&socket), address_of(&commands)];
         let ready = Readiness::watch_both(rt, alloc, &mut socket, &mut commands)?;
         let Ok(ready) = Box::new(alloc, ready) else {
             return Err(io::Error::from(ErrorKind::OutOfMemory));
@@ -52,6 +56,7 @@ impl<'a, R: Net + Clock> Live<'a, R> {
             rt,
             socket,
             commands,
+            own,
             ready,
             clock: LiveClock::start(rt)?,
         })
@@ -77,6 +82,10 @@ impl<R: Net + Clock> Surroundings for Live<'_, R> {
 
     fn time(&self) -> u64 {
         self.clock.now().time
+    }
+
+    fn own(&self) -> [SocketAddrV4; 2] {
+        self.own
     }
 
     fn told(&self) -> Told {

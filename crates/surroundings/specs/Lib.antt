@@ -1,2 +1,4 @@
 pub mod Sending
 pub mod Keeping
+pub mod Requests
+pub mod Example

@@ -3,12 +3,15 @@
 //! A program's loop is written over it, so that it runs on the machine's sockets and clock, and in memory, by a script, just so.
 #![tactic(auto)]
 
+pub mod examples;
 mod keeping;
 mod lines;
+mod requests;
 mod scripted;
 mod surroundings;
 
 pub use crate::keeping::SentDatagram;
 pub use crate::lines::Lines;
+pub use crate::requests::{is_from_any, is_own, next_request};
 pub use crate::scripted::{Coming, Happening, Scripted};
 pub use crate::surroundings::{Fault, Surroundings, Told};

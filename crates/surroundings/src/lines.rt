@@ -3,6 +3,7 @@ ghost use Rattle.std.specs.Prelude.{◌≡◌, ◌↔◌, IsSomeAnd, IsTrue};
 ghost use Rattle.std.specs.Net.Addr.{IsLoopbackV4, IsLoopbackV6, MatchIp};
 ghost use Rattle.std.specs.Net.Socket.{socket_ip};
 
+use crate::requests::{is_own, next_request};
 use crate::surroundings::Surroundings;
 use mg_bytes::lines;
 use std::alloc::{AllocError, Global};
@@ -42,11 +43,12 @@ impl Lines {
         })
     }
 
-    /// The line that is to be answered next, without its end and the blanks round it; an empty one is passed over.
+    /// The line that is to be answered next, without its end and the blanks round it; an empty one is passed over, and so is one
+    /// that is an answer itself.
     pub fn line(&self) -> Option<&[u8]> {
         let begin = self.line?;
-        let text = self.text.get(begin..)?;
-        lines(text).next()
+        let mut left = lines(self.text.get(begin..)?);
+        next_request(&mut left)
     }
 
     /// What stands behind that line in its datagram.
@@ -66,19 +68,13 @@ impl Lines {
         self.line.is_none()
     }
 
-    // The next line that isn't empty is answered next.
+    // The next line that asks for something is answered next.
     fn advance(&mut self) {
-        self.line = None;
-        let text = self.text.get(self.rest..).unwrap_or(&[]);
-        let mut rest = lines(text);
-        while let Some(line) = rest.next() {
-            let begin = self.rest;
-            self.rest = self.text.len().saturating_sub(rest.rest().len());
-            if !line.is_empty() {
-                self.line = Some(begin);
-                return;
-            }
-        }
+        let begin = self.rest;
+        let mut left = lines(self.text.get(begin..).unwrap_or(&[]));
+        let is_asked = next_request(&mut left).is_some();
+        self.rest = self.text.len().saturating_sub(left.rest().len());
+        self.line = if is_asked { Some(begin) } else { None };
     }
 
     // These lines have come, from somebody who is answered or from nobody.
@@ -91,7 +87,8 @@ impl Lines {
         self.advance();
     }
 
-    /// Takes a datagram of lines, where one has come and no line is left of the one before: whether one was taken.
+    /// Takes a datagram of lines, where one has come and no line is left of the one before: whether one was taken. Nothing is made of one
+    /// that came from the program's own sockets.
     pub fn hear<S: Surroundings>(&mut self, around: &mut S) -> bool
         ensures { S.sent around.new ≡ S.sent around.old }
     {
@@ -101,7 +98,10 @@ impl Lines {
         let mut room = [0u8; ROOM];
         match around.hear(&mut room) {
             Some((sender, length)) => {
-                self.begin(Some(sender), &room[..length]);
+                let own = around.own();
+                if !is_own(&own, sender) {
+                    self.begin(Some(sender), &room[..length]);
+                }
                 true
             }
             None => false,

@@ -44,6 +44,8 @@ pub struct Coming {
 #[derive(Drop)]
 pub struct Scripted {
     alloc: Global,
+    // The addresses of its two sockets.
+    own: [SocketAddrV4; 2],
     moment: u64,
     coming: VecDeque<Coming>,
     /// What was sent, and what was answered, each in its order.
@@ -65,10 +67,11 @@ fn fill(room: &mut [u8], bytes: &[u8]) -> usize
 }
 
 impl Scripted {
-    /// At moment 0; nothing is to happen.
-    pub fn new(alloc: Global) -> Scripted {
+    /// At moment 0, with sockets at these addresses; nothing is to happen.
+    pub fn new(alloc: Global, own: [SocketAddrV4; 2]) -> Scripted {
         Scripted {
             alloc,
+            own,
             moment: 0,
             coming: VecDeque::new(alloc),
             sent: Vec::new(alloc),
@@ -155,6 +158,10 @@ impl Surroundings for Scripted {
 
     fn time(&self) -> u64 {
         OPENED.saturating_add(self.moment.saturating_mul(MICROSECONDS))
+    }
+
+    fn own(&self) -> [SocketAddrV4; 2] {
+        self.own
     }
 
     fn told(&self) -> Told {

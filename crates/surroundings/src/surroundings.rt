@@ -31,6 +31,9 @@ pub trait Surroundings {
     /// What time it is, in microseconds since 1970 began, in UTC. A change of the time of day since the start isn't in it.
     fn time(&self) -> u64;
 
+    /// The addresses of its two sockets.
+    fn own(&self) -> [SocketAddrV4; 2];
+
     /// Of which sockets it was told that something may have come.
     fn told(&self) -> Told;
 

@@ -22,11 +22,11 @@ tells_messages word =
     bytes_eq word (codes "datagrams") || bytes_eq word (codes "commands") || bytes_eq word (codes "responses")
     || bytes_eq word (codes "answers") || bytes_eq word (codes "notifications") || bytes_eq word (codes "announcements")
 
--- the counts of what was lost or failed, and of calls
+-- the counts of what was lost, failed or wasn't recorded, and of calls
 abbrev pub tells_losses : List ℕ → Bool
 tells_losses word =
     bytes_eq word (codes "lost") || bytes_eq word (codes "faults") || bytes_eq word (codes "network")
-    || bytes_eq word (codes "calls")
+    || bytes_eq word (codes "records") || bytes_eq word (codes "calls")
 
 -- a line of an answer begins with this word
 abbrev pub is_answer_word : List ℕ → Bool

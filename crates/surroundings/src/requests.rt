@@ -3,10 +3,10 @@
 ghost use Rattle.std.specs.Prelude.{◌≡◌};
 ghost use Rattle.mg_bytes.specs.Lines.{TakesLine};
 ghost use Rattle.mg_bytes.specs.Words.{words as words_of};
-ghost use Rattle.live_ends.specs.Requests.{is_marked, tells_outcome, tells_messages, tells_losses, is_answer_word, begins_answer, is_answer, is_request, requests_from, is_host, is_from, is_from_any};
+ghost use Rattle.surroundings.specs.Requests.{is_marked, tells_outcome, tells_messages, tells_losses, is_answer_word, begins_answer, is_answer, is_request, requests_from, is_host, is_from, is_from_any};
 
 use mg_bytes::{Lines, words};
-use std::net::SocketAddrV4;
+use std::net::{SocketAddr, SocketAddrV4};
 
 fn is_marked(line: &[u8]) -> bool
     ensures { result ≡ is_marked line.now }
@@ -37,6 +37,7 @@ fn tells_losses(word: &[u8]) -> bool
     word == b"lost".as_slice()
         || word == b"faults".as_slice()
         || word == b"network".as_slice()
+        || word == b"records".as_slice()
         || word == b"calls".as_slice()
 }
 
@@ -73,7 +74,7 @@ fn is_request(line: &[u8]) -> bool
 
 /// The next line that asks for something; those before it are passed over.
 #[tactic(auto, unfolding(crate::specs::Requests::requests_from))]
-pub(crate) fn next_request<'a>(lines: &mut Lines<'a>) -> Option<&'a [u8]>
+pub fn next_request<'a>(lines: &mut Lines<'a>) -> Option<&'a [u8]>
     ensures { TakesLine (requests_from lines.old) result lines.new }
 {
     while let Some(line) = lines.next() {
@@ -101,7 +102,7 @@ fn is_from(sender: SocketAddrV4, own: SocketAddrV4) -> bool
 }
 
 /// Whether what has this sender came from one of these sockets.
-pub(crate) fn is_from_any(own: &[SocketAddrV4], sender: SocketAddrV4) -> bool
+pub fn is_from_any(own: &[SocketAddrV4], sender: SocketAddrV4) -> bool
     ensures { result ≡ is_from_any own.now sender }
 {
     for socket in own {
@@ -110,4 +111,12 @@ pub(crate) fn is_from_any(own: &[SocketAddrV4], sender: SocketAddrV4) -> bool
         }
     }
     false
+}
+
+/// The same of a sender of any kind: the program's own sockets have addresses of one kind alone.
+pub fn is_own(own: &[SocketAddrV4], sender: SocketAddr) -> bool {
+    match sender {
+        SocketAddr::V4(sender) => is_from_any(own, sender),
+        SocketAddr::V6(_) => false,
+    }
 }

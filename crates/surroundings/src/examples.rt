@@ -1,0 +1,71 @@
+//! Worked examples of the definitions, as theorems: each sentence of a definition has one that a slip in it breaks.
+#![tactic(auto, unfolding(crate::proofs::Computing::on_examples))]
+
+ghost use Rattle.std.specs.Prelude.{◌≡◌, codes, map, true, false, [], ◌∷◌};
+ghost use Rattle.mg_bytes.specs.Lines.{cut};
+ghost use Rattle.surroundings.specs.Example.{socket_at, everywhere, here, there};
+ghost use Rattle.surroundings.specs.Requests.{is_answer, is_request, requests_from, is_from, is_from_any};
+
+/// Each answer of `rgwd` is known by its beginning, and each line of its counts.
+pub fn answers_of_a_gateway_are_known()
+    ensures done { is_answer (codes "done") ≡ true }
+    ensures unknown { is_answer (codes "? phone LINE off|on|flash|KEY, show LINE, counts, or stop") ≡ true }
+    ensures refused { is_answer (codes "! 4 NoSuchLine") ≡ true }
+    ensures from_afar { is_answer (codes "! stop is taken from a loopback address alone, 127.0.0.0/8") ≡ true }
+    ensures shown { is_answer (codes "line 1 on") ≡ true }
+    ensures datagrams { is_answer (codes "datagrams in 3 out 4") ≡ true }
+    ensures commands { is_answer (codes "commands EPCF 0 RQNT 1") ≡ true }
+    ensures responses { is_answer (codes "responses 2 no message 0") ≡ true }
+    ensures answers { is_answer (codes "answers 200 1 repeated 0") ≡ true }
+    ensures notifications { is_answer (codes "notifications 1 repeated 0") ≡ true }
+    ensures announcements { is_answer (codes "announcements 1 repeated 0") ≡ true }
+    ensures lost { is_answer (codes "lost events 0 refused 0") ≡ true }
+    ensures faults { is_answer (codes "faults receive 0 send 0") ≡ true }
+    ensures records { is_answer (codes "records dropped 0 write faults 0") ≡ true }
+{}
+
+/// So is each of `rgca`.
+pub fn answers_of_an_agent_are_known()
+    ensures issued { is_answer (codes "issued 17") ≡ true }
+    ensures unknown { is_answer (codes "? VERB NAME, counts, or stop") ≡ true }
+    ensures calls { is_answer (codes "calls 1 set up 1") ≡ true }
+    ensures network { is_answer (codes "network lost 0 copied 0 late 0") ≡ true }
+    ensures bare { is_answer (codes "?") ≡ true }
+    ensures refused { is_answer (codes "!") ≡ true }
+{}
+
+/// What is asked for is no answer, though it begins alike, and an empty line asks for nothing.
+pub fn requests_are_no_answers()
+    ensures counts { is_request (codes "counts") ≡ true }
+    ensures act { is_request (codes "phone 1 off") ≡ true }
+    ensures show { is_request (codes "show 1") ≡ true }
+    ensures stop { is_request (codes "stop") ≡ true }
+    ensures command { is_request (codes "AUEP aaln/1@rgw.example.net") ≡ true }
+    ensures longer { is_request (codes "lines 1") ≡ true }
+    ensures other_case { is_request (codes "Done") ≡ true }
+    ensures behind { is_request (codes "is it done?") ≡ true }
+    ensures empty { is_request [] ≡ false }
+    ensures answer { is_request (codes "done") ≡ false }
+{}
+
+/// Lines of answers are passed over, and what stands behind them is asked for none the less.
+pub fn answers_are_passed_over()
+    ensures between { requests_from (cut (codes "done\n\nshow 1\ndone\n")) ≡ codes "show 1\n" ∷ codes "done\n" ∷ [] }
+    ensures none { requests_from (cut (codes "done\r\n! 1 OutOfMemory\r\n")) ≡ [] }
+    ensures blanks { requests_from (cut (codes " ? phone\n\tline 1 on\ncounts")) ≡ codes "counts" ∷ [] }
+    ensures nothing { requests_from [] ≡ [] }
+{}
+
+/// What comes from a socket of the program's own is known by its address and port; of a socket that listens at each address of
+/// the machine by its port.
+pub fn own_sockets_are_known()
+    ensures own { is_from (socket_at here 2500) (socket_at here 2500) ≡ true }
+    ensures other_port { is_from (socket_at here 2501) (socket_at here 2500) ≡ false }
+    ensures other_host { is_from (socket_at there 2500) (socket_at here 2500) ≡ false }
+    ensures anywhere { is_from (socket_at there 2500) (socket_at everywhere 2500) ≡ true }
+    ensures anywhere_else { is_from (socket_at there 2501) (socket_at everywhere 2500) ≡ false }
+    ensures nowhere { is_from (socket_at everywhere 2500) (socket_at here 2500) ≡ false }
+    ensures first { is_from_any (socket_at here 2500 ∷ socket_at here 2427 ∷ []) (socket_at here 2500) ≡ true }
+    ensures second { is_from_any (socket_at here 2500 ∷ socket_at here 2427 ∷ []) (socket_at here 2427) ≡ true }
+    ensures none { is_from_any (socket_at here 2500 ∷ socket_at here 2427 ∷ []) (socket_at here 40000) ≡ false }
+{}
