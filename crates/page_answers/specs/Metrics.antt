@@ -111,7 +111,7 @@ own_counters counts =
     singles
     (counter (codes "rgw_notifications_total") (codes "Notifications that were sent.") counts.notifications
     ∷ counter (codes "rgw_announcements_total") (codes "Announcements that were sent.") counts.announcements
-    ∷ counter (codes "rgw_given_up_total") (codes "Announcements of lines that nobody had answered.") counts.given_up ∷ [])
+    ∷ counter (codes "rgw_given_up_total") (codes "Commands of its own that nobody answered.") counts.given_up ∷ [])
 
 unfoldable pub repeats_text : Counts → List ℕ
 repeats_text counts =

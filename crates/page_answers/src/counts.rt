@@ -43,7 +43,7 @@ pub struct Counts {
     pub notifications_again: u64,
     pub announcements: u64,
     pub announcements_again: u64,
-    /// Announcements of lines whose command nobody had answered.
+    /// Commands of its own that nobody answered.
     pub given_up: u64,
     /// Inputs that the gateway refused.
     pub refused: u64,

@@ -48,7 +48,7 @@ pub(crate) const ANNOUNCEMENTS: Metric = Metric {
 pub(crate) const GIVEN_UP: Metric = Metric {
     name: b"rgw_given_up_total",
     kind: b"counter",
-    help: b"Announcements of lines that nobody had answered.",
+    help: b"Commands of its own that nobody answered.",
     label: b"",
 };
 
