@@ -2,6 +2,7 @@
 ghost use Rattle.std.specs.Prelude.{◌≡◌, ◌∷◌, [], false, None};
 ghost use Rattle.surroundings.specs.Sending.{Grows};
 
+use gateway_core::Gateway;
 use std::net::SocketAddrV4;
 use traces::Mark;
 
@@ -12,6 +13,10 @@ pub trait Outlet {
 
     /// All that were handed to it, in order, where it tells.
     ghost handed: { Self → Option (List Sent) };
+
+    /// The gateway took an event: what it sends at it is handed out next, in its order.
+    fn turned(&mut self, gateway: &Gateway)
+        ensures { handed self.new ≡ handed self.old };
 
     /// Takes a datagram that is to go to this address: what became of it, where that is to be noted.
     fn hand(&mut self, to: SocketAddrV4, bytes: &[u8]) -> Option<Mark>

@@ -160,7 +160,7 @@ impl<T: Teller + Drop> LivePlay<T> {
 
     // Datagrams are handed out in their order.
     #[tactic(auto, using(crate::proofs::RunLemmas::none_handed, crate::proofs::RunLemmas::one_more))]
-    fn hand_out<O: Outlet>(&mut self, out: &mut O, datagrams: &[OutDatagram])
+    fn hand_all<O: Outlet>(&mut self, out: &mut O, datagrams: &[OutDatagram])
         ensures { (marks : List Entry) × HandsOut
             (live self.old.gateway.value self.old.script (T.told self.old.teller) (O.handed out.old)) datagrams.now marks
             (live self.new.gateway.value self.new.script (T.told self.new.teller) (O.handed out.new)) }
@@ -170,6 +170,16 @@ impl<T: Teller + Drop> LivePlay<T> {
             place = place.saturating_add(1);
             self.hand(out, datagram, place);
         }
+    }
+
+    // The gateway took an event, at which it sends these datagrams: they are handed out in their order.
+    fn hand_out<O: Outlet>(&mut self, out: &mut O, datagrams: &[OutDatagram])
+        ensures { (marks : List Entry) × HandsOut
+            (live self.old.gateway.value self.old.script (T.told self.old.teller) (O.handed out.old)) datagrams.now marks
+            (live self.new.gateway.value self.new.script (T.told self.new.teller) (O.handed out.new)) }
+    {
+        out.turned(&self.gateway);
+        self.hand_all(out, datagrams);
     }
 
     /// The clock goes to this moment, in ms: what the gateway sends at it is handed out. A refused tick changes nothing.

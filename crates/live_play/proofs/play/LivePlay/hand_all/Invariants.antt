@@ -1,7 +1,7 @@
 use Rattle.std.proofs.Common.{List, take}
 use Rattle.traces.specs.Writing.{Entry}
 use Rattle.live_play.specs.Running.{live, HandsOut}
-use Rattle.live_play.proofs.play.LivePlay.hand_out.Given as goal
+use Rattle.live_play.proofs.play.LivePlay.hand_all.Given as goal
 
 abbrev pub invariant-loop-datagram : goal.invariant-loop-datagram
 invariant-loop-datagram g l =
