@@ -11,13 +11,12 @@ use Rattle.plain_machine.specs.declared.setup.Setup.{Setup}
 use Rattle.plain_machine.specs.Event.{GatewayEvent}
 use Rattle.plain_machine.specs.Machine.{Machine}
 use Rattle.plain_machine.specs.Happening.{effect}
-use Rattle.gateway_core.specs.declared.outcome.Reply.{Reply}
-use Rattle.gateway_core.specs.declared.outcome.Reply.TheVariants.{First, Again, Silence, NoRoom}
 use Rattle.gateway_core.specs.declared.outcome.TextOutcome.{TextOutcome}
 use Rattle.gateway_core.specs.declared.outcome.TextOutcome.TheVariants.{NoMessage, Command, Response}
 use Rattle.gateway_core.specs.Outcomes.{outcomes_of}
 use Rattle.gateway_core.specs.Wire.{counted}
-use Rattle.live_journal.specs.Counting.{Counts, one_more_at, place_of, with_command, with_reply, with_text, with_texts, counts_after, outcomes_from, is_command_at, is_response, is_other, is_answered_with, is_again}
+use Rattle.sent_counts.specs.Counting.{one_more_at, place_of}
+use Rattle.live_journal.specs.Counting.{Counts, with_command, with_text, with_texts, counts_after, outcomes_from, is_command_at, is_response, is_other}
 
 counted_on : (n a b : ℕ) → counted (counted n a) b ≡ counted n (a + b)
 counted_on n a b = omega arith
@@ -50,96 +49,28 @@ at_place numbers at place inside = by_test (eqb_tells at place) where
 
 command_size : (c : Counts) (o : TextOutcome) → length (with_text c o).commands ≡ length c.commands
 command_size c NoMessage = refl
-command_size c (Response true) = refl
-command_size c (Response false) = refl
-command_size c (Command None id (First code fault)) = refl
-command_size c (Command None id (Again code)) = refl
-command_size c (Command None id Silence) = refl
-command_size c (Command None id NoRoom) = refl
-command_size c (Command (Some verb) id (First code fault)) = length-set c.commands (place_of verb) _
-command_size c (Command (Some verb) id (Again code)) = length-set c.commands (place_of verb) _
-command_size c (Command (Some verb) id Silence) = length-set c.commands (place_of verb) _
-command_size c (Command (Some verb) id NoRoom) = length-set c.commands (place_of verb) _
+command_size c (Response is_acknowledged) = refl
+command_size c (Command None id reply) = refl
+command_size c (Command (Some verb) id reply) = length-set c.commands (place_of verb) _
 
 command_more : (place : ℕ) (c : Counts) (o : TextOutcome) → place < length c.commands
     → get_or (with_text c o).commands place 0 ≡ counted (get_or c.commands place 0) (cond (is_command_at place o) 1 0)
 command_more place c NoMessage inside = counted_none _
-command_more place c (Response true) inside = counted_none _
-command_more place c (Response false) inside = counted_none _
-command_more place c (Command None id (First code fault)) inside = counted_none _
-command_more place c (Command None id (Again code)) inside = counted_none _
-command_more place c (Command None id Silence) inside = counted_none _
-command_more place c (Command None id NoRoom) inside = counted_none _
-command_more place c (Command (Some verb) id (First code fault)) inside = at_place c.commands (place_of verb) place inside
-command_more place c (Command (Some verb) id (Again code)) inside = at_place c.commands (place_of verb) place inside
-command_more place c (Command (Some verb) id Silence) inside = at_place c.commands (place_of verb) place inside
-command_more place c (Command (Some verb) id NoRoom) inside = at_place c.commands (place_of verb) place inside
-
-answer_size : (c : Counts) (o : TextOutcome) → length (with_text c o).answers ≡ length c.answers
-answer_size c NoMessage = refl
-answer_size c (Response true) = length-set c.answers 0 _
-answer_size c (Response false) = refl
-answer_size c (Command None id (First code fault)) = length-set c.answers code _
-answer_size c (Command None id (Again code)) = length-set c.answers code _
-answer_size c (Command None id Silence) = refl
-answer_size c (Command None id NoRoom) = refl
-answer_size c (Command (Some verb) id (First code fault)) = length-set c.answers code _
-answer_size c (Command (Some verb) id (Again code)) = length-set c.answers code _
-answer_size c (Command (Some verb) id Silence) = refl
-answer_size c (Command (Some verb) id NoRoom) = refl
-
-answer_more : (code : ℕ) (c : Counts) (o : TextOutcome) → code < length c.answers
-    → get_or (with_text c o).answers code 0 ≡ counted (get_or c.answers code 0) (cond (is_answered_with code o) 1 0)
-answer_more code c NoMessage inside = counted_none _
-answer_more code c (Response true) inside = at_place c.answers 0 code inside
-answer_more code c (Response false) inside = counted_none _
-answer_more code c (Command None id (First given fault)) inside = at_place c.answers given code inside
-answer_more code c (Command None id (Again given)) inside = at_place c.answers given code inside
-answer_more code c (Command None id Silence) inside = counted_none _
-answer_more code c (Command None id NoRoom) inside = counted_none _
-answer_more code c (Command (Some verb) id (First given fault)) inside = at_place c.answers given code inside
-answer_more code c (Command (Some verb) id (Again given)) inside = at_place c.answers given code inside
-answer_more code c (Command (Some verb) id Silence) inside = counted_none _
-answer_more code c (Command (Some verb) id NoRoom) inside = counted_none _
+command_more place c (Response is_acknowledged) inside = counted_none _
+command_more place c (Command None id reply) inside = counted_none _
+command_more place c (Command (Some verb) id reply) inside = at_place c.commands (place_of verb) place inside
 
 response_more : (c : Counts) (o : TextOutcome) → (with_text c o).responses ≡ counted c.responses (cond (is_response o) 1 0)
 response_more c NoMessage = counted_none _
-response_more c (Response true) = refl
-response_more c (Response false) = refl
-response_more c (Command None id (First code fault)) = counted_none _
-response_more c (Command None id (Again code)) = counted_none _
-response_more c (Command None id Silence) = counted_none _
-response_more c (Command None id NoRoom) = counted_none _
-response_more c (Command (Some verb) id (First code fault)) = counted_none _
-response_more c (Command (Some verb) id (Again code)) = counted_none _
-response_more c (Command (Some verb) id Silence) = counted_none _
-response_more c (Command (Some verb) id NoRoom) = counted_none _
+response_more c (Response is_acknowledged) = refl
+response_more c (Command None id reply) = counted_none _
+response_more c (Command (Some verb) id reply) = counted_none _
 
 other_more : (c : Counts) (o : TextOutcome) → (with_text c o).others ≡ counted c.others (cond (is_other o) 1 0)
 other_more c NoMessage = refl
-other_more c (Response true) = counted_none _
-other_more c (Response false) = counted_none _
-other_more c (Command None id (First code fault)) = refl
-other_more c (Command None id (Again code)) = refl
-other_more c (Command None id Silence) = refl
-other_more c (Command None id NoRoom) = refl
-other_more c (Command (Some verb) id (First code fault)) = counted_none _
-other_more c (Command (Some verb) id (Again code)) = counted_none _
-other_more c (Command (Some verb) id Silence) = counted_none _
-other_more c (Command (Some verb) id NoRoom) = counted_none _
-
-again_more : (c : Counts) (o : TextOutcome) → (with_text c o).again ≡ counted c.again (cond (is_again o) 1 0)
-again_more c NoMessage = counted_none _
-again_more c (Response true) = counted_none _
-again_more c (Response false) = counted_none _
-again_more c (Command None id (First code fault)) = counted_none _
-again_more c (Command None id (Again code)) = refl
-again_more c (Command None id Silence) = counted_none _
-again_more c (Command None id NoRoom) = counted_none _
-again_more c (Command (Some verb) id (First code fault)) = counted_none _
-again_more c (Command (Some verb) id (Again code)) = refl
-again_more c (Command (Some verb) id Silence) = counted_none _
-again_more c (Command (Some verb) id NoRoom) = counted_none _
+other_more c (Response is_acknowledged) = counted_none _
+other_more c (Command None id reply) = refl
+other_more c (Command (Some verb) id reply) = counted_none _
 
 -- ---- all of them
 
@@ -147,18 +78,11 @@ pub commands_sum : (c : Counts) (outcomes : List TextOutcome) (place : ℕ) → 
     → get_or (with_texts c outcomes).commands place 0 ≡ counted (get_or c.commands place 0) (count_by (is_command_at place) outcomes)
 commands_sum c outcomes place inside = sums (λ c. get_or c.commands place 0) (λ c. length c.commands) (is_command_at place) place command_size (command_more place) c outcomes inside
 
-pub answers_sum : (c : Counts) (outcomes : List TextOutcome) (code : ℕ) → code < length c.answers
-    → get_or (with_texts c outcomes).answers code 0 ≡ counted (get_or c.answers code 0) (count_by (is_answered_with code) outcomes)
-answers_sum c outcomes code inside = sums (λ c. get_or c.answers code 0) (λ c. length c.answers) (is_answered_with code) code answer_size (answer_more code) c outcomes inside
-
 pub responses_sum : (c : Counts) (outcomes : List TextOutcome) → (with_texts c outcomes).responses ≡ counted c.responses (count_by is_response outcomes)
 responses_sum c outcomes = sums (λ c. c.responses) (λ c. 1) is_response 0 (λ c o. refl) (λ c o inside. response_more c o) c outcomes (omega arith)
 
 pub others_sum : (c : Counts) (outcomes : List TextOutcome) → (with_texts c outcomes).others ≡ counted c.others (count_by is_other outcomes)
 others_sum c outcomes = sums (λ c. c.others) (λ c. 1) is_other 0 (λ c o. refl) (λ c o inside. other_more c o) c outcomes (omega arith)
-
-pub again_sum : (c : Counts) (outcomes : List TextOutcome) → (with_texts c outcomes).again ≡ counted c.again (count_by is_again outcomes)
-again_sum c outcomes = sums (λ c. c.again) (λ c. 1) is_again 0 (λ c o. refl) (λ c o inside. again_more c o) c outcomes (omega arith)
 
 pub list_counts : (setup : Setup) (m : Machine) (counts : Counts) (events : List GatewayEvent) → counts_after setup m counts events ≡ with_texts counts (outcomes_from setup m events)
 unfolding counts_after outcomes_from

@@ -1,7 +1,9 @@
 -- Counts as they are told, a kind a line.
 use Rattle.std.specs.Prelude.{ℕ, ◌+◌, ◌==◌, if◌then◌else◌, codes, decimal, slice_index, List, [], ◌∷◌, ◌++◌}
 use Rattle.std.specs.Borrow.{Bor}
+use Rattle.mgcp_text.specs.declared.message.Verb.TheVariants.{Ntfy, Rsip}
 use Rattle.page_answers.specs.Metrics.{code_text}
+use Rattle.sent_counts.specs.Counting.{place_of}
 use Rattle.live_journal.specs.declared.message_tally.MessageTally.{MessageTally}
 use Rattle.live_journal.specs.declared.reporting.Faults.{Faults}
 
@@ -42,9 +44,11 @@ answers_text answers = codes "\nanswers" ++ answers_from 0 answers
 
 abbrev pub others_text : MessageTally → ℕ → Faults → List ℕ
 others_text tally lost faults =
-    told (codes " repeated ") tally.texts.again ++ told (codes "\nnotifications ") tally.own.notifications
-    ++ told (codes " repeated ") tally.own.notifications_again ++ told (codes "\nannouncements ") tally.own.announcements
-    ++ told (codes " repeated ") tally.own.announcements_again ++ told (codes " after given up ") tally.own.given_up
+    told (codes " repeated ") tally.sent.again ++ told (codes "\nnotifications ") (slice_index tally.sent.commands (place_of Ntfy))
+    ++ told (codes " repeated ") (slice_index tally.sent.commands_again (place_of Ntfy))
+    ++ told (codes "\nannouncements ") (slice_index tally.sent.commands (place_of Rsip))
+    ++ told (codes " repeated ") (slice_index tally.sent.commands_again (place_of Rsip))
+    ++ told (codes " given up ") tally.sent.given_up
     ++ told (codes "\nlost events ") lost ++ told (codes " refused ") faults.refused
     ++ told (codes "\nfaults receive ") faults.receive ++ told (codes " send ") faults.send
 
@@ -52,4 +56,4 @@ others_text tally lost faults =
 abbrev pub report_text : MessageTally → ℕ → Faults → List ℕ
 report_text tally lost faults =
     datagrams_text tally ++ (commands_text tally.texts.commands ++ (texts_text tally
-    ++ (answers_text tally.texts.answers.items ++ (others_text tally lost faults ++ codes "\n"))))
+    ++ (answers_text tally.sent.answers.items ++ (others_text tally lost faults ++ codes "\n"))))

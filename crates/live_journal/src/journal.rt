@@ -49,11 +49,16 @@ impl Journal {
         self.log.spoil(now, source, Fate::Once { late });
     }
 
-    /// The gateway took the datagram that came last, which `Gateway::outcomes` tells of: its texts are counted, and why commands were
-    /// refused is told.
+    /// The gateway took an event, of which `Gateway::outcomes`, `sent` and `given_up` tell: all that is counted. What it sends is handed out
+    /// next.
+    pub fn turned(&mut self, now: Now, gateway: &Gateway) {
+        self.tally.turned(gateway);
+        self.log.turned(now, gateway);
+    }
+
+    /// The gateway took the datagram that came last, and what it sent at it was handed out: why commands were refused is told.
     pub fn heard(&mut self, gateway: &Gateway) {
-        self.tally.heard(gateway.now(), gateway.outcomes());
-        self.log.explain(&gateway.setup().names);
+        self.log.explain(gateway);
     }
 
     /// A datagram was sent to the gateway, and a bad network lost it.
@@ -63,7 +68,7 @@ impl Journal {
 
     /// A datagram is sent.
     pub fn sent(&mut self, now: Now, to: SocketAddrV4, bytes: &[u8]) {
-        self.tally.sent(now.clock, bytes);
+        self.tally.handed_out();
         self.log.send(now, to, bytes);
         self.capture.pass(now.time, Way::Sent, to, bytes);
         self.show(now.clock, Kind::Sent, Some(to), bytes);

@@ -5,7 +5,7 @@ ghost use Rattle.plain_machine.specs.Event.{GatewayEvent};
 ghost use Rattle.plain_machine.specs.Machine.{Machine};
 ghost use Rattle.gateway_core.specs.declared.outcome.TextOutcome.{TextOutcome};
 ghost use Rattle.gateway_core.specs.Wire.{counted};
-ghost use Rattle.live_journal.specs.Counting.{Counts, with_texts, counts_after, outcomes_from, is_command_at, is_response, is_other, is_answered_with, is_again};
+ghost use Rattle.live_journal.specs.Counting.{Counts, with_texts, counts_after, outcomes_from, is_command_at, is_response, is_other};
 
 /// Each count is the sum of what it was and of the texts that it is the count of, up to 18,446,744,073,709,551,615.
 pub fn counts_are_sums()
@@ -16,11 +16,6 @@ pub fn counts_are_sums()
         (with_texts counts outcomes).responses ≡ counted counts.responses (count_by is_response outcomes) }
     ensures others { (counts : Counts) (outcomes : List TextOutcome) →
         (with_texts counts outcomes).others ≡ counted counts.others (count_by is_other outcomes) }
-    ensures answers { (counts : Counts) (outcomes : List TextOutcome) (code : ℕ) → code < length counts.answers →
-        slice_index_or (with_texts counts outcomes).answers code 0
-        ≡ counted (slice_index_or counts.answers code 0) (count_by (is_answered_with code) outcomes) }
-    ensures again { (counts : Counts) (outcomes : List TextOutcome) →
-        (with_texts counts outcomes).again ≡ counted counts.again (count_by is_again outcomes) }
 {}
 
 /// The counts after a list of events are those of all that the texts of its events were, each to the gateway before it.

@@ -3,7 +3,7 @@ ghost use Rattle.std.specs.Prelude.{◌≤◌};
 
 use crate::journal::Journal;
 use crate::message_tally::MessageTally;
-use crate::reporting::Faults;
+use crate::reporting::{ANNOUNCEMENTS, Faults, NOTIFICATIONS};
 use connections::{Connection, mode_text};
 use gateway_core::Gateway;
 use mg_packages::{Hook, signal_name};
@@ -65,7 +65,7 @@ fn put_commands(views: &mut Vec<VerbCount>, tally: &MessageTally) -> Result<(), 
 }
 
 fn put_answers(views: &mut Vec<CodeCount>, tally: &MessageTally) -> Result<(), AllocError> {
-    for (code, number) in (0..u16::MAX).zip(tally.texts.answers.iter()) {
+    for (code, number) in (0..u16::MAX).zip(tally.sent.answers.iter()) {
         let number = *number;
         if number > 0 {
             views.push(CodeCount { code, number })?;
@@ -114,12 +114,12 @@ fn put_counts(
     counts.datagrams_out = tally.datagrams_out;
     counts.responses = tally.texts.responses;
     counts.unreadable = tally.texts.others;
-    counts.answers_again = tally.texts.again;
-    counts.notifications = tally.own.notifications;
-    counts.notifications_again = tally.own.notifications_again;
-    counts.announcements = tally.own.announcements;
-    counts.announcements_again = tally.own.announcements_again;
-    counts.given_up = tally.own.given_up;
+    counts.answers_again = tally.sent.again;
+    counts.notifications = tally.sent.commands[NOTIFICATIONS];
+    counts.notifications_again = tally.sent.commands_again[NOTIFICATIONS];
+    counts.announcements = tally.sent.commands[ANNOUNCEMENTS];
+    counts.announcements_again = tally.sent.commands_again[ANNOUNCEMENTS];
+    counts.given_up = tally.sent.given_up;
     counts.transactions = tally.answered.held(picture.clock);
     counts.refused = faults.refused;
     counts.receive_faults = faults.receive;

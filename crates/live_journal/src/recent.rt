@@ -1,15 +1,15 @@
-//! Which ids were sent first less than half a minute ago.
+//! Which commands were answered first less than half a minute ago.
 use lru::LruCache;
 use std::alloc::{AllocError, Global};
 use std::num::NonZeroUsize;
 
-// How long what is sent with the same id is a repeat, from the first on, in ms (RFC 3435, 3.5.1).
+// How long an answer is held, from its send on, in ms (RFC 3435, 3.5.1).
 const REPEAT_TIME: u64 = 30_000;
 
 // So many ids are remembered. A gateway answers no more commands in that time.
 const MOST: usize = 4096;
 
-/// The ids that were sent lately, with the moments of the first sends. The oldest gives way.
+/// The ids that were answered lately, with the moments of the answers. The oldest gives way.
 #[derive(Drop)]
 pub struct Recent {
     firsts: LruCache<u32, u64>,
@@ -24,7 +24,7 @@ impl Recent {
         })
     }
 
-    /// How many are remembered that were sent first less than half a minute before this moment.
+    /// How many are remembered that were answered less than half a minute before this moment.
     pub fn held(&self, moment: u64) -> u64 {
         let mut number: u64 = 0;
         for (_, first) in self.firsts.iter() {
@@ -35,19 +35,8 @@ impl Recent {
         number
     }
 
-    /// Something is sent with this id for the first time. Where memory is refused it isn't remembered.
+    /// A command with this id is answered for the first time. Where memory is refused it isn't remembered.
     pub fn remember(&mut self, moment: u64, id: u32) {
         let _ = self.firsts.put(id, moment);
-    }
-
-    /// Something is sent with this id: whether it is a repeat. Where memory is refused it isn't remembered.
-    pub fn is_repeat(&mut self, moment: u64, id: u32) -> bool {
-        if let Some(first) = self.firsts.peek(&id) {
-            if moment.saturating_sub(*first) < REPEAT_TIME {
-                return true;
-            }
-        }
-        self.remember(moment, id);
-        false
     }
 }

@@ -10,6 +10,11 @@ use gateway_core::Gateway;
 use mg_bytes::put_decimal;
 use std::alloc::{AllocError, Global};
 
+/// The places of NTFY and of RSIP among the counts of its own commands by verb, as `sent_counts::place_of` has them.
+pub(crate) const NOTIFICATIONS: usize = 2;
+
+pub(crate) const ANNOUNCEMENTS: usize = 8;
+
 /// How often a turn failed. A count stays at its greatest value.
 #[derive(Clone, Copy)]
 pub struct Faults {
@@ -146,12 +151,12 @@ fn put_others(
     ensures { OnOk result (text.new.items ≡ text.old.items ++ others_text tally.now lost faults) }
 {
     let numbers = [
-        (" repeated ", tally.texts.again),
-        ("\nnotifications ", tally.own.notifications),
-        (" repeated ", tally.own.notifications_again),
-        ("\nannouncements ", tally.own.announcements),
-        (" repeated ", tally.own.announcements_again),
-        (" after given up ", tally.own.given_up),
+        (" repeated ", tally.sent.again),
+        ("\nnotifications ", tally.sent.commands[NOTIFICATIONS]),
+        (" repeated ", tally.sent.commands_again[NOTIFICATIONS]),
+        ("\nannouncements ", tally.sent.commands[ANNOUNCEMENTS]),
+        (" repeated ", tally.sent.commands_again[ANNOUNCEMENTS]),
+        (" given up ", tally.sent.given_up),
         ("\nlost events ", lost),
         (" refused ", faults.refused),
         ("\nfaults receive ", faults.receive),
@@ -174,7 +179,7 @@ fn put_report(
     put_commands(alloc, text, &tally.texts.commands)?;
     put_texts(alloc, text, tally)?;
     text.extend_from_slice(b"\nanswers")?;
-    put_answers(alloc, text, tally.texts.answers.as_slice())?;
+    put_answers(alloc, text, tally.sent.answers.as_slice())?;
     put_others(alloc, text, tally, lost, faults)?;
     text.extend_from_slice(b"\n")
 }

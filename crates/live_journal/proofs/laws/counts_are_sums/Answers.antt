@@ -1,4 +1,4 @@
-use Rattle.live_journal.proofs.CountLemmas.{commands_sum, responses_sum, others_sum, answers_sum, again_sum}
+use Rattle.live_journal.proofs.CountLemmas.{commands_sum, responses_sum, others_sum}
 use Rattle.live_journal.proofs.laws.counts_are_sums.Goals as goal
 
 pub returns-clause-commands : goal.returns-clause-commands
@@ -9,9 +9,3 @@ returns-clause-responses c = responses_sum
 
 pub returns-clause-others : goal.returns-clause-others
 returns-clause-others c = others_sum
-
-pub returns-clause-answers : goal.returns-clause-answers
-returns-clause-answers c = answers_sum
-
-pub returns-clause-again : goal.returns-clause-again
-returns-clause-again c = again_sum
