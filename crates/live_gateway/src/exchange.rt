@@ -138,8 +138,7 @@ impl<S: Surroundings + Drop> Exchange<S> {
         self.journal.log.pause(self.now, pause.lateness, pause.read);
     }
 
-    /// The gateway took the datagram that came last: what its texts were is counted, and why commands were refused is told. What
-    /// that needs is what `Gateway::outcomes` tells.
+    /// The gateway took the datagram that came last, and what it sent at it was handed out: why commands were refused is told.
     pub fn heard(&mut self, gateway: &Gateway)
         ensures network { self.new.network ≡ self.old.network }
         ensures around { self.new.around ≡ self.old.around }
@@ -289,6 +288,10 @@ impl<S: Surroundings + Drop> Outlet for Exchange<S> {
     ghost use Rattle.live_gateway.specs.Exchanging.{handed_by};
 
     ghost handed = { λ e. handed_by e.network (S.sent e.around) };
+
+    fn turned(&mut self, gateway: &Gateway) {
+        self.journal.turned(self.now, gateway);
+    }
 
     fn hand(&mut self, to: SocketAddrV4, bytes: &[u8]) -> Option<Mark> {
         self.journal.sent(self.now, to, bytes);
