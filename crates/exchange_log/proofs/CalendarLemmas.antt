@@ -52,7 +52,7 @@ pub falls_on : (read lengths : List ℕ) (place month day : ℕ) → read ≡ le
 falls_on read lengths place month day same within more =
     ap (λ (from : List ℕ). month_in (drop (place + 1) lengths) (month + 1) (day - slice_index_or from place 0)) same
     ∙ sym (at_drop_more (λ (left : List ℕ). month_in left month day) lengths place 0 within
-      ∙ month_on (slice_index_or lengths place 0) (drop (place + 1) lengths) month day (rw same at more))
+    ∙ month_on (slice_index_or lengths place 0) (drop (place + 1) lengths) month day (rw same at more))
 
 pub falls_last : (lengths : List ℕ) (place month day : ℕ) → length lengths ≤ place → month_in (drop place lengths) month day ≡ (month, day)
 unfolding month_in

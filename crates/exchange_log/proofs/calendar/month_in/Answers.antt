@@ -6,14 +6,14 @@ use Rattle.exchange_log.proofs.calendar.month_in.Goals as goal
 pub returns-then-left-length-clause-falls : goal.returns-then-left-length-clause-falls
 returns-then-left-length-clause-falls c =
     sym (falls_here c.month_lengths-lengths.result (month_lengths (is_leap c.args.year)) c.loop-length.length-index c.loop-length.month c.loop-length.left
-      (c.month_lengths-lengths.ensures ∙ ap month_lengths c.is_leap.ensures) c.loop-length-test.true c.if-left-length.true)
+    (c.month_lengths-lengths.ensures ∙ ap month_lengths c.is_leap.ensures) c.loop-length-test.true c.if-left-length.true)
     ∙ c.loop-length.invariant.falls
 
 pub loop-length-preserved : goal.loop-length-preserved
 loop-length-preserved c = record {
   falls =
       falls_on c.month_lengths-lengths.result (month_lengths (is_leap c.args.year)) c.loop-length.length-index c.loop-length.month c.loop-length.left
-        (c.month_lengths-lengths.ensures ∙ ap month_lengths c.is_leap.ensures) c.loop-length-test.true c.if-left-length.false
+      (c.month_lengths-lengths.ensures ∙ ap month_lengths c.is_leap.ensures) c.loop-length-test.true c.if-left-length.false
       ∙ c.loop-length.invariant.falls;
   place = omega (arith, c.loop-length.invariant.place);
   left = omega (arith, c.loop-length.invariant.left);
