@@ -179,7 +179,7 @@ never_digit p other n small = by_test (nat_lt n 10) refl where
 pub never_hex : (p : ℕ → Bool) → ((d : ℕ) → 48 ≤ d → d ≤ 102 → p d ≡ false) → (bytes : List ℕ) → AllByRecursion (λ byte. byte < 256) bytes → Never p (hex_text bytes)
 never_hex p other [] all = tt
 never_hex p other (byte ∷ bytes) all =
-    (never_digit p other (byte / 16) (omega (arith, all.0)), never_digit p other (byte % 16) (omega arith), never_hex p other bytes all.1)
+    (never_digit p other (byte / 16) (omega (arith, all.0)), (never_digit p other (byte % 16) (omega arith), never_hex p other bytes all.1))
 
 -- ---- lines
 
@@ -192,7 +192,7 @@ unfolding line_in line_of_two
 at_again moment small =
     let plain = never_blank (decimal moment) (never_decimal is_blank (λ d low high. blank_or_not d (omega arith) (omega arith)) moment) in
     let two : words (codes "at " ++ decimal moment) ≡ codes "at" ∷ decimal moment ∷ [] =
-    words_more (codes "at") (decimal moment) (λ e. absurd cc) (refl, refl, tt)
+    words_more (codes "at") (decimal moment) (λ e. absurd cc) (refl, (refl, tt))
     ∙ ap (λ (ws : List (List ℕ)). codes "at" ∷ ws) (words_last (decimal moment) (decimal_full moment) plain) in
     rw (two, decimal_again moment small) refl
 
@@ -213,7 +213,7 @@ pub from_again : (source : SocketAddrV4) → CanAnswer source → line_in (words
 unfolding line_in line_of_two
 from_again source can =
     let two : words (codes "from " ++ socket_v4_text source) ≡ codes "from" ∷ socket_v4_text source ∷ [] =
-    words_more (codes "from") (socket_v4_text source) (λ e. absurd cc) (refl, refl, refl, refl, tt)
+    words_more (codes "from") (socket_v4_text source) (λ e. absurd cc) (refl, (refl, (refl, (refl, tt))))
     ∙ ap (λ (ws : List (List ℕ)). codes "from" ∷ ws) (words_last (socket_v4_text source) (full_address source can) (plain_address source can)) in
     rw (two, address_again source can) refl
 
@@ -224,7 +224,7 @@ unfolding line_in line_of_three
 raw_again source bytes can all some =
     let hex = never_blank (hex_text bytes) (never_hex is_blank (λ d low high. blank_or_not d (omega arith) high) bytes all) in
     let three : words (codes "raw " ++ (socket_v4_text source ++ (32 ∷ hex_text bytes))) ≡ codes "raw" ∷ socket_v4_text source ∷ hex_text bytes ∷ [] =
-    words_more (codes "raw") (socket_v4_text source ++ (32 ∷ hex_text bytes)) (λ e. absurd cc) (refl, refl, refl, tt)
+    words_more (codes "raw") (socket_v4_text source ++ (32 ∷ hex_text bytes)) (λ e. absurd cc) (refl, (refl, (refl, tt)))
     ∙ ap (λ (ws : List (List ℕ)). codes "raw" ∷ ws)
     (words_more (socket_v4_text source) (hex_text bytes) (full_address source can) (plain_address source can)
     ∙ ap (λ (ws : List (List ℕ)). socket_v4_text source ∷ ws) (words_last (hex_text bytes) (full_hex bytes some) hex)) in

@@ -32,13 +32,15 @@ split_passed : (n : ℕ) (setup : Setup) (endpoints : Endpoints) (a b : ℕ) →
     → pass setup endpoints b ≡ afterwards (passed n setup endpoints a) (λ next. pass setup next b)
 unfolding passed
 split_passed zero setup endpoints a b le = refl
-split_passed (suc n) setup endpoints a b le = by_due (due_by endpoints a) refl where
+split_passed (suc n) setup endpoints a b le = by_due (due_by endpoints a) refl (λ item. split_passed n setup (happened setup endpoints item).value a b le) where
   by_due : (found : Option DueItem) → due_by endpoints a ≡ found
+      → ((item : DueItem) → pass setup (happened setup endpoints item).value b
+      ≡ afterwards (passed n setup (happened setup endpoints item).value a) (λ next. pass setup next b))
       → pass setup endpoints b ≡ afterwards (go_on found setup endpoints (λ next. passed n setup next a)) (λ next. pass setup next b)
-  by_due None is = refl
-  by_due (Some item) is =
+  by_due None is rest = refl
+  by_due (Some item) is rest =
       pass_some setup endpoints b item (later_due endpoints item a b is le)
-      ∙ ap (λ (e : Effect Endpoints). behind (happened setup endpoints item).sent e) (split_passed n setup (happened setup endpoints item).value a b le)
+      ∙ ap (λ (e : Effect Endpoints). behind (happened setup endpoints item).sent e) (rest item)
       ∙ behind_both (happened setup endpoints item).sent (passed n setup (happened setup endpoints item).value a).sent
       (pass setup (passed n setup (happened setup endpoints item).value a).value b)
 
