@@ -3,6 +3,7 @@
 #![tactic(auto)]
 
 mod capture;
+pub mod examples;
 mod explaining;
 mod journal;
 pub mod laws;

@@ -2,7 +2,7 @@
 ghost use Rattle.std.specs.Prelude.{◌≡◌, ◌++◌, OnOk};
 ghost use Rattle.std.specs.List.{flat_map};
 ghost use Rattle.page_answers.specs.Metrics.{code_text};
-ghost use Rattle.live_journal.specs.Reporting.{told, entry_text, datagrams_text, commands_text, texts_text, answer_text, answers_from, others_text, report_text};
+ghost use Rattle.live_journal.specs.Reporting.{told, entry_text, datagrams_text, verbs_text, commands_text, texts_text, answer_text, answers_from, others_text, report_text};
 
 use crate::journal::Journal;
 use crate::message_tally::MessageTally;
@@ -67,6 +67,7 @@ fn put_numbers(alloc: Global, text: &mut Vec<u8>, numbers: &[(&str, u64)]) -> Re
     Ok(())
 }
 
+#[tactic(auto, unfolding(crate::specs::Reporting::datagrams_text))]
 fn put_datagrams(alloc: Global, text: &mut Vec<u8>, tally: &MessageTally) -> Result<(), AllocError>
     ensures { OnOk result (text.new.items ≡ text.old.items ++ datagrams_text tally.now) }
 {
@@ -77,10 +78,10 @@ fn put_datagrams(alloc: Global, text: &mut Vec<u8>, tally: &MessageTally) -> Res
     put_numbers(alloc, text, &numbers)
 }
 
-fn put_commands(alloc: Global, text: &mut Vec<u8>, commands: &[u64; 10]) -> Result<(), AllocError>
-    ensures { OnOk result (text.new.items ≡ text.old.items ++ commands_text commands.now) }
+#[tactic(auto, unfolding(crate::specs::Reporting::verbs_text))]
+fn put_verbs(alloc: Global, text: &mut Vec<u8>, commands: &[u64; 10]) -> Result<(), AllocError>
+    ensures { OnOk result (text.new.items ≡ text.old.items ++ verbs_text commands.now) }
 {
-    text.extend_from_slice(b"\ncommands")?;
     let numbers = [
         (" EPCF ", commands[0]),
         (" RQNT ", commands[1]),
@@ -96,6 +97,15 @@ fn put_commands(alloc: Global, text: &mut Vec<u8>, commands: &[u64; 10]) -> Resu
     put_numbers(alloc, text, &numbers)
 }
 
+fn put_commands(alloc: Global, text: &mut Vec<u8>, commands: &[u64; 10]) -> Result<(), AllocError>
+    ensures { OnOk result (text.new.items ≡ text.old.items ++ commands_text commands.now) }
+{
+    text.extend_from_slice(b"\ncommands")?;
+    put_verbs(alloc, text, commands)?;
+    Ok(())
+}
+
+#[tactic(auto, unfolding(crate::specs::Reporting::texts_text))]
 fn put_texts(alloc: Global, text: &mut Vec<u8>, tally: &MessageTally) -> Result<(), AllocError>
     ensures { OnOk result (text.new.items ≡ text.old.items ++ texts_text tally.now) }
 {
@@ -141,6 +151,7 @@ fn put_answers(alloc: Global, text: &mut Vec<u8>, answers: &[u64]) -> Result<(),
 }
 
 // What is told behind the answers.
+#[tactic(auto, unfolding(crate::specs::Reporting::others_text))]
 fn put_others(
     alloc: Global,
     text: &mut Vec<u8>,
