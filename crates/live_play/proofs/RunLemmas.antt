@@ -1,5 +1,5 @@
 -- How entries follow one another.
-use Rattle.std.proofs.Common.{◌≡◌, ℕ, Bool, true, false, List, [], ◌∷◌, ◌++◌, map, Option, Some, None, refl, sym, ◌∙◌, ap, subst, append_assoc, append-nil}
+use Rattle.std.proofs.Common.{◌≡◌, ℕ, ◌+◌, ◌<◌, length, take, get_or, Bool, true, false, List, [], ◌∷◌, ◌++◌, map, Option, Some, None, refl, sym, ◌∙◌, ap, subst, append_assoc, append-nil}
 use Rattle.std.specs.Prelude.{IfSome, ⊤}
 use Rattle.std.specs.List.{flat_map}
 use Rattle.std.proofs.lemmas.List.{map-append, take_more}
@@ -95,7 +95,7 @@ more_marks (became mark place ∷ marks) more are they = more_marks marks more a
 pub hands_nothing : (was : Live) → HandsOut was [] [] was
 unfolding written
 hands_nothing was = record {
-  marks = tt;
+  are = tt;
   gateway = refl;
   handed = grows_nothing was.handed;
   told = grows_nothing was.told;
@@ -105,10 +105,10 @@ hands_nothing was = record {
 hands_on : (was mid is : Live) (some more : List OutDatagram) (marks others : List Entry) → HandsOut was some marks mid → HandsOut mid more others is
     → HandsOut was (some ++ more) (marks ++ others) is
 hands_on was mid is some more marks others a b = record {
-  marks = more_marks marks others a.marks b.marks;
+  are = more_marks marks others a.are b.are;
   gateway = b.gateway ∙ a.gateway;
   handed = rw (map-append sent_of some more) (grows_on was.handed mid.handed is.handed (map sent_of some) (map sent_of more) a.handed b.handed);
-  told = rw (written_marks was.script marks others a.marks)
+  told = rw (written_marks was.script marks others a.are)
       (grows_on was.told mid.told is.told (written was.script marks) (written was.script others) a.told
       (subst (λ (s : Script). Grows mid.told (written s others) is.told) a.script b.told));
   script = b.script ∙ a.script;
@@ -125,7 +125,7 @@ pub hands_one : (was is : Live) (datagram : OutDatagram) → is.gateway ≡ was.
     → is.script ≡ was.script → HandsOut was (datagram ∷ []) [] is
 unfolding written
 hands_one was is datagram gateway handed told script = record {
-  marks = tt;
+  are = tt;
   gateway = gateway;
   handed = handed;
   told = subst (λ (o : Option (List ℕ)). Grows was.told [] o) (sym told) (grows_nothing was.told);
@@ -136,7 +136,7 @@ pub hands_marked : (was is : Live) (datagram : OutDatagram) (mark : Mark) (place
     → Grows was.told (told_mark mark place) is.told → is.script ≡ was.script → HandsOut was (datagram ∷ []) (became mark place ∷ []) is
 unfolding written
 hands_marked was is datagram mark place gateway handed told script = record {
-  marks = tt;
+  are = tt;
   gateway = gateway;
   handed = handed;
   told = rw (append-nil (told_mark mark place)) told;
@@ -193,18 +193,18 @@ ran_sent was mid is input event outputs marks says took ends kept told script ha
   setup = ap (λ (g : GatewayState). g.setup) hands.gateway ∙ took.setup;
   stands = λ before s. subst (λ (g : GatewayState). Stands g (taken_after was.gateway.setup before (showed input (give event) (sends outputs) ∷ marks))) (sym hands.gateway)
       (subst (Stands mid.gateway) (sym (taken_here before s)) (took.stands before s));
-  play = λ before s. (says, shown_here before s, marks_are_play was.gateway.setup (move_went was.gateway.setup before (give event)).taken marks hands.marks);
+  play = λ before s. (says, shown_here before s, marks_are_play was.gateway.setup (move_went was.gateway.setup before (give event)).taken marks hands.are);
   handed = rw (all_sent) (subst (λ (o : Option (List Sent)). Grows o (map sent_of outputs) is.handed) kept hands.handed);
   told = then_told was.told mid.told is.told (input_text was.script input (sends outputs)) (after_input was.script input (sends outputs)) mid.script marks told script hands.told;
-  script = rw (marks_pass_no_time (after_input was.script input (sends outputs)) marks hands.marks)
+  script = rw (marks_pass_no_time (after_input was.script input (sends outputs)) marks hands.are)
       (if_told mid.told is.told (written mid.script marks) (after_input was.script input (sends outputs)) mid.script is.script hands.told script hands.script);
 } where
   all_sent : sent_in (showed input (give event) (sends outputs) ∷ marks) ≡ outputs
-  all_sent = ap (λ (l : List OutDatagram). outputs ++ l) (marks_send_nothing marks hands.marks) ∙ append-nil outputs
+  all_sent = ap (λ (l : List OutDatagram). outputs ++ l) (marks_send_nothing marks hands.are) ∙ append-nil outputs
 
   taken_here : (before : List GatewayEvent) → Stands was.gateway before
       → taken_after was.gateway.setup before (showed input (give event) (sends outputs) ∷ marks) ≡ before ++ event ∷ []
-  taken_here before s = marks_take_nothing was.gateway.setup (move_went was.gateway.setup before (give event)).taken marks hands.marks
+  taken_here before s = marks_take_nothing was.gateway.setup (move_went was.gateway.setup before (give event)).taken marks hands.are
       ∙ ap (λ (w : Went). w.taken) (event_taken was.gateway.setup before event (ends before s))
 
   shown_here : (before : List GatewayEvent) → Stands was.gateway before → (move_went was.gateway.setup before (give event)).shown ≡ sends outputs ∷ []

@@ -43,7 +43,7 @@ AreMarks (became mark place ∷ entries) = AreMarks entries
 
 -- datagrams were handed out, and this became of them
 pub record HandsOut (was : Live) (datagrams : List OutDatagram) (marks : List Entry) (is : Live) : Type 0 where
-  pub marks : AreMarks marks
+  pub are : AreMarks marks
   pub gateway : is.gateway ≡ was.gateway
   pub handed : Grows was.handed (map sent_of datagrams) is.handed
   pub told : Grows was.told (written was.script marks) is.told

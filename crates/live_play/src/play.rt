@@ -282,9 +282,11 @@ impl<T: Teller + Drop> LivePlay<T> {
         self.printed.clear();
         if line >= 1 && line <= self.gateway.lines() {
             let status = status_of(&self.gateway, line);
-            return put_line(self.alloc, &mut self.printed, &status);
+            put_line(self.alloc, &mut self.printed, &status)?;
+        } else {
+            put_refusal(self.alloc, &mut self.printed, Refusal::NoSuchLine)?;
         }
-        put_refusal(self.alloc, &mut self.printed, Refusal::NoSuchLine)
+        Ok(())
     }
 
     /// Nothing comes any more: the trace is told to which moment its gateway has come.
