@@ -1,1 +1,2 @@
 pub mod Readable
+pub mod Replay

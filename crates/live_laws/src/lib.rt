@@ -2,4 +2,5 @@
 #![tactic(auto)]
 
 pub mod lines;
+pub mod shown;
 pub mod ticks;
