@@ -5,7 +5,7 @@ ghost use Rattle.rgw_scripts.specs.Script.{line_in};
 ghost use Rattle.live_gateway.specs.Asking.{AsksFor};
 
 use mg_line::Act;
-use rgw_play::{ScriptLine, ScriptStep, line_in};
+use rgw_scripts::{ScriptLine, ScriptStep, line_in};
 use std::alloc::Global;
 
 /// What a line asks for.

@@ -1,3 +1,2 @@
-pub mod SceneLemmas
 pub mod PlayLemmas
 pub mod Computing

@@ -11,20 +11,17 @@ mod ending;
 pub mod examples;
 pub mod laws;
 mod player;
-mod scene;
 mod session;
 mod sockets;
-mod status;
 mod udp_wire;
 mod words;
 
 pub use crate::app::{asked, loopback, perform, run, simulate};
 pub use crate::ending::Ending;
-pub use crate::scene::{Scene, gateway_from, gateway_of, judge};
 pub use crate::session::{carry, play};
-pub use crate::status::status_of;
 pub use crate::udp_wire::UdpWire;
 pub use crate::words::{Task, WordFault, read_words};
+pub use rgw_scenes::{Scene, gateway_from, gateway_of, judge, status_of};
 pub use rgw_scripts::{
     Direct, LIMIT, LineStatus, Link, LinkFault, PlayFault, Played, ScriptLine, ScriptStep,
     StepFault, line_in, name_of_config_fault, put_line, put_refusal, read_limited,

@@ -10,7 +10,7 @@ use crate::steps::{event_text, shown_by};
 use crate::telling::{is_mark, is_told};
 use gateway_core::{Event, Gateway};
 use mg_bytes::OutOfMemory;
-use rgw_play::{ScriptLine, ScriptStep, line_in};
+use rgw_scripts::{ScriptLine, ScriptStep, line_in};
 use std::alloc::Global;
 use std::marker::Model;
 use std::net::SocketAddrV4;

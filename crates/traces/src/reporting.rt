@@ -4,7 +4,8 @@ use crate::replaying::{Progress, Replay};
 use crate::verdict::{ReplayFault, Verdict};
 use gateway_core::Gateway;
 use new_start::FirstNumber;
-use rgw_play::{LIMIT, PlayFault, gateway_from};
+use rgw_scenes::gateway_from;
+use rgw_scripts::{LIMIT, PlayFault};
 use std::alloc::Global;
 use std::io::{BufRead, ErrorKind, Read, Take};
 

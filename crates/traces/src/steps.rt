@@ -10,7 +10,8 @@ ghost use Rattle.traces.specs.Replaying.{move_in, Showed, Plays};
 use crate::telling::{put_outputs, put_shown};
 use gateway_core::{Event, Gateway, OutDatagram, Outputs, Refusal};
 use mg_bytes::OutOfMemory;
-use rgw_play::{LineStatus, ScriptStep, put_line, put_refusal, status_of};
+use rgw_scenes::status_of;
+use rgw_scripts::{LineStatus, ScriptStep, put_line, put_refusal};
 use std::alloc::{AllocError, Global};
 
 // What a trace has of datagrams that go out.
