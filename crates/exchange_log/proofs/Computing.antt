@@ -8,8 +8,8 @@ use Rattle.exchange_log.specs.TimeOfDay.{two_digits, three_digits, date_of, time
 use Rattle.exchange_log.specs.Messages.{name_shown, header_shown, message_shown, header_of}
 use Rattle.exchange_log.specs.Notes.{note_text, notice_text}
 use Rattle.exchange_log.specs.Lines.{stamp_text, message_line, note_line, notice_line, given_up_line, refused_line}
-use Rattle.exchange_log.specs.Pausing.{pause_line}
+use Rattle.exchange_log.specs.Pausing.{waiting_text, pause_line}
 
 unfoldable pub on_examples : ⊤
-unfolding byte_examples shown grouped year_in month_in two_digits three_digits date_of time_of_day date_and_time name_shown header_shown message_shown header_of note_text notice_text stamp_text message_line note_line notice_line given_up_line refused_line pause_line
+unfolding byte_examples shown grouped year_in month_in two_digits three_digits date_of time_of_day date_and_time name_shown header_shown message_shown header_of note_text notice_text stamp_text message_line note_line notice_line given_up_line refused_line waiting_text pause_line
 on_examples = tt

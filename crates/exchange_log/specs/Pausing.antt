@@ -6,11 +6,13 @@ use Rattle.exchange_log.specs.TimeOfDay.{date_and_time}
 abbrev pub seconds : ℕ → ℕ
 seconds ms = if nat_le 500 (ms % 1000) then ms / 1000 + 1 else ms / 1000
 
+abbrev pub waiting_words : ℕ → List ℕ
+waiting_words number = if number == 1 then codes " datagram was waiting" else codes " datagrams were waiting"
+
 -- how many datagrams had come meanwhile, where that was counted
-abbrev pub waiting_text : Option ℕ → List ℕ
+unfoldable pub waiting_text : Option ℕ → List ℕ
 waiting_text None = []
-waiting_text (Some number) =
-    codes ", " ++ decimal number ++ (if number == 1 then codes " datagram was waiting" else codes " datagrams were waiting")
+waiting_text (Some number) = codes ", " ++ decimal number ++ waiting_words number
 
 -- it went on so much later than it was to, in ms
 unfoldable pub pause_line : ℕ → ℕ → Option ℕ → List ℕ

@@ -1,6 +1,6 @@
 //! A pause of the program, as the log notes it.
-ghost use Rattle.std.specs.Prelude.{◌≡◌, ◌++◌, OnOk};
-ghost use Rattle.exchange_log.specs.Pausing.{seconds, waiting_text, pause_line};
+ghost use Rattle.std.specs.Prelude.{◌≡◌, ◌++◌, OnOk, Some};
+ghost use Rattle.exchange_log.specs.Pausing.{seconds, waiting_words, waiting_text, pause_line};
 
 use crate::time::put_date_and_time;
 use mg_bytes::{OutOfMemory, put_decimal};
@@ -21,26 +21,40 @@ fn seconds(ms: u64) -> u64
     }
 }
 
+fn waiting_words(number: u64) -> &'static [u8]
+    ensures { result.now ≡ waiting_words number }
+{
+    if number == 1 {
+        b" datagram was waiting"
+    } else {
+        b" datagrams were waiting"
+    }
+}
+
+// How many datagrams had come.
+#[tactic(auto, unfolding(crate::specs::Pausing::waiting_text))]
+fn put_counted(alloc: Global, out: &mut Vec<u8>, number: u64) -> Result<(), OutOfMemory>
+    ensures { OnOk result (out.new.items ≡ out.old.items ++ waiting_text (Some number)) }
+{
+    out.extend_from_slice(b", ")?;
+    put_decimal(alloc, out, number)?;
+    out.extend_from_slice(waiting_words(number))?;
+    Ok(())
+}
+
+#[tactic(auto, unfolding(crate::specs::Pausing::waiting_text))]
 fn put_waiting(alloc: Global, out: &mut Vec<u8>, waiting: Option<u64>) -> Result<(), OutOfMemory>
     ensures { OnOk result (out.new.items ≡ out.old.items ++ waiting_text waiting) }
 {
-    let Some(number) = waiting else {
-        return Ok(());
-    };
-    out.extend_from_slice(b", ")?;
-    put_decimal(alloc, out, number)?;
-    if number == 1 {
-        out.extend_from_slice(b" datagram was waiting")?;
-    } else {
-        out.extend_from_slice(b" datagrams were waiting")?;
+    match waiting {
+        Some(number) => put_counted(alloc, out, number),
+        None => Ok(()),
     }
-    Ok(())
 }
 
 /// Puts that the program was stopped, as `2026-11-27T12:03:07.123Z ! paused for 31 s, 12 datagrams were waiting`: when it went on, in
 /// microseconds since 1970, how much later than it was to, in ms, and how many datagrams had come meanwhile, where that was counted.
 /// After an error, which is for want of memory only, part of it may stand there.
-#[tactic(auto, unfolding(crate::specs::Pausing::pause_line))]
 pub fn put_pause(
     alloc: Global,
     out: &mut Vec<u8>,
