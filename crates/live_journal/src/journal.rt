@@ -56,11 +56,6 @@ impl Journal {
         self.log.turned(now, gateway);
     }
 
-    /// The gateway took the datagram that came last, and what it sent at it was handed out: why commands were refused is told.
-    pub fn heard(&mut self, gateway: &Gateway) {
-        self.log.explain(gateway);
-    }
-
     /// A datagram was sent to the gateway, and a bad network lost it.
     pub fn lost(&mut self, now: Now, source: SocketAddrV4, bytes: &[u8]) {
         self.log.lose(now, source, bytes);

@@ -23,5 +23,5 @@ pub use crate::log::Log;
 pub use crate::message_tally::MessageTally;
 pub use crate::picture::picture_of;
 pub use crate::reporting::{Faults, report};
-pub use crate::text_counts::TextCounts;
+pub use crate::text_counts::{TextCounts, count};
 pub use crate::trace::Trace;

@@ -73,37 +73,37 @@ impl Log {
         Some(time.saturating_sub(own.first.moment) / MICROSECONDS)
     }
 
+    // Puts a text that goes this way between the gateway and its peer.
+    pub(crate) fn put_text(
+        &mut self,
+        stamp: Stamp,
+        way: Way,
+        text: &[u8],
+        waited: Option<u64>,
+    ) -> Result<(), OutOfMemory> {
+        let own = self.domain.as_bytes();
+        let out = &mut self.record.out;
+        put_message(self.alloc, out, own, stamp, way, text, waited)
+    }
+
+    pub(crate) fn put_note(&mut self, stamp: Stamp, note: Note) -> Result<(), OutOfMemory> {
+        put_note(self.alloc, &mut self.record.out, stamp, note)
+    }
+
     fn text_came(&mut self, now: Now, text: &[u8]) -> Result<(), OutOfMemory> {
         let waited = match read_message(self.alloc, text) {
             Ok(said) => self.waited(now.time, &said),
-            Err(TextFault::NoHeader) => {
-                return put_note(
-                    self.alloc,
-                    &mut self.record.out,
-                    self.came,
-                    Note::Unreadable,
-                );
-            }
+            Err(TextFault::NoHeader) => return self.put_note(self.came, Note::Unreadable),
             Err(_) => None,
         };
-        put_message(
-            self.alloc,
-            &mut self.record.out,
-            self.domain.as_bytes(),
-            self.came,
-            Way::Came,
-            text,
-            waited,
-        )
+        self.put_text(self.came, Way::Came, text, waited)
     }
 
     fn datagram_came(&mut self, now: Now, bytes: &[u8]) -> Result<(), OutOfMemory> {
         self.bytes.clear();
         let Some(mut rest) = texts(bytes) else {
-            let note = Note::TooLong {
-                length: bytes.len(),
-            };
-            return put_note(self.alloc, &mut self.record.out, self.came, note);
+            let length = bytes.len();
+            return self.put_note(self.came, Note::TooLong { length });
         };
         self.bytes.extend_from_slice(bytes)?;
         while let Some(text) = rest.next() {
@@ -124,19 +124,6 @@ impl Log {
         if self.datagram_came(now, bytes).is_err() {
             self.record.refuse();
         }
-    }
-
-    // Puts a text that is sent.
-    fn put_sent(&mut self, to: Stamp, text: &[u8], waited: Option<u64>) -> Result<(), OutOfMemory> {
-        put_message(
-            self.alloc,
-            &mut self.record.out,
-            self.domain.as_bytes(),
-            to,
-            Way::Sent,
-            text,
-            waited,
-        )
     }
 
     // A command of its own was given up, at this time.
@@ -191,7 +178,7 @@ impl Log {
         id: TransactionId,
         text: &[u8],
     ) -> Result<(), OutOfMemory> {
-        self.put_sent(to, text, None)?;
+        self.put_text(to, Way::Sent, text, None)?;
         let own = OwnCommand {
             id,
             first: to,
@@ -207,20 +194,15 @@ impl Log {
         match label.what {
             What::Answer { .. } => {
                 let waited = to.moment.saturating_sub(self.came.moment) / MICROSECONDS;
-                self.put_sent(to, text, Some(waited))
+                self.put_text(to, Way::Sent, text, Some(waited))
             }
-            What::Again { .. } => {
-                let note = Note::AnsweredAgain(id);
-                put_note(self.alloc, &mut self.record.out, to, note)
-            }
+            What::Again { .. } => self.put_note(to, Note::AnsweredAgain(id)),
             What::Command { .. } => match label.whose {
                 Whose::OwnOf(line) => self.own_sent(to, line, id, text),
-                Whose::AnswerOf(_) | Whose::Nobody => self.put_sent(to, text, None),
+                Whose::AnswerOf(_) | Whose::Nobody => self.put_text(to, Way::Sent, text, None),
             },
-            What::Resent { .. } => {
-                put_note(self.alloc, &mut self.record.out, to, Note::SentAgain(id))
-            }
-            What::Acknowledgement => self.put_sent(to, text, None),
+            What::Resent { .. } => self.put_note(to, Note::SentAgain(id)),
+            What::Acknowledgement => self.put_text(to, Way::Sent, text, None),
         }
     }
 
@@ -228,7 +210,7 @@ impl Log {
         for text in parts(bytes) {
             match self.next_label() {
                 Some(label) => self.labelled_sent(to, label, text)?,
-                None => self.put_sent(to, text, None)?,
+                None => self.put_text(to, Way::Sent, text, None)?,
             }
         }
         Ok(())

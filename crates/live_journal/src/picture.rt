@@ -3,13 +3,15 @@ ghost use Rattle.std.specs.Prelude.{◌≤◌};
 
 use crate::journal::Journal;
 use crate::message_tally::MessageTally;
-use crate::reporting::{ANNOUNCEMENTS, Faults, NOTIFICATIONS};
+use crate::reporting::Faults;
 use connections::{Connection, mode_text};
 use gateway_core::Gateway;
 use mg_packages::{Hook, signal_name};
+use mgcp_text::Verb;
 use page_answers::{
     CodeCount, ConnectionView, FileCount, LineView, Picture, SignalView, VerbCount,
 };
+use sent_counts::place_of;
 use std::alloc::{AllocError, Global};
 
 fn signals_of(alloc: Global, gateway: &Gateway, line: u16) -> Result<Vec<SignalView>, AllocError>
@@ -115,10 +117,10 @@ fn put_counts(
     counts.responses = tally.texts.responses;
     counts.unreadable = tally.texts.others;
     counts.answers_again = tally.sent.again;
-    counts.notifications = tally.sent.commands[NOTIFICATIONS];
-    counts.notifications_again = tally.sent.commands_again[NOTIFICATIONS];
-    counts.announcements = tally.sent.commands[ANNOUNCEMENTS];
-    counts.announcements_again = tally.sent.commands_again[ANNOUNCEMENTS];
+    counts.notifications = tally.sent.commands[place_of(Verb::Ntfy)];
+    counts.notifications_again = tally.sent.commands_again[place_of(Verb::Ntfy)];
+    counts.announcements = tally.sent.commands[place_of(Verb::Rsip)];
+    counts.announcements_again = tally.sent.commands_again[place_of(Verb::Rsip)];
     counts.given_up = tally.sent.given_up;
     counts.transactions = tally.answered.held(picture.clock);
     counts.refused = faults.refused;

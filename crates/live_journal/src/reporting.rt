@@ -8,12 +8,9 @@ use crate::journal::Journal;
 use crate::message_tally::MessageTally;
 use gateway_core::Gateway;
 use mg_bytes::put_decimal;
+use mgcp_text::Verb;
+use sent_counts::place_of;
 use std::alloc::{AllocError, Global};
-
-/// The places of NTFY and of RSIP among the counts of its own commands by verb, as `sent_counts::place_of` has them.
-pub(crate) const NOTIFICATIONS: usize = 2;
-
-pub(crate) const ANNOUNCEMENTS: usize = 8;
 
 /// How often a turn failed. A count stays at its greatest value.
 #[derive(Clone, Copy)]
@@ -161,12 +158,13 @@ fn put_others(
 ) -> Result<(), AllocError>
     ensures { OnOk result (text.new.items ≡ text.old.items ++ others_text tally.now lost faults) }
 {
+    let (notifications, announcements) = (place_of(Verb::Ntfy), place_of(Verb::Rsip));
     let numbers = [
         (" repeated ", tally.sent.again),
-        ("\nnotifications ", tally.sent.commands[NOTIFICATIONS]),
-        (" repeated ", tally.sent.commands_again[NOTIFICATIONS]),
-        ("\nannouncements ", tally.sent.commands[ANNOUNCEMENTS]),
-        (" repeated ", tally.sent.commands_again[ANNOUNCEMENTS]),
+        ("\nnotifications ", tally.sent.commands[notifications]),
+        (" repeated ", tally.sent.commands_again[notifications]),
+        ("\nannouncements ", tally.sent.commands[announcements]),
+        (" repeated ", tally.sent.commands_again[announcements]),
         (" given up ", tally.sent.given_up),
         ("\nlost events ", lost),
         (" refused ", faults.refused),
@@ -195,25 +193,16 @@ fn put_report(
     text.extend_from_slice(b"\n")
 }
 
-// All of it is ASCII.
-fn text_of(bytes: Vec<u8>) -> Result<String, AllocError> {
-    match String::from_utf8(bytes) {
-        Ok(text) => Ok(text),
-        Err(_) => Err(AllocError),
-    }
-}
-
 /// The counts as text.
 pub fn report(
     alloc: Global,
     gateway: &Gateway,
     journal: &Journal,
     faults: Faults,
-) -> Result<String, AllocError> {
-    let tally = &*journal.tally;
+) -> Result<Vec<u8>, AllocError> {
     let mut text = Vec::new(alloc);
-    put_report(alloc, &mut text, tally, lost_of(gateway), faults)?;
+    put_report(alloc, &mut text, &journal.tally, lost_of(gateway), faults)?;
     let capture = journal.capture.name.as_bytes();
     journal.written.put_line(alloc, &mut text, capture)?;
-    text_of(text)
+    Ok(text)
 }

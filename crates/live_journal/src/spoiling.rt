@@ -1,7 +1,7 @@
 //! What the log says of a network that spoils what goes over it, or takes nothing.
 use crate::log::Log;
 use bad_network::Fate;
-use exchange_log::{Note, Stamp, Way, put_message, put_note, put_pause};
+use exchange_log::{Note, Stamp, Way, put_pause};
 use live_ends::Now;
 use mg_bytes::OutOfMemory;
 use piggyback::parts;
@@ -19,12 +19,10 @@ fn note_of(fate: Fate) -> Option<Note> {
 
 impl Log {
     fn put_lost(&mut self, from: Stamp, bytes: &[u8]) -> Result<(), OutOfMemory> {
-        let own = self.domain.as_bytes();
-        let out = &mut self.record.out;
         for text in parts(bytes) {
-            put_message(self.alloc, out, own, from, Way::Came, text, None)?;
+            self.put_text(from, Way::Came, text, None)?;
         }
-        put_note(self.alloc, out, from, Note::Lost)
+        self.put_note(from, Note::Lost)
     }
 
     /// A datagram that was sent to the gateway is lost, and doesn't come.
@@ -46,7 +44,7 @@ impl Log {
             moment: now.time,
             peer,
         };
-        if self.record.is_on() && put_note(self.alloc, &mut self.record.out, stamp, note).is_err() {
+        if self.record.is_on() && self.put_note(stamp, note).is_err() {
             self.record.refuse();
         }
     }

@@ -18,8 +18,8 @@ pub struct TextCounts {
     pub others: u64,
 }
 
-/// One more.
-pub(crate) fn count(number: &mut u64)
+/// One more. A count stays at its greatest value.
+pub fn count(number: &mut u64)
     ensures { number.new ≡ counted number.old 1 }
 {
     *number = number.saturating_add(1);
