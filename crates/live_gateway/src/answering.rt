@@ -1,12 +1,11 @@
 //! What lines for the telephones are answered.
-ghost use Rattle.std.specs.Prelude.{◌≡◌};
+ghost use Rattle.std.specs.Prelude.{◌≡◌, ◌≢◌, codes, IfOk, IfErr, Err};
 
-use crate::exchange::Exchange;
 use gateway_core::{Gateway, Refusal};
-use live_journal::{Faults, Journal, picture_of, report};
+use live_journal::{Faults, Journal, picture_of};
 use mg_bytes::OutOfMemory;
 use std::alloc::Global;
-use surroundings::{Lines, Surroundings};
+use surroundings::Lines;
 
 /// The answer to an act that was done.
 pub const DONE: &[u8] = b"done\n";
@@ -17,54 +16,27 @@ pub const UNKNOWN: &[u8] = b"? phone LINE off|on|flash|KEY, show LINE, counts, o
 /// The answer where memory is refused for any other.
 pub const OUT_OF_MEMORY: &[u8] = b"! 1 OutOfMemory\n";
 
-/// Answers an act: this was printed, where it was refused and not for want of memory.
-pub fn answer_act<S: Surroundings + Drop>(
-    lines: &mut Lines,
-    exchange: &mut Exchange<S>,
-    done: Result<(), Refusal>,
-    printed: &[u8],
-)
-    ensures network { exchange.new.network ≡ exchange.old.network }
-    ensures sent { S.sent exchange.new.around ≡ S.sent exchange.old.around }
+/// What is answered to an act: what was printed, where it was refused and not for want of memory.
+pub fn act_answer(done: Result<(), Refusal>, printed: &[u8]) -> &[u8]
+    ensures done { IfOk done (λ _. result.now ≡ codes "done\n") }
+    ensures memory { done ≡ Err Refusal.OutOfMemory → result.now ≡ codes "! 1 OutOfMemory\n" }
+    ensures refused { IfErr done (λ refusal. refusal ≢ Refusal.OutOfMemory → result.now ≡ printed.now) }
 {
-    let text = match done {
+    match done {
         Ok(()) => DONE,
         Err(Refusal::OutOfMemory) => OUT_OF_MEMORY,
         Err(_) => printed,
-    };
-    exchange.journal.answered(exchange.now.clock, text);
-    lines.answer(&mut exchange.around, text);
-}
-
-/// Answers a question: this was printed, unless memory was refused.
-pub fn answer_question<S: Surroundings + Drop>(
-    lines: &mut Lines,
-    exchange: &mut Exchange<S>,
-    asked: Result<(), OutOfMemory>,
-    printed: &[u8],
-)
-    ensures network { exchange.new.network ≡ exchange.old.network }
-    ensures sent { S.sent exchange.new.around ≡ S.sent exchange.old.around }
-{
-    match asked {
-        Ok(()) => lines.answer(&mut exchange.around, printed),
-        Err(_) => lines.answer(&mut exchange.around, OUT_OF_MEMORY),
     }
 }
 
-/// Answers what was counted so far.
-pub fn answer_counts<S: Surroundings + Drop>(
-    alloc: Global,
-    gateway: &Gateway,
-    lines: &mut Lines,
-    exchange: &mut Exchange<S>,
-)
-    ensures network { exchange.new.network ≡ exchange.old.network }
-    ensures sent { S.sent exchange.new.around ≡ S.sent exchange.old.around }
+/// What is answered to a question: what was printed, unless memory was refused.
+pub fn question_answer(asked: Result<(), OutOfMemory>, printed: &[u8]) -> &[u8]
+    ensures asked { IfOk asked (λ _. result.now ≡ printed.now) }
+    ensures memory { IfErr asked (λ _. result.now ≡ codes "! 1 OutOfMemory\n") }
 {
-    match report(alloc, gateway, &exchange.journal, exchange.faults) {
-        Ok(counts) => lines.answer(&mut exchange.around, counts.as_bytes()),
-        Err(_) => lines.answer(&mut exchange.around, OUT_OF_MEMORY),
+    match asked {
+        Ok(()) => printed,
+        Err(_) => OUT_OF_MEMORY,
     }
 }
 

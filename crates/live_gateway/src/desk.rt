@@ -1,19 +1,17 @@
 //! The loop: it asks what comes next, and does that.
 ghost use Rattle.std.specs.Prelude.{◌≡◌, [], List};
-ghost use Rattle.surroundings.specs.Sending.{Grows};
 ghost use Rattle.traces.specs.Writing.{Entry};
 ghost use Rattle.live_play.specs.Running.{Ran};
 ghost use Rattle.live_gateway.specs.Desk.{at_desk};
 
-use crate::answering::{
-    DONE, OUT_OF_MEMORY, UNKNOWN, answer_act, answer_counts, answer_question, show, take_act,
-};
+use crate::answering::{DONE, OUT_OF_MEMORY, UNKNOWN, act_answer, question_answer, show, take_act};
 use crate::exchange::Exchange;
 use crate::recorder::Recorder;
 use crate::telephones::{TelephoneRequest, request_in};
 use crate::visitors::Visitors;
 use gateway_core::DATAGRAM_ROOM;
 use live_ends::STOP_FROM_AFAR;
+use live_journal::{count, report};
 use live_play::{LivePlay, Teller};
 use std::alloc::Global;
 use surroundings::{Lines, Surroundings};
@@ -119,7 +117,7 @@ impl<S: Surroundings + Drop, T: Teller + Drop> Desk<S, T> {
     {
         self.exchange.begin(moment);
         if self.play.tick(&mut *self.exchange, moment).is_err() {
-            self.exchange.note_refusal();
+            count(&mut self.exchange.faults.refused);
         }
     }
 
@@ -136,8 +134,8 @@ impl<S: Surroundings + Drop, T: Teller + Drop> Desk<S, T> {
             .play
             .datagram(&mut *self.exchange, source, &room[..len])
         {
-            Ok(()) => self.exchange.heard(&self.play.gateway),
-            Err(_) => self.exchange.note_refusal(),
+            Ok(()) => self.exchange.journal.log.explain(&self.play.gateway),
+            Err(_) => count(&mut self.exchange.faults.refused),
         }
     }
 
@@ -147,6 +145,23 @@ impl<S: Surroundings + Drop, T: Teller + Drop> Desk<S, T> {
         ensures { (entries : List Entry) × Ran (at_desk T.told S.sent self.old) entries (at_desk T.told S.sent self.new) }
     {
         self.lines.answer(&mut self.exchange.around, text);
+    }
+
+    // What was counted so far is answered.
+    #[tactic(auto, using(live_play::proofs::RunLemmas::stays_so))]
+    fn answer_counts(&mut self)
+        ensures { (entries : List Entry) × Ran (at_desk T.told S.sent self.old) entries (at_desk T.told S.sent self.new) }
+    {
+        let exchange = &self.exchange;
+        match report(
+            self.alloc,
+            &self.play.gateway,
+            &exchange.journal,
+            exchange.faults,
+        ) {
+            Ok(counts) => self.answer(counts.as_slice()),
+            Err(_) => self.answer(OUT_OF_MEMORY),
+        }
     }
 
     // What the line asks for that is to be answered next is done.
@@ -163,32 +178,18 @@ impl<S: Surroundings + Drop, T: Teller + Drop> Desk<S, T> {
                 self.exchange.journal.act(now, text);
                 let done = self.play.act(&mut *self.exchange, text, line, act);
                 if done.is_err() {
-                    self.exchange.note_refusal();
+                    count(&mut self.exchange.faults.refused);
                 }
-                answer_act(
-                    &mut self.lines,
-                    &mut self.exchange,
-                    done,
-                    self.play.printed(),
-                );
+                let answer = act_answer(done, self.play.printed());
+                self.exchange.journal.answered(now.clock, answer);
+                self.lines.answer(&mut self.exchange.around, answer);
             }
             TelephoneRequest::Show { line } => {
                 let asked = self.play.ask(text, line);
-                answer_question(
-                    &mut self.lines,
-                    &mut self.exchange,
-                    asked,
-                    self.play.printed(),
-                );
+                let answer = question_answer(asked, self.play.printed());
+                self.lines.answer(&mut self.exchange.around, answer);
             }
-            TelephoneRequest::Counts => {
-                answer_counts(
-                    self.alloc,
-                    &self.play.gateway,
-                    &mut self.lines,
-                    &mut self.exchange,
-                );
-            }
+            TelephoneRequest::Counts => self.answer_counts(),
             // Who asks for that is answered when the gateway has ended.
             TelephoneRequest::Stop => self.end = Some(0),
             TelephoneRequest::StopFromAfar => self.answer(STOP_FROM_AFAR),
@@ -203,7 +204,7 @@ impl<S: Surroundings + Drop, T: Teller + Drop> Desk<S, T> {
         ensures { (entries : List Entry) × Ran (at_desk T.told S.sent self.old) entries (at_desk T.told S.sent self.new) }
     {
         if self.lines.hear(&mut self.exchange.around) {
-            self.exchange.note_read();
+            count(&mut self.exchange.read);
         }
         self.take_line();
         take_act(self.alloc, &mut self.exchange.journal, &mut self.lines);
@@ -239,7 +240,11 @@ impl<S: Surroundings + Drop, T: Teller + Drop> Desk<S, T> {
             Turn::Visit => self.visit(visitors, moment),
             Turn::Look => self.exchange.wait(0),
             Turn::Wait { until } => self.exchange.wait(until.saturating_sub(moment)),
-            Turn::Note { pause } => self.exchange.note_pause(pause),
+            Turn::Note { pause } => {
+                let now = self.exchange.now;
+                let log = &mut self.exchange.journal.log;
+                log.pause(now, pause.lateness, pause.read);
+            }
             Turn::End => {}
         }
     }
@@ -263,7 +268,7 @@ impl<S: Surroundings + Drop, T: Teller + Drop> Desk<S, T> {
     {
         let time = self.exchange.now.time;
         recorder.write(&mut self.exchange.journal, &mut self.play.teller, time);
-        self.exchange.note_offering(recorder.is_offering());
+        self.exchange.is_offering = recorder.is_offering();
     }
 
     /// Runs until the end comes, and writes after each turn what was recorded.

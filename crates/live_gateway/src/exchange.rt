@@ -7,12 +7,11 @@ use crate::visitors::Visitors;
 use bad_network::{BadNetwork, Fate, Packet, Way};
 use gateway_core::Gateway;
 use live_ends::{NEXT_OFFER, Now};
-use live_journal::{Faults, Journal};
+use live_journal::{Faults, Journal, count};
 use live_play::Outlet;
 use std::net::SocketAddrV4;
 use surroundings::{Fault, Surroundings};
 use traces::Mark;
-use turns::Pause;
 
 /// The way between a gateway and others, and what is kept of what went over it.
 #[derive(Drop)]
@@ -26,8 +25,8 @@ pub struct Exchange<S> {
     /// So many datagrams were read since the start, of lines too.
     pub read: u64,
     pub faults: Faults,
-    // Whether something that was recorded waits to be taken.
-    is_offering: bool,
+    /// Whether something that was recorded waits to be taken.
+    pub is_offering: bool,
 }
 
 // Puts as much as there is room for at the front of the room: how much that is.
@@ -92,14 +91,6 @@ impl<S: Surroundings + Drop> Exchange<S> {
         }
     }
 
-    /// Something of the surroundings failed.
-    pub fn note_fault(&mut self)
-        ensures network { self.new.network ≡ self.old.network }
-        ensures around { self.new.around ≡ self.old.around }
-    {
-        self.faults.receive = self.faults.receive.saturating_add(1);
-    }
-
     /// How long it is since the start, in ms. A clock that fails stands still, at the moment to which ticks have come.
     pub fn moment(&mut self, ticked: u64) -> u64
         ensures network { self.new.network ≡ self.old.network }
@@ -108,42 +99,10 @@ impl<S: Surroundings + Drop> Exchange<S> {
         match self.around.moment() {
             Ok(moment) => moment,
             Err(_) => {
-                self.note_fault();
+                count(&mut self.faults.receive);
                 ticked
             }
         }
-    }
-
-    /// The gateway refused what it was given.
-    pub fn note_refusal(&mut self)
-        ensures network { self.new.network ≡ self.old.network }
-        ensures around { self.new.around ≡ self.old.around }
-    {
-        self.faults.refused = self.faults.refused.saturating_add(1);
-    }
-
-    /// A datagram of lines was read.
-    pub fn note_read(&mut self)
-        ensures network { self.new.network ≡ self.old.network }
-        ensures around { self.new.around ≡ self.old.around }
-    {
-        self.read = self.read.saturating_add(1);
-    }
-
-    /// The program was stopped, and goes on.
-    pub fn note_pause(&mut self, pause: Pause)
-        ensures network { self.new.network ≡ self.old.network }
-        ensures around { self.new.around ≡ self.old.around }
-    {
-        self.journal.log.pause(self.now, pause.lateness, pause.read);
-    }
-
-    /// The gateway took the datagram that came last, and what it sent at it was handed out: why commands were refused is told.
-    pub fn heard(&mut self, gateway: &Gateway)
-        ensures network { self.new.network ≡ self.old.network }
-        ensures around { self.new.around ≡ self.old.around }
-    {
-        self.journal.heard(gateway);
     }
 
     /// A visitor is served, at this moment in ms, if one is there.
@@ -152,14 +111,6 @@ impl<S: Surroundings + Drop> Exchange<S> {
         ensures sent { S.sent self.new.around ≡ S.sent self.old.around }
     {
         serve_visitor(&mut self.around, &mut self.journal, visitors, moment);
-    }
-
-    /// Something that was recorded waits to be taken, or nothing does.
-    pub fn note_offering(&mut self, is_offering: bool)
-        ensures network { self.new.network ≡ self.old.network }
-        ensures around { self.new.around ≡ self.old.around }
-    {
-        self.is_offering = is_offering;
     }
 
     /// Waits until something comes, but no longer than this, in ms, nor than until what waits to be taken is offered again.
@@ -172,7 +123,7 @@ impl<S: Surroundings + Drop> Exchange<S> {
             longest
         };
         if self.around.wait(longest).is_err() {
-            self.note_fault();
+            count(&mut self.faults.receive);
         }
     }
 
@@ -241,7 +192,7 @@ impl<S: Surroundings + Drop> Exchange<S> {
     {
         match self.around.receive(room) {
             Ok(Some((source, len))) => {
-                self.read = self.read.saturating_add(1);
+                count(&mut self.read);
                 if source.port() > 0 {
                     return Some((source, len));
                 }
@@ -249,7 +200,7 @@ impl<S: Surroundings + Drop> Exchange<S> {
             }
             Ok(None) => None,
             Err(_) => {
-                self.note_fault();
+                count(&mut self.faults.receive);
                 None
             }
         }
@@ -304,7 +255,7 @@ impl<S: Surroundings + Drop> Outlet for Exchange<S> {
                 None
             }
             Err(_) => {
-                self.faults.send = self.faults.send.saturating_add(1);
+                count(&mut self.faults.send);
                 self.journal.unsent(self.now, to);
                 Some(Mark::Unsent)
             }
