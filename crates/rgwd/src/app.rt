@@ -4,7 +4,7 @@ use crate::opening::{Opened, open, open_capture};
 use crate::replaying::{REPLAY, replay_trace};
 use crate::starting::{Begun, Start};
 use crate::telling::{TELL, tell_line};
-use crate::words::{Settings, WordFault, read_words};
+use crate::words::{Settings, read_words};
 use config_faults::{Flaw, flaw_of, told, told_setup};
 use gateway_core::Gateway;
 use live_ends::{Live, Outlets, RecordState, Stream, hold_standard};
@@ -14,7 +14,7 @@ use rgw_scenes::gateway_from;
 use rgw_scripts::{PlayFault, read_limited};
 use std::alloc::{AllocError, Global};
 use std::fs::File;
-use std::io::{ErrorKind, Write};
+use std::io::Write;
 use std::net::Net;
 use std::os::fd::AsRawFd;
 use std::random::RandomSource;
@@ -22,36 +22,13 @@ use std::rt::{Clock, Env, Files};
 use std::thread::sleep;
 use std::time::Duration;
 use std::{env, io};
-use system_reasons::{reason_of, reason_of_reader};
-
-// Why the words can't be had, as the system says.
-fn unread_words(kind: ErrorKind) -> WordFault {
-    if kind == ErrorKind::OutOfMemory {
-        WordFault::OutOfMemory
-    } else {
-        WordFault::Usage
-    }
-}
+use system_reasons::reason_of_reader;
 
 // The program's words, of which the first is its name.
-fn words_of<R: AllocGlobal + Env>(rt: &R) -> Result<Vec<String>, WordFault> {
+fn words_of<'w, R: AllocGlobal + Env>(rt: &R) -> Result<Vec<String>, Ending<'w>> {
     match env::args(rt) {
-        Ok(args) => match args.collect::<Vec<String>>(rt.alloc()) {
-            Ok(words) => Ok(words),
-            Err(_) => Err(WordFault::OutOfMemory),
-        },
-        Err(fault) => Err(unread_words(fault.kind())),
-    }
-}
-
-// How the program ends where the file of the configuration can't be read, as the system says.
-fn unread_file(file: &str, kind: ErrorKind) -> Ending<'_> {
-    if kind == ErrorKind::OutOfMemory {
-        return Ending::OutOfMemory;
-    }
-    Ending::Unreadable {
-        file,
-        reason: reason_of(kind),
+        Ok(args) => Ok(args.collect::<Vec<String>>(rt.alloc())?),
+        Err(fault) => Err(Ending::Usage.unless_memory(fault.kind())),
     }
 }
 
@@ -59,7 +36,7 @@ fn unread_file(file: &str, kind: ErrorKind) -> Ending<'_> {
 fn config_text<'w, R: Files>(rt: &R, alloc: Global, file: &'w str) -> Result<Vec<u8>, Ending<'w>> {
     let mut reader = match File::open(rt, file) {
         Ok(reader) => reader,
-        Err(fault) => return Err(unread_file(file, fault.kind())),
+        Err(fault) => return Err(Ending::unreadable(file, fault.kind())),
     };
     match read_limited(alloc, &mut reader) {
         Ok(text) => Ok(text),
@@ -110,11 +87,11 @@ fn is_refused(state: RecordState) -> bool {
 
 // How the program ends that served: whether all its records were written to their ends. Of one that couldn't be written it was said at
 // once.
-fn served_ending<F: Write + Drop>(
+fn served_ending<'w, F: Write + Drop>(
     journal: &Journal,
     trace: &Trace,
     outlets: &Outlets<F>,
-) -> Ending<'static> {
+) -> Ending<'w> {
     if is_refused(trace.record.state())
         || is_refused(journal.log.record.state())
         || is_refused(journal.capture.record.state())
@@ -132,7 +109,7 @@ fn served_ending<F: Write + Drop>(
 fn counts_of<R: Net + Clock>(
     alloc: Global,
     desk: &Desk<Live<'_, R>, Trace>,
-) -> Result<String, AllocError> {
+) -> Result<Vec<u8>, AllocError> {
     let exchange = &desk.exchange;
     report(
         alloc,
@@ -143,25 +120,19 @@ fn counts_of<R: Net + Clock>(
 }
 
 // Serves until the end, writes what was recorded, and says what was counted.
-fn serve_to_end<R: Files + Net + Clock + RandomSource>(
+fn serve_to_end<'w, R: Files + Net + Clock + RandomSource>(
     rt: &R,
     alloc: Global,
     opened: &mut Opened<'_, R>,
     outlets: &mut Outlets<R::File>,
-) -> Ending<'static> {
+) -> Result<Ending<'w>, AllocError> {
     opened.desk.run(&mut opened.visitors, outlets);
     opened.desk.play.end();
     opened.desk.write(outlets);
-    let Ok(counts) = counts_of(alloc, &opened.desk) else {
-        return Ending::OutOfMemory;
-    };
-    let time = opened.desk.exchange.now.time;
-    outlets.finish(rt, counts.as_bytes(), time);
-    served_ending(
-        &opened.desk.exchange.journal,
-        &opened.desk.play.teller,
-        outlets,
-    )
+    let counts = counts_of(alloc, &opened.desk)?;
+    let exchange = &opened.desk.exchange;
+    outlets.finish(rt, counts.as_slice(), exchange.now.time);
+    Ok(served_ending(&exchange.journal, &opened.desk.play.teller, outlets))
 }
 
 // Waits as long as a start waits, before its clock begins: so what is recorded of the gateway doesn't tell it.
@@ -176,99 +147,40 @@ fn wait_first<R: Net + Clock>(rt: &R, live: &mut Live<'_, R>, begun: Begun) -> i
 }
 
 // Says on standard error where the sockets are, serves until the end, and answers who asked for that once all is written.
-fn serve_opened<R: Files + Net + Clock + RandomSource>(
+fn serve_opened<'w, R: Files + Net + Clock + RandomSource>(
     rt: &R,
     alloc: Global,
     begun: Begun,
     opened: &mut Opened<'_, R>,
     outlets: &mut Outlets<R::File>,
-) -> Ending<'static> {
+) -> Result<Ending<'w>, Ending<'w>> {
     tell_start(alloc, outlets, opened, begun);
     if wait_first(rt, &mut opened.desk.exchange.around, begun).is_err() {
-        return Ending::Clock;
+        return Err(Ending::Clock);
     }
     let ending = serve_to_end(rt, alloc, opened, outlets);
     opened.desk.answer_stop();
-    ending
+    Ok(ending?)
 }
 
-// What is said of the sockets that would be opened.
-fn sockets_line(alloc: Global, settings: &Settings<'_>, lines: &str) -> Result<String, AllocError> {
-    let (listen, phones) = (settings.listen, settings.phones);
-    match settings.http {
-        Some(http) => {
-            format!(in alloc; "{lines}sockets: --listen {listen} --phones {phones} --http {http}\n")
-        }
-        None => format!(in alloc; "{lines}sockets: --listen {listen} --phones {phones}\n"),
-    }
-}
-
-// What a gateway will be, and where its sockets would be.
-fn told_gateway(
-    alloc: Global,
-    settings: &Settings<'_>,
-    gateway: &Gateway,
-) -> Result<String, AllocError> {
-    let lines = told_setup(alloc, gateway.setup())?;
-    sockets_line(
-        alloc,
-        settings,
-        str::from_utf8(lines.as_slice()).unwrap_or(""),
-    )
-}
-
-// Says on standard output what this gateway will be.
-fn check_gateway<F: Write + Drop>(
+// Says on standard output what this gateway will be, and its sockets.
+fn check_gateway<'w, F: Write + Drop>(
     alloc: Global,
     settings: &Settings<'_>,
     gateway: &Gateway,
     outlets: &mut Outlets<F>,
-) -> Ending<'static> {
-    match told_gateway(alloc, settings, gateway) {
-        Ok(text) => {
-            outlets.output.say(text.as_bytes());
-            Ending::Checked
+) -> Result<Ending<'w>, AllocError> {
+    let lines = told_setup(alloc, gateway.setup())?;
+    let (listen, phones) = (settings.listen, settings.phones);
+    let sockets = match settings.http {
+        Some(http) => {
+            format!(in alloc; "sockets: --listen {listen} --phones {phones} --http {http}\n")?
         }
-        Err(_) => Ending::OutOfMemory,
-    }
-}
-
-// Makes the file for a capture, if one is asked for, once all sockets are had, and serves.
-fn serve_captured<'w, R: Files + Net + Clock + RandomSource>(
-    rt: &R,
-    alloc: Global,
-    settings: &Settings<'w>,
-    begun: Begun,
-    opened: &mut Opened<'_, R>,
-    outlets: &mut Outlets<R::File>,
-) -> Ending<'w> {
-    match open_capture(rt, alloc, settings) {
-        Ok(capture) => {
-            outlets.capture = capture;
-            serve_opened(rt, alloc, begun, opened, outlets)
-        }
-        Err(unopened) => unopened.ending(settings),
-    }
-}
-
-// Serves with a gateway of this configuration over the sockets that were asked for; or says what it will be.
-fn serve_with<'w, R: Files + Net + Clock + RandomSource>(
-    rt: &R,
-    alloc: Global,
-    settings: &Settings<'w>,
-    start: Start,
-    config: &[u8],
-    gateway: Box<Gateway>,
-    outlets: &mut Outlets<R::File>,
-) -> Ending<'w> {
-    if settings.check {
-        return check_gateway(alloc, settings, &gateway, outlets);
-    }
-    let begun = start.begun(gateway.setup().names.domain.as_bytes());
-    match open(rt, alloc, settings, config, gateway) {
-        Ok(mut opened) => serve_captured(rt, alloc, settings, begun, &mut opened, outlets),
-        Err(unopened) => unopened.ending(settings),
-    }
+        None => format!(in alloc; "sockets: --listen {listen} --phones {phones}\n")?,
+    };
+    outlets.output.say(lines.as_slice());
+    outlets.output.say(sockets.as_bytes());
+    Ok(Ending::Checked)
 }
 
 // A gateway of the configuration in this text, which has no flaw: without one memory alone is refused.
@@ -279,60 +191,53 @@ fn gateway_of(alloc: Global, text: &[u8], start: Start) -> Result<Box<Gateway>, 
     }
 }
 
-// Does the same with the configuration in this text, which has no flaw.
+// Opens what the settings ask for, the file for a capture once all sockets are had, and serves.
+fn serve_with<'w, R: Files + Net + Clock + RandomSource>(
+    rt: &R,
+    alloc: Global,
+    settings: &Settings<'w>,
+    begun: Begun,
+    config: &[u8],
+    gateway: Box<Gateway>,
+    outlets: &mut Outlets<R::File>,
+) -> Result<Ending<'w>, Ending<'w>> {
+    let mut opened = open(rt, alloc, settings, config, gateway)?;
+    outlets.capture = open_capture(rt, alloc, settings)?;
+    serve_opened(rt, alloc, begun, &mut opened, outlets)
+}
+
+// Serves with a gateway of the configuration in this text, which has no flaw; or says what it will be.
 fn serve_config<'w, R: Files + Net + Clock + RandomSource>(
     rt: &R,
     alloc: Global,
     settings: &Settings<'w>,
     text: &[u8],
     outlets: &mut Outlets<R::File>,
-) -> Ending<'w> {
+) -> Result<Ending<'w>, Ending<'w>> {
     let Some(start) = Start::now(rt, settings) else {
-        return Ending::NoTimeOfDay;
+        return Err(Ending::NoTimeOfDay);
     };
-    match gateway_of(alloc, text, start) {
-        Ok(gateway) => serve_with(rt, alloc, settings, start, text, gateway, outlets),
-        Err(_) => Ending::OutOfMemory,
+    let gateway = gateway_of(alloc, text, start)?;
+    if settings.check {
+        return Ok(check_gateway(alloc, settings, &gateway, outlets)?);
     }
-}
-
-// Which flaw the configuration in this text of a file has.
-fn flaw_line(alloc: Global, file: &str, text: &[u8], flaw: Flaw) -> Result<String, AllocError> {
-    let line = told(alloc, text, flaw)?;
-    let line = str::from_utf8(line.as_slice()).unwrap_or("");
-    format!(in alloc; "{file}: {line}\n")
+    let begun = start.begun(gateway.setup().names.domain.as_bytes());
+    serve_with(rt, alloc, settings, begun, text, gateway, outlets)
 }
 
 // Says on standard error which flaw the configuration in this text has.
-fn tell_flaw<F: Write + Drop>(
+fn tell_flaw<'w, F: Write + Drop>(
     alloc: Global,
     file: &str,
     text: &[u8],
     flaw: Flaw,
     outlets: &mut Outlets<F>,
-) -> Ending<'static> {
-    match flaw_line(alloc, file, text, flaw) {
-        Ok(line) => {
-            outlets.error.say(line.as_bytes());
-            Ending::Told
-        }
-        Err(_) => Ending::OutOfMemory,
-    }
-}
-
-// Does what the settings ask with the configuration in this text.
-fn perform_with<'w, R: Files + Net + Clock + RandomSource>(
-    rt: &R,
-    alloc: Global,
-    settings: &Settings<'w>,
-    text: &[u8],
-    outlets: &mut Outlets<R::File>,
-) -> Ending<'w> {
-    match flaw_of(alloc, text) {
-        Ok(None) => serve_config(rt, alloc, settings, text, outlets),
-        Ok(Some(flaw)) => tell_flaw(alloc, settings.config, text, flaw, outlets),
-        Err(_) => Ending::OutOfMemory,
-    }
+) -> Result<Ending<'w>, AllocError> {
+    let line = told(alloc, text, flaw)?;
+    let line = str::from_utf8(line.as_slice()).unwrap_or("");
+    let said = format!(in alloc; "{file}: {line}\n")?;
+    outlets.error.say(said.as_bytes());
+    Ok(Ending::Told)
 }
 
 // Does what the settings ask.
@@ -341,23 +246,36 @@ fn perform<'w, R: Files + Net + Clock + RandomSource>(
     alloc: Global,
     settings: &Settings<'w>,
     outlets: &mut Outlets<R::File>,
-) -> Ending<'w> {
-    match config_text(rt, alloc, settings.config) {
-        Ok(text) => perform_with(rt, alloc, settings, text.as_slice(), outlets),
-        Err(ending) => ending,
+) -> Result<Ending<'w>, Ending<'w>> {
+    let file = settings.config;
+    let text = config_text(rt, alloc, file)?;
+    match flaw_of(alloc, text.as_slice())? {
+        None => serve_config(rt, alloc, settings, text.as_slice(), outlets),
+        Some(flaw) => Ok(tell_flaw(alloc, file, text.as_slice(), flaw, outlets)?),
+    }
+}
+
+// The words behind this one, where that is the first.
+fn words_behind<'w>(first: &str, words: &'w [String]) -> Option<&'w [String]> {
+    match words.get(1) {
+        Some(word) if word.as_str() == first => words.get(2..),
+        _ => None,
     }
 }
 
 // How the program with these words ends.
-fn ending_of<'w, R: AllocGlobal + Files + Net + Clock + RandomSource>(
+fn ending_by<'w, R: AllocGlobal + Files + Net + Clock + RandomSource>(
     rt: &R,
     words: &'w [String],
     outlets: &mut Outlets<R::File>,
-) -> Ending<'w> {
-    let settings = match read_words(rt.alloc(), words, &mut outlets.error) {
-        Ok(settings) => settings,
-        Err(fault) => return Ending::from(fault),
-    };
+) -> Result<Ending<'w>, Ending<'w>> {
+    if let Some(asked) = words_behind(TELL, words) {
+        return tell_line(rt, asked, &mut outlets.output);
+    }
+    if let Some(asked) = words_behind(REPLAY, words) {
+        return replay_trace(rt, asked, outlets);
+    }
+    let settings = read_words(rt.alloc(), words, &mut outlets.error)?;
     perform(rt, rt.alloc(), &settings, outlets)
 }
 
@@ -391,40 +309,17 @@ fn tell<R: AllocGlobal + Files + Clock>(
     }
 }
 
-// The words behind this one, where that is the first.
-fn words_behind<'w>(first: &str, words: &'w [String]) -> Option<&'w [String]> {
-    match words.get(1) {
-        Some(word) if word.as_str() == first => words.get(2..),
-        _ => None,
-    }
-}
-
-// How the program with these words ends, whatever they ask for.
-fn ending_by<'w, R: AllocGlobal + Files + Net + Clock + RandomSource>(
-    rt: &R,
-    words: &'w [String],
-    outlets: &mut Outlets<R::File>,
-) -> Ending<'w> {
-    if let Some(asked) = words_behind(TELL, words) {
-        return tell_line(rt, asked, &mut outlets.output);
-    }
-    match words_behind(REPLAY, words) {
-        Some(asked) => replay_trace(rt, asked, outlets),
-        None => ending_of(rt, words, outlets),
-    }
-}
-
 // Runs the program with these outlets, and gives its exit status.
 fn run_with<R: AllocGlobal + Env + Files + Net + Clock + RandomSource>(
     rt: &R,
     outlets: &mut Outlets<R::File>,
 ) -> u8 {
-    match words_of(rt) {
-        Ok(words) => {
-            let ending = ending_by(rt, words.as_slice(), outlets);
-            tell(rt, outlets, ending)
-        }
-        Err(fault) => tell(rt, outlets, Ending::from(fault)),
+    let words = match words_of(rt) {
+        Ok(words) => words,
+        Err(ending) => return tell(rt, outlets, ending),
+    };
+    match ending_by(rt, words.as_slice(), outlets) {
+        Ok(ending) | Err(ending) => tell(rt, outlets, ending),
     }
 }
 

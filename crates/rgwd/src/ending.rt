@@ -1,19 +1,23 @@
 //! How the program ends: its status, and what it says then.
+ghost use Rattle.std.specs.Prelude.{◌≡◌, ◌≢◌};
+
 use crate::help::{HELP, USAGE, VERSIONS, put_pieces};
-use crate::words::WordFault;
 use bad_network::SpoilingFault;
 use gateway_core::FIRSTS;
 use new_start::LONGEST_SPREAD;
+use std::alloc::AllocError;
 use std::fmt;
+use std::io::ErrorKind;
 use std::net::SocketAddrV4;
+use system_reasons::reason_of;
 
 // Why there is no page at any address.
 const ANY_ADDRESS: &str =
-    "--http: the page answers those who name its address, and nobody names 0.0.0.0: write one of this machine's, as 127.0.0.1:8080";
+    "--http: the page answers those who name its address, and nobody names 0.0.0.0: write one of this machine's, as 127.0.0.1:8080\n";
 
 // Why ids begin with no number.
 const NO_TIME_OF_DAY: &str =
-    "this machine has no time of day: --first N says with which number ids begin, another at each start";
+    "this machine has no time of day: --first N says with which number ids begin, another at each start\n";
 
 // The last number with which ids may begin.
 const LAST_FIRST: u32 = FIRSTS - 1;
@@ -91,6 +95,8 @@ impl<'a> Ending<'a> {
     pub fn status(self) -> u8 {
         match self {
             Ending::Served | Ending::Help | Ending::Version | Ending::Checked => 0,
+            Ending::Answered | Ending::Replayed => 0,
+            Ending::NoAnswer { .. } | Ending::Differs => 1,
             Ending::Usage
             | Ending::Told
             | Ending::BadAddress { .. }
@@ -106,69 +112,47 @@ impl<'a> Ending<'a> {
             | Ending::Clock
             | Ending::Write
             | Ending::OutOfMemory => 3,
-            Ending::Answered | Ending::Replayed => 0,
-            Ending::NoAnswer { .. } | Ending::Differs => 1,
         }
     }
-}
 
-impl<'a> From<WordFault> for Ending<'a> {
-    fn from(fault: WordFault) -> Ending<'a> {
-        match fault {
-            WordFault::OutOfMemory => Ending::OutOfMemory,
-            WordFault::Usage => Ending::Usage,
-            WordFault::Told => Ending::Told,
-            WordFault::Help => Ending::Help,
-            WordFault::Version => Ending::Version,
-            WordFault::BadAddress { word } => Ending::BadAddress { word },
-            WordFault::AnyAddress => Ending::AnyAddress,
-            WordFault::BadNetwork { fault } => Ending::BadNetwork { fault },
-            WordFault::BadFirst => Ending::BadFirst,
-            WordFault::BadSpread => Ending::BadSpread,
+    /// So; or for want of memory, where that is why the system refused something.
+    pub fn unless_memory(self, kind: ErrorKind) -> Ending<'a>
+        ensures memory { kind ≡ ErrorKind.OutOfMemory → result ≡ Ending.OutOfMemory }
+        ensures other { kind ≢ ErrorKind.OutOfMemory → result ≡ self.entry }
+    {
+        if kind == ErrorKind::OutOfMemory {
+            Ending::OutOfMemory
+        } else {
+            self
         }
     }
-}
 
-// What a line is about.
-fn subject_of(ending: Ending<'_>) -> &str {
-    match ending {
-        Ending::BadAddress { word } => word,
-        Ending::BadNetwork { .. } => "--network: ",
-        Ending::Unreadable { file, .. } | Ending::Unwritable { file, .. } => file,
-        _ => "",
+    /// The system lets it read no such file, for this reason.
+    pub fn unreadable(file: &'a str, kind: ErrorKind) -> Ending<'a>
+        ensures { kind ≡ ErrorKind.OutOfMemory → result ≡ Ending.OutOfMemory }
+    {
+        let reason = reason_of(kind);
+        Ending::Unreadable { file, reason }.unless_memory(kind)
+    }
+
+    /// The system gives it no socket at the address that this word asks for, for this reason.
+    pub fn unbound(word: &'static str, address: SocketAddrV4, kind: ErrorKind) -> Ending<'a>
+        ensures { kind ≡ ErrorKind.OutOfMemory → result ≡ Ending.OutOfMemory }
+    {
+        let reason = reason_of(kind);
+        let unbound = Ending::Unbound {
+            word,
+            address,
+            reason,
+        };
+        unbound.unless_memory(kind)
     }
 }
 
-// What a line says of that.
-fn fault_of(ending: Ending<'_>) -> &'static str {
-    match ending {
-        Ending::BadAddress { .. } => ": no address a.b.c.d:port",
-        Ending::AnyAddress => ANY_ADDRESS,
-        Ending::BadNetwork { fault } => fault.text(),
-        Ending::Unreadable { .. } => ": read fault",
-        Ending::Unwritable { .. } => ": write fault",
-        Ending::NoTimeOfDay => NO_TIME_OF_DAY,
-        Ending::Clock => "clock fault",
-        Ending::OutOfMemory => "out of memory",
-        _ => "",
+impl<'a> From<AllocError> for Ending<'a> {
+    fn from(_refused: AllocError) -> Ending<'a> {
+        Ending::OutOfMemory
     }
-}
-
-// What the line says more, of a file: why.
-fn reason_in(ending: Ending<'_>) -> &'static str {
-    match ending {
-        Ending::Unreadable { reason, .. } | Ending::Unwritable { reason, .. } => reason,
-        _ => "",
-    }
-}
-
-fn put_line<W: fmt::Write>(
-    f: &mut fmt::Formatter<W>,
-    subject: &str,
-    fault: &str,
-    reason: &str,
-) -> fmt::Result {
-    put_pieces(f, &[subject, fault, reason, "\n"])
 }
 
 // What is written: on standard output what the words ask, else a line on standard error, or nothing
@@ -181,18 +165,29 @@ impl<'a> fmt::Display for Ending<'a> {
             Ending::Usage => put_pieces(f, &["usage: ", USAGE, "\n"]),
             Ending::Help => put_pieces(f, &HELP),
             Ending::Version => put_pieces(f, &VERSIONS),
+            Ending::BadAddress { word } => put_pieces(f, &[word, ": no address a.b.c.d:port\n"]),
+            Ending::AnyAddress => f.write_str(ANY_ADDRESS),
+            Ending::BadNetwork { fault } => put_pieces(f, &["--network: ", fault.text(), "\n"]),
+            Ending::BadFirst => writeln!(f, "--first: wanted a number, 0 to {}", LAST_FIRST),
+            Ending::BadSpread => writeln!(f, "--spread: wanted 0 to {} ms", LONGEST_SPREAD),
+            Ending::NoTimeOfDay => f.write_str(NO_TIME_OF_DAY),
+            Ending::Unreadable { file, reason } => {
+                put_pieces(f, &[file, ": read fault", reason, "\n"])
+            }
+            Ending::Unwritable { file, reason } => {
+                put_pieces(f, &[file, ": write fault", reason, "\n"])
+            }
             Ending::Unbound {
                 word,
                 address,
                 reason,
             } => writeln!(f, "{word} {address}: no socket{reason}"),
-            Ending::BadFirst => writeln!(f, "--first: wanted a number, 0 to {}", LAST_FIRST),
-            Ending::BadSpread => writeln!(f, "--spread: wanted 0 to {} ms", LONGEST_SPREAD),
+            Ending::Clock => f.write_str("clock fault\n"),
+            Ending::OutOfMemory => f.write_str("out of memory\n"),
             Ending::NoAnswer { address } => writeln!(
                 f,
                 "{address}: no answer; does a gateway run, with its telephones (--phones) at this address?"
             ),
-            ending => put_line(f, subject_of(ending), fault_of(ending), reason_in(ending)),
         }
     }
 }

@@ -1,69 +1,42 @@
 //! Replays a trace, and says whether each line that went out is what the gateway sends for the lines before it.
 use crate::ending::Ending;
-use crate::words::WordFault;
+use crate::words::unless_help;
 use live_ends::Outlets;
 use std::alloc::{AllocError, Global};
 use std::fs::File;
-use std::io::{BufReader, ErrorKind, Write};
+use std::io::{BufReader, Write};
 use std::rt::Files;
-use std::str;
-use system_reasons::reason_of;
+use std::{io, str};
 use traces::{ReplayFault, Verdict, put_verdict, replay};
 
 /// The word that asks for it, which is the first.
 pub const REPLAY: &str = "--replay";
 
-// How the program ends where the trace can't be read, as the system says.
-fn unread<'w>(file: &'w str, kind: ErrorKind) -> Ending<'w> {
-    if kind == ErrorKind::OutOfMemory {
-        return Ending::OutOfMemory;
-    }
-    Ending::Unreadable {
-        file,
-        reason: reason_of(kind),
-    }
+// The trace in this file.
+fn trace_in<R: Files>(rt: &R, alloc: Global, file: &str) -> io::Result<BufReader<R::File>> {
+    BufReader::new(alloc, File::open(rt, file)?)
 }
 
-// How it ends where nothing is found.
-fn fault_ending<'w>(file: &'w str, fault: ReplayFault) -> Ending<'w> {
-    match fault {
-        ReplayFault::OutOfMemory => Ending::OutOfMemory,
-        ReplayFault::Read { kind } => unread(file, kind),
-    }
-}
-
-// What is found in the trace in this file.
+// What is found in it.
 fn verdict_of<'w, R: Files>(rt: &R, alloc: Global, file: &'w str) -> Result<Verdict, Ending<'w>> {
-    let trace = match File::open(rt, file) {
+    let trace = match trace_in(rt, alloc, file) {
         Ok(trace) => trace,
-        Err(fault) => return Err(unread(file, fault.kind())),
+        Err(fault) => return Err(Ending::unreadable(file, fault.kind())),
     };
-    let buffered = match BufReader::new(alloc, trace) {
-        Ok(buffered) => buffered,
-        Err(fault) => return Err(unread(file, fault.kind())),
-    };
-    match replay(alloc, buffered) {
+    match replay(alloc, trace) {
         Ok(verdict) => Ok(verdict),
-        Err(fault) => Err(fault_ending(file, fault)),
-    }
-}
-
-// How it ends by what is found.
-fn ending_by(verdict: &Verdict) -> Ending<'static> {
-    match verdict {
-        Verdict::AsTold { .. } => Ending::Replayed,
-        Verdict::Differs { .. } => Ending::Differs,
-        Verdict::Broken { .. } => Ending::NoTrace,
+        Err(ReplayFault::OutOfMemory) => Err(Ending::OutOfMemory),
+        Err(ReplayFault::Read { kind }) => Err(Ending::unreadable(file, kind)),
     }
 }
 
 // Says on standard output what is found; of what is no trace on standard error.
-fn tell_verdict<F: Write + Drop>(
+fn tell_verdict<'w, F: Write + Drop>(
     alloc: Global,
     file: &str,
     verdict: &Verdict,
     outlets: &mut Outlets<F>,
-) -> Result<Ending<'static>, AllocError> {
+) -> Result<Ending<'w>, AllocError> {
     let mut text = Vec::new(alloc);
     put_verdict(alloc, &mut text, verdict)?;
     if matches!(verdict, Verdict::Broken { .. }) {
@@ -73,19 +46,11 @@ fn tell_verdict<F: Write + Drop>(
     } else {
         outlets.output.say(text.as_slice());
     }
-    Ok(ending_by(verdict))
-}
-
-// The file that the words behind `--replay` name, alone.
-fn file_in(words: &[String]) -> Result<&str, WordFault> {
-    let [file] = words else {
-        return Err(WordFault::Usage);
-    };
-    let file = file.as_str();
-    if file == "--help" || file == "-h" {
-        return Err(WordFault::Help);
-    }
-    Ok(file)
+    Ok(match verdict {
+        Verdict::AsTold { .. } => Ending::Replayed,
+        Verdict::Differs { .. } => Ending::Differs,
+        Verdict::Broken { .. } => Ending::NoTrace,
+    })
 }
 
 /// Replays the trace in the file that the words behind `--replay` name, and says what is found: how the program ends by that.
@@ -93,15 +58,11 @@ pub fn replay_trace<'w, R: AllocGlobal + Files>(
     rt: &R,
     words: &'w [String],
     outlets: &mut Outlets<R::File>,
-) -> Ending<'w> {
-    let file = match file_in(words) {
-        Ok(file) => file,
-        Err(fault) => return Ending::from(fault),
+) -> Result<Ending<'w>, Ending<'w>> {
+    let [file] = words else {
+        return Err(Ending::Usage);
     };
-    match verdict_of(rt, rt.alloc(), file) {
-        Ok(verdict) => {
-            tell_verdict(rt.alloc(), file, &verdict, outlets).unwrap_or(Ending::OutOfMemory)
-        }
-        Err(ending) => ending,
-    }
+    let file = unless_help(file.as_str())?;
+    let verdict = verdict_of(rt, rt.alloc(), file)?;
+    Ok(tell_verdict(rt.alloc(), file, &verdict, outlets)?)
 }

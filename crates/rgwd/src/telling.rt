@@ -1,6 +1,6 @@
 //! Sends a line to a gateway's telephones, and prints what they answer.
 use crate::ending::Ending;
-use crate::words::{WordFault, address_of};
+use crate::words::{address_behind, unless_help};
 use live_ends::Outlet;
 use std::alloc::Global;
 use std::io;
@@ -8,7 +8,6 @@ use std::io::{ErrorKind, Write};
 use std::net::{Ipv4Addr, Net, SocketAddrV4, UdpSocket};
 use std::rt::Clock;
 use std::time::{Duration, Instant};
-use system_reasons::reason_of;
 
 /// The word that asks for it, which is the first.
 pub const TELL: &str = "--tell";
@@ -26,28 +25,18 @@ struct Telling {
     line: String,
 }
 
-// The address of telephones that a word is; no socket has port 0.
-fn telephones_at(word: &str) -> Result<SocketAddrV4, WordFault> {
-    if word == "--help" || word == "-h" {
-        return Err(WordFault::Help);
-    }
-    match address_of(word) {
-        Some(address) if address.port() > 0 => Ok(address),
-        _ => Err(WordFault::BadAddress { word: TELL }),
-    }
-}
-
-// What the words behind `--tell` say: an address, and the words of a line.
-fn telling_of(alloc: Global, words: &[String]) -> Result<Telling, WordFault> {
+// What the words behind `--tell` say: an address, where no socket has port 0, and the words of a line.
+fn telling_of<'w>(alloc: Global, words: &'w [String]) -> Result<Telling, Ending<'w>> {
     let (Some(word), Some(line)) = (words.first(), words.get(1..)) else {
-        return Err(WordFault::Usage);
+        return Err(Ending::Usage);
     };
-    let address = telephones_at(word.as_str())?;
-    let Ok(line) = line.join(alloc, " ") else {
-        return Err(WordFault::OutOfMemory);
-    };
+    let address = address_behind(TELL, unless_help(word.as_str())?)?;
+    if address.port() == 0 {
+        return Err(Ending::BadAddress { word: TELL });
+    }
+    let line = line.join(alloc, " ")?;
     if line.as_str().trim_ascii().is_empty() {
-        return Err(WordFault::Usage);
+        return Err(Ending::Usage);
     }
     Ok(Telling { address, line })
 }
@@ -60,18 +49,11 @@ fn connected<R: Net>(rt: &R, address: SocketAddrV4) -> io::Result<UdpSocket> {
 }
 
 // How the program ends where the line can't be sent.
-fn unsent(address: SocketAddrV4, kind: ErrorKind) -> Ending<'static> {
-    if kind == ErrorKind::OutOfMemory {
-        return Ending::OutOfMemory;
-    }
+fn unsent<'w>(address: SocketAddrV4, kind: ErrorKind) -> Ending<'w> {
     if kind == ErrorKind::ConnectionRefused {
         return Ending::NoAnswer { address };
     }
-    Ending::Unbound {
-        word: TELL,
-        address,
-        reason: reason_of(kind),
-    }
+    Ending::unbound(TELL, address, kind)
 }
 
 // How long an answer is still waited for, in ms.
@@ -105,18 +87,18 @@ fn take_from_peer(socket: &UdpSocket, left: u64, room: &mut [u8]) -> io::Result<
 }
 
 // Waits for the answer, and leaves it alone in the room.
-fn hear<R: Clock>(
+fn hear<'w, R: Clock>(
     rt: &R,
     address: SocketAddrV4,
     socket: &UdpSocket,
     room: &mut Vec<u8>,
-) -> Result<(), Ending<'static>> {
+) -> Result<(), Ending<'w>> {
     let Ok(start) = Instant::now(rt) else {
         return Err(Ending::Clock);
     };
     for _ in 0..u16::MAX {
         let left = match time_left(rt, start) {
-            Ok(0) => return Err(Ending::NoAnswer { address }),
+            Ok(0) => break,
             Ok(left) => left,
             Err(_) => return Err(Ending::Clock),
         };
@@ -126,50 +108,41 @@ fn hear<R: Clock>(
                 return Ok(());
             }
             Ok(Heard::Other) => {}
-            Ok(Heard::Nothing) => return Err(Ending::NoAnswer { address }),
+            Ok(Heard::Nothing) => break,
             Err(fault) => return Err(unsent(address, fault.kind())),
         }
     }
     Err(Ending::NoAnswer { address })
 }
 
-// Sends the line, and gives the answer.
-fn answer_to<R: AllocGlobal + Net + Clock>(
+// Sends the line, and leaves the answer alone in the room.
+fn ask<'w, R: Net + Clock>(
     rt: &R,
     telling: &Telling,
-) -> Result<Vec<u8>, Ending<'static>> {
+    room: &mut Vec<u8>,
+) -> Result<(), Ending<'w>> {
     let address = telling.address;
-    let alloc = rt.alloc();
-    let Ok(mut room) = vec![in alloc; 0u8; ROOM] else {
-        return Err(Ending::OutOfMemory);
-    };
     let socket = match connected(rt, address) {
         Ok(socket) => socket,
         Err(fault) => return Err(unsent(address, fault.kind())),
     };
     match socket.send(telling.line.as_bytes()) {
-        Ok(_) => hear(rt, address, &socket, &mut room)?,
-        Err(fault) => return Err(unsent(address, fault.kind())),
+        Ok(_) => hear(rt, address, &socket, room),
+        Err(fault) => Err(unsent(address, fault.kind())),
     }
-    Ok(room)
 }
 
 /// Sends the line that the words behind `--tell` say to the telephones at the address that they name, and prints the answer: how
 /// the program ends by that.
-pub fn tell_line<R: AllocGlobal + Net + Clock, F: Write + Drop>(
+pub fn tell_line<'w, R: AllocGlobal + Net + Clock, F: Write + Drop>(
     rt: &R,
-    words: &[String],
+    words: &'w [String],
     printed: &mut Outlet<F>,
-) -> Ending<'static> {
-    let telling = match telling_of(rt.alloc(), words) {
-        Ok(telling) => telling,
-        Err(fault) => return Ending::from(fault),
-    };
-    match answer_to(rt, &telling) {
-        Ok(answer) => {
-            printed.say(answer.as_slice());
-            Ending::Answered
-        }
-        Err(ending) => ending,
-    }
+) -> Result<Ending<'w>, Ending<'w>> {
+    let alloc = rt.alloc();
+    let telling = telling_of(alloc, words)?;
+    let mut room = vec![in alloc; 0u8; ROOM]?;
+    ask(rt, &telling, &mut room)?;
+    printed.say(room.as_slice());
+    Ok(Ending::Answered)
 }

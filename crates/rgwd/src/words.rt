@@ -1,6 +1,9 @@
 //! Reads the words of the command line.
+ghost use Rattle.std.specs.Prelude.{◌≡◌, IfOk, IfErr};
+
+use crate::ending::Ending;
 use crate::help::{LISTEN, PHONES, USAGE, VERSION};
-use bad_network::{Spoiling, SpoilingFault};
+use bad_network::Spoiling;
 use clap::error::ErrorKind;
 use clap::{Arg, ArgAction, ArgMatches, Command, Error};
 use live_ends::Outlet;
@@ -38,191 +41,140 @@ pub struct Settings<'a> {
     pub stop_after: Option<u64>,
 }
 
-/// Why the program doesn't serve as the words say.
-#[derive(Clone, Copy)]
-pub enum WordFault {
-    /// Memory was refused.
-    OutOfMemory,
-    /// They are other words.
-    Usage,
-    /// They are other words, and standard error says which.
-    Told,
-    /// They ask how the program is used.
-    Help,
-    /// They ask for its version.
-    Version,
-    /// What stands behind this word isn't an address.
-    BadAddress { word: &'static str },
-    /// The page would be at any address of the machine, and so at none that it can tell.
-    AnyAddress,
-    /// This part of what stands behind `--network` says nothing of a network.
-    BadNetwork { fault: SpoilingFault },
-    /// What stands behind `--first` is no number with which ids may begin.
-    BadFirst,
-    /// What stands behind `--spread` is no time that a start may wait.
-    BadSpread,
-}
+// The words that stand there or not.
+const FLAGS: [&str; 3] = ["check", "trace", "log"];
 
-// What a word of the command line is.
-#[derive(Clone, Copy)]
-enum WordKind {
-    // A text without a name.
-    Plain,
-    // A name, with a text behind it.
-    Valued,
-    // A name, with a number behind it.
-    Number,
-    // A name alone, which stands there or not.
-    Flag,
-}
-
-// The words of the command line.
-const WORDS: [(&str, WordKind); 12] = [
-    ("config", WordKind::Plain),
-    ("check", WordKind::Flag),
-    ("listen", WordKind::Valued),
-    ("phones", WordKind::Valued),
-    ("http", WordKind::Valued),
-    ("trace", WordKind::Flag),
-    ("log", WordKind::Flag),
-    ("capture", WordKind::Valued),
-    ("network", WordKind::Valued),
-    ("first", WordKind::Valued),
-    ("spread", WordKind::Valued),
-    ("stop-after", WordKind::Number),
+// Those behind which a text stands.
+const NAMES: [&str; 7] = [
+    "listen", "phones", "http", "capture", "network", "first", "spread",
 ];
 
-// What clap is told of a word.
-fn arg_of<'a>(alloc: Global, name: &'a str, kind: WordKind) -> Arg<'a> {
-    let arg = Arg::new(alloc, name);
-    match kind {
-        WordKind::Plain => arg.required(true),
-        WordKind::Valued => arg.long(name),
-        WordKind::Number => arg.long(name).value_parser(clap::value_parser!(u64)),
-        WordKind::Flag => arg.long(name).action(ArgAction::SetTrue),
-    }
-}
-
-fn command<'a>(alloc: Global) -> Result<Command<'a>, AllocError> {
-    let mut command = Command::new(alloc, "rgwd")
-        .version(VERSION)
-        .override_usage(USAGE);
-    for (name, kind) in WORDS.iter() {
-        command = command.arg(arg_of(alloc, *name, *kind))?;
+fn with_flags<'a>(alloc: Global, mut command: Command<'a>) -> Result<Command<'a>, AllocError> {
+    for name in FLAGS.iter() {
+        let flag = Arg::new(alloc, *name).long(*name);
+        command = command.arg(flag.action(ArgAction::SetTrue))?;
     }
     Ok(command)
 }
 
-/// The address that a text is.
-pub fn address_of(text: &str) -> Option<SocketAddrV4> {
-    match text.parse::<SocketAddrV4>() {
-        Ok(address) => Some(address),
-        Err(_) => None,
+fn with_names<'a>(alloc: Global, mut command: Command<'a>) -> Result<Command<'a>, AllocError> {
+    for name in NAMES.iter() {
+        command = command.arg(Arg::new(alloc, *name).long(*name))?;
     }
+    Ok(command)
+}
+
+fn command<'a>(alloc: Global) -> Result<Command<'a>, AllocError> {
+    let stop_after = Arg::new(alloc, "stop-after").long("stop-after");
+    let command = Command::new(alloc, "rgwd")
+        .version(VERSION)
+        .override_usage(USAGE)
+        .arg(Arg::new(alloc, "config").required(true))?
+        .arg(stop_after.value_parser(clap::value_parser!(u64)))?;
+    with_names(alloc, with_flags(alloc, command)?)
+}
+
+/// The address that stands behind a word.
+pub fn address_behind<'w>(word: &'static str, text: &str) -> Result<SocketAddrV4, Ending<'w>>
+    ensures { IfErr result (λ ending. ending ≡ Ending.BadAddress word.entry) }
+{
+    match text.parse::<SocketAddrV4>() {
+        Ok(address) => Ok(address),
+        Err(_) => Err(Ending::BadAddress { word }),
+    }
+}
+
+/// A word that doesn't ask how the program is used.
+pub fn unless_help<'w>(word: &'w str) -> Result<&'w str, Ending<'w>>
+    ensures itself { IfOk result (λ text. text.now ≡ word.now) }
+    ensures help { IfErr result (λ ending. ending ≡ Ending.Help) }
+{
+    if word == "--help" || word == "-h" {
+        return Err(Ending::Help);
+    }
+    Ok(word)
 }
 
 // The address of the site, if that stands there: one of the machine's, since the page answers only those who name its address.
-fn site_in(matches: &ArgMatches<'_>) -> Result<Option<SocketAddrV4>, WordFault> {
+fn site_in<'a>(matches: &ArgMatches<'a>) -> Result<Option<SocketAddrV4>, Ending<'a>> {
     let Some(text) = matches.get_str("http") else {
         return Ok(None);
     };
-    match address_of(text) {
-        Some(address) if address.ip().is_unspecified() => Err(WordFault::AnyAddress),
-        Some(address) => Ok(Some(address)),
-        None => Err(WordFault::BadAddress { word: "--http" }),
+    let address = address_behind("--http", text)?;
+    if address.ip().is_unspecified() {
+        return Err(Ending::AnyAddress);
     }
+    Ok(Some(address))
 }
 
 // How a network spoils datagrams, if that stands there.
-fn network_in(matches: &ArgMatches<'_>) -> Result<Option<Spoiling>, WordFault> {
+fn network_in<'a>(matches: &ArgMatches<'a>) -> Result<Option<Spoiling>, Ending<'a>> {
     let Some(text) = matches.get_str("network") else {
         return Ok(None);
     };
     match Spoiling::read(text.as_bytes()) {
         Ok(spoiling) => Ok(Some(spoiling)),
-        Err(fault) => Err(WordFault::BadNetwork { fault }),
+        Err(fault) => Err(Ending::BadNetwork { fault }),
     }
 }
 
-// The number with which ids begin, if that stands there and is one.
-fn first_in(matches: &ArgMatches<'_>) -> Option<FirstNumber> {
-    FirstNumber::read(matches.get_str("first")?.as_bytes())
+// The number with which ids begin, if that stands there.
+fn first_in<'a>(matches: &ArgMatches<'a>) -> Result<Option<FirstNumber>, Ending<'a>> {
+    let Some(text) = matches.get_str("first") else {
+        return Ok(None);
+    };
+    match FirstNumber::read(text.as_bytes()) {
+        Some(first) => Ok(Some(first)),
+        None => Err(Ending::BadFirst),
+    }
 }
 
 // How long it waits at most before its clock begins, if that stands there.
-fn longest_wait_in(matches: &ArgMatches<'_>) -> Result<Option<u32>, WordFault> {
+fn longest_wait_in<'a>(matches: &ArgMatches<'a>) -> Result<Option<u32>, Ending<'a>> {
     let Some(text) = matches.get_str("spread") else {
         return Ok(None);
     };
     match spread_in(text.as_bytes()) {
         Some(spread) => Ok(Some(spread)),
-        None => Err(WordFault::BadSpread),
+        None => Err(Ending::BadSpread),
     }
 }
 
-// Why no settings are found in words, by the kind of clap's error: which words are wrong goes to standard error.
-fn fault_of<F: Write + Drop>(alloc: Global, fault: &Error, said: &mut Outlet<F>) -> WordFault {
-    let kind = fault.kind();
-    if kind == ErrorKind::OutOfMemory {
-        return WordFault::OutOfMemory;
-    }
-    if kind == ErrorKind::DisplayHelp {
-        return WordFault::Help;
-    }
-    if kind == ErrorKind::DisplayVersion {
-        return WordFault::Version;
-    }
-    match format!(in alloc; "{fault}") {
-        Ok(text) => {
-            said.say(text.as_bytes());
-            WordFault::Told
-        }
-        Err(_) => WordFault::OutOfMemory,
-    }
-}
-
-fn settings_in<'a>(matches: &ArgMatches<'a>) -> Result<Settings<'a>, WordFault> {
+fn settings_in<'a>(matches: &ArgMatches<'a>) -> Result<Settings<'a>, Ending<'a>> {
     let Some(config) = matches.get_str("config") else {
-        return Err(WordFault::Usage);
+        return Err(Ending::Usage);
     };
-    let Some(listen) = address_of(matches.get_str("listen").unwrap_or(LISTEN)) else {
-        return Err(WordFault::BadAddress { word: "--listen" });
-    };
-    let Some(phones) = address_of(matches.get_str("phones").unwrap_or(PHONES)) else {
-        return Err(WordFault::BadAddress { word: "--phones" });
-    };
-    let http = site_in(matches)?;
-    let network = network_in(matches)?;
-    let first = first_in(matches);
-    if first.is_none() && matches.get_str("first").is_some() {
-        return Err(WordFault::BadFirst);
-    }
     Ok(Settings {
         config,
         check: matches.get_flag("check"),
-        listen,
-        phones,
-        http,
+        listen: address_behind("--listen", matches.get_str("listen").unwrap_or(LISTEN))?,
+        phones: address_behind("--phones", matches.get_str("phones").unwrap_or(PHONES))?,
+        http: site_in(matches)?,
         trace: matches.get_flag("trace"),
         log: matches.get_flag("log"),
         capture: matches.get_str("capture"),
-        network,
-        first,
+        network: network_in(matches)?,
+        first: first_in(matches)?,
         spread: longest_wait_in(matches)?,
         stop_after: matches.get_one::<u64>("stop-after"),
     })
 }
 
-// What words say to a command.
-fn settings_by<'a, F: Write + Drop>(
+// How the program ends where there are no settings in words, by clap's error: an outlet says which words are wrong.
+fn ending_by<'a, F: Write + Drop>(
     alloc: Global,
-    command: Command<'a>,
-    words: &'a [String],
+    fault: &Error,
     said: &mut Outlet<F>,
-) -> Result<Settings<'a>, WordFault> {
-    match command.try_get_matches_from(words) {
-        Ok(matches) => settings_in(&matches),
-        Err(fault) => Err(fault_of(alloc, &fault, said)),
+) -> Result<Ending<'a>, AllocError> {
+    match fault.kind() {
+        ErrorKind::OutOfMemory => Ok(Ending::OutOfMemory),
+        ErrorKind::DisplayHelp => Ok(Ending::Help),
+        ErrorKind::DisplayVersion => Ok(Ending::Version),
+        _ => {
+            let text = format!(in alloc; "{fault}")?;
+            said.say(text.as_bytes());
+            Ok(Ending::Told)
+        }
     }
 }
 
@@ -231,9 +183,9 @@ pub fn read_words<'a, F: Write + Drop>(
     alloc: Global,
     words: &'a [String],
     said: &mut Outlet<F>,
-) -> Result<Settings<'a>, WordFault> {
-    match command(alloc) {
-        Ok(command) => settings_by(alloc, command, words, said),
-        Err(_) => Err(WordFault::OutOfMemory),
+) -> Result<Settings<'a>, Ending<'a>> {
+    match command(alloc)?.try_get_matches_from(words) {
+        Ok(matches) => settings_in(&matches),
+        Err(fault) => Err(ending_by(alloc, &fault, said)?),
     }
 }
