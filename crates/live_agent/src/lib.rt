@@ -2,13 +2,15 @@
 //!
 //! Behind one socket is an agent for each gateway, which issues what is typed at a socket for commands. Where that is asked for,
 //! calls are routed between the lines of all gateways, and a bad network lies between. What all that means is in `call_desk`, and
-//! what is asked of a gateway in `gateway_checks`; here are the sockets and the clock.
+//! what is asked of a gateway in `gateway_checks`; here are the loop, which asks what comes next and does that, and the ends of a check.
 #![tactic(auto)]
 
 mod check_fault;
 mod checking;
 mod ends;
 mod json;
+mod kept_records;
+mod recorder;
 mod serve_fault;
 mod serving;
 mod session;
@@ -16,6 +18,9 @@ mod wire;
 
 pub use crate::check_fault::CheckFault;
 pub use crate::checking::{CheckSettings, check_gateway};
+pub use crate::kept_records::KeptRecords;
+pub use crate::recorder::Recorder;
 pub use crate::serve_fault::ServeFault;
-pub use crate::serving::serve_agent;
-pub use crate::wire::WireSettings;
+pub use crate::serving::{WireSettings, serve_agent};
+pub use crate::session::serve;
+pub use crate::wire::Wire;

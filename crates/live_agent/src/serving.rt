@@ -1,39 +1,126 @@
 //! Serves a call agent from its opening to its end.
 use crate::serve_fault::ServeFault;
 use crate::session::serve;
-use crate::wire::{Wire, WireSettings};
+use crate::wire::Wire;
 use agent_texts::{AgentConfig, Journal};
+use bad_network::{BadNetwork, Spoiling};
 use call_desk::Switchboard;
-use live_ends::{Outlet, Outlets, Record, RecordState, make_for_owner};
+use live_ends::{Live, LiveClock, Outlet, Outlets, Record, RecordState, bind, make_for_owner};
 use mg_bytes::OutOfMemory;
 use std::alloc::Global;
 use std::io::{ErrorKind, Write};
-use std::net::Net;
+use std::net::{Net, SocketAddr, SocketAddrV4};
 use std::rt::{Clock, Files};
+use surroundings::Surroundings;
 use system_reasons::reason_of;
 
 // Microseconds in a millisecond.
 const MICROSECONDS: u64 = 1000;
 
+/// How a wire is opened.
+#[derive(Clone, Copy)]
+pub struct WireSettings {
+    /// The address of the socket for gateways; port 0 is any free one.
+    pub listen: SocketAddrV4,
+    /// The address of the socket for commands; port 0 is any free one.
+    pub control: SocketAddrV4,
+    /// How the network is spoilt, where it is.
+    pub network: Option<Spoiling>,
+    pub has_log: bool,
+    pub has_capture: bool,
+    /// The moment at which it ends, in ms.
+    pub end: Option<u64>,
+}
+
+// What went wrong with the socket for gateways.
+fn listen_fault(kind: ErrorKind) -> ServeFault {
+    if kind == ErrorKind::OutOfMemory {
+        return ServeFault::OutOfMemory;
+    }
+    ServeFault::Listen {
+        reason: reason_of(kind),
+    }
+}
+
+// What went wrong with the socket for commands.
+fn control_fault(kind: ErrorKind) -> ServeFault {
+    if kind == ErrorKind::OutOfMemory {
+        return ServeFault::OutOfMemory;
+    }
+    ServeFault::Control {
+        reason: reason_of(kind),
+    }
+}
+
+// The sockets, and the clock at moment 0.
+fn open_sockets<'a, R: Net + Clock>(
+    rt: &'a R,
+    alloc: Global,
+    settings: WireSettings,
+) -> Result<Live<'a, R>, ServeFault> {
+    if LiveClock::start(rt).is_err() {
+        return Err(ServeFault::Clock);
+    }
+    let socket = match bind(rt, settings.listen) {
+        Ok(socket) => socket,
+        Err(e) => return Err(listen_fault(e.kind())),
+    };
+    let commands = match bind(rt, settings.control) {
+        Ok(commands) => commands,
+        Err(e) => return Err(control_fault(e.kind())),
+    };
+    match Live::watch(rt, alloc, socket, commands) {
+        Ok(live) => Ok(live),
+        Err(e) => Err(listen_fault(e.kind())),
+    }
+}
+
+// The network that spoils what comes and what is sent, where one is asked for.
+fn network_of(alloc: Global, spoiling: Option<Spoiling>) -> Option<BadNetwork> {
+    match spoiling {
+        Some(spoiling) => Some(BadNetwork::new(alloc, spoiling)),
+        None => None,
+    }
+}
+
+// The wire over the machine's sockets and clock.
+fn open_wire<'a, R: Net + Clock>(
+    rt: &'a R,
+    alloc: Global,
+    settings: WireSettings,
+) -> Result<Wire<Live<'a, R>>, ServeFault> {
+    let live = open_sockets(rt, alloc, settings)?;
+    let here = match live.addresses() {
+        Ok((SocketAddr::V4(here), _)) => here,
+        _ => settings.listen,
+    };
+    let journal = Journal::new(alloc, settings.has_log, settings.has_capture, here);
+    let network = network_of(alloc, settings.network);
+    match Wire::new(alloc, live, network, journal, settings.end) {
+        Ok(wire) => Ok(wire),
+        Err(_) => Err(ServeFault::OutOfMemory),
+    }
+}
+
 // Where the sockets are, as a line; none where a socket doesn't tell that.
 fn addresses_line<R: Net + Clock>(
     alloc: Global,
-    wire: &Wire<'_, R>,
+    live: &Live<'_, R>,
 ) -> Result<String, OutOfMemory> {
-    match (wire.socket.local_addr(), wire.control.address()) {
-        (Ok(listen), Ok(control)) => format!(in alloc; "listen {listen} control {control}\n"),
-        _ => Ok(String::new(alloc)),
+    match live.addresses() {
+        Ok((listen, control)) => format!(in alloc; "listen {listen} control {control}\n"),
+        Err(_) => Ok(String::new(alloc)),
     }
 }
 
 // Says on standard error where the sockets are.
 fn tell_addresses<R: Net + Clock, F: Write + Drop>(
     alloc: Global,
-    wire: &Wire<'_, R>,
+    live: &Live<'_, R>,
     outlets: &mut Outlets<F>,
 ) {
     // For want of memory that line alone isn't said.
-    if let Ok(line) = addresses_line(alloc, wire) {
+    if let Ok(line) = addresses_line(alloc, live) {
         outlets.error.say(line.as_bytes());
     }
     outlets.offer();
@@ -64,11 +151,11 @@ fn serve_to_end<R: Net + Clock, F: Write + Drop>(
     rt: &R,
     alloc: Global,
     board: &mut Switchboard,
-    wire: &mut Wire<'_, R>,
+    wire: &mut Wire<Live<'_, R>>,
     outlets: &mut Outlets<F>,
 ) -> Result<(), ServeFault> {
     let served = serve(alloc, board, wire, outlets);
-    let time = wire.clock.now().time;
+    let time = wire.around.time();
     wire.journal.write(outlets, time);
     let Ok(counts) = wire.journal.counts() else {
         return Err(ServeFault::OutOfMemory);
@@ -86,13 +173,13 @@ fn serve_over<R: Net + Clock, F: Write + Drop>(
     alloc: Global,
     config: &AgentConfig,
     is_routed: bool,
-    wire: &mut Wire<'_, R>,
+    wire: &mut Wire<Live<'_, R>>,
     outlets: &mut Outlets<F>,
 ) -> Result<(), ServeFault> {
-    let time = wire.clock.now().time / MICROSECONDS;
+    let time = wire.now.time / MICROSECONDS;
     match Switchboard::of(alloc, config, is_routed, time) {
         Ok(mut board) => {
-            tell_addresses(alloc, wire, outlets);
+            tell_addresses(alloc, &wire.around, outlets);
             let served = serve_to_end(rt, alloc, &mut board, wire, outlets);
             board.close();
             served
@@ -128,7 +215,7 @@ fn serve_captured<R: Files + Net + Clock>(
     alloc: Global,
     config: &AgentConfig,
     is_routed: bool,
-    wire: &mut Wire<'_, R>,
+    wire: &mut Wire<Live<'_, R>>,
     capture: Option<&str>,
     outlets: &mut Outlets<R::File>,
 ) -> Result<(), ServeFault> {
@@ -151,7 +238,7 @@ pub fn serve_agent<R: Files + Net + Clock>(
     capture: Option<&str>,
     outlets: &mut Outlets<R::File>,
 ) -> Result<(), ServeFault> {
-    match Wire::open(rt, alloc, settings) {
+    match open_wire(rt, alloc, settings) {
         Ok(mut wire) => {
             serve_captured(rt, alloc, config, is_routed, &mut wire, capture, outlets)
         }

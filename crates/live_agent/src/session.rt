@@ -1,20 +1,16 @@
-//! Serves gateways and whoever types commands, a turn at a time.
+//! Serves gateways and whoever types commands, a turn at a time, as a schedule says what comes next.
+use crate::recorder::Recorder;
 use crate::wire::Wire;
 use agent_texts::count;
-use bad_network::{Packet, Way};
 use call_agent::Issued;
 use call_desk::{Switchboard, TypedFault, typed_text};
-use live_ends::{Outlets, STOP_FROM_AFAR};
+use live_ends::STOP_FROM_AFAR;
 use mg_bytes::{OutOfMemory, put_decimal};
 use std::alloc::Global;
-use std::io;
-use std::io::Write;
-use std::net::{Net, SocketAddrV4};
-use std::rt::Clock;
+use std::net::SocketAddrV4;
+use surroundings::{Fault, Surroundings};
 use transmission::texts;
-
-// So many datagrams, and so many typed commands, are taken in a turn, and so many packets handed out.
-const BATCH: u8 = 64;
+use turns::{Schedule, Situation, Turn};
 
 // The room for a datagram: one byte more than any that is taken (RFC 3435, 3.5.4).
 const ROOM: usize = 4001;
@@ -25,13 +21,13 @@ const DONE: &[u8] = b"done\n";
 const OUT_OF_MEMORY: &[u8] = b"! 1 OutOfMemory\n";
 
 // A command was issued.
-fn send_issued<R: Net + Clock>(wire: &mut Wire<'_, R>, issued: &Issued) {
+fn send_issued<S: Surroundings + Drop>(wire: &mut Wire<S>, issued: &Issued) {
     count(&mut wire.journal.tally.commands);
     wire.send(issued.datagram.to, issued.datagram.bytes.as_bytes(), false);
 }
 
 // Tells how the lines to which something has happened stand, and sends them what they are to be sent.
-fn settle<R: Net + Clock>(board: &mut Switchboard, wire: &mut Wire<'_, R>) {
+fn settle<S: Surroundings + Drop>(board: &mut Switchboard, wire: &mut Wire<S>) {
     board.begin_settling();
     let lines = board.settling();
     for index in 0..lines {
@@ -47,9 +43,9 @@ fn settle<R: Net + Clock>(board: &mut Switchboard, wire: &mut Wire<'_, R>) {
 }
 
 // The agent of a gateway hears a datagram: whether it did.
-fn agent_hears<R: Net + Clock>(
+fn agent_hears<S: Surroundings + Drop>(
     board: &mut Switchboard,
-    wire: &mut Wire<'_, R>,
+    wire: &mut Wire<S>,
     place: usize,
     source: SocketAddrV4,
     bytes: &[u8],
@@ -67,9 +63,9 @@ fn agent_hears<R: Net + Clock>(
 }
 
 // What the agent of a gateway heard is dealt with, a text and a line at a time.
-fn deal_with<R: Net + Clock>(
+fn deal_with<S: Surroundings + Drop>(
     board: &mut Switchboard,
-    wire: &mut Wire<'_, R>,
+    wire: &mut Wire<S>,
     place: usize,
     bytes: &[u8],
 ) {
@@ -83,7 +79,7 @@ fn deal_with<R: Net + Clock>(
 }
 
 // What the lines of a gateway told is taken, a line at a time.
-fn take_told<R: Net + Clock>(board: &mut Switchboard, wire: &mut Wire<'_, R>, place: usize) {
+fn take_told<S: Surroundings + Drop>(board: &mut Switchboard, wire: &mut Wire<S>, place: usize) {
     for index in 0..board.begin_taking(place) {
         if board.take(&mut wire.journal, place, index) {
             settle(board, wire);
@@ -92,14 +88,13 @@ fn take_told<R: Net + Clock>(board: &mut Switchboard, wire: &mut Wire<'_, R>, pl
 }
 
 // A datagram is heard.
-fn hear<R: Net + Clock>(
+fn hear<S: Surroundings + Drop>(
     board: &mut Switchboard,
-    wire: &mut Wire<'_, R>,
+    wire: &mut Wire<S>,
     source: SocketAddrV4,
     bytes: &[u8],
 ) {
-    let time = wire.clock.now().time;
-    wire.journal.came(time, source, bytes);
+    wire.journal.came(wire.now.time, source, bytes);
     let Some(place) = board.place_of(source) else {
         count(&mut wire.journal.tally.strange);
         return;
@@ -110,36 +105,31 @@ fn hear<R: Net + Clock>(
     }
 }
 
-// Takes what has come.
-fn receive<R: Net + Clock>(board: &mut Switchboard, wire: &mut Wire<'_, R>) {
-    let mut room = [0u8; ROOM];
-    for _ in 0..BATCH {
-        let Some((source, len)) = wire.receive(&mut room) else {
-            return;
-        };
-        let bytes = room.get(..len).unwrap_or(&[]);
-        if !wire.is_spoilt(source, bytes) {
-            hear(board, wire, source, bytes);
+// Takes the next packet that the bad network hands over, where it does: whether it did.
+fn take_over<S: Surroundings + Drop>(board: &mut Switchboard, wire: &mut Wire<S>) -> bool {
+    match wire.handed_over() {
+        Some(packet) => {
+            hear(board, wire, packet.peer, packet.bytes.as_bytes());
+            true
         }
+        None => false,
     }
 }
 
-// Takes and sends what the bad network hands out.
-fn hand_out<R: Net + Clock>(board: &mut Switchboard, wire: &mut Wire<'_, R>) {
-    for _ in 0..BATCH {
-        let Some(packet) = wire.handed_out() else {
-            return;
-        };
-        let Packet {
-            way,
-            peer,
-            bytes,
-            ..
-        } = packet;
-        match way {
-            Way::In => hear(board, wire, peer, bytes.as_bytes()),
-            Way::Out => wire.transmit(peer, bytes.as_bytes()),
-        }
+// Takes a datagram, if one is there: of those that the bad network held, or that has come.
+fn take_datagram<S: Surroundings + Drop>(board: &mut Switchboard, wire: &mut Wire<S>) {
+    if take_over(board, wire) {
+        return;
+    }
+    let mut room = [0u8; ROOM];
+    let Some((source, len)) = wire.receive(&mut room) else {
+        return;
+    };
+    let bytes = room.get(..len).unwrap_or(&[]);
+    if wire.is_spoilt(source, bytes) {
+        let _ = take_over(board, wire);
+    } else {
+        hear(board, wire, source, bytes);
     }
 }
 
@@ -163,29 +153,29 @@ fn issued_text(alloc: Global, id: u32) -> Result<Vec<u8>, OutOfMemory> {
 }
 
 // Issues a command that was typed, and answers that.
-fn answer_typed<R: Net + Clock>(
+fn answer_typed<S: Surroundings + Drop>(
     alloc: Global,
     board: &mut Switchboard,
-    wire: &mut Wire<'_, R>,
+    wire: &mut Wire<S>,
     text: &[u8],
 ) {
     match board.issue_typed(text) {
         Ok(issued) => {
             send_issued(wire, &issued);
             match issued_text(alloc, issued.id) {
-                Ok(text) => wire.control.answer_all(text.as_slice()),
-                Err(_) => wire.control.answer_all(OUT_OF_MEMORY),
+                Ok(text) => wire.answer_all(text.as_slice()),
+                Err(_) => wire.answer_all(OUT_OF_MEMORY),
             }
         }
-        Err(fault) => wire.control.answer_all(fault_text(fault)),
+        Err(fault) => wire.answer_all(fault_text(fault)),
     }
 }
 
 // Answers what was counted so far.
-fn answer_counts<R: Net + Clock>(wire: &mut Wire<'_, R>) {
+fn answer_counts<S: Surroundings + Drop>(wire: &mut Wire<S>) {
     match wire.journal.counts() {
-        Ok(text) => wire.control.answer(text.as_slice()),
-        Err(_) => wire.control.answer(OUT_OF_MEMORY),
+        Ok(text) => wire.answer(text.as_slice()),
+        Err(_) => wire.answer(OUT_OF_MEMORY),
     }
 }
 
@@ -201,51 +191,49 @@ enum Request {
 }
 
 // What a `stop` asks for.
-fn stop_request<R: Net + Clock>(wire: &Wire<'_, R>) -> Request {
-    if wire.control.is_from_loopback() {
+fn stop_request<S: Surroundings + Drop>(wire: &Wire<S>) -> Request {
+    if wire.lines.is_from_loopback() {
         Request::Stop
     } else {
         Request::StopFromAfar
     }
 }
 
-fn request_of<R: Net + Clock>(alloc: Global, wire: &Wire<'_, R>) -> Option<Request> {
-    let line = wire.control.line()?;
+fn request_of<S: Surroundings + Drop>(alloc: Global, wire: &Wire<S>) -> Option<Request> {
+    let line = wire.lines.line()?;
     match line {
         b"counts" => Some(Request::Counts),
         b"stop" | b"quit" => Some(stop_request(wire)),
-        _ => match typed_text(alloc, line, wire.control.rest()) {
+        _ => match typed_text(alloc, line, wire.lines.rest()) {
             Ok(text) => Some(Request::Command { text }),
             Err(_) => Some(Request::OutOfMemory),
         },
     }
 }
 
-// Answers what is typed.
-fn answer_requests<R: Net + Clock>(alloc: Global, board: &mut Switchboard, wire: &mut Wire<'_, R>) {
-    for _ in 0..BATCH {
-        if wire.ready.commands {
-            wire.ready.commands = wire.control.look();
+// Answers what is typed next, if anything is.
+fn answer_request<S: Surroundings + Drop>(
+    alloc: Global,
+    board: &mut Switchboard,
+    wire: &mut Wire<S>,
+) {
+    match request_of(alloc, wire) {
+        None => {}
+        Some(Request::Counts) => answer_counts(wire),
+        Some(Request::Stop) => {
+            wire.answer(DONE);
+            wire.end = Some(0);
         }
-        match request_of(alloc, wire) {
-            None => return,
-            Some(Request::Counts) => answer_counts(wire),
-            Some(Request::Stop) => {
-                wire.control.answer(DONE);
-                wire.end = Some(0);
-            }
-            Some(Request::StopFromAfar) => wire.control.answer(STOP_FROM_AFAR),
-            Some(Request::Command { text }) => answer_typed(alloc, board, wire, text.as_slice()),
-            Some(Request::OutOfMemory) => wire.control.answer_all(OUT_OF_MEMORY),
-        }
+        Some(Request::StopFromAfar) => wire.answer(STOP_FROM_AFAR),
+        Some(Request::Command { text }) => answer_typed(alloc, board, wire, text.as_slice()),
+        Some(Request::OutOfMemory) => wire.answer_all(OUT_OF_MEMORY),
     }
 }
 
 // What is given up by now of the commands to a gateway.
-fn give_up<R: Net + Clock>(board: &mut Switchboard, wire: &mut Wire<'_, R>, place: usize) {
+fn give_up<S: Surroundings + Drop>(board: &mut Switchboard, wire: &mut Wire<S>, place: usize) {
     for _ in 0..u16::MAX {
-        let time = wire.clock.now().time;
-        if !board.give_up(&mut wire.journal, place, time) {
+        if !board.give_up(&mut wire.journal, place, wire.now.time) {
             return;
         }
         settle(board, wire);
@@ -253,9 +241,9 @@ fn give_up<R: Net + Clock>(board: &mut Switchboard, wire: &mut Wire<'_, R>, plac
 }
 
 // The clock of a gateway's agent goes on.
-fn tick<R: Net + Clock>(
+fn tick_one<S: Surroundings + Drop>(
     board: &mut Switchboard,
-    wire: &mut Wire<'_, R>,
+    wire: &mut Wire<S>,
     place: usize,
     moment: u64,
 ) {
@@ -266,43 +254,101 @@ fn tick<R: Net + Clock>(
     give_up(board, wire, place);
 }
 
-// A turn: the clock goes on, and what has come is dealt with.
-fn turn<R: Net + Clock>(
-    alloc: Global,
-    board: &mut Switchboard,
-    wire: &mut Wire<'_, R>,
-) -> io::Result<()> {
-    let moment = wire.clock.moment()?;
-    if moment > wire.clock.ticked() {
-        wire.clock.set(moment);
-        for place in 0..board.gateways() {
-            tick(board, wire, place, moment);
-        }
+// The clock goes on.
+fn tick<S: Surroundings + Drop>(board: &mut Switchboard, wire: &mut Wire<S>, moment: u64) {
+    wire.now.clock = moment;
+    for place in 0..board.gateways() {
+        tick_one(board, wire, place, moment);
     }
-    receive(board, wire);
-    answer_requests(alloc, board, wire);
-    settle(board, wire);
-    hand_out(board, wire);
-    Ok(())
 }
 
-/// Serves until the end comes; what happens is told by these outlets. An error is of the clock.
-pub fn serve<R: Net + Clock, F: Write + Drop>(
+// The earlier of two moments.
+fn earlier(one: Option<u64>, other: Option<u64>) -> Option<u64> {
+    match (one, other) {
+        (Some(one), Some(other)) => Some(one.min(other)),
+        (Some(one), None) => Some(one),
+        (None, other) => other,
+    }
+}
+
+// How things stand. An error is of the clock.
+fn situation<S: Surroundings + Drop>(
+    board: &Switchboard,
+    wire: &Wire<S>,
+) -> Result<Situation, Fault> {
+    let ready = wire.ready();
+    // Where anything is there nothing is waited for, and so the agents of all gateways aren't asked.
+    let due = if ready.commands || ready.datagrams {
+        None
+    } else {
+        earlier(board.next_due(), wire.network_due())
+    };
+    Ok(Situation {
+        moment: wire.around.moment()?,
+        ticked: wire.now.clock,
+        due,
+        end: wire.end,
+        read: wire.read,
+        ready,
+    })
+}
+
+// A turn of somebody's, or a wait, where it is now this moment.
+fn do_turn<S: Surroundings + Drop>(
     alloc: Global,
     board: &mut Switchboard,
-    wire: &mut Wire<'_, R>,
-    outlets: &mut Outlets<F>,
-) -> io::Result<()> {
+    wire: &mut Wire<S>,
+    turn: Turn,
+    moment: u64,
+) {
+    match turn {
+        Turn::Tick { moment } => tick(board, wire, moment),
+        Turn::Command => {
+            wire.hear_lines();
+            answer_request(alloc, board, wire);
+        }
+        Turn::Datagram => take_datagram(board, wire),
+        Turn::Look => wire.wait(0),
+        Turn::Wait { until } => wire.wait(until.saturating_sub(moment)),
+        Turn::Note { pause } => wire.note_pause(pause),
+        Turn::Visit | Turn::End => {}
+    }
+}
+
+// Asks what comes next and does that: whether the end hasn't come. An error is of the clock.
+fn turn<S: Surroundings + Drop>(
+    alloc: Global,
+    board: &mut Switchboard,
+    wire: &mut Wire<S>,
+    schedule: &mut Schedule,
+) -> Result<bool, Fault> {
+    let at = situation(board, wire)?;
+    let turn = schedule.next(at);
+    if matches!(turn, Turn::End) {
+        return Ok(false);
+    }
+    wire.begin();
+    // At the start all lines wait to be settled, and later those whose command couldn't be issued.
+    settle(board, wire);
+    do_turn(alloc, board, wire, turn, at.moment);
+    Ok(true)
+}
+
+/// Serves until the end comes, and writes after each turn what was recorded. An error is of the clock.
+pub fn serve<S: Surroundings + Drop, W: Recorder>(
+    alloc: Global,
+    board: &mut Switchboard,
+    wire: &mut Wire<S>,
+    recorder: &mut W,
+) -> Result<(), Fault> {
+    // What the start took isn't a pause.
+    let mut schedule = Schedule::starting_at(wire.around.moment()?);
     for _ in 0..u64::MAX {
-        if wire.is_over() {
+        if !turn(alloc, board, wire, &mut schedule)? {
             return Ok(());
         }
-        turn(alloc, board, wire)?;
-        let time = wire.clock.now().time;
-        wire.journal.write(outlets, time);
-        if wire.wait(board.next_due(), !outlets.are_taken()).is_err() {
-            count(&mut wire.journal.tally.receive_faults);
-        }
+        recorder.write(&mut wire.journal, wire.now.time);
+        wire.note_offering(recorder.is_offering());
     }
     Ok(())
 }

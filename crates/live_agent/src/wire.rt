@@ -1,50 +1,32 @@
-//! The wire: a socket for datagrams, a socket for commands, the clock, and a bad network, where one lies between.
-use crate::serve_fault::ServeFault;
+//! The wire: what datagrams and typed lines come over, and a bad network, where one lies between; and the journal of what goes over it.
 use agent_texts::{Journal, count};
-use bad_network::{BadNetwork, Fate, Packet, Spoiling, Way};
-use exchange_log::{Note, Stamp};
-use live_ends::{CommandSocket, LONGEST_TICK, LiveClock, NEXT_OFFER, Readiness};
-use mio::net::UdpSocket;
+use bad_network::{BadNetwork, Fate, Packet, Way};
+use exchange_log::{Note, Stamp, put_pause};
+use live_ends::{NEXT_OFFER, Now};
 use plain_machine::OutDatagram;
-use std::alloc::Global;
-use std::io;
-use std::io::ErrorKind;
-use std::net::{Net, SocketAddr, SocketAddrV4};
-use std::rt::Clock;
-use system_reasons::reason_of;
+use std::alloc::{AllocError, Global};
+use std::net::SocketAddrV4;
+use surroundings::{Lines, Surroundings};
+use turns::{Pause, Ready};
 
-// Where nothing falls due it wakes so often, in ms, and what failed is tried again no sooner than that.
-const LONGEST_WAIT: u64 = 1000;
-
-const SHORTEST_WAIT: u64 = 1;
-
-/// How a wire is opened.
-#[derive(Clone, Copy)]
-pub struct WireSettings {
-    /// The address of the socket for gateways; port 0 is any free one.
-    pub listen: SocketAddrV4,
-    /// The address of the socket for commands; port 0 is any free one.
-    pub control: SocketAddrV4,
-    /// How the network is spoilt, where it is.
-    pub network: Option<Spoiling>,
-    pub has_log: bool,
-    pub has_capture: bool,
-    /// The moment at which it ends, in ms.
-    pub end: Option<u64>,
-}
-
-/// A wire over the machine's network and clock.
+/// A wire over these surroundings.
 #[derive(Drop)]
-pub struct Wire<'a, R> {
-    pub socket: UdpSocket,
-    pub control: CommandSocket,
-    pub clock: LiveClock<'a, R>,
-    pub ready: Readiness,
-    /// The network that spoils what comes and what is sent, where there is one.
-    pub network: Option<BadNetwork>,
+pub struct Wire<S> {
+    alloc: Global,
+    pub around: S,
+    // What is left of what was typed.
+    pub(crate) lines: Lines,
+    // The network that spoils what comes and what is sent, where there is one.
+    network: Option<BadNetwork>,
     pub journal: Journal,
-    /// The moment at which it ends, in ms.
-    pub end: Option<u64>,
+    // What clocks say at the turn under way.
+    pub(crate) now: Now,
+    // So many datagrams were read since the start, of lines too.
+    pub(crate) read: u64,
+    // The moment at which it ends, in ms.
+    pub(crate) end: Option<u64>,
+    // Whether something that was recorded waits to be taken.
+    is_offering: bool,
 }
 
 // What becomes of a packet is counted, and noted in the log.
@@ -60,115 +42,108 @@ fn note_fate(journal: &mut Journal, stamp: Stamp, fate: Fate) {
     journal.note(stamp, note);
 }
 
-// What went wrong with the socket for gateways.
-fn listen_fault(kind: ErrorKind) -> ServeFault {
-    if kind == ErrorKind::OutOfMemory {
-        return ServeFault::OutOfMemory;
-    }
-    ServeFault::Listen {
-        reason: reason_of(kind),
+fn is_by(due: Option<u64>, moment: u64) -> bool {
+    match due {
+        Some(due) => due <= moment,
+        None => false,
     }
 }
 
-// What went wrong with the socket for commands.
-fn control_fault(kind: ErrorKind) -> ServeFault {
-    if kind == ErrorKind::OutOfMemory {
-        return ServeFault::OutOfMemory;
-    }
-    ServeFault::Control {
-        reason: reason_of(kind),
-    }
-}
-
-// The address of the socket for gateways.
-fn here_of(socket: &UdpSocket, listen: SocketAddrV4) -> SocketAddrV4 {
-    match socket.local_addr() {
-        Ok(SocketAddr::V4(here)) => here,
-        _ => listen,
-    }
-}
-
-// The network that spoils what comes and what is sent, where one is asked for.
-fn network_of(alloc: Global, spoiling: Option<Spoiling>) -> Option<BadNetwork> {
-    match spoiling {
-        Some(spoiling) => Some(BadNetwork::new(alloc, spoiling)),
-        None => None,
-    }
-}
-
-impl<'a, R: Net + Clock> Wire<'a, R> {
-    /// Opens the sockets, and starts the clock.
-    pub fn open(
-        rt: &'a R,
+impl<S: Surroundings + Drop> Wire<S> {
+    /// The wire over these surroundings, over which nothing went, at moment 0. This network spoils what goes over it, where there is one;
+    /// it ends at a moment of its clock, in ms, if one is given. An error is for want of memory.
+    pub fn new(
         alloc: Global,
-        settings: WireSettings,
-    ) -> Result<Wire<'a, R>, ServeFault> {
-        let Ok(clock) = LiveClock::start(rt) else {
-            return Err(ServeFault::Clock);
+        around: S,
+        network: Option<BadNetwork>,
+        journal: Journal,
+        end: Option<u64>,
+    ) -> Result<Wire<S>, AllocError> {
+        let now = Now {
+            clock: 0,
+            time: around.time(),
         };
-        let mut socket = match UdpSocket::bind(rt, SocketAddr::V4(settings.listen)) {
-            Ok(socket) => socket,
-            Err(e) => return Err(listen_fault(e.kind())),
-        };
-        let mut control = match CommandSocket::open(rt, alloc, settings.control, &socket) {
-            Ok(control) => control,
-            Err(e) => return Err(control_fault(e.kind())),
-        };
-        match Readiness::watch(rt, alloc, &mut socket, &mut control) {
-            Ok(ready) => {
-                let here = here_of(&socket, settings.listen);
-                Ok(Wire {
-                    socket,
-                    control,
-                    clock,
-                    ready,
-                    network: network_of(alloc, settings.network),
-                    journal: Journal::new(alloc, settings.has_log, settings.has_capture, here),
-                    end: settings.end,
-                })
-            }
-            Err(e) => Err(listen_fault(e.kind())),
+        Ok(Wire {
+            alloc,
+            around,
+            lines: Lines::new(alloc)?,
+            network,
+            journal,
+            now,
+            read: 0,
+            end,
+            is_offering: false,
+        })
+    }
+
+    /// A turn begins.
+    pub(crate) fn begin(&mut self) {
+        self.now.time = self.around.time();
+    }
+
+    /// The moment at which the network hands something out, in ms, if it will.
+    pub(crate) fn network_due(&self) -> Option<u64> {
+        match &self.network {
+            Some(network) => network.next_due(),
+            None => None,
         }
     }
 
-    /// Whether its end has come.
-    pub fn is_over(&self) -> bool {
-        match self.end {
-            Some(end) => self.clock.ticked() >= end,
-            None => false,
+    /// What may come now.
+    pub(crate) fn ready(&self) -> Ready {
+        let told = self.around.told();
+        Ready {
+            commands: told.lines || !self.lines.is_empty(),
+            datagrams: told.datagrams || is_by(self.network_due(), self.now.clock),
+            visitors: false,
         }
     }
 
     /// A datagram, where one has come: who sent it, and its length. One without a port can't be answered, and doesn't count.
-    pub fn receive(&mut self, room: &mut [u8]) -> Option<(SocketAddrV4, usize)> {
-        if !self.ready.socket {
-            return None;
-        }
-        match self.socket.recv_from(room) {
-            Ok((len, SocketAddr::V4(source))) if source.port() > 0 => Some((source, len)),
-            Ok(_) => None,
-            Err(e) if e.kind() == ErrorKind::Interrupted => None,
-            Err(e) => {
-                self.ready.socket = false;
-                if e.kind() != ErrorKind::WouldBlock {
-                    count(&mut self.journal.tally.receive_faults);
+    pub(crate) fn receive(&mut self, room: &mut [u8]) -> Option<(SocketAddrV4, usize)> {
+        match self.around.receive(room) {
+            Ok(Some((source, len))) => {
+                self.read = self.read.saturating_add(1);
+                if source.port() > 0 {
+                    return Some((source, len));
                 }
+                None
+            }
+            Ok(None) => None,
+            Err(_) => {
+                count(&mut self.journal.tally.receive_faults);
                 None
             }
         }
     }
 
+    /// Takes a datagram of lines, where one has come and none is left of the one before.
+    pub(crate) fn hear_lines(&mut self) {
+        if self.lines.hear(&mut self.around) {
+            self.read = self.read.saturating_add(1);
+        }
+    }
+
+    /// Answers the line that was typed, and goes on to the next.
+    pub(crate) fn answer(&mut self, text: &[u8]) {
+        self.lines.answer(&mut self.around, text);
+    }
+
+    /// Answers it together with all that stands behind it in its datagram.
+    pub(crate) fn answer_all(&mut self, text: &[u8]) {
+        self.lines.answer_all(&mut self.around, text);
+    }
+
     // Offers a packet to the network that spoils it: whether there is one.
     fn offer(&mut self, way: Way, peer: SocketAddrV4, bytes: &[u8]) -> bool {
-        let now = self.clock.now();
         let stamp = Stamp {
-            moment: now.time,
+            moment: self.now.time,
             peer,
         };
         let Some(network) = &mut self.network else {
             return false;
         };
-        match network.offer(way, peer, bytes, now.clock) {
+        match network.offer(way, peer, bytes, self.now.clock) {
             Ok(fate) => note_fate(&mut self.journal, stamp, fate),
             Err(_) => count(&mut self.journal.tally.refused),
         }
@@ -176,80 +151,83 @@ impl<'a, R: Net + Clock> Wire<'a, R> {
     }
 
     /// What has come is offered to the network that spoils it: whether there is one.
-    pub fn is_spoilt(&mut self, peer: SocketAddrV4, bytes: &[u8]) -> bool {
+    pub(crate) fn is_spoilt(&mut self, peer: SocketAddrV4, bytes: &[u8]) -> bool {
         self.offer(Way::In, peer, bytes)
     }
 
-    /// What the network hands out next, if something is due.
-    pub fn handed_out(&mut self) -> Option<Packet> {
-        let now = self.clock.ticked();
+    // The next packet that the network hands out now, if there is one.
+    fn take_due(&mut self) -> Option<Packet> {
         match &mut self.network {
-            Some(network) => network.take_due(now),
+            Some(network) => network.take_due(self.now.clock),
             None => None,
         }
     }
 
-    /// Puts a datagram onto the machine's network.
-    pub fn transmit(&mut self, to: SocketAddrV4, bytes: &[u8]) {
-        match self.socket.send_to(bytes, SocketAddr::V4(to)) {
-            Ok(len) if len == bytes.len() => {}
-            Ok(_) | Err(_) => self.fail_to_send(to),
+    /// The next packet that the network hands over now, if there is one. Those before it that go out are sent.
+    pub(crate) fn handed_over(&mut self) -> Option<Packet> {
+        for _ in 0..u16::MAX {
+            let packet = self.take_due()?;
+            if packet.way == Way::In {
+                return Some(packet);
+            }
+            self.transmit(packet.peer, packet.bytes.as_bytes());
         }
+        None
     }
 
-    // A datagram didn't leave, which is counted and noted in the log.
-    fn fail_to_send(&mut self, to: SocketAddrV4) {
+    // Puts a datagram onto the machine's network. One that doesn't leave is counted, and noted in the log.
+    fn transmit(&mut self, to: SocketAddrV4, bytes: &[u8]) {
+        if self.around.send(to, bytes).is_ok() {
+            return;
+        }
         count(&mut self.journal.tally.send_faults);
         let stamp = Stamp {
-            moment: self.clock.now().time,
+            moment: self.now.time,
             peer: to,
         };
         self.journal.note(stamp, Note::Unsent);
     }
 
     /// Sends a datagram, for the first time or again.
-    pub fn send(&mut self, to: SocketAddrV4, bytes: &[u8], is_repeat: bool) {
-        let time = self.clock.now().time;
-        self.journal.sent(time, to, bytes, is_repeat);
+    pub(crate) fn send(&mut self, to: SocketAddrV4, bytes: &[u8], is_repeat: bool) {
+        self.journal.sent(self.now.time, to, bytes, is_repeat);
         if !self.offer(Way::Out, to, bytes) {
             self.transmit(to, bytes);
         }
     }
 
     /// Sends datagrams, for the first time or again.
-    pub fn send_all(&mut self, datagrams: &[OutDatagram], is_repeat: bool) {
+    pub(crate) fn send_all(&mut self, datagrams: &[OutDatagram], is_repeat: bool) {
         for datagram in datagrams {
             self.send(datagram.to, datagram.bytes.as_bytes(), is_repeat);
         }
     }
 
-    // How long nothing is to be done, in ms, if nothing comes and something else falls due at this moment; where something that was
-    // recorded waits to be taken, it is offered again soon.
-    fn idle_time(&self, due: u64, is_offering: bool) -> io::Result<u64> {
-        let now = self.clock.moment()?;
-        let ticked = self.clock.ticked();
-        let handed_out = match &self.network {
-            Some(network) => network.next_due().unwrap_or(u64::MAX),
-            None => u64::MAX,
-        };
-        let is_behind = now.saturating_sub(ticked) >= LONGEST_TICK;
-        if self.ready.is_any() || handed_out <= ticked || is_behind {
-            return Ok(0);
+    /// The program was stopped, and goes on: that is noted in the log.
+    pub(crate) fn note_pause(&mut self, pause: Pause) {
+        let log = &mut self.journal.log;
+        let Pause { lateness, read } = pause;
+        if log.is_on()
+            && put_pause(self.alloc, &mut log.out, self.now.time, lateness, read).is_err()
+        {
+            log.refuse();
         }
-        let end = self.end.unwrap_or(u64::MAX);
-        let left = due.min(handed_out).min(end).saturating_sub(now);
-        let longest = if is_offering {
-            NEXT_OFFER
-        } else {
-            LONGEST_WAIT
-        };
-        Ok(left.clamp(SHORTEST_WAIT, longest))
     }
 
-    /// Waits until something comes or falls due. What the wire doesn't know of does so at this moment, in ms; what was recorded may wait
-    /// to be taken.
-    pub fn wait(&mut self, due: Option<u64>, is_offering: bool) -> io::Result<()> {
-        let longest = self.idle_time(due.unwrap_or(u64::MAX), is_offering)?;
-        self.ready.wait(longest)
+    /// Something that was recorded waits to be taken, or nothing does.
+    pub(crate) fn note_offering(&mut self, is_offering: bool) {
+        self.is_offering = is_offering;
+    }
+
+    /// Waits until something comes, but no longer than this, in ms, nor than until what waits to be taken is offered again.
+    pub(crate) fn wait(&mut self, longest: u64) {
+        let longest = if self.is_offering {
+            longest.min(NEXT_OFFER)
+        } else {
+            longest
+        };
+        if self.around.wait(longest).is_err() {
+            count(&mut self.journal.tally.receive_faults);
+        }
     }
 }

@@ -1,0 +1,23 @@
+//! Where what was recorded is written.
+use agent_texts::Journal;
+use live_ends::Outlets;
+use std::io::Write;
+
+/// Where what was recorded is written.
+pub trait Recorder {
+    /// Keeps what was recorded at a turn, at this moment, in microseconds since 1970, and writes as much of what is kept as is taken at once.
+    fn write(&mut self, journal: &mut Journal, time: u64);
+
+    /// Whether something waits to be taken: so it is offered again soon, whether anything comes or not.
+    fn is_offering(&self) -> bool;
+}
+
+impl<F: Write + Drop> Recorder for Outlets<F> {
+    fn write(&mut self, journal: &mut Journal, time: u64) {
+        journal.write(self, time);
+    }
+
+    fn is_offering(&self) -> bool {
+        !self.are_taken()
+    }
+}
