@@ -1,12 +1,11 @@
-//! What a program on a live network stands on: the machine's clock, sockets that are waited for, a socket that takes commands,
-//! and outlets for what is recorded, where no write waits.
+//! What a program on a live network stands on: the machine's clock, sockets that are waited for, and outlets
+//! for what is recorded, where no write waits.
 //!
 //! Nothing here knows what a datagram says, or what a command does.
 #![tactic(auto)]
 
 mod backlog;
 mod clock;
-mod command_socket;
 pub mod examples;
 pub mod laws;
 mod live;
@@ -21,9 +20,8 @@ mod written;
 
 pub use crate::backlog::{Backlog, MOST_KEPT, NOTE_ROOM, TEXT_ROOM, lines_ended};
 pub use crate::clock::{LiveClock, time_of_day};
-pub use crate::command_socket::{CommandSocket, STOP_FROM_AFAR};
-pub use crate::live::{Live, bind};
-pub use crate::now::{LONGEST_TICK, Now};
+pub use crate::live::{Live, STOP_FROM_AFAR, bind};
+pub use crate::now::Now;
 pub use crate::outlet::{Outlet, OutletState};
 pub use crate::outlets::{NEXT_OFFER, Outlets};
 pub use crate::readiness::{MOST_VISITORS, Readiness, Visit};

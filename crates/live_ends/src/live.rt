@@ -2,15 +2,17 @@
 ghost use Rattle.std.specs.Prelude.{◌≡◌};
 
 use crate::clock::LiveClock;
-use crate::command_socket::address_of;
 use crate::readiness::Readiness;
 use mio::net::UdpSocket;
 use std::alloc::Global;
 use std::io;
 use std::io::ErrorKind;
-use std::net::{Net, SocketAddr, SocketAddrV4};
+use std::net::{Ipv4Addr, Net, SocketAddr, SocketAddrV4};
 use std::rt::Clock;
 use surroundings::{Fault, Surroundings, Told};
+
+/// What is answered to a line that asks for the program's end, and isn't from the loopback.
+pub const STOP_FROM_AFAR: &[u8] = b"! stop is taken from a loopback address alone, 127.0.0.0/8\n";
 
 /// A socket for datagrams, another for lines of who types, and the machine's clock. What was handed to sockets isn't told.
 #[derive(Drop)]
@@ -28,6 +30,14 @@ pub struct Live<'a, R> {
 /// A socket at this address, that is waited for.
 pub fn bind<R: Net>(rt: &R, address: SocketAddrV4) -> io::Result<UdpSocket> {
     UdpSocket::bind(rt, SocketAddr::V4(address))
+}
+
+// The address of a socket; port 0, from which nothing comes, where it has none of the kind that sockets here have.
+fn address_of(socket: &UdpSocket) -> SocketAddrV4 {
+    match socket.local_addr() {
+        Ok(SocketAddr::V4(address)) => address,
+        Ok(SocketAddr::V6(_)) | Err(_) => SocketAddrV4::new(Ipv4Addr::UNSPECIFIED, 0),
+    }
 }
 
 // The socket gave nothing for this reason: whether it failed. One that is empty isn't looked at again before it is told.
@@ -48,7 +58,7 @@ impl<'a, R: Net + Clock> Live<'a, R> {
         mut commands: UdpSocket,
     ) -> io::Result<Live<'a, R>> {
         let own = [address_of(&socket), address_of(&commands)];
-        let ready = Readiness::watch_both(rt, alloc, &mut socket, &mut commands)?;
+        let ready = Readiness::watch(rt, alloc, &mut socket, &mut commands)?;
         let Ok(ready) = Box::new(alloc, ready) else {
             return Err(io::Error::from(ErrorKind::OutOfMemory));
         };
@@ -81,7 +91,7 @@ impl<R: Net + Clock> Surroundings for Live<'_, R> {
     }
 
     fn time(&self) -> u64 {
-        self.clock.now().time
+        self.clock.time()
     }
 
     fn own(&self) -> [SocketAddrV4; 2] {

@@ -1,8 +1,5 @@
 //! When something happens.
 
-/// The clock goes on by no more than this in one tick, in ms.
-pub const LONGEST_TICK: u64 = 1000;
-
 /// What clocks say.
 #[derive(Clone, Copy)]
 pub struct Now {

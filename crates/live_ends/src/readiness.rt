@@ -1,5 +1,4 @@
 //! Which sockets may have something, as the system tells it.
-use crate::command_socket::CommandSocket;
 use mio::event::Event;
 use mio::net::{TcpListener, TcpStream, UdpSocket};
 use mio::{Events, Interest, Poll, Token};
@@ -54,18 +53,8 @@ fn note_visit(visit: &mut Visit, event: &Event) {
 }
 
 impl Readiness {
-    /// Watches these sockets, to each of which something may have come already.
+    /// Watches these sockets, of which the second one is for commands: to each something may have come already.
     pub fn watch<R: Net>(
-        rt: &R,
-        alloc: Global,
-        socket: &mut UdpSocket,
-        commands: &mut CommandSocket,
-    ) -> io::Result<Readiness> {
-        Readiness::watch_both(rt, alloc, socket, &mut commands.socket)
-    }
-
-    /// The same of two sockets, of which the second one is for commands.
-    pub fn watch_both<R: Net>(
         rt: &R,
         alloc: Global,
         socket: &mut UdpSocket,
@@ -119,11 +108,6 @@ impl Readiness {
             }
         }
         false
-    }
-
-    /// Whether a datagram or a command may have come.
-    pub fn is_any(&self) -> bool {
-        self.socket || self.commands
     }
 
     /// Waits until something comes, but no longer than this, in ms.
