@@ -2,17 +2,21 @@
 //!
 //! - `scripts`: scripts of the program, with what is printed beside what causes it.
 //! - `program`: a row a call of the program: its name, its values, and what it answers.
+//! - `live`: what comes to `rgwd` that runs in memory, and what it gives.
 //! - `streams`: an input whose streams give and take little at a time, and fail.
 //!
 //! What is told otherwise than it happens is printed under its title. `docs/SCENARIOS.md` says how scenarios are written.
 #![tactic(auto)]
 
 mod calls;
+mod live;
 mod played;
 mod scripts;
+mod stories;
 mod streams;
 
 use crate::calls::Calls;
+use crate::live::Live;
 use crate::streams::StreamScenario;
 use rows::Rows;
 use scenario_files::{Count, Kinds, play};
@@ -34,6 +38,7 @@ impl Kinds for All {
         let told = match kind {
             "scripts" => scripts::told(rt, text),
             "program" => scenario_files::told::<Calls, R>(rt, text),
+            "live" => stories::told::<Live, R>(rt, text),
             "streams" => scenario_files::told::<StreamScenario, R>(rt, text),
             _ => return told_below(rt, kind, text),
         };

@@ -1,0 +1,261 @@
+//! Stories of `rgwd`: its loop, from its words and its configuration on.
+//!
+//! - `words --log` it is called with this; each word stands in a line of its own, with its value.
+//! - `set ..` changes the configuration, as in a script.
+//! - `at 2000` what stands below comes, and goes out, at this moment by the machine's clock, in ms.
+//! - `<`, `>` and the lines of a datagram, up to `--`: it comes from the agent, or goes there; behind them may stand an address.
+//! - `raw 10.0.0.7:2727 AUEP 1 ..` a datagram comes, in short forms.
+//! - `type phone 1 off` this is typed at the telephones' socket, from 127.0.0.1:40000, or from the address before it.
+//! - `ask GET /state HTTP/1.1¶..` a visitor of the page asks that.
+//! - `pause 31000` the program is stopped, for so many ms.
+//! - `fault send` the next datagram can't be sent; `fault receive` none can be received.
+//! - `answer done` a line of an answer to who usually types, `answer 10.0.0.9:5000 done` to somebody else; `page ..` one of what a visitor gets; `log ..`, `trace ..`, `capture ..` what is
+//!   recorded; `count ..` what is counted at the end, and `replay ..` what a replay of the trace finds.
+mod browsers;
+
+use crate::live::browsers::Browsers;
+use crate::stories::{Place, Program, Records, Story, Transcript, Watched, Words, words_in};
+use bad_network::BadNetwork;
+use gateway_core::Gateway;
+use live_ends::{Now, Written};
+use live_gateway::{Desk, Exchange, Recorder, boxed};
+use live_journal::{Capture, Journal, Log, MessageTally, Trace, report};
+use live_play::LivePlay;
+use page_answers::Board;
+use rgw_play::{PlayFault, gateway_from};
+use scenario_files::{input_of, read_scenario, refused};
+use std::alloc::{AllocError, Global};
+use std::collections::VecDeque;
+use std::net::{Ipv4Addr, SocketAddrV4};
+use std::{io, mem};
+use surroundings::{Lines, Surroundings};
+use traces::{put_verdict, replay};
+
+/// The program `rgwd`.
+pub struct Live;
+
+// Keeps what was recorded at a turn.
+fn keep_all(
+    records: &mut Records,
+    journal: &mut Journal,
+    trace: &mut Trace,
+    time: u64,
+) -> Result<(), AllocError> {
+    let moment = records.moment_of(time);
+    let record = &mut trace.record;
+    records.trace.extend_from_slice(record.out.as_slice())?;
+    records.keep(moment, b"trace ", record)?;
+    records.keep(moment, b"log ", &mut journal.log.record)?;
+    records.keep_capture(moment, &mut journal.capture.record)
+}
+
+impl Recorder<Trace> for Records {
+    fn write(&mut self, journal: &mut Journal, trace: &mut Trace, time: u64) {
+        if keep_all(self, journal, trace, time).is_err() {
+            self.is_refused = true;
+        }
+    }
+
+    fn is_offering(&self) -> bool {
+        false
+    }
+}
+
+// The text of a configuration with these changes.
+fn config_of(alloc: Global, changes: &str) -> io::Result<String> {
+    let mut scenario = read_scenario(alloc, "", false)?;
+    scenario.is_at_opening = true;
+    scenario.changes.push_str(changes)?;
+    input_of(alloc, &scenario)
+}
+
+// A gateway of a configuration; nothing where that has a fault.
+fn gateway_in(alloc: Global, config: &str, words: &Words) -> io::Result<Option<Box<Gateway>>> {
+    match gateway_from(alloc, config.as_bytes(), words.first.number()) {
+        Ok(gateway) => Ok(Some(boxed(alloc, gateway)?)),
+        Err(PlayFault::OutOfMemory) => Err(refused()),
+        Err(_) => Ok(None),
+    }
+}
+
+// The bad network, if one is asked for.
+fn network_of(
+    alloc: Global,
+    words: &Words,
+    gateway: &Gateway,
+) -> Result<Option<Box<BadNetwork>>, AllocError> {
+    let Some(spoiling) = words.network else {
+        return Ok(None);
+    };
+    let domain = gateway.setup().names.domain.as_bytes();
+    let network = BadNetwork::new(alloc, spoiling.with_name(domain));
+    Ok(Some(boxed(alloc, network)?))
+}
+
+// What a page is shown, if there is one.
+fn board_of(alloc: Global, words: &Words) -> Result<Option<Box<Board>>, AllocError> {
+    match words.http {
+        Some(_) => Ok(Some(boxed(alloc, Board::new(alloc))?)),
+        None => Ok(None),
+    }
+}
+
+fn journal_of(alloc: Global, words: &Words, gateway: &Gateway) -> Result<Box<Journal>, AllocError> {
+    let file = match &words.capture {
+        Some(file) => Some(file.as_str()),
+        None => None,
+    };
+    let journal = Journal {
+        tally: boxed(alloc, MessageTally::new(alloc)?)?,
+        log: boxed(alloc, Log::new(alloc, words.has_log, gateway)?)?,
+        capture: boxed(alloc, Capture::new(alloc, file, words.own[0])?)?,
+        board: board_of(alloc, words)?,
+        written: Written::ALL,
+    };
+    boxed(alloc, journal)
+}
+
+// The way between a gateway and others.
+fn exchange_of(
+    alloc: Global,
+    words: &Words,
+    gateway: &Gateway,
+    mut around: Watched,
+) -> Result<Box<Exchange<Watched>>, AllocError> {
+    around.own = words.own;
+    let now = Now {
+        clock: 0,
+        time: around.time(),
+    };
+    let network = network_of(alloc, words, gateway)?;
+    let journal = journal_of(alloc, words, gateway)?;
+    boxed(alloc, Exchange::new(around, network, journal, now))
+}
+
+// A gateway that runs.
+fn desk_of(
+    alloc: Global,
+    words: &Words,
+    config: &str,
+    gateway: Box<Gateway>,
+    around: Watched,
+    last: u64,
+) -> Result<Box<Desk<Watched, Trace>>, AllocError> {
+    let exchange = exchange_of(alloc, words, &gateway, around)?;
+    let first = words.first.number();
+    let trace = Trace::new(alloc, words.has_trace, config.as_bytes(), first);
+    let play = boxed(alloc, LivePlay::new(alloc, gateway, trace))?;
+    let lines = boxed(alloc, Lines::new(alloc)?)?;
+    let end = words.stop_after.unwrap_or(last.saturating_add(1));
+    boxed(alloc, Desk::new(alloc, play, exchange, lines, Some(end)))
+}
+
+// Who visits the page, if there is one.
+fn visitors_of(
+    alloc: Global,
+    words: &Words,
+    story: &mut Story,
+) -> Result<Option<Box<Browsers>>, AllocError> {
+    let Some(site) = words.http else {
+        return Ok(None);
+    };
+    let visits = mem::replace(&mut story.visits, VecDeque::new(alloc));
+    Ok(Some(boxed(alloc, Browsers::new(alloc, site, visits))?))
+}
+
+// Puts what a replay finds of a trace.
+fn tell_replay(alloc: Global, records: &mut Records, moment: u64) -> io::Result<()> {
+    let Ok(verdict) = replay(alloc, records.trace.as_slice()) else {
+        return Err(refused());
+    };
+    let mut text = Vec::new(alloc);
+    put_verdict(alloc, &mut text, &verdict)?;
+    records.given.tell(moment, b"replay ", text.as_slice())?;
+    Ok(())
+}
+
+// Puts what was counted.
+fn tell_counts(
+    alloc: Global,
+    desk: &Desk<Watched, Trace>,
+    records: &mut Records,
+    moment: u64,
+) -> io::Result<()> {
+    let exchange = &desk.exchange;
+    let counts = report(
+        alloc,
+        &desk.play.gateway,
+        &exchange.journal,
+        exchange.faults,
+    )?;
+    records.given.tell(moment, b"count ", counts.as_bytes())?;
+    Ok(())
+}
+
+// Tells what the program tells at its end, and what a replay of its trace finds.
+fn end(
+    alloc: Global,
+    desk: &mut Desk<Watched, Trace>,
+    records: &mut Records,
+    is_counted: bool,
+) -> io::Result<()> {
+    desk.play.end();
+    desk.write(records);
+    let moment = records.moment_of(desk.exchange.now.time);
+    if desk.play.teller.record.is_on() {
+        tell_replay(alloc, records, moment)?;
+    }
+    if is_counted {
+        tell_counts(alloc, desk, records, moment)?;
+    }
+    Ok(())
+}
+
+// What comes of a story at a gateway.
+fn given_by(
+    alloc: Global,
+    words: &Words,
+    config: &str,
+    gateway: Box<Gateway>,
+    story: &mut Story,
+) -> io::Result<Box<Transcript>> {
+    let mut visitors = visitors_of(alloc, words, story)?;
+    let around = mem::replace(&mut story.around, Watched::new(alloc, Live::place().own));
+    let mut records = boxed(alloc, Records::new(alloc, around.time()))?;
+    let mut desk = desk_of(alloc, words, config, gateway, around, story.moment)?;
+    desk.run(&mut visitors, &mut *records);
+    if words.stop_after.is_some() || story.is_counted {
+        end(alloc, &mut desk, &mut records, story.is_counted)?;
+    }
+    desk.answer_stop();
+    let mut given = boxed(alloc, Transcript::new(alloc))?;
+    desk.exchange.around.give(&mut given)?;
+    if let Some(browsers) = &mut visitors {
+        browsers.give(&mut given)?;
+    }
+    records.give(&mut given)?;
+    Ok(given)
+}
+
+impl Program for Live {
+    fn place() -> Place {
+        Place {
+            own: [
+                SocketAddrV4::new(Ipv4Addr::LOCALHOST, 2427),
+                SocketAddrV4::new(Ipv4Addr::LOCALHOST, 2428),
+            ],
+            peer: SocketAddrV4::new(Ipv4Addr::LOCALHOST, 2727),
+        }
+    }
+
+    fn given(alloc: Global, story: &mut Story) -> io::Result<Option<Box<Transcript>>> {
+        let Some(words) = words_in(alloc, story.words.as_slice(), Live::place().own)? else {
+            return Ok(None);
+        };
+        let config = config_of(alloc, story.settings.as_str())?;
+        match gateway_in(alloc, config.as_str(), &words)? {
+            Some(gateway) => Ok(Some(given_by(alloc, &words, config.as_str(), gateway, story)?)),
+            None => Ok(None),
+        }
+    }
+}

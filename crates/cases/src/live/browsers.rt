@@ -1,0 +1,124 @@
+//! Visitors of a page in memory: each asks once, and gets an answer.
+use crate::stories::{Transcript, Visit, Watched};
+use http_server::{Config, Connection};
+use live_gateway::Visitors;
+use live_page::Desk;
+use page_answers::Board;
+use scenario_files::refused;
+use std::alloc::Global;
+use std::collections::VecDeque;
+use std::hash::RandomState;
+use std::io;
+use std::net::SocketAddrV4;
+use std::random::RandomSource;
+
+// Keys that aren't secret: nobody visits whom a script doesn't have.
+struct KnownKeys;
+
+impl RandomSource for KnownKeys {
+    fn fill_bytes(&self, _buf: &mut [u8]) -> io::Result<()> {
+        Ok(())
+    }
+}
+
+/// Visitors of the page at this address, who come at their moments.
+#[derive(Drop)]
+pub struct Browsers {
+    alloc: Global,
+    site: SocketAddrV4,
+    visits: VecDeque<Visit>,
+    given: Transcript,
+    // Memory was refused for what they got.
+    is_refused: bool,
+}
+
+// Gives what is asked.
+fn answered(alloc: Global, desk: &mut Desk<'_>, request: &[u8]) -> io::Result<Vec<u8>> {
+    let keys = RandomState::new(&KnownKeys)?;
+    let mut connection = Connection::new(alloc, keys, Config::default());
+    let mut reader = request;
+    connection.read_from(&mut reader)?;
+    connection.advance(desk);
+    let mut answer = Vec::new(alloc);
+    for _ in 0..u16::MAX {
+        if !connection.wants_write() {
+            break;
+        }
+        connection.write_to(&mut answer)?;
+    }
+    Ok(answer)
+}
+
+// The head of an answer, and the first line of its body.
+fn front_of(answer: &[u8]) -> &[u8] {
+    let text = str::from_utf8(answer).unwrap_or("");
+    let (head, body) = text.split_once("\r\n\r\n").unwrap_or((text, ""));
+    let first = body.lines().next().unwrap_or("");
+    let length = head.len().saturating_add(4).saturating_add(first.len());
+    answer.get(..length).unwrap_or(answer)
+}
+
+impl Browsers {
+    /// None has been there.
+    pub fn new(alloc: Global, site: SocketAddrV4, visits: VecDeque<Visit>) -> Browsers {
+        Browsers {
+            alloc,
+            site,
+            visits,
+            given: Transcript::new(alloc),
+            is_refused: false,
+        }
+    }
+
+    /// Puts what they got behind what was given before.
+    pub fn give(&mut self, given: &mut Transcript) -> io::Result<()> {
+        given.append(&mut self.given)?;
+        if self.is_refused {
+            return Err(refused());
+        }
+        Ok(())
+    }
+
+    // The moment at which the next one comes.
+    fn next(&self) -> Option<u64> {
+        match self.visits.front() {
+            Some(visit) => Some(visit.moment),
+            None => None,
+        }
+    }
+
+    // Who comes next is answered.
+    fn serve(&mut self, board: &mut Board, moment: u64) -> io::Result<()> {
+        let Some(visit) = self.visits.pop_front() else {
+            return Ok(());
+        };
+        let mut desk = Desk::new(self.site, board);
+        let answer = answered(self.alloc, &mut desk, visit.request.as_slice())?;
+        let told = if visit.is_brief {
+            front_of(answer.as_slice())
+        } else {
+            answer.as_slice()
+        };
+        self.given.tell(moment, b"page ", told)?;
+        Ok(())
+    }
+}
+
+impl Visitors<Watched> for Browsers {
+    fn is_ready(&self, _around: &Watched, moment: u64) -> bool {
+        match self.next() {
+            Some(next) => next <= moment,
+            None => false,
+        }
+    }
+
+    fn next_deadline(&self) -> Option<u64> {
+        self.next()
+    }
+
+    fn turn(&mut self, _around: &mut Watched, board: &mut Board, moment: u64) {
+        if self.serve(board, moment).is_err() {
+            self.is_refused = true;
+        }
+    }
+}

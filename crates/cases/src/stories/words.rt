@@ -1,0 +1,84 @@
+//! The words that a program is called with, as far as its loop asks for them.
+use bad_network::Spoiling;
+use mg_bytes::decimal;
+use new_start::FirstNumber;
+use std::alloc::Global;
+use std::io;
+use std::net::{Ipv4Addr, SocketAddrV4};
+
+/// What the words ask for.
+#[derive(Drop)]
+pub struct Words {
+    /// The addresses of its sockets: for datagrams, and for who types.
+    pub own: [SocketAddrV4; 2],
+    pub http: Option<SocketAddrV4>,
+    pub has_log: bool,
+    pub has_trace: bool,
+    pub is_routed: bool,
+    pub capture: Option<String>,
+    pub network: Option<Spoiling>,
+    pub first: FirstNumber,
+    pub stop_after: Option<u64>,
+}
+
+// An address behind a word; 0.0.0.0:0 where it is none, at which nothing is to be had.
+fn address_in(value: &str) -> SocketAddrV4 {
+    value
+        .parse::<SocketAddrV4>()
+        .unwrap_or(SocketAddrV4::new(Ipv4Addr::UNSPECIFIED, 0))
+}
+
+impl Words {
+    // No words, of a program whose sockets are there.
+    fn none(own: [SocketAddrV4; 2]) -> Words {
+        Words {
+            own,
+            http: None,
+            has_log: false,
+            has_trace: false,
+            is_routed: false,
+            capture: None,
+            network: None,
+            first: FirstNumber::zero(),
+            stop_after: None,
+        }
+    }
+
+    // Takes a word, with its value: whether there is such a word.
+    fn take(&mut self, alloc: Global, name: &str, value: &str) -> io::Result<bool> {
+        match name {
+            "--listen" => self.own[0] = address_in(value),
+            "--phones" | "--control" => self.own[1] = address_in(value),
+            "--http" => self.http = Some(address_in(value)),
+            "--log" => self.has_log = true,
+            "--trace" => self.has_trace = true,
+            "--route" => self.is_routed = true,
+            "--capture" => self.capture = Some(value.to_string(alloc)?),
+            "--network" => self.network = Spoiling::read(value.as_bytes()).ok(),
+            "--first" => self.first = FirstNumber::read(value.as_bytes()).unwrap_or(
+                FirstNumber::zero(),
+            ),
+            "--stop-after" => self.stop_after = decimal(value.as_bytes()),
+            _ => return Ok(false),
+        }
+        Ok(true)
+    }
+}
+
+/// What words ask for, each with its value behind it, of a program whose sockets are there where no word says another place; nothing
+/// where one isn't known.
+pub fn words_in(
+    alloc: Global,
+    words: &[String],
+    own: [SocketAddrV4; 2],
+) -> io::Result<Option<Words>> {
+    let mut asked = Words::none(own);
+    for word in words {
+        let word = word.as_str();
+        let (name, value) = word.split_once(' ').unwrap_or((word, ""));
+        if !asked.take(alloc, name, value)? {
+            return Ok(None);
+        }
+    }
+    Ok(Some(asked))
+}
