@@ -2,13 +2,14 @@
 //!
 //! - `scripts`: scripts of the program, with what is printed beside what causes it.
 //! - `program`: a row a call of the program: its name, its values, and what it answers.
-//! - `live`: what comes to `rgwd` that runs in memory, and what it gives.
+//! - `live`, `desk`: what comes to `rgwd`, and to `rgca`, that runs in memory, and what it gives.
 //! - `streams`: an input whose streams give and take little at a time, and fail.
 //!
 //! What is told otherwise than it happens is printed under its title. `docs/SCENARIOS.md` says how scenarios are written.
 #![tactic(auto)]
 
 mod calls;
+mod desk;
 mod live;
 mod played;
 mod scripts;
@@ -16,6 +17,7 @@ mod stories;
 mod streams;
 
 use crate::calls::Calls;
+use crate::desk::CallAgent;
 use crate::live::Live;
 use crate::streams::StreamScenario;
 use rows::Rows;
@@ -38,6 +40,7 @@ impl Kinds for All {
         let told = match kind {
             "scripts" => scripts::told(rt, text),
             "program" => scenario_files::told::<Calls, R>(rt, text),
+            "desk" => stories::told::<CallAgent, R>(rt, text),
             "live" => stories::told::<Live, R>(rt, text),
             "streams" => scenario_files::told::<StreamScenario, R>(rt, text),
             _ => return told_below(rt, kind, text),
