@@ -1,0 +1,26 @@
+/* The least that a server of audits does: it waits, reads a datagram, and answers its id. tools/beside runs it beside rgwd. */
+#include <arpa/inet.h>
+#include <stdio.h>
+#include <stdlib.h>
+#include <string.h>
+#include <sys/epoll.h>
+
+int main(int count, char **words)
+{
+    int port = count > 1 ? atoi(words[1]) : 0, by = socket(AF_INET, SOCK_DGRAM, 0), ready = epoll_create1(0);
+    struct sockaddr_in own = {.sin_family = AF_INET, .sin_port = htons(port), .sin_addr.s_addr = htonl(INADDR_LOOPBACK)}, from;
+    struct epoll_event told = {.events = EPOLLIN};
+    char text[4001], answer[64], id[10];
+    socklen_t length = sizeof from;
+    ssize_t size;
+
+    if (bind(by, (struct sockaddr *)&own, sizeof own) || epoll_ctl(ready, EPOLL_CTL_ADD, by, &told))
+        return 1;
+    while (epoll_wait(ready, &told, 1, -1) == 1)
+        while ((size = recvfrom(by, text, sizeof text - 1, MSG_DONTWAIT, (struct sockaddr *)&from, &length)) >= 0) {
+            text[size] = 0;
+            if (sscanf(text, "%*4s %9[0-9]", id) == 1)
+                sendto(by, answer, sprintf(answer, "200 %s OK\r\n", id), 0, (struct sockaddr *)&from, length);
+        }
+    return 1;
+}
