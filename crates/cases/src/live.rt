@@ -18,7 +18,7 @@ use crate::stories::{Place, Program, Records, Story, Transcript, Watched, Words,
 use bad_network::BadNetwork;
 use gateway_core::Gateway;
 use live_ends::{Now, Written};
-use live_gateway::{Desk, Exchange, Recorder, boxed};
+use live_gateway::{Desk, Exchange, Recorder, SpoiltWay, boxed};
 use live_journal::{Capture, Journal, Log, MessageTally, Trace, report};
 use live_play::LivePlay;
 use page_answers::Board;
@@ -83,13 +83,13 @@ fn network_of(
     alloc: Global,
     words: &Words,
     gateway: &Gateway,
-) -> Result<Option<Box<BadNetwork>>, AllocError> {
+) -> Result<Option<Box<SpoiltWay>>, AllocError> {
     let Some(spoiling) = words.network else {
         return Ok(None);
     };
     let domain = gateway.setup().names.domain.as_bytes();
     let network = BadNetwork::new(alloc, spoiling.with_name(domain));
-    Ok(Some(boxed(alloc, network)?))
+    Ok(Some(boxed(alloc, SpoiltWay::new(alloc, network))?))
 }
 
 // What a page is shown, if there is one.

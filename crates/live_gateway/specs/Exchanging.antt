@@ -1,8 +1,11 @@
--- What was handed to an exchange.
+-- What was handed to an exchange: to the sockets, or to the bad network before them.
 use Rattle.std.specs.Prelude.{List, Option, Some, None}
+use Rattle.std.specs.Global.{Box}
 use Rattle.surroundings.specs.Sending.{Sent}
+use Rattle.live_gateway.specs.declared.spoilt_way.SpoiltWay.{SpoiltWay}
+use Rattle.live_gateway.specs.Offering.{offered_by}
 
--- To the sockets, where no bad network is before them. Such a network keeps no list of what it was offered.
-abbrev pub handed_by : {A : Type 0} → Option A → Option (List Sent) → Option (List Sent)
+-- where who takes it tells that: sockets in memory do, and a network that keeps what it is offered
+abbrev pub handed_by : Option (Box SpoiltWay) → Option (List Sent) → Option (List Sent)
 handed_by None sent = sent
-handed_by (Some network) sent = None
+handed_by (Some way) sent = offered_by way.value

@@ -1,3 +1,4 @@
+pub mod Offering
 pub mod Exchanging
 pub mod Asking
 pub mod Desk

@@ -3,8 +3,9 @@ ghost use Rattle.std.specs.Prelude.{◌≡◌, ◌≤◌, ◌∷◌, [], length,
 ghost use Rattle.surroundings.specs.Sending.{Grows};
 ghost use Rattle.live_gateway.specs.Exchanging.{handed_by};
 
+use crate::spoilt_way::SpoiltWay;
 use crate::visitors::Visitors;
-use bad_network::{BadNetwork, Fate, Packet, Way};
+use bad_network::{Fate, Packet, Way};
 use gateway_core::Gateway;
 use live_ends::{NEXT_OFFER, Now};
 use live_journal::{Faults, Journal, count};
@@ -18,7 +19,7 @@ use traces::Mark;
 pub struct Exchange<S> {
     pub around: S,
     // What spoils what goes over it, where that is asked for.
-    network: Option<Box<BadNetwork>>,
+    network: Option<Box<SpoiltWay>>,
     pub journal: Box<Journal>,
     /// What clocks say at the turn under way.
     pub now: Now,
@@ -57,7 +58,7 @@ impl<S: Surroundings + Drop> Exchange<S> {
     /// The way over these surroundings, over which nothing went.
     pub fn new(
         around: S,
-        network: Option<Box<BadNetwork>>,
+        network: Option<Box<SpoiltWay>>,
         journal: Box<Journal>,
         now: Now,
     ) -> Exchange<S> {
@@ -173,7 +174,7 @@ impl<S: Surroundings + Drop> Exchange<S> {
             self.journal.came(self.now, source, &room[..len], 0);
             return Some((source, len));
         };
-        let is_lost = match network.offer(Way::In, source, &room[..len], self.now.clock) {
+        let is_lost = match network.offer_in(source, &room[..len], self.now.clock) {
             Ok(fate) => matches!(fate, Fate::Lost),
             Err(_) => true,
         };
@@ -225,7 +226,7 @@ impl<S: Surroundings + Drop> Exchange<S> {
             (handed_by self.new.network (S.sent self.new.around)) }
     {
         if let Some(network) = &mut self.network {
-            return match network.offer(Way::Out, to, bytes, self.now.clock) {
+            return match network.offer_out(to, bytes, self.now.clock) {
                 Ok(fate) => Ok(fate),
                 Err(_) => Err(Fault),
             };

@@ -10,6 +10,7 @@ mod desk;
 mod exchange;
 mod kept_records;
 mod recorder;
+mod spoilt_way;
 mod telephones;
 mod visitors;
 
@@ -18,4 +19,5 @@ pub use crate::desk::Desk;
 pub use crate::exchange::Exchange;
 pub use crate::kept_records::KeptRecords;
 pub use crate::recorder::Recorder;
+pub use crate::spoilt_way::SpoiltWay;
 pub use crate::visitors::{NoVisitors, Visitors};

@@ -9,7 +9,7 @@ use crate::words::Settings;
 use bad_network::BadNetwork;
 use gateway_core::Gateway;
 use live_ends::{Live, Now, Outlet, Written, bind, make_for_owner};
-use live_gateway::{Desk, Exchange, boxed};
+use live_gateway::{Desk, Exchange, SpoiltWay, boxed};
 use live_journal::{Capture, Journal, Log, MessageTally, Trace};
 use live_page::Site;
 use live_play::LivePlay;
@@ -93,13 +93,13 @@ fn network_of(
     alloc: Global,
     settings: &Settings<'_>,
     gateway: &Gateway,
-) -> Result<Option<Box<BadNetwork>>, AllocError> {
+) -> Result<Option<Box<SpoiltWay>>, AllocError> {
     let Some(spoiling) = settings.network else {
         return Ok(None);
     };
     let domain = gateway.setup().names.domain.as_bytes();
     let network = BadNetwork::new(alloc, spoiling.with_name(domain));
-    Ok(Some(boxed(alloc, network)?))
+    Ok(Some(boxed(alloc, SpoiltWay::new(alloc, network))?))
 }
 
 // What the page is shown, if one is asked for.

@@ -14,7 +14,7 @@ pub struct SentDatagram {
 }
 
 /// Keeps a copy of a datagram; after an error all is as it was.
-pub(crate) fn keep(
+pub fn keep(
     alloc: Global,
     kept: &mut Vec<SentDatagram>,
     moment: u64,

@@ -10,7 +10,7 @@ mod requests;
 mod scripted;
 mod surroundings;
 
-pub use crate::keeping::SentDatagram;
+pub use crate::keeping::{SentDatagram, keep};
 pub use crate::lines::Lines;
 pub use crate::requests::{is_from_any, is_own, next_request};
 pub use crate::scripted::{Coming, Happening, Scripted};

@@ -1,0 +1,94 @@
+//! A bad network before the sockets.
+ghost use Rattle.std.specs.Prelude.{◌≡◌, ◌∷◌, [], None, Some};
+ghost use Rattle.surroundings.specs.Sending.{Grows};
+ghost use Rattle.live_gateway.specs.Offering.{offered_by};
+
+use bad_network::{BadNetwork, Fate, Packet, Way};
+use mg_bytes::OutOfMemory;
+use std::alloc::Global;
+use std::net::SocketAddrV4;
+use surroundings::{SentDatagram, keep};
+
+/// A bad network before the sockets, and what was offered to it on the way out, where that is kept.
+#[derive(Drop)]
+pub struct SpoiltWay {
+    alloc: Global,
+    network: BadNetwork,
+    // Copies of all that was offered on the way out; nothing where none are kept, or memory was refused for one.
+    offered: Option<Vec<SentDatagram>>,
+}
+
+impl SpoiltWay {
+    /// The way over this network, over which nothing went. What is offered isn't kept.
+    pub fn new(alloc: Global, network: BadNetwork) -> SpoiltWay
+        ensures { offered_by result ≡ None }
+    {
+        SpoiltWay {
+            alloc,
+            network,
+            offered: None,
+        }
+    }
+
+    /// The same, which keeps what is offered on the way out, until memory is refused for that.
+    pub fn keeping(alloc: Global, network: BadNetwork) -> SpoiltWay
+        ensures { offered_by result ≡ Some [] }
+    {
+        SpoiltWay {
+            alloc,
+            network,
+            offered: Some(Vec::new(alloc)),
+        }
+    }
+
+    /// The moment, in ms, at which the network hands something out, if it will.
+    pub fn next_due(&self) -> Option<u64> {
+        self.network.next_due()
+    }
+
+    /// The next packet that the network hands out by this moment, in ms, if there is one.
+    pub fn take_due(&mut self, now: u64) -> Option<Packet>
+        ensures { offered_by self.new ≡ offered_by self.old }
+    {
+        self.network.take_due(now)
+    }
+
+    /// Offers a datagram that came from this source, at this moment in ms: what becomes of it.
+    pub fn offer_in(
+        &mut self,
+        source: SocketAddrV4,
+        bytes: &[u8],
+        now: u64,
+    ) -> Result<Fate, OutOfMemory>
+        ensures { offered_by self.new ≡ offered_by self.old }
+    {
+        self.network.offer(Way::In, source, bytes, now)
+    }
+
+    // A datagram is offered on the way out.
+    fn note(&mut self, to: SocketAddrV4, bytes: &[u8], now: u64)
+        ensures { Grows (offered_by self.old) (record { to = to; bytes = bytes.now } ∷ []) (offered_by self.new) }
+    {
+        let alloc = self.alloc;
+        let Some(offered) = &mut self.offered else {
+            return;
+        };
+        match keep(alloc, offered, now, to, bytes) {
+            Ok(()) => {}
+            Err(_) => self.offered = None,
+        }
+    }
+
+    /// Offers a datagram that goes there, at this moment in ms: what becomes of it.
+    pub fn offer_out(
+        &mut self,
+        to: SocketAddrV4,
+        bytes: &[u8],
+        now: u64,
+    ) -> Result<Fate, OutOfMemory>
+        ensures { Grows (offered_by self.old) (record { to = to; bytes = bytes.now } ∷ []) (offered_by self.new) }
+    {
+        self.note(to, bytes, now);
+        self.network.offer(Way::Out, to, bytes, now)
+    }
+}
