@@ -1,28 +1,37 @@
 -- How entries follow one another.
-use Rattle.std.proofs.Common.{◌≡◌, ℕ, ◌+◌, ◌<◌, length, take, get_or, Bool, true, false, List, [], ◌∷◌, ◌++◌, map, Option, Some, None, refl, sym, ◌∙◌, ap, subst, append_assoc, append-nil}
+use Rattle.std.proofs.Common.{◌≡◌, inl, inr, ℕ, ◌+◌, ◌<◌, ◌≤◌, length, take, get_or, Bool, true, false, List, [], ◌∷◌, ◌++◌, map, Option, Some, None, refl, sym, ◌∙◌, ap, subst, append_assoc, append-nil}
 use Rattle.std.specs.Prelude.{IfSome, ⊤}
 use Rattle.std.specs.List.{flat_map}
 use Rattle.std.proofs.lemmas.List.{map-append, take_more}
+use Rattle.std.proofs.lemmas.Bool.{le-leb}
 use Rattle.std.proofs.lemmas.Grind.{flat_map-append}
+use Rattle.mg_bytes.specs.Words.{words}
+use Rattle.mg_line.specs.declared.phone.Act.{Act}
 use Rattle.surroundings.specs.Sending.{Sent, Grows}
 use Rattle.transmission.specs.declared.output.OutDatagram.{OutDatagram}
 use Rattle.plain_machine.specs.declared.setup.Setup.{Setup}
 use Rattle.plain_machine.specs.declared.refusal.Refusal.{Refusal}
-use Rattle.plain_machine.specs.declared.refusal.Refusal.TheVariants.{OutOfMemory}
-use Rattle.plain_machine.specs.Event.{GatewayEvent}
+use Rattle.plain_machine.specs.declared.refusal.Refusal.TheVariants.{OutOfMemory, NoSuchLine}
+use Rattle.plain_machine.specs.Event.{GatewayEvent, phone}
 use Rattle.plain_machine.specs.Lists.{plain, outputs_from, refusal_at}
 use Rattle.plain_machine.specs.Refusing.{Ends}
 use Rattle.plain_machine.proofs.EndLaws.{ends_fine, ends_cause}
 use Rattle.gateway_core.specs.GatewayState.{GatewayState}
 use Rattle.gateway_core.specs.Stands.{Stands, Took}
 use Rattle.gateway_core.proofs.StandLemmas.{took_none}
-use Rattle.rgw_scripts.specs.Moves.{Move, Shown, Went, give, ask, sends, refuses, event_went, move_went}
+use Rattle.rgw_scripts.specs.declared.step.ScriptLine.TheVariants.{Whole}
+use Rattle.rgw_scripts.specs.declared.step.ScriptStep.TheVariants.{Phone, Show}
+use Rattle.rgw_scripts.specs.Moves.{Move, Shown, Went, give, ask, sends, refuses, event_went, move_went, line_shown, printed, told as answer_of}
+use Rattle.rgw_scripts.specs.Script.{line_in}
+use Rattle.rgw_scripts.specs.Status.{LineStatus, status_of}
 use Rattle.traces.specs.declared.script.Script.{Script}
 use Rattle.traces.specs.declared.telling.Mark.{Mark}
-use Rattle.rgw_scripts.specs.Printing.{printed_line, refusal_line}
+use Rattle.rgw_scripts.specs.Printing.{printed_line, refusal_line, shown_line}
+use Rattle.traces.specs.Replaying.{move_in}
 use Rattle.traces.specs.Telling.{told, told_mark, told_text}
 use Rattle.traces.specs.Writing.{Entry, Input, typed, clock_text, at_clock, showed, became, Says, IsPlay, taken_after, sent_at, sent_in, input_text, after_input, entry_text, after_entry, written, script_after}
-use Rattle.live_play.specs.Running.{Live, live, sent_of, Ran, AreMarks, HandsOut}
+use Rattle.live_play.specs.Running.{Live, live, sent_of, Ran, AreMarks, HandsOut, IsAnswer, TellsRefusal}
+use Rattle.traces.proofs.ShowLemmas.{both_not}
 
 -- ---- what is told
 
@@ -300,14 +309,17 @@ pub goes_on_quietly : (was is : Live) → Took was.gateway [] is.gateway [] [] �
     → (entries : List Entry) × Ran was entries is
 goes_on_quietly was is took handed told script = ([], ran_nothing was is took handed told script)
 
-pub goes_on_so : (was mid is : Live) (input : Input) (event : GatewayEvent) (outputs : List OutDatagram) → Says input (give event)
-    → Took was.gateway (event ∷ []) mid.gateway [] outputs
+pub goes_on_so : (was mid is : Live) (stepped : GatewayState) (input : Input) (event : GatewayEvent) (outputs sent : List OutDatagram) → Says input (give event)
+    → Took was.gateway (event ∷ []) stepped [] outputs → mid.gateway ≡ stepped → sent ≡ outputs
     → ((before : List GatewayEvent) → Stands was.gateway before → Ends (plain was.gateway.setup before) event None)
-    → mid.handed ≡ was.handed → Grows was.told (input_text was.script input (sends outputs)) mid.told
-    → IfSome mid.told (λ text. mid.script ≡ after_input was.script input (sends outputs))
-    → (marks : List Entry) × HandsOut mid outputs marks is → (entries : List Entry) × Ran was entries is
-goes_on_so was mid is input event outputs says took ends kept told script hands =
-    (showed input (give event) (sends outputs) ∷ hands.0, ran_sent was mid is input event outputs hands.0 says took ends kept told script hands.1)
+    → mid.handed ≡ was.handed → Grows was.told (input_text was.script input (sends sent)) mid.told
+    → IfSome mid.told (λ text. mid.script ≡ after_input was.script input (sends sent))
+    → (marks : List Entry) × HandsOut mid sent marks is → (entries : List Entry) × Ran was entries is
+goes_on_so was mid is stepped input event outputs sent says took gateway same ends kept told script hands =
+    let took_so : Took was.gateway (event ∷ []) mid.gateway [] sent =
+    subst (λ (g : GatewayState). Took was.gateway (event ∷ []) g [] sent) (sym gateway)
+    (subst (λ (l : List OutDatagram). Took was.gateway (event ∷ []) stepped [] l) (sym same) took) in
+    (showed input (give event) (sends sent) ∷ hands.0, ran_sent was mid is input event sent hands.0 says took_so ends kept told script hands.1)
 
 -- an act that was refused, and not for want of memory
 pub goes_on_refused : (was is : Live) (line : List ℕ) (event : GatewayEvent) (refusal : Refusal) → Says (typed line) (give event) → (refusal ≡ OutOfMemory → ⊥)
@@ -323,10 +335,76 @@ goes_on_refused was is line event refusal says other took ends kept told script 
       (λ before s. event_refused was.gateway.setup before event refusal other (ends before s)) refl kept told script,
 )
 
+-- and one of which it isn't said here why, or that it was told
+pub goes_on_told : (was is : Live) (line : List ℕ) (event : GatewayEvent) (refusal : Refusal) → Says (typed line) (give event) → Took was.gateway [] is.gateway [] []
+    → ((before : List GatewayEvent) → Stands was.gateway before → Ends (plain was.gateway.setup before) event (Some refusal))
+    → is.handed ≡ was.handed → TellsRefusal line refusal was.told was.script is.told is.script → (entries : List Entry) × Ran was entries is
+goes_on_told was is line event refusal says took ends kept (inl quiet) = goes_on_quietly was is took kept quiet.0 quiet.1
+goes_on_told was is line event refusal says took ends kept (inr r) = goes_on_refused was is line event refusal says r.0 took ends kept r.1 r.2
+
+-- ---- lines that say an act or a question
+
+pub says_act : (line : List ℕ) (number : ℕ) (act : Act) → line_in (words line) ≡ Some (Whole (Phone number act)) → Says (typed line) (give (phone number act))
+unfolding move_in
+says_act line number act says = rw says refl
+
+says_ask : (line : List ℕ) (number : ℕ) → line_in (words line) ≡ Some (Whole (Show number)) → Says (typed line) (ask number)
+unfolding move_in
+says_ask line number says = rw says refl
+
+pub answers_line : (g : GatewayState) (line : ℕ) (status : LineStatus) (text : List ℕ) → 1 ≤ line → line ≤ g.setup.names.lines
+    → ((before : List GatewayEvent) → Stands g before → status_of (plain g.setup before) line ≡ Some status)
+    → text ≡ printed_line (shown_line status) → IsAnswer g line text
+unfolding printed
+answers_line g line status text low high is same = record {
+  status = Some status;
+  shows = λ before s. rw (le-leb 1 line low, le-leb line g.setup.names.lines high, is before s) refl;
+  text = same;
+}
+
+pub answers_none : (g : GatewayState) (line : ℕ) (text : List ℕ) → (1 ≤ line → line ≤ g.setup.names.lines → ⊥)
+    → text ≡ printed_line (refusal_line NoSuchLine) → IsAnswer g line text
+unfolding printed
+answers_none g line text none same = record {
+  status = None;
+  shows = λ before s. rw (both_not line g.setup.names.lines none) refl;
+  text = same;
+}
+
+asked_went : (setup : Setup) (before : List GatewayEvent) (number : ℕ) (shown : Shown) → line_shown setup before number ≡ shown
+    → move_went setup before (ask number) ≡ record { shown = shown ∷ []; taken = before }
+unfolding move_went
+asked_went setup before number shown is = ap (λ (s : Shown). let found : Went = record { shown = s ∷ []; taken = before } in found) is
+
+sends_nothing : (input : Input) (move : Move) (status : Option LineStatus) → sent_at (showed input move (answer_of status)) ≡ []
+sends_nothing input move None = refl
+sends_nothing input move (Some status) = refl
+
+answer_told : (status : Option LineStatus) (text : List ℕ) → text ≡ printed (answer_of status) → told_text text ≡ told (answer_of status)
+unfolding printed told
+answer_told None text is = ap told_text is
+answer_told (Some status) text is = ap told_text is
+
+-- a question
+pub goes_on_answered : (was is : Live) (line : List ℕ) (number : ℕ) (text : List ℕ) → line_in (words line) ≡ Some (Whole (Show number)) → IsAnswer was.gateway number text
+    → is.gateway ≡ was.gateway → is.handed ≡ was.handed → Grows was.told (clock_text was.script ++ printed_line line ++ told_text text) is.told
+    → IfSome is.told (λ t. is.script ≡ at_clock was.script) → (entries : List Entry) × Ran was entries is
+goes_on_answered was is line number text says a gateway handed grew script = (
+  showed (typed line) (ask number) (answer_of a.status) ∷ [],
+  ran_answered was is (typed line) (ask number) (answer_of a.status) (says_ask line number says) (ap (λ (g : GatewayState). g.setup) gateway)
+      (λ before s. subst (λ (g : GatewayState). Stands g before) (sym gateway) s)
+      (λ before s. asked_went was.gateway.setup before number (answer_of a.status) (a.shows before s))
+      (sends_nothing (typed line) (ask number) a.status) handed
+      (subst (λ (t : List ℕ). Grows was.told (clock_text was.script ++ printed_line line ++ t) is.told) (answer_told a.status text a.text) grew) script,
+)
+
 -- ---- runs in a loop
 
+same_gateway : (g h : GatewayState) → h ≡ g → Took g [] h [] []
+same_gateway g h same = subst (λ (x : GatewayState). Took g [] x [] []) (sym same) (took_none g g [] [] refl refl refl refl (λ m is. is))
+
 pub stays : (was : Live) → (entries : List Entry) × Ran was entries was
-stays was = goes_on_quietly was was (took_none was.gateway was.gateway [] [] refl refl refl (λ m same. same)) refl refl refl
+stays was = goes_on_quietly was was (same_gateway was.gateway was.gateway refl) refl refl refl
 
 pub stays_so : (was is : Live) → is ≡ was → (entries : List Entry) × Ran was entries is
 stays_so was is same = subst (λ (x : Live). (entries : List Entry) × Ran was entries x) (sym same) (stays was)

@@ -1,14 +1,18 @@
 -- How a gateway runs live.
-use Rattle.std.specs.Prelude.{◌≡◌, ⊤, ℕ, List, [], ◌∷◌, map, Option, Some, None, IfSome}
-use Rattle.std.specs.List.{flat_map}
+use Rattle.std.specs.Prelude.{◌≡◌, ⊤, ◌⊎◌, ℕ, List, [], ◌∷◌, ◌++◌, map, Option, Some, None, IfSome}
 use Rattle.surroundings.specs.Sending.{Sent, Grows}
 use Rattle.transmission.specs.declared.output.OutDatagram.{OutDatagram}
 use Rattle.plain_machine.specs.Event.{GatewayEvent}
 use Rattle.gateway_core.specs.GatewayState.{GatewayState}
 use Rattle.gateway_core.specs.Stands.{Stands}
-use Rattle.rgw_scripts.specs.Moves.{line_shown, printed}
+use Rattle.plain_machine.specs.declared.refusal.Refusal.{Refusal}
+use Rattle.plain_machine.specs.declared.refusal.Refusal.TheVariants.{OutOfMemory}
+use Rattle.rgw_scripts.specs.Moves.{line_shown, printed, told as answer_of}
+use Rattle.rgw_scripts.specs.Printing.{printed_line, refusal_line}
+use Rattle.rgw_scripts.specs.Status.{LineStatus}
 use Rattle.traces.specs.declared.script.Script.{Script}
-use Rattle.traces.specs.Writing.{Entry, showed, became, IsPlay, taken_after, sent_in, written, script_after}
+use Rattle.traces.specs.Telling.{told_text}
+use Rattle.traces.specs.Writing.{Entry, showed, became, IsPlay, taken_after, sent_in, written, script_after, clock_text, at_clock}
 
 -- the gateway, the moments that its trace has come to, all that this was told, and all that was handed out
 pub record Live : Type 0 where
@@ -49,7 +53,16 @@ pub record HandsOut (was : Live) (datagrams : List OutDatagram) (marks : List En
   pub told : Grows was.told (written was.script marks) is.told
   pub script : is.script ≡ was.script
 
--- this is printed of what a line is, or of that there is none
-abbrev pub IsAnswer : GatewayState → ℕ → List ℕ → Type 0
-IsAnswer g line text =
-    (before : List GatewayEvent) → Stands g before → text ≡ flat_map printed (line_shown g.setup before line ∷ [])
+-- this is printed of what a line is, whatever events the gateway stands for, or of that there is none
+pub record IsAnswer (g : GatewayState) (line : ℕ) (answered : List ℕ) : Type 0 where
+  pub status : Option LineStatus
+  pub shows : (before : List GatewayEvent) → Stands g before → line_shown g.setup before line ≡ answer_of status
+  pub text : answered ≡ printed (answer_of status)
+
+-- a trace was told of an act that was refused, and not for want of memory; or of nothing
+abbrev pub TellsRefusal : List ℕ → Refusal → Option (List ℕ) → Script → Option (List ℕ) → Script → Type 0
+TellsRefusal line refusal were was are is =
+    ((are ≡ were) × (is ≡ was))
+    ⊎ ((refusal ≡ OutOfMemory → ⊥)
+    × Grows were (clock_text was ++ printed_line line ++ told_text (printed_line (refusal_line refusal))) are
+    × IfSome are (λ text. is ≡ at_clock was))

@@ -1,7 +1,13 @@
 //! The play.
-ghost use Rattle.std.specs.Prelude.{◌≡◌, ◌++◌, ◌∷◌, [], List, Option, Some, None, IfSome, OnOk, OnErr, ℕ};
+ghost use Rattle.std.specs.Prelude.{◌≡◌, ◌≤◌, ◌++◌, ◌∷◌, [], List, Option, Some, None, IfSome, IfOk, OnOk, OnErr, ℕ};
+ghost use Rattle.std.specs.Result.{result_err};
 ghost use Rattle.surroundings.specs.Sending.{Sent, Grows};
 ghost use Rattle.mg_bytes.specs.Words.{words};
+ghost use Rattle.plain_machine.specs.declared.refusal.Refusal.TheVariants.{NoSuchLine};
+ghost use Rattle.plain_machine.specs.Event.{GatewayEvent, event_of};
+ghost use Rattle.plain_machine.specs.Lists.{plain};
+ghost use Rattle.plain_machine.specs.Refusing.{Ends};
+ghost use Rattle.gateway_core.specs.Stands.{Stands, Took};
 ghost use Rattle.rgw_scripts.specs.declared.step.ScriptStep.TheVariants.{Phone, Show};
 ghost use Rattle.rgw_scripts.specs.declared.step.ScriptLine.TheVariants.{Whole};
 ghost use Rattle.rgw_scripts.specs.Moves.{sends};
@@ -9,10 +15,10 @@ ghost use Rattle.rgw_scripts.specs.Printing.{printed_line, refusal_line};
 ghost use Rattle.rgw_scripts.specs.Script.{line_in};
 ghost use Rattle.traces.specs.Telling.{told_mark, told_text};
 ghost use Rattle.traces.specs.Writing.{Entry, arrived, typed, tick_text, after_tick, input_text, at_clock, clock_text, opening_script};
-ghost use Rattle.live_play.specs.Running.{live, Ran, HandsOut, IsAnswer};
+ghost use Rattle.live_play.specs.Running.{live, Ran, HandsOut, IsAnswer, TellsRefusal};
 
 use crate::ends::{Outlet, Teller};
-use gateway_core::{Event, Gateway, OutDatagram, Refusal};
+use gateway_core::{Event, Gateway, OutDatagram, Outputs, Refusal};
 use mg_bytes::OutOfMemory;
 use mg_line::Act;
 use rgw_scenes::status_of;
@@ -32,6 +38,59 @@ pub struct LivePlay<T> {
     // What is answered to who asked last, or did something that was refused.
     printed: Vec<u8>,
     pub teller: T,
+}
+
+// The gateway takes an event, or refuses it.
+fn take(gateway: &mut Box<Gateway>, event: Event<'_>) -> Result<Outputs, Refusal>
+    ensures ok { IfOk result (λ outputs. Took gateway.old.value (event_of event.entry ∷ []) gateway.new.value [] outputs) }
+    ensures err { OnErr result (Took gateway.old.value [] gateway.new.value [] []) }
+    ensures ends { (before : List GatewayEvent) → Stands gateway.old.value before →
+        Ends (plain gateway.old.value.setup before) (event_of event.entry) (result_err result) }
+{
+    gateway.step(event)
+}
+
+// What a line is is put, to be answered.
+fn put_status(
+    alloc: Global,
+    gateway: &Gateway,
+    line: u16,
+    out: &mut Vec<u8>,
+) -> Result<(), OutOfMemory>
+    requires low { 1 ≤ line }
+    requires high { line ≤ gateway.now.setup.names.lines }
+    ensures { OnOk result (IsAnswer gateway.now line out.new.items) }
+{
+    out.clear();
+    let status = status_of(gateway, line);
+    put_line(alloc, out, &status)?;
+    Ok(())
+}
+
+// That there is no such line is put, to be answered.
+fn put_no_line(alloc: Global, out: &mut Vec<u8>) -> Result<(), OutOfMemory>
+    ensures { OnOk result (out.new.items ≡ printed_line (refusal_line NoSuchLine)) }
+{
+    out.clear();
+    put_refusal(alloc, out, Refusal::NoSuchLine)?;
+    Ok(())
+}
+
+// What a line is is put, to be answered, or that there is none.
+fn put_answer(
+    alloc: Global,
+    gateway: &Gateway,
+    line: u16,
+    out: &mut Vec<u8>,
+) -> Result<(), OutOfMemory>
+    ensures { OnOk result (IsAnswer gateway.now line out.new.items) }
+{
+    if line >= 1 && line <= gateway.lines() {
+        put_status(alloc, gateway, line, out)?;
+        return Ok(());
+    }
+    put_no_line(alloc, out)?;
+    Ok(())
 }
 
 impl<T: Teller + Drop> LivePlay<T> {
@@ -148,7 +207,7 @@ impl<T: Teller + Drop> LivePlay<T> {
     }
 
     // A datagram is handed out.
-    #[tactic(auto, using(crate::proofs::RunLemmas::one_handed, crate::proofs::RunLemmas::one_marked))]
+    #[tactic(auto, using(crate::proofs::RunLemmas::one_handed))]
     fn hand<O: Outlet>(&mut self, out: &mut O, datagram: &OutDatagram, place: u64)
         ensures { (marks : List Entry) × HandsOut
             (live self.old.gateway.value self.old.script (T.told self.old.teller) (O.handed out.old)) (datagram.now ∷ []) marks
@@ -184,16 +243,17 @@ impl<T: Teller + Drop> LivePlay<T> {
     }
 
     /// The clock goes to this moment, in ms: what the gateway sends at it is handed out. A refused tick changes nothing.
-    #[tactic(auto, using(crate::proofs::RunLemmas::goes_on_so, crate::proofs::RunLemmas::goes_on_quietly))]
+    #[tactic(auto, using(crate::proofs::RunLemmas::goes_on_quietly))]
     pub fn tick<O: Outlet>(&mut self, out: &mut O, moment: u64) -> Result<(), Refusal>
         ensures { (entries : List Entry) × Ran
             (live self.old.gateway.value self.old.script (T.told self.old.teller) (O.handed out.old)) entries
             (live self.new.gateway.value self.new.script (T.told self.new.teller) (O.handed out.new)) }
     {
-        match self.gateway.step(Event::Tick { moment }) {
+        match take(&mut self.gateway, Event::Tick { moment }) {
             Ok(outputs) => {
-                self.tell_tick(moment, outputs.as_slice());
-                self.hand_out(out, outputs.as_slice());
+                let sent = outputs.as_slice();
+                self.tell_tick(moment, sent);
+                self.hand_out(out, sent);
                 Ok(())
             }
             Err(refusal) => Err(refusal),
@@ -201,7 +261,7 @@ impl<T: Teller + Drop> LivePlay<T> {
     }
 
     /// A datagram came from there: what the gateway sends at it is handed out. Where memory is refused for it nothing is changed.
-    #[tactic(auto, using(crate::proofs::RunLemmas::goes_on_so, crate::proofs::RunLemmas::goes_on_quietly))]
+    #[tactic(auto, using(crate::proofs::RunLemmas::goes_on_quietly))]
     pub fn datagram<O: Outlet>(
         &mut self,
         out: &mut O,
@@ -212,10 +272,11 @@ impl<T: Teller + Drop> LivePlay<T> {
             (live self.old.gateway.value self.old.script (T.told self.old.teller) (O.handed out.old)) entries
             (live self.new.gateway.value self.new.script (T.told self.new.teller) (O.handed out.new)) }
     {
-        match self.gateway.step(Event::Datagram { source, bytes }) {
+        match take(&mut self.gateway, Event::Datagram { source, bytes }) {
             Ok(outputs) => {
-                self.tell_datagram(source, bytes, outputs.as_slice());
-                self.hand_out(out, outputs.as_slice());
+                let sent = outputs.as_slice();
+                self.tell_datagram(source, bytes, sent);
+                self.hand_out(out, sent);
                 Ok(())
             }
             Err(refusal) => Err(refusal),
@@ -238,7 +299,10 @@ impl<T: Teller + Drop> LivePlay<T> {
     }
 
     // The same, but that nothing is told where the refusal is want of memory.
-    fn refuse(&mut self, line: &[u8], refusal: Refusal) -> Refusal {
+    fn refuse(&mut self, line: &[u8], refusal: Refusal) -> Refusal
+        ensures told { TellsRefusal line.now refusal (T.told self.old.teller) self.old.script (T.told self.new.teller) self.new.script }
+        ensures gateway { self.new.gateway ≡ self.old.gateway }
+    {
         if refusal == Refusal::OutOfMemory {
             return refusal;
         }
@@ -250,7 +314,6 @@ impl<T: Teller + Drop> LivePlay<T> {
 
     /// Something is done at the telephone of a line, as a line of text said: what the gateway sends at it is handed out. A refused act
     /// changes nothing; why it was refused is `printed`.
-    #[tactic(auto, using(crate::proofs::RunLemmas::goes_on_so, crate::proofs::RunLemmas::goes_on_quietly, crate::proofs::RunLemmas::goes_on_refused))]
     pub fn act<O: Outlet>(
         &mut self,
         out: &mut O,
@@ -263,31 +326,15 @@ impl<T: Teller + Drop> LivePlay<T> {
             (live self.old.gateway.value self.old.script (T.told self.old.teller) (O.handed out.old)) entries
             (live self.new.gateway.value self.new.script (T.told self.new.teller) (O.handed out.new)) }
     {
-        match self.gateway.step(Event::Phone { line, act }) {
+        match take(&mut self.gateway, Event::Phone { line, act }) {
             Ok(outputs) => {
-                self.tell_act(text, outputs.as_slice());
-                self.hand_out(out, outputs.as_slice());
+                let sent = outputs.as_slice();
+                self.tell_act(text, sent);
+                self.hand_out(out, sent);
                 Ok(())
             }
             Err(refusal) => Err(self.refuse(text, refusal)),
         }
-    }
-
-    // What a line is is put, to be answered, or that there is none.
-    fn put_status(&mut self, line: u16) -> Result<(), OutOfMemory>
-        ensures ok { OnOk result (IsAnswer self.old.gateway.value line self.new.printed.items) }
-        ensures teller { self.new.teller ≡ self.old.teller }
-        ensures script { self.new.script ≡ self.old.script }
-        ensures gateway { self.new.gateway ≡ self.old.gateway }
-    {
-        self.printed.clear();
-        if line >= 1 && line <= self.gateway.lines() {
-            let status = status_of(&self.gateway, line);
-            put_line(self.alloc, &mut self.printed, &status)?;
-        } else {
-            put_refusal(self.alloc, &mut self.printed, Refusal::NoSuchLine)?;
-        }
-        Ok(())
     }
 
     /// Nothing comes any more: the trace is told to which moment its gateway has come.
@@ -310,7 +357,7 @@ impl<T: Teller + Drop> LivePlay<T> {
             (live self.old.gateway.value self.old.script (T.told self.old.teller) handed) entries
             (live self.new.gateway.value self.new.script (T.told self.new.teller) handed) }
     {
-        self.put_status(line)?;
+        put_answer(self.alloc, &self.gateway, line, &mut self.printed)?;
         self.tell_answered(text);
         Ok(())
     }

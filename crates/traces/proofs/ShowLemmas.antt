@@ -66,7 +66,7 @@ showed_line g line status text low high is same = record {
   shows = λ before s. rw (le-leb 1 line low, le-leb line g.setup.names.lines high, is before s) (same ∙ sym (append-nil (told_text (printed_line (shown_line status)))));
 }
 
-both_not : (line lines : ℕ) → (1 ≤ line → line ≤ lines → ⊥) → (nat_le 1 line && nat_le line lines) ≡ false
+pub both_not : (line lines : ℕ) → (1 ≤ line → line ≤ lines → ⊥) → (nat_le 1 line && nat_le line lines) ≡ false
 both_not line lines none = ⊎_elim
     (λ (low : nat_le 1 line ≡ true). ⊎_elim
     (λ (high : nat_le line lines ≡ true). absurd (none (leb-true 1 line low) (leb-true line lines high)))
