@@ -1,3 +1,4 @@
 pub mod TickLaws
 pub mod ReadingLaws
 pub mod PieceLaws
+pub mod ReplayLaws

@@ -2,5 +2,6 @@
 #![tactic(auto)]
 
 pub mod lines;
+pub mod replays;
 pub mod shown;
 pub mod ticks;
