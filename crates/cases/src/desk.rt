@@ -72,19 +72,16 @@ fn journal_of(alloc: Global, words: &Words) -> Result<Journal, AllocError> {
     Ok(journal)
 }
 
-// What a call agent stands on, that ends at this moment.
-fn wire_of(
-    alloc: Global,
-    words: &Words,
-    mut around: Watched,
-    end: u64,
-) -> io::Result<Box<Wire<Watched>>> {
-    around.own = words.own;
+// What a call agent stands on, over what a story has of sockets and a clock.
+fn wire_of(alloc: Global, words: &Words, story: &mut Story) -> io::Result<Box<Wire<Watched>>> {
     let network = match words.network {
         Some(spoiling) => Some(BadNetwork::new(alloc, spoiling)),
         None => None,
     };
     let journal = journal_of(alloc, words)?;
+    let mut around = mem::replace(&mut story.around, Watched::new(alloc, words.own));
+    around.own = words.own;
+    let end = words.stop_after.unwrap_or(story.moment.saturating_add(1));
     let wire = Wire::new(alloc, around, network, journal, Some(end))?;
     Ok(Box::new(alloc, wire)?)
 }
@@ -115,14 +112,13 @@ fn given_by(
     config: &AgentConfig,
     story: &mut Story,
 ) -> io::Result<Box<Transcript>> {
-    let around = mem::replace(&mut story.around, Watched::new(alloc, words.own));
-    let opened = around.time();
+    let opened = story.around.time();
     let mut records = Box::new(alloc, Records::new(alloc, opened))?;
-    let end = words.stop_after.unwrap_or(story.moment.saturating_add(1));
-    let mut wire = wire_of(alloc, words, around, end)?;
+    let mut wire = wire_of(alloc, words, story)?;
     let mut board = Switchboard::of(alloc, config, words.is_routed, opened / MICROSECONDS)?;
-    run(alloc, &mut board, &mut wire, &mut records, story.is_counted)?;
+    let ran = run(alloc, &mut board, &mut wire, &mut records, story.is_counted);
     board.close();
+    ran?;
     let mut given = Box::new(alloc, Transcript::new(alloc))?;
     wire.around.give(&mut given)?;
     records.give(&mut given)?;

@@ -115,20 +115,21 @@ fn journal_of(alloc: Global, words: &Words, gateway: &Gateway) -> Result<Box<Jou
     boxed(alloc, journal)
 }
 
-// The way between a gateway and others.
+// The way between a gateway and others, over what a story has of sockets and a clock.
 fn exchange_of(
     alloc: Global,
     words: &Words,
     gateway: &Gateway,
-    mut around: Watched,
+    story: &mut Story,
 ) -> Result<Box<Exchange<Watched>>, AllocError> {
+    let network = network_of(alloc, words, gateway)?;
+    let journal = journal_of(alloc, words, gateway)?;
+    let mut around = mem::replace(&mut story.around, Watched::new(alloc, words.own));
     around.own = words.own;
     let now = Now {
         clock: 0,
         time: around.time(),
     };
-    let network = network_of(alloc, words, gateway)?;
-    let journal = journal_of(alloc, words, gateway)?;
     boxed(alloc, Exchange::new(around, network, journal, now))
 }
 
@@ -138,15 +139,14 @@ fn desk_of(
     words: &Words,
     config: &str,
     gateway: Box<Gateway>,
-    around: Watched,
-    last: u64,
+    story: &mut Story,
 ) -> Result<Box<Desk<Watched, Trace>>, AllocError> {
-    let exchange = exchange_of(alloc, words, &gateway, around)?;
+    let exchange = exchange_of(alloc, words, &gateway, story)?;
     let first = words.first.number();
     let trace = Trace::new(alloc, words.has_trace, config.as_bytes(), first);
     let play = boxed(alloc, LivePlay::new(alloc, gateway, trace))?;
     let lines = boxed(alloc, Lines::new(alloc)?)?;
-    let end = words.stop_after.unwrap_or(last.saturating_add(1));
+    let end = words.stop_after.unwrap_or(story.moment.saturating_add(1));
     boxed(alloc, Desk::new(alloc, play, exchange, lines, Some(end)))
 }
 
@@ -220,9 +220,8 @@ fn given_by(
     story: &mut Story,
 ) -> io::Result<Box<Transcript>> {
     let mut visitors = visitors_of(alloc, words, story)?;
-    let around = mem::replace(&mut story.around, Watched::new(alloc, Live::place().own));
-    let mut records = boxed(alloc, Records::new(alloc, around.time()))?;
-    let mut desk = desk_of(alloc, words, config, gateway, around, story.moment)?;
+    let mut records = boxed(alloc, Records::new(alloc, story.around.time()))?;
+    let mut desk = desk_of(alloc, words, config, gateway, story)?;
     desk.run(&mut visitors, &mut *records);
     if words.stop_after.is_some() || story.is_counted {
         end(alloc, &mut desk, &mut records, story.is_counted)?;

@@ -32,20 +32,31 @@ pub struct Browsers {
     is_refused: bool,
 }
 
-// Gives what is asked.
-fn answered(alloc: Global, desk: &mut Desk<'_>, request: &[u8]) -> io::Result<Vec<u8>> {
-    let keys = RandomState::new(&KnownKeys)?;
-    let mut connection = Connection::new(alloc, keys, Config::default());
+// Puts what is answered to a request.
+fn put_answer(
+    connection: &mut Connection,
+    desk: &mut Desk<'_>,
+    request: &[u8],
+    out: &mut Vec<u8>,
+) -> io::Result<()> {
     let mut reader = request;
     connection.read_from(&mut reader)?;
     connection.advance(desk);
-    let mut answer = Vec::new(alloc);
     for _ in 0..u16::MAX {
         if !connection.wants_write() {
-            break;
+            return Ok(());
         }
-        connection.write_to(&mut answer)?;
+        connection.write_to(out)?;
     }
+    Ok(())
+}
+
+// What is answered to a request, over a connection of its own.
+fn answered(alloc: Global, desk: &mut Desk<'_>, request: &[u8]) -> io::Result<Vec<u8>> {
+    let keys = RandomState::new(&KnownKeys)?;
+    let mut connection = Box::new(alloc, Connection::new(alloc, keys, Config::default()))?;
+    let mut answer = Vec::new(alloc);
+    put_answer(&mut connection, desk, request, &mut answer)?;
     Ok(answer)
 }
 

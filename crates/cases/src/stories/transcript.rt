@@ -25,7 +25,7 @@ const KINDS: [&str; 7] = [
 fn rank_of(text: &[u8]) -> usize {
     for (place, kind) in KINDS.iter().enumerate() {
         if text.starts_with(kind.as_bytes()) {
-            return place + 1;
+            return place.wrapping_add(1);
         }
     }
     0
