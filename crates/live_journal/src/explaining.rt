@@ -20,13 +20,16 @@ struct Refusal {
 }
 
 // The refusal that a text got, if it got one for the first time.
-fn refusal_in(outcome: TextOutcome) -> Option<Refusal> {
+fn refusal_in(outcome: &TextOutcome) -> Option<Refusal> {
     match outcome {
         TextOutcome::Command {
             id,
             reply: Reply::First { code },
             ..
-        } if code >= LEAST_REFUSAL => Some(Refusal { id, code }),
+        } if *code >= LEAST_REFUSAL => Some(Refusal {
+            id: *id,
+            code: *code,
+        }),
         _ => None,
     }
 }
@@ -75,7 +78,7 @@ impl Log {
         let names = &gateway.setup().names;
         let out = &mut self.record.out;
         for (text, outcome) in parts(self.bytes.as_slice()).zip(gateway.outcomes().iter()) {
-            if let Some(refusal) = refusal_in(*outcome) {
+            if let Some(refusal) = refusal_in(outcome) {
                 put_why(self.alloc, out, stamp, names, text, refusal)?;
             }
         }

@@ -190,7 +190,8 @@ fn put_report(
     text.extend_from_slice(b"\nanswers")?;
     put_answers(alloc, text, tally.sent.answers.as_slice())?;
     put_others(alloc, text, tally, lost, faults)?;
-    text.extend_from_slice(b"\n")
+    text.extend_from_slice(b"\n")?;
+    Ok(())
 }
 
 /// The counts as text.
