@@ -31,6 +31,8 @@ pub enum Happening {
     },
     /// The next datagram that is sent can't be.
     SendFault,
+    /// The socket for datagrams fails, once, where it is read.
+    ReceiveFault,
 }
 
 /// When something happens, in ms.
@@ -40,17 +42,27 @@ pub struct Coming {
     pub what: Happening,
 }
 
+/// What was answered at this moment, in ms, to who typed, when so many datagrams had been handed over to be sent.
+#[derive(Drop)]
+pub struct Answer {
+    pub moment: u64,
+    pub sent: usize,
+    pub to: SocketAddr,
+    pub text: Vec<u8>,
+}
+
 /// Surroundings in which things happen at their moments, and that keep what is sent and answered. Its clock goes on by waits alone.
 #[derive(Drop)]
 pub struct Scripted {
     alloc: Global,
-    // The addresses of its two sockets.
-    own: [SocketAddrV4; 2],
+    /// The addresses of its two sockets.
+    pub own: [SocketAddrV4; 2],
     moment: u64,
     coming: VecDeque<Coming>,
-    /// What was sent, and what was answered, each in its order.
+    /// What was handed over to be sent, and the places of what couldn't be; and what was answered: each in its order.
     pub sent: Vec<SentDatagram>,
-    pub answers: Vec<Vec<u8>>,
+    pub unsent: Vec<usize>,
+    pub answers: Vec<Answer>,
     // No copy of what was sent is missing.
     pub(crate) is_whole: bool,
     is_failing: bool,
@@ -75,6 +87,7 @@ impl Scripted {
             moment: 0,
             coming: VecDeque::new(alloc),
             sent: Vec::new(alloc),
+            unsent: Vec::new(alloc),
             answers: Vec::new(alloc),
             is_whole: true,
             is_failing: false,
@@ -87,7 +100,7 @@ impl Scripted {
         Ok(())
     }
 
-    // The place of the first datagram, or of the first lines, that have come.
+    // The place of the first datagram or fault, or of the first lines, that have come.
     fn place_of(&self, is_lines: bool) -> Option<usize>
         ensures { IfSome result (λ place. place < length self.now.coming.items) }
     {
@@ -132,16 +145,28 @@ impl Scripted {
         match &coming.what {
             Happening::Pause { ms } => self.moment = next.saturating_add(*ms),
             Happening::SendFault => self.is_failing = true,
-            Happening::Datagram { .. } | Happening::Lines { .. } => return,
+            Happening::Datagram { .. } | Happening::Lines { .. } | Happening::ReceiveFault => {
+                return;
+            }
         }
         let _ = self.take(0);
     }
+
+    // What was handed over last can't be sent.
+    fn fail_to_send(&mut self)
+        ensures sent { self.new.sent ≡ self.old.sent }
+        ensures whole { self.new.is_whole ≡ self.old.is_whole }
+    {
+        self.is_failing = false;
+        let place = self.sent.len().saturating_sub(1);
+        let _ = self.unsent.push(place);
+    }
 }
 
-// Whether it is a datagram, or lines.
+// Whether it is found where datagrams are read, or where lines are.
 fn is_asked(what: &Happening, is_lines: bool) -> bool {
     match what {
-        Happening::Datagram { .. } => !is_lines,
+        Happening::Datagram { .. } | Happening::ReceiveFault => !is_lines,
         Happening::Lines { .. } => is_lines,
         Happening::Pause { .. } | Happening::SendFault => false,
     }
@@ -184,6 +209,7 @@ impl Surroundings for Scripted {
             Some(Happening::Datagram { source, bytes }) => {
                 Ok(Some((source, fill(room, bytes.as_slice()))))
             }
+            Some(Happening::ReceiveFault) => Err(Fault),
             _ => Ok(None),
         }
     }
@@ -193,7 +219,7 @@ impl Surroundings for Scripted {
             self.is_whole = false;
         }
         if self.is_failing {
-            self.is_failing = false;
+            self.fail_to_send();
             return Err(Fault);
         }
         Ok(())
@@ -207,10 +233,16 @@ impl Surroundings for Scripted {
         }
     }
 
-    fn answer(&mut self, _to: SocketAddr, text: &[u8]) {
+    fn answer(&mut self, to: SocketAddr, text: &[u8]) {
+        let (moment, sent) = (self.moment, self.sent.len());
         // Where memory is refused the answer is lost, as on a network.
         if let Ok(text) = Vec::from_slice(self.alloc, text) {
-            let _ = self.answers.push(text);
+            let _ = self.answers.push(Answer {
+                moment,
+                sent,
+                to,
+                text,
+            });
         }
     }
 }
