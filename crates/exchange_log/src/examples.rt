@@ -129,6 +129,7 @@ pub fn pauses_are_noted()
     ensures several { pause_line noon 30600 (Some 12) ≡ codes "1970-01-02T12:03:07.123Z ! paused for 31 s, 12 datagrams were waiting\n" }
     ensures one { pause_line noon 1499 (Some 1) ≡ codes "1970-01-02T12:03:07.123Z ! paused for 1 s, 1 datagram was waiting\n" }
     ensures none { pause_line noon 501 (Some 0) ≡ codes "1970-01-02T12:03:07.123Z ! paused for 1 s, 0 datagrams were waiting\n" }
+    ensures half { pause_line noon 1500 (Some 2) ≡ codes "1970-01-02T12:03:07.123Z ! paused for 2 s, 2 datagrams were waiting\n" }
     ensures uncounted { pause_line noon 200000 None ≡ codes "1970-01-02T12:03:07.123Z ! paused for 200 s\n" }
 {}
 
