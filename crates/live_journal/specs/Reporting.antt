@@ -56,8 +56,12 @@ others_text tally lost faults =
     ∷ (codes "\nlost events ", lost) ∷ (codes " refused ", faults.refused)
     ∷ (codes "\nfaults receive ", faults.receive) ∷ (codes " send ", faults.send) ∷ [])
 
+-- what came, and how it was answered
+unfoldable pub traffic_text : MessageTally → List ℕ
+traffic_text tally =
+    datagrams_text tally ++ commands_text tally.texts.commands ++ texts_text tally ++ codes "\nanswers"
+    ++ answers_from 0 tally.sent.answers.items
+
 -- all of it, where so many events of all lines were lost
 abbrev pub report_text : MessageTally → ℕ → Faults → List ℕ
-report_text tally lost faults =
-    datagrams_text tally ++ commands_text tally.texts.commands ++ texts_text tally ++ codes "\nanswers"
-    ++ answers_from 0 tally.sent.answers.items ++ others_text tally lost faults ++ codes "\n"
+report_text tally lost faults = traffic_text tally ++ others_text tally lost faults ++ codes "\n"

@@ -2,7 +2,7 @@
 ghost use Rattle.std.specs.Prelude.{◌≡◌, ◌++◌, OnOk};
 ghost use Rattle.std.specs.List.{flat_map};
 ghost use Rattle.page_answers.specs.Metrics.{code_text};
-ghost use Rattle.live_journal.specs.Reporting.{told, entry_text, datagrams_text, verbs_text, commands_text, texts_text, answer_text, answers_from, others_text, report_text};
+ghost use Rattle.live_journal.specs.Reporting.{told, entry_text, datagrams_text, verbs_text, commands_text, texts_text, answer_text, answers_from, traffic_text, others_text, report_text};
 
 use crate::journal::Journal;
 use crate::message_tally::MessageTally;
@@ -174,6 +174,18 @@ fn put_others(
     put_numbers(alloc, text, &numbers)
 }
 
+// What is told of texts.
+#[tactic(auto, unfolding(crate::specs::Reporting::traffic_text))]
+fn put_traffic(alloc: Global, text: &mut Vec<u8>, tally: &MessageTally) -> Result<(), AllocError>
+    ensures { OnOk result (text.new.items ≡ text.old.items ++ traffic_text tally.now) }
+{
+    put_datagrams(alloc, text, tally)?;
+    put_commands(alloc, text, &tally.texts.commands)?;
+    put_texts(alloc, text, tally)?;
+    text.extend_from_slice(b"\nanswers")?;
+    put_answers(alloc, text, tally.sent.answers.as_slice())
+}
+
 // All of it, where so many events of all lines were lost.
 fn put_report(
     alloc: Global,
@@ -184,11 +196,7 @@ fn put_report(
 ) -> Result<(), AllocError>
     ensures { OnOk result (text.new.items ≡ text.old.items ++ report_text tally.now lost faults) }
 {
-    put_datagrams(alloc, text, tally)?;
-    put_commands(alloc, text, &tally.texts.commands)?;
-    put_texts(alloc, text, tally)?;
-    text.extend_from_slice(b"\nanswers")?;
-    put_answers(alloc, text, tally.sent.answers.as_slice())?;
+    put_traffic(alloc, text, tally)?;
     put_others(alloc, text, tally, lost, faults)?;
     text.extend_from_slice(b"\n")?;
     Ok(())
