@@ -1,8 +1,9 @@
 -- The definitions opened, so that worked examples compute.
 use Rattle.std.specs.Prelude.{⊤}
 use Rattle.mg_bytes.proofs.Computing.{on_examples as byte_examples}
+use Rattle.live_journal.specs.Explaining.{reason_text}
 use Rattle.live_journal.specs.Reporting.{answers_from, verbs_text}
 
 unfoldable pub on_examples : ⊤
-unfolding byte_examples answers_from verbs_text
+unfolding byte_examples reason_text answers_from verbs_text
 on_examples = tt

@@ -1,5 +1,5 @@
 -- What is counted of the texts that come, by what they were. A count stays at its greatest value.
-use Rattle.std.specs.Prelude.{ℕ, Bool, true, false, ◌==◌, List, [], ◌∷◌, ◌++◌, Option, Some, None}
+use Rattle.std.specs.Prelude.{ℕ, Bool, true, false, ◌==◌, List, [], ◌∷◌, ◌++◌, replicate, Option, Some, None}
 use Rattle.std.specs.List.{fold}
 use Rattle.mgcp_text.specs.declared.message.Verb.{Verb}
 use Rattle.plain_machine.specs.declared.setup.Setup.{Setup}
@@ -21,6 +21,9 @@ pub record Counts : Type 0 where
 
 abbrev pub counts_in : TextCounts → Counts
 counts_in counts = record { commands = counts.commands; responses = counts.responses; others = counts.others }
+
+abbrev pub no_counts : Counts
+no_counts = record { commands = replicate 10 0; responses = 0; others = 0 }
 
 -- a command with this verb came, or one that can't be read
 abbrev pub with_command : Counts → Option Verb → Counts

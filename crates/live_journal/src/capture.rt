@@ -38,7 +38,7 @@ impl Capture {
     }
 
     /// A datagram goes this way between the gateway and its peer at this moment, in microseconds since 1970.
-    pub fn pass(&mut self, moment: u64, way: Way, peer: SocketAddrV4, bytes: &[u8]) {
+    pub(crate) fn pass(&mut self, moment: u64, way: Way, peer: SocketAddrV4, bytes: &[u8]) {
         if !self.record.is_on() {
             return;
         }

@@ -1,7 +1,16 @@
 //! Worked examples of the definitions, as theorems: each sentence of a definition has one that a slip in it breaks.
 #![tactic(auto, unfolding(crate::proofs::Computing::on_examples))]
 
-ghost use Rattle.std.specs.Prelude.{◌≡◌, codes, replicate, [], ◌∷◌, ◌++◌};
+ghost use Rattle.std.specs.Prelude.{◌≡◌, codes, replicate, [], ◌∷◌, ◌++◌, Some, None};
+ghost use Rattle.mgcp_text.specs.declared.message.Verb.TheVariants.{Rqnt};
+ghost use Rattle.command_forms.specs.declared.refused.FaultyPart.TheVariants.{Value};
+ghost use Rattle.command_forms.specs.Explaining.{explanation_of};
+ghost use Rattle.exchange_log.specs.declared.note.Note.TheVariants.{Refused, Unanswered};
+ghost use Rattle.exchange_log.specs.declared.stamp.Stamp.{Stamp};
+ghost use Rattle.exchange_log.specs.Lines.{note_line, refused_line};
+ghost use Rattle.gateway_core.specs.declared.outcome.Reply.TheVariants.{First, Again, Silence, NoRoom};
+ghost use Rattle.gateway_core.specs.declared.outcome.TextOutcome.TheVariants.{NoMessage, Command, Response};
+ghost use Rattle.live_journal.specs.Explaining.{reason_text};
 ghost use Rattle.live_journal.specs.Reporting.{told_all, commands_text, answer_text, answers_from};
 
 /// Numbers are told behind what they are the number of; commands by verb, and answers by those return codes that there were.
@@ -14,4 +23,19 @@ pub fn counts_are_told_in_a_row()
     ensures never { answer_text 510 0 ≡ [] }
     ensures by_code { answers_from 0 (2 ∷ replicate 99 0 ++ 7 ∷ []) ≡ codes " 000 2 100 7" }
     ensures none { answers_from 0 [] ≡ [] }
+{}
+
+/// A refusal is told with what is at fault, or by its code alone, and once; a repeat is told of where it isn't answered.
+pub fn what_was_refused_is_told()
+    ensures part { (stamp : Stamp) → reason_text stamp (Command (Some Rqnt) 1207 (First 518 (Some (Value 82))))
+        ≡ refused_line stamp 1207 (explanation_of (record { code = 518; at = Value 82 })) }
+    ensures code { (stamp : Stamp) → reason_text stamp (Command (Some Rqnt) 1207 (First 401 None)) ≡ note_line stamp (Refused 1207 401) }
+    ensures unread { (stamp : Stamp) → reason_text stamp (Command None 1207 (First 510 None)) ≡ note_line stamp (Refused 1207 510) }
+    ensures least { (stamp : Stamp) → reason_text stamp (Command (Some Rqnt) 1207 (First 400 None)) ≡ note_line stamp (Refused 1207 400) }
+    ensures done { (stamp : Stamp) → reason_text stamp (Command (Some Rqnt) 1207 (First 399 None)) ≡ [] }
+    ensures again { (stamp : Stamp) → reason_text stamp (Command (Some Rqnt) 1207 (Again 401)) ≡ [] }
+    ensures silence { (stamp : Stamp) → reason_text stamp (Command (Some Rqnt) 1207 Silence) ≡ note_line stamp (Unanswered 1207) }
+    ensures full { (stamp : Stamp) → reason_text stamp (Command (Some Rqnt) 1207 NoRoom) ≡ [] }
+    ensures other { (stamp : Stamp) → reason_text stamp NoMessage ≡ [] }
+    ensures response { (stamp : Stamp) (asked : _) → reason_text stamp (Response asked) ≡ [] }
 {}

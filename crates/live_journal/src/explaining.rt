@@ -1,94 +1,90 @@
-//! Why commands were refused, as the log says it.
+//! What commands got that weren't done, as the log says it: why one was refused, and that a repeat isn't answered.
+ghost use Rattle.std.specs.Prelude.{◌≡◌, ◌++◌, OnOk};
+ghost use Rattle.std.specs.List.{flat_map};
+ghost use Rattle.live_journal.specs.Explaining.{refused_text, reason_text};
+
 use crate::log::Log;
-use command_forms::{explain, explained};
-use endpoint_names::Names;
+use command_forms::{FaultyPart, Refused, explain};
 use exchange_log::{Note, Stamp, put_note, put_refused};
 use gateway_core::{Gateway, Reply, TextOutcome};
-use mg_bytes::{OutOfMemory, Text};
-use mgcp_text::{Message, TransactionId, read_k, read_message};
-use piggyback::parts;
+use mg_bytes::OutOfMemory;
+use mgcp_text::TransactionId;
 use std::alloc::Global;
 
 // The least return code that refuses a command (RFC 3435, 2.4).
 const LEAST_REFUSAL: u16 = 400;
 
-// A command that was refused, and its code.
-#[derive(Clone, Copy)]
-struct Refusal {
-    id: TransactionId,
-    code: u16,
-}
-
-// The refusal that a text got, if it got one for the first time.
-fn refusal_in(outcome: &TextOutcome) -> Option<Refusal> {
-    match outcome {
-        TextOutcome::Command {
-            id,
-            reply: Reply::First { code },
-            ..
-        } if *code >= LEAST_REFUSAL => Some(Refusal {
-            id: *id,
-            code: *code,
-        }),
-        _ => None,
-    }
-}
-
-// What is at fault, where that can be told without the gateway.
-fn explanation_of(
-    alloc: Global,
-    names: &Names,
-    said: &Message<'_>,
-    code: u16,
-) -> Result<Option<Text>, OutOfMemory> {
-    let confirms = read_k(alloc, said)?;
-    match explained(alloc, said, &confirms, names)? {
-        Some(refused) if refused.code == code => Ok(Some(explain(alloc, &refused)?)),
-        _ => Ok(None),
-    }
-}
-
-// Notes why a text was refused: by what is at fault, or by the code alone.
-fn put_why(
+// Notes why a command was refused with this code: by what of it is at fault, or by the code alone.
+fn put_refusal(
     alloc: Global,
     out: &mut Vec<u8>,
     stamp: Stamp,
-    names: &Names,
-    text: &[u8],
-    refusal: Refusal,
-) -> Result<(), OutOfMemory> {
-    let Refusal { id, code } = refusal;
-    let why = match read_message(alloc, text) {
-        Ok(said) => explanation_of(alloc, names, &said, code)?,
-        Err(_) => None,
-    };
-    match why {
-        Some(why) => put_refused(alloc, out, stamp, id, why.as_bytes()),
+    id: TransactionId,
+    code: u16,
+    fault: Option<FaultyPart>,
+) -> Result<(), OutOfMemory>
+    ensures { OnOk result (out.new.items ≡ out.old.items ++ refused_text stamp id code fault) }
+{
+    match fault {
+        Some(at) => {
+            let why = explain(alloc, &Refused { code, at })?;
+            put_refused(alloc, out, stamp, id, why.as_bytes())
+        }
         None => put_note(alloc, out, stamp, Note::Refused { id, code }),
     }
 }
 
+// Notes what a text got, where that was no answer, or a refusal for the first time.
+#[tactic(auto, unfolding(crate::specs::Explaining::reason_text))]
+fn put_reason(
+    alloc: Global,
+    out: &mut Vec<u8>,
+    stamp: Stamp,
+    outcome: &TextOutcome,
+) -> Result<(), OutOfMemory>
+    ensures { OnOk result (out.new.items ≡ out.old.items ++ reason_text stamp outcome.now) }
+{
+    let TextOutcome::Command { id, reply, .. } = outcome else {
+        return Ok(());
+    };
+    match reply {
+        Reply::First { code, fault } if *code >= LEAST_REFUSAL => {
+            put_refusal(alloc, out, stamp, *id, *code, *fault)
+        }
+        Reply::Silence => put_note(alloc, out, stamp, Note::Unanswered(*id)),
+        Reply::First { .. } | Reply::Again { .. } | Reply::NoRoom => Ok(()),
+    }
+}
+
+// Notes what each text got.
+fn put_reasons(
+    alloc: Global,
+    out: &mut Vec<u8>,
+    stamp: Stamp,
+    outcomes: &[TextOutcome],
+) -> Result<(), OutOfMemory>
+    ensures { OnOk result (out.new.items ≡ out.old.items ++ flat_map (reason_text stamp) outcomes.now) }
+{
+    for outcome in outcomes {
+        put_reason(alloc, out, stamp, outcome)?;
+    }
+    Ok(())
+}
+
 impl Log {
-    fn put_reasons(&mut self, gateway: &Gateway) -> Result<(), OutOfMemory> {
-        // A refusal is noted behind what was sent, and so at no moment before that.
+    /// The gateway took the datagram that came last, and what it sent at it was handed out: why commands of it were refused is told, if any
+    /// was, and which repeats aren't answered.
+    pub fn explain(&mut self, gateway: &Gateway) {
+        if !self.record.is_on() {
+            return;
+        }
+        // It stands behind what was sent, and so at no moment before that.
         let stamp = Stamp {
-            moment: self.sent,
+            moment: self.sent.max(self.came.moment),
             peer: self.came.peer,
         };
-        let names = &gateway.setup().names;
         let out = &mut self.record.out;
-        for (text, outcome) in parts(self.bytes.as_slice()).zip(gateway.outcomes().iter()) {
-            if let Some(refusal) = refusal_in(outcome) {
-                put_why(self.alloc, out, stamp, names, text, refusal)?;
-            }
-        }
-        Ok(())
-    }
-
-    /// The gateway took the datagram that came last, and what it sent at it was handed out: why commands of it were refused is told, if any
-    /// was.
-    pub fn explain(&mut self, gateway: &Gateway) {
-        if self.record.is_on() && self.put_reasons(gateway).is_err() {
+        if put_reasons(self.alloc, out, stamp, gateway.outcomes()).is_err() {
             self.record.refuse();
         }
     }

@@ -3,7 +3,7 @@ use crate::capture::Capture;
 use crate::log::Log;
 use crate::message_tally::MessageTally;
 use bad_network::Fate;
-use exchange_log::Way;
+use exchange_log::{Note, Way};
 use gateway_core::Gateway;
 use live_ends::{Now, Written};
 use page_answers::{Board, Kind};
@@ -43,10 +43,9 @@ impl Journal {
     /// A datagram comes for the gateway, so late, in ms.
     pub fn came(&mut self, now: Now, source: SocketAddrV4, bytes: &[u8], late: u64) {
         self.tally.received();
-        self.log.receive(now, source, bytes);
+        self.log.receive(now, source, bytes, late);
         self.capture.pass(now.time, Way::Came, source, bytes);
         self.show(now.clock, Kind::Received, Some(source), bytes);
-        self.log.spoil(now, source, Fate::Once { late });
     }
 
     /// The gateway took an event, of which `Gateway::outcomes`, `sent` and `given_up` tell: all that is counted. What it sends is handed out
@@ -58,7 +57,12 @@ impl Journal {
 
     /// A datagram was sent to the gateway, and a bad network lost it.
     pub fn lost(&mut self, now: Now, source: SocketAddrV4, bytes: &[u8]) {
-        self.log.lose(now, source, bytes);
+        self.log.leave(now, source, bytes, Note::Lost);
+    }
+
+    /// A datagram came, and the gateway refused it, for want of memory.
+    pub fn refused(&mut self, now: Now, source: SocketAddrV4, bytes: &[u8]) {
+        self.log.leave(now, source, bytes, Note::OutOfMemory);
     }
 
     /// A datagram is sent.

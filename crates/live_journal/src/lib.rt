@@ -10,7 +10,6 @@ pub mod laws;
 mod log;
 mod message_tally;
 mod picture;
-mod recent;
 mod recording;
 mod reporting;
 mod spoiling;

@@ -1,9 +1,9 @@
 //! The log, for people, on standard error: a line a message, and a line for what is to be noted beside it.
 use exchange_log::{Note, Stamp, Way, put_given_up, put_message, put_note};
-use gateway_core::{Gateway, GivenUpCommand, Label, SentMessage, What, Whose};
+use gateway_core::{Gateway, GivenUpCommand, Label, SentMessage, TextOutcome, What, Whose};
 use live_ends::{Now, Record};
 use mg_bytes::{OutOfMemory, Text};
-use mgcp_text::{Message, TextFault, TransactionId, read_message};
+use mgcp_text::{Message, TransactionId, read_message};
 use piggyback::parts;
 use plain_machine::line_of_id;
 use std::alloc::Global;
@@ -22,23 +22,31 @@ struct OwnCommand {
     text: Vec<u8>,
 }
 
+/// A datagram that came, so late, in ms.
+#[derive(Drop)]
+pub(crate) struct Arrival {
+    bytes: Vec<u8>,
+    late: u64,
+}
+
 /// The log of a gateway.
 #[derive(Drop)]
 pub struct Log {
-    pub alloc: Global,
+    pub(crate) alloc: Global,
     pub record: Record,
     /// The gateway's domain, which its names are shown without.
-    pub domain: Text,
+    pub(crate) domain: Text,
     // What each line sent last; line 0 is the gateway itself.
     own: BTreeMap<u16, OwnCommand>,
     // The messages of the event that was taken last, and how many of them were handed out.
     messages: Vec<SentMessage>,
     handed: usize,
-    /// When the datagram of this turn came, and from where; and its bytes.
-    pub came: Stamp,
-    pub bytes: Vec<u8>,
+    /// When a datagram came last, in microseconds since 1970, and from where.
+    pub(crate) came: Stamp,
+    /// That datagram, until the gateway took it: so nothing is read again to tell what its texts are.
+    pub(crate) arrival: Option<Arrival>,
     /// When a datagram was sent last, in microseconds since 1970.
-    pub sent: u64,
+    pub(crate) sent: u64,
 }
 
 impl Log {
@@ -56,21 +64,9 @@ impl Log {
                 moment: 0,
                 peer: SocketAddrV4::new(Ipv4Addr::UNSPECIFIED, 0),
             },
-            bytes: Vec::new(alloc),
+            arrival: None,
             sent: 0,
         })
-    }
-
-    // A message came at this time: how long the gateway's own command waited that it answers, if it answers one, in ms.
-    fn waited(&self, time: u64, said: &Message<'_>) -> Option<u64> {
-        let Message::Response { id, .. } = said else {
-            return None;
-        };
-        let own = self.own.get(&line_of_id(*id))?;
-        if own.id.number() != id.number() {
-            return None;
-        }
-        Some(time.saturating_sub(own.first.moment) / MICROSECONDS)
     }
 
     // Puts a text that goes this way between the gateway and its peer.
@@ -90,30 +86,8 @@ impl Log {
         put_note(self.alloc, &mut self.record.out, stamp, note)
     }
 
-    fn text_came(&mut self, now: Now, text: &[u8]) -> Result<(), OutOfMemory> {
-        let waited = match read_message(self.alloc, text) {
-            Ok(said) => self.waited(now.time, &said),
-            Err(TextFault::NoHeader) => return self.put_note(self.came, Note::Unreadable),
-            Err(_) => None,
-        };
-        self.put_text(self.came, Way::Came, text, waited)
-    }
-
-    fn datagram_came(&mut self, now: Now, bytes: &[u8]) -> Result<(), OutOfMemory> {
-        self.bytes.clear();
-        let Some(mut rest) = texts(bytes) else {
-            let length = bytes.len();
-            return self.put_note(self.came, Note::TooLong { length });
-        };
-        self.bytes.extend_from_slice(bytes)?;
-        while let Some(text) = rest.next() {
-            self.text_came(now, text)?;
-        }
-        Ok(())
-    }
-
-    /// A datagram came.
-    pub fn receive(&mut self, now: Now, source: SocketAddrV4, bytes: &[u8]) {
+    /// A datagram comes for the gateway, so late, in ms.
+    pub(crate) fn receive(&mut self, now: Now, source: SocketAddrV4, bytes: &[u8], late: u64) {
         if !self.record.is_on() {
             return;
         }
@@ -121,8 +95,61 @@ impl Log {
             moment: now.time,
             peer: source,
         };
-        if self.datagram_came(now, bytes).is_err() {
-            self.record.refuse();
+        match Vec::from_slice(self.alloc, bytes) {
+            Ok(bytes) => self.arrival = Some(Arrival { bytes, late }),
+            Err(_) => self.record.refuse(),
+        }
+    }
+
+    // A response came: how long the command waited that it answers, in ms, where that is what its line sent last.
+    fn waited(&self, text: &[u8]) -> Option<u64> {
+        let Ok(said) = read_message(self.alloc, text) else {
+            return None;
+        };
+        let Message::Response { id, .. } = &said else {
+            return None;
+        };
+        let own = self.own.get(&line_of_id(*id))?;
+        if own.id.number() != id.number() {
+            return None;
+        }
+        Some(self.came.moment.saturating_sub(own.first.moment) / MICROSECONDS)
+    }
+
+    // Tells a text that came, by what it was to the gateway.
+    fn put_arrived(&mut self, text: &[u8], outcome: &TextOutcome) -> Result<(), OutOfMemory> {
+        let waited = match outcome {
+            TextOutcome::NoMessage => return self.put_note(self.came, Note::Unreadable),
+            TextOutcome::Command { .. } => None,
+            TextOutcome::Response { .. } => self.waited(text),
+        };
+        self.put_text(self.came, Way::Came, text, waited)
+    }
+
+    fn put_all_arrived(
+        &mut self,
+        bytes: &[u8],
+        outcomes: &[TextOutcome],
+    ) -> Result<(), OutOfMemory> {
+        let Some(texts) = texts(bytes) else {
+            let length = bytes.len();
+            return self.put_note(self.came, Note::TooLong { length });
+        };
+        for (text, outcome) in texts.zip(outcomes.iter()) {
+            self.put_arrived(text, outcome)?;
+        }
+        Ok(())
+    }
+
+    // Tells the datagram that came and isn't told yet, by what its texts were, and that it came late.
+    fn put_arrival(&mut self, outcomes: &[TextOutcome]) -> Result<(), OutOfMemory> {
+        let Some(Arrival { bytes, late }) = self.arrival.take() else {
+            return Ok(());
+        };
+        self.put_all_arrived(bytes.as_slice(), outcomes)?;
+        match late {
+            0 => Ok(()),
+            ms => self.put_note(self.came, Note::Late { ms }),
         }
     }
 
@@ -145,6 +172,7 @@ impl Log {
     }
 
     fn take_turn(&mut self, now: Now, gateway: &Gateway) -> Result<(), OutOfMemory> {
+        self.put_arrival(gateway.outcomes())?;
         self.handed = 0;
         self.messages.clear();
         for message in gateway.sent() {
@@ -156,8 +184,8 @@ impl Log {
         Ok(())
     }
 
-    /// The gateway took an event: what it gave up is noted, and what it sends is told by these labels, in its order.
-    pub fn turned(&mut self, now: Now, gateway: &Gateway) {
+    /// The gateway took an event: what came is told, and what it gave up is noted; what it sends is told by its labels, in its order.
+    pub(crate) fn turned(&mut self, now: Now, gateway: &Gateway) {
         if self.record.is_on() && self.take_turn(now, gateway).is_err() {
             self.record.refuse();
         }
@@ -217,7 +245,7 @@ impl Log {
     }
 
     /// A datagram is sent.
-    pub fn send(&mut self, now: Now, to: SocketAddrV4, bytes: &[u8]) {
+    pub(crate) fn send(&mut self, now: Now, to: SocketAddrV4, bytes: &[u8]) {
         if !self.record.is_on() {
             return;
         }

@@ -1,12 +1,11 @@
 //! Counts what goes over the wire, as the gateway tells it. A count stays at its greatest value.
-ghost use Rattle.std.specs.Prelude.{◌≡◌};
+ghost use Rattle.std.specs.Prelude.{◌≡◌, IfOk};
 ghost use Rattle.gateway_core.specs.Wire.{counted};
-ghost use Rattle.live_journal.specs.Counting.{counts_in, with_texts};
-ghost use Rattle.sent_counts.specs.Counting.{tally_in, with_sent, with_given_up};
+ghost use Rattle.live_journal.specs.Counting.{counts_in, no_counts, with_texts};
+ghost use Rattle.sent_counts.specs.Counting.{tally_in, no_tally, with_sent, with_given_up};
 
-use crate::recent::Recent;
 use crate::text_counts::{TextCounts, count};
-use gateway_core::{Gateway, Reply, TextOutcome};
+use gateway_core::Gateway;
 use sent_counts::SentCounts;
 use std::alloc::{AllocError, Global};
 
@@ -21,33 +20,20 @@ pub struct MessageTally {
     pub texts: TextCounts,
     /// The messages that were sent, by their labels, and what was given up.
     pub sent: SentCounts,
-    // The commands that were answered lately.
-    pub(crate) answered: Recent,
-}
-
-// Remembers the commands that were answered now for the first time.
-fn remember(answered: &mut Recent, moment: u64, outcomes: &[TextOutcome]) {
-    for outcome in outcomes {
-        match *outcome {
-            TextOutcome::Command {
-                id,
-                reply: Reply::First { .. },
-                ..
-            } => answered.remember(moment, id.number()),
-            _ => {}
-        }
-    }
 }
 
 impl MessageTally {
-    /// Nothing was counted.
-    pub fn new(alloc: Global) -> Result<MessageTally, AllocError> {
+    /// Nothing was counted. Its only error is want of memory.
+    pub fn new(alloc: Global) -> Result<MessageTally, AllocError>
+        ensures datagrams { IfOk result (λ tally. (tally.datagrams_in, tally.datagrams_out) ≡ (0, 0)) }
+        ensures texts { IfOk result (λ tally. counts_in tally.texts ≡ no_counts) }
+        ensures sent { IfOk result (λ tally. tally_in tally.sent ≡ no_tally) }
+    {
         Ok(MessageTally {
             datagrams_in: 0,
             datagrams_out: 0,
             texts: TextCounts::new(),
             sent: SentCounts::new(alloc)?,
-            answered: Recent::new(alloc)?,
         })
     }
 
@@ -66,9 +52,7 @@ impl MessageTally {
         ensures sent { tally_in self.new.sent
             ≡ with_given_up (with_sent (tally_in self.old.sent) gateway.now.account.sent) gateway.now.account.given_up }
     {
-        let outcomes = gateway.outcomes();
-        remember(&mut self.answered, gateway.now(), outcomes);
-        self.texts.add(outcomes);
+        self.texts.add(gateway.outcomes());
         self.sent.add(gateway.sent());
         self.sent.give_up(gateway.given_up());
     }

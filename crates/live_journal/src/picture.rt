@@ -122,7 +122,6 @@ fn put_counts(
     counts.announcements = tally.sent.commands[place_of(Verb::Rsip)];
     counts.announcements_again = tally.sent.commands_again[place_of(Verb::Rsip)];
     counts.given_up = tally.sent.given_up;
-    counts.transactions = tally.answered.held(picture.clock);
     counts.refused = faults.refused;
     counts.receive_faults = faults.receive;
     counts.send_faults = faults.send;
@@ -143,6 +142,7 @@ pub fn picture_of(
         picture.lines.push(line_view(alloc, gateway, before + 1)?)?;
     }
     put_counts(&mut picture, &journal.tally, faults)?;
+    picture.counts.transactions = gateway.remembered() as u64;
     put_written(alloc, &mut picture, journal)?;
     Ok(picture)
 }

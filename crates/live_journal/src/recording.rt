@@ -6,9 +6,9 @@ use std::io::Write;
 use traces::broken_off_line;
 
 impl Journal {
-    /// Keeps what was recorded since this was called last, at this moment, in microseconds since 1970. To be called when a turn is over: so a
-    /// trace has all of it, with what became of its datagrams, or nothing of the turn.
-    pub fn keep<F: Write + Drop>(
+    /// Keeps what was recorded since this was called last, at this moment, in microseconds since 1970, and writes what is taken at once. To
+    /// be called when a turn is over: so a trace has all of it, with what became of its datagrams, or nothing of the turn.
+    pub fn write<F: Write + Drop>(
         &mut self,
         trace: &mut Trace,
         outlets: &mut Outlets<F>,
@@ -21,16 +21,6 @@ impl Journal {
         if let Some(capture) = &mut outlets.capture {
             capture.keep_whole(&mut self.capture.record, b"");
         }
-    }
-
-    /// Keeps it, and writes what is taken at once.
-    pub fn write<F: Write + Drop>(
-        &mut self,
-        trace: &mut Trace,
-        outlets: &mut Outlets<F>,
-        time: u64,
-    ) {
-        self.keep(trace, outlets, time);
         outlets.offer();
         self.written = outlets.written();
     }

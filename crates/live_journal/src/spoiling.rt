@@ -18,23 +18,21 @@ fn note_of(fate: Fate) -> Option<Note> {
 }
 
 impl Log {
-    fn put_lost(&mut self, from: Stamp, bytes: &[u8]) -> Result<(), OutOfMemory> {
+    fn put_untaken(&mut self, from: Stamp, bytes: &[u8], why: Note) -> Result<(), OutOfMemory> {
         for text in parts(bytes) {
             self.put_text(from, Way::Came, text, None)?;
         }
-        self.put_note(from, Note::Lost)
+        self.put_note(from, why)
     }
 
-    /// A datagram that was sent to the gateway is lost, and doesn't come.
-    pub fn lose(&mut self, now: Now, source: SocketAddrV4, bytes: &[u8]) {
-        if !self.record.is_on() {
-            return;
-        }
+    /// A datagram that was sent to the gateway isn't taken, for this reason.
+    pub(crate) fn leave(&mut self, now: Now, source: SocketAddrV4, bytes: &[u8], why: Note) {
         let from = Stamp {
             moment: now.time,
             peer: source,
         };
-        if self.put_lost(from, bytes).is_err() {
+        self.arrival = None;
+        if self.record.is_on() && self.put_untaken(from, bytes, why).is_err() {
             self.record.refuse();
         }
     }
@@ -49,8 +47,8 @@ impl Log {
         }
     }
 
-    /// The datagram that came or was sent last has this fate.
-    pub fn spoil(&mut self, now: Now, peer: SocketAddrV4, fate: Fate) {
+    /// The datagram that was sent last has this fate.
+    pub(crate) fn spoil(&mut self, now: Now, peer: SocketAddrV4, fate: Fate) {
         if let Some(note) = note_of(fate) {
             self.note(now, peer, note);
         }
@@ -67,7 +65,7 @@ impl Log {
     }
 
     /// The datagram that was sent last didn't leave.
-    pub fn fail_to_send(&mut self, now: Now, to: SocketAddrV4) {
+    pub(crate) fn fail_to_send(&mut self, now: Now, to: SocketAddrV4) {
         self.note(now, to, Note::Unsent);
     }
 }

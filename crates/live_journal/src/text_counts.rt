@@ -1,7 +1,7 @@
 //! Counts the texts that come, by what they were. A count stays at its greatest value.
 ghost use Rattle.std.specs.Prelude.{◌≡◌};
 ghost use Rattle.gateway_core.specs.Wire.{counted};
-ghost use Rattle.live_journal.specs.Counting.{counts_in, with_command, with_text, with_texts};
+ghost use Rattle.live_journal.specs.Counting.{counts_in, no_counts, with_command, with_text, with_texts};
 
 use gateway_core::TextOutcome;
 use mgcp_text::Verb;
@@ -27,7 +27,9 @@ pub fn count(number: &mut u64)
 
 impl TextCounts {
     /// Nothing was counted.
-    pub fn new() -> TextCounts {
+    pub fn new() -> TextCounts
+        ensures { counts_in result ≡ no_counts }
+    {
         TextCounts {
             commands: [0; 10],
             responses: 0,
