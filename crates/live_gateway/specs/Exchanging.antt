@@ -1,6 +1,7 @@
 -- What was handed to an exchange: to the sockets, or to the bad network before them.
-use Rattle.std.specs.Prelude.{List, Option, Some, None}
+use Rattle.std.specs.Prelude.{ℕ, List, Option, Some, None}
 use Rattle.std.specs.Global.{Box}
+use Rattle.bad_network.specs.Waiting.{first_due}
 use Rattle.surroundings.specs.Sending.{Sent}
 use Rattle.live_gateway.specs.declared.spoilt_way.SpoiltWay.{SpoiltWay}
 use Rattle.live_gateway.specs.Offering.{offered_by}
@@ -9,3 +10,8 @@ use Rattle.live_gateway.specs.Offering.{offered_by}
 abbrev pub handed_by : Option (Box SpoiltWay) → Option (List Sent) → Option (List Sent)
 handed_by None sent = sent
 handed_by (Some way) sent = offered_by way.value
+
+-- when the bad network hands out what it holds, if it will
+abbrev pub next_due : Option (Box SpoiltWay) → Option ℕ
+next_due None = None
+next_due (Some way) = first_due way.value.network.waiting.items

@@ -41,7 +41,7 @@ pub fn question_answer(asked: Result<(), OutOfMemory>, printed: &[u8]) -> &[u8]
 }
 
 /// What the page asks for is a line of nobody's, where no line is left.
-pub fn take_act(alloc: Global, journal: &mut Journal, lines: &mut Lines) {
+pub(crate) fn take_act(alloc: Global, journal: &mut Journal, lines: &mut Lines) {
     if !lines.is_empty() {
         return;
     }
@@ -57,7 +57,7 @@ pub fn take_act(alloc: Global, journal: &mut Journal, lines: &mut Lines) {
 }
 
 /// The page is shown the gateway as it is now.
-pub fn show(alloc: Global, gateway: &Gateway, journal: &mut Journal, faults: Faults) {
+pub(crate) fn show(alloc: Global, gateway: &Gateway, journal: &mut Journal, faults: Faults) {
     if journal.board.is_none() {
         return;
     }

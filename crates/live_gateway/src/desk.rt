@@ -53,7 +53,12 @@ impl<S: Surroundings + Drop, T: Teller + Drop> Desk<S, T> {
         exchange: Box<Exchange<S>>,
         lines: Box<Lines>,
         end: Option<u64>,
-    ) -> Desk<S, T> {
+    ) -> Desk<S, T>
+        ensures play { result.play ≡ play }
+        ensures exchange { result.exchange ≡ exchange }
+        ensures lines { result.lines ≡ lines }
+        ensures end { result.end ≡ end }
+    {
         Desk {
             alloc,
             play,
@@ -116,8 +121,9 @@ impl<S: Surroundings + Drop, T: Teller + Drop> Desk<S, T> {
         ensures { (entries : List Entry) × Ran (at_desk T.told S.sent self.old) entries (at_desk T.told S.sent self.new) }
     {
         self.exchange.begin(moment);
-        if self.play.tick(&mut *self.exchange, moment).is_err() {
-            count(&mut self.exchange.faults.refused);
+        match self.play.tick(&mut *self.exchange, moment) {
+            Ok(()) => {}
+            Err(_) => count(&mut self.exchange.faults.refused),
         }
     }
 
@@ -135,7 +141,7 @@ impl<S: Surroundings + Drop, T: Teller + Drop> Desk<S, T> {
             .datagram(&mut *self.exchange, source, &room[..len])
         {
             Ok(()) => self.exchange.journal.log.explain(&self.play.gateway),
-            Err(_) => count(&mut self.exchange.faults.refused),
+            Err(_) => self.exchange.refuse(source, &room[..len]),
         }
     }
 

@@ -1,7 +1,7 @@
 //! What goes between the gateway and others: over sockets, behind a bad network where one is asked for; and its journal.
-ghost use Rattle.std.specs.Prelude.{◌≡◌, ◌≤◌, ◌∷◌, [], length, IfSome};
-ghost use Rattle.surroundings.specs.Sending.{Grows};
-ghost use Rattle.live_gateway.specs.Exchanging.{handed_by};
+ghost use Rattle.std.specs.Prelude.{◌≡◌, ◌≤◌, ◌∷◌, [], length, List, Option, IfSome};
+ghost use Rattle.surroundings.specs.Sending.{Sent, Grows};
+ghost use Rattle.live_gateway.specs.Exchanging.{handed_by, next_due};
 
 use crate::spoilt_way::SpoiltWay;
 use crate::visitors::Visitors;
@@ -61,7 +61,12 @@ impl<S: Surroundings + Drop> Exchange<S> {
         network: Option<Box<SpoiltWay>>,
         journal: Box<Journal>,
         now: Now,
-    ) -> Exchange<S> {
+    ) -> Exchange<S>
+        ensures around { result.around ≡ around }
+        ensures network { result.network ≡ network }
+        ensures journal { result.journal ≡ journal }
+        ensures read { result.read ≡ 0 }
+    {
         Exchange {
             around,
             network,
@@ -84,8 +89,19 @@ impl<S: Surroundings + Drop> Exchange<S> {
         };
     }
 
+    /// The gateway refused a datagram from there, for want of memory.
+    pub fn refuse(&mut self, source: SocketAddrV4, bytes: &[u8])
+        ensures network { self.new.network ≡ self.old.network }
+        ensures around { self.new.around ≡ self.old.around }
+    {
+        count(&mut self.faults.refused);
+        self.journal.refused(self.now, source, bytes);
+    }
+
     /// The moment at which the network hands something out, in ms, if it will.
-    pub fn network_due(&self) -> Option<u64> {
+    pub fn network_due(&self) -> Option<u64>
+        ensures { result ≡ next_due self.now.network }
+    {
         match &self.network {
             Some(network) => network.next_due(),
             None => None,
@@ -132,6 +148,8 @@ impl<S: Surroundings + Drop> Exchange<S> {
     fn take_due(&mut self) -> Option<Packet>
         ensures around { self.new.around ≡ self.old.around }
         ensures handed { handed_by self.new.network (S.sent self.new.around) ≡ handed_by self.old.network (S.sent self.old.around) }
+        ensures behind { IfSome result (λ _. (sent : Option (List Sent)) →
+            handed_by self.new.network sent ≡ handed_by self.old.network (S.sent self.old.around)) }
     {
         match &mut self.network {
             Some(network) => network.take_due(self.now.clock),

@@ -1,5 +1,6 @@
 //! A bad network before the sockets.
 ghost use Rattle.std.specs.Prelude.{◌≡◌, ◌∷◌, [], None, Some};
+ghost use Rattle.bad_network.specs.Waiting.{first_due};
 ghost use Rattle.surroundings.specs.Sending.{Grows};
 ghost use Rattle.live_gateway.specs.Offering.{offered_by};
 
@@ -42,7 +43,9 @@ impl SpoiltWay {
     }
 
     /// The moment, in ms, at which the network hands something out, if it will.
-    pub fn next_due(&self) -> Option<u64> {
+    pub fn next_due(&self) -> Option<u64>
+        ensures { result ≡ first_due self.now.network.waiting.items }
+    {
         self.network.next_due()
     }
 

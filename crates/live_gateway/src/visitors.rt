@@ -16,19 +16,3 @@ pub trait Visitors<S: Surroundings> {
     fn turn(&mut self, around: &mut S, board: &mut Board, moment: u64)
         ensures { S.sent around.new ≡ S.sent around.old };
 }
-
-/// Nobody visits a page.
-#[derive(Clone, Copy)]
-pub struct NoVisitors;
-
-impl<S: Surroundings> Visitors<S> for NoVisitors {
-    fn is_ready(&self, _around: &S, _moment: u64) -> bool {
-        false
-    }
-
-    fn next_deadline(&self) -> Option<u64> {
-        None
-    }
-
-    fn turn(&mut self, _around: &mut S, _board: &mut Board, _moment: u64) {}
-}
