@@ -1,5 +1,6 @@
 //! How the program ends: its status, and what it says then.
 ghost use Rattle.std.specs.Prelude.{◌≡◌, ◌≢◌};
+ghost use Rattle.rgwd.specs.Statuses.{status_of};
 
 use crate::help::{HELP, USAGE, VERSIONS, put_pieces};
 use bad_network::SpoilingFault;
@@ -92,7 +93,9 @@ pub enum Ending<'a> {
 impl<'a> Ending<'a> {
     /// The exit status: 0 served, told, checked or replayed, 1 no answer or another line, 2 words, a configuration or a trace that
     /// are refused, 3 memory, a file, a socket, a stream or the clock.
-    pub fn status(self) -> u8 {
+    pub fn status(self) -> u8
+        ensures { result ≡ status_of self.entry }
+    {
         match self {
             Ending::Served | Ending::Help | Ending::Version | Ending::Checked => 0,
             Ending::Answered | Ending::Replayed => 0,

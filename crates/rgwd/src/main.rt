@@ -4,6 +4,7 @@
 
 mod app;
 mod ending;
+mod examples;
 mod help;
 mod opening;
 mod reception;

@@ -1,4 +1,7 @@
 //! What a start draws from the time of day: with which number ids begin, and how long it waits before its clock begins.
+ghost use Rattle.std.specs.Prelude.{◌≡◌, option_map};
+ghost use Rattle.new_start.specs.Waiting.{waited};
+
 use crate::words::Settings;
 use live_ends::time_of_day;
 use new_start::{FirstNumber, waited};
@@ -53,7 +56,10 @@ impl Start {
     }
 
     /// What is told of it, where the gateway has this domain (RFC 3435, 4.4.6).
-    pub fn begun(self, domain: &[u8]) -> Begun {
+    pub fn begun(self, domain: &[u8]) -> Begun
+        ensures first { result.first ≡ self.first }
+        ensures waits { result.waits ≡ option_map (λ spread. waited spread self.time domain.now) self.spread }
+    {
         let waits = match self.spread {
             Some(spread) => Some(waited(spread, self.time, domain)),
             None => None,
