@@ -11,6 +11,7 @@ ghost use Rattle.exchange_log.specs.Lines.{note_line, refused_line};
 ghost use Rattle.gateway_core.specs.declared.outcome.Reply.TheVariants.{First, Again, Silence, NoRoom};
 ghost use Rattle.gateway_core.specs.declared.outcome.TextOutcome.TheVariants.{NoMessage, Command, Response};
 ghost use Rattle.live_journal.specs.Explaining.{reason_text};
+ghost use Rattle.live_journal.specs.Recording.{trace_head};
 ghost use Rattle.live_journal.specs.Reporting.{told_all, commands_text, answer_text, answers_from};
 
 /// Numbers are told behind what they are the number of; commands by verb, and answers by those return codes that there were.
@@ -38,4 +39,12 @@ pub fn what_was_refused_is_told()
     ensures full { (stamp : Stamp) → reason_text stamp (Command (Some Rqnt) 1207 NoRoom) ≡ [] }
     ensures other { (stamp : Stamp) → reason_text stamp NoMessage ≡ [] }
     ensures response { (stamp : Stamp) (asked : _) → reason_text stamp (Response asked) ≡ [] }
+{}
+
+/// A trace begins with the configuration, whose last line has its end, and with the number with which ids begin.
+pub fn a_trace_has_a_head()
+    ensures whole { trace_head (codes "lines = 2\n") 0 ≡ codes "lines = 2\n%%\n" }
+    ensures ended { trace_head (codes "lines = 2") 0 ≡ codes "lines = 2\n%%\n" }
+    ensures empty { trace_head [] 0 ≡ codes "%%\n" }
+    ensures first { trace_head [] 4711 ≡ codes "%%\n| first 4711\n" }
 {}

@@ -2,6 +2,7 @@
 use crate::capture::Capture;
 use crate::log::Log;
 use crate::message_tally::MessageTally;
+use crate::spoiling::note_of;
 use bad_network::Fate;
 use exchange_log::{Note, Way};
 use gateway_core::Gateway;
@@ -75,11 +76,13 @@ impl Journal {
 
     /// The datagram that was sent last has this fate.
     pub fn spoilt(&mut self, now: Now, to: SocketAddrV4, fate: Fate) {
-        self.log.spoil(now, to, fate);
+        if let Some(note) = note_of(fate) {
+            self.log.note(now, to, note);
+        }
     }
 
     /// The datagram that was sent last didn't leave.
     pub fn unsent(&mut self, now: Now, to: SocketAddrV4) {
-        self.log.fail_to_send(now, to);
+        self.log.note(now, to, Note::Unsent);
     }
 }

@@ -1,4 +1,7 @@
 //! What the log says of a network that spoils what goes over it, or takes nothing.
+ghost use Rattle.exchange_log.specs.Pausing.{pause_line};
+ghost use Rattle.live_journal.specs.Recording.{Records};
+
 use crate::log::Log;
 use bad_network::Fate;
 use exchange_log::{Note, Stamp, Way, put_pause};
@@ -7,8 +10,8 @@ use mg_bytes::OutOfMemory;
 use piggyback::parts;
 use std::net::SocketAddrV4;
 
-// What is noted of this fate; nothing where a datagram comes at once.
-fn note_of(fate: Fate) -> Option<Note> {
+/// What is noted of this fate; nothing where a datagram comes at once.
+pub(crate) fn note_of(fate: Fate) -> Option<Note> {
     match fate {
         Fate::Lost => Some(Note::Lost),
         Fate::Once { late: 0 } => None,
@@ -37,7 +40,8 @@ impl Log {
         }
     }
 
-    fn note(&mut self, now: Now, peer: SocketAddrV4, note: Note) {
+    /// This is noted of the datagram that came or was sent last.
+    pub(crate) fn note(&mut self, now: Now, peer: SocketAddrV4, note: Note) {
         let stamp = Stamp {
             moment: now.time,
             peer,
@@ -47,25 +51,17 @@ impl Log {
         }
     }
 
-    /// The datagram that was sent last has this fate.
-    pub(crate) fn spoil(&mut self, now: Now, peer: SocketAddrV4, fate: Fate) {
-        if let Some(note) = note_of(fate) {
-            self.note(now, peer, note);
-        }
-    }
-
     /// The program was stopped and went on so much later than it was to, in ms, and so many datagrams had come, where that is known.
-    pub fn pause(&mut self, now: Now, lateness: u64, read: Option<u64>) {
+    #[tactic(auto, using(crate::proofs::RecordLemmas::puts_text, crate::proofs::RecordLemmas::puts_nothing, crate::proofs::RecordLemmas::refuses))]
+    pub fn pause(&mut self, now: Now, lateness: u64, read: Option<u64>)
+        ensures { Records self.old.record (pause_line now.time lateness read) self.new.record }
+    {
         if !self.record.is_on() {
             return;
         }
-        if put_pause(self.alloc, &mut self.record.out, now.time, lateness, read).is_err() {
-            self.record.refuse();
+        match put_pause(self.alloc, &mut self.record.out, now.time, lateness, read) {
+            Ok(()) => {}
+            Err(_) => self.record.refuse(),
         }
-    }
-
-    /// The datagram that was sent last didn't leave.
-    pub(crate) fn fail_to_send(&mut self, now: Now, to: SocketAddrV4) {
-        self.note(now, to, Note::Unsent);
     }
 }

@@ -1,5 +1,6 @@
 //! The trace, as a record keeps it until it is written.
-ghost use Rattle.std.specs.Prelude.{None};
+ghost use Rattle.std.specs.Prelude.{◌≡◌, ◌++◌, OnOk, None};
+ghost use Rattle.live_journal.specs.Recording.{whole_lines, first_line, trace_head, Begins};
 
 use live_ends::Record;
 use live_play::Teller;
@@ -13,30 +14,53 @@ pub struct Trace {
     pub record: Record,
 }
 
-// Puts its head: the configuration, `%%`, and with which number ids begin.
-fn put_head(
-    alloc: Global,
-    out: &mut Vec<u8>,
-    config: &[u8],
-    first: u32,
-) -> Result<(), OutOfMemory> {
+// Puts the configuration, whose last line has its end.
+fn put_config(out: &mut Vec<u8>, config: &[u8]) -> Result<(), OutOfMemory>
+    ensures { OnOk result (out.new.items ≡ out.old.items ++ whole_lines config.now) }
+{
     out.extend_from_slice(config)?;
-    if !config.is_empty() && !config.ends_with(b"\n") {
-        out.extend_from_slice(b"\n")?;
+    if config.is_empty() || config.ends_with(b"\n") {
+        return Ok(());
     }
-    out.extend_from_slice(b"%%\n")?;
+    out.extend_from_slice(b"\n")
+}
+
+// Puts with which number ids begin, where that isn't 0.
+fn put_first_line(alloc: Global, out: &mut Vec<u8>, first: u32) -> Result<(), OutOfMemory>
+    ensures { OnOk result (out.new.items ≡ out.old.items ++ first_line first) }
+{
     if first == 0 {
         return Ok(());
     }
     put_first(alloc, out, first)
 }
 
+fn put_head(
+    alloc: Global,
+    out: &mut Vec<u8>,
+    config: &[u8],
+    first: u32,
+) -> Result<(), OutOfMemory>
+    ensures { OnOk result (out.new.items ≡ out.old.items ++ trace_head config.now first) }
+{
+    put_config(out, config)?;
+    out.extend_from_slice(b"%%\n")?;
+    put_first_line(alloc, out, first)
+}
+
 impl Trace {
     /// A trace that has its head, where one is asked for: the text of the configuration, and the number with which ids begin.
-    pub fn new(alloc: Global, is_on: bool, config: &[u8], first: u32) -> Trace {
+    #[tactic(auto, using(crate::proofs::RecordLemmas::puts_text, crate::proofs::RecordLemmas::puts_nothing, crate::proofs::RecordLemmas::refuses))]
+    pub fn new(alloc: Global, is_on: bool, config: &[u8], first: u32) -> Trace
+        ensures { Begins is_on (trace_head config.now first) result.record }
+    {
         let mut record = Record::new(alloc, is_on);
-        if is_on && put_head(alloc, &mut record.out, config, first).is_err() {
-            record.refuse();
+        if !is_on {
+            return Trace { record };
+        }
+        match put_head(alloc, &mut record.out, config, first) {
+            Ok(()) => {}
+            Err(_) => record.refuse(),
         }
         Trace { record }
     }

@@ -1,0 +1,21 @@
+-- What is put into a record, by whether it is told all.
+use Rattle.std.proofs.Common.{inl, inr, ◌≡◌, ◌⊎◌, ℕ, Bool, true, false, List, [], ◌++◌, refl}
+use Rattle.live_ends.specs.declared.record.RecordState.{RecordState}
+use Rattle.live_ends.specs.declared.record.RecordState.TheVariants.{Off, On, OutOfMemory}
+use Rattle.live_ends.specs.Recording.{is_told}
+use Rattle.live_journal.specs.Recording.{Puts}
+
+pub puts_text : (was : RecordState) (were text are : List ℕ) (state : RecordState) → is_told was ≡ true → state ≡ was → are ≡ were ++ text → Puts was were text state are
+puts_text Off were text are state told same grew = absurd cc
+puts_text On were text are state told same grew = inl (same, grew)
+puts_text OutOfMemory were text are state told same grew = absurd cc
+
+pub puts_nothing : (was : RecordState) (were text are : List ℕ) (state : RecordState) → is_told was ≡ false → state ≡ was → are ≡ were → Puts was were text state are
+puts_nothing Off were text are state told same kept = (same, kept)
+puts_nothing On were text are state told same kept = absurd cc
+puts_nothing OutOfMemory were text are state told same kept = (same, kept)
+
+pub refuses : (was : RecordState) (were text are : List ℕ) (state : RecordState) → is_told was ≡ true → state ≡ OutOfMemory → are ≡ [] → Puts was were text state are
+refuses Off were text are state told refused none = absurd cc
+refuses On were text are state told refused none = inr (refused, none)
+refuses OutOfMemory were text are state told refused none = absurd cc

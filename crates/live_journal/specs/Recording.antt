@@ -1,0 +1,34 @@
+-- What is put into a record, and what a trace begins with.
+use Rattle.std.specs.Prelude.{◌≡◌, ◌⊎◌, ℕ, Bool, ◌==◌, ◌||◌, nat_eq, codes, if◌then◌else◌, List, [], ◌∷◌, ◌++◌}
+use Rattle.std.specs.List.{ends_with}
+use Rattle.mg_bytes.specs.Lists.{is_empty}
+use Rattle.live_ends.specs.declared.record.Record.{Record}
+use Rattle.live_ends.specs.declared.record.RecordState.{RecordState}
+use Rattle.live_ends.specs.declared.record.RecordState.TheVariants.{Off, On, OutOfMemory}
+use Rattle.live_ends.specs.Recording.{state_when}
+use Rattle.traces.specs.Telling.{told_first}
+
+-- a record that is told all has this text behind what it had, or nothing from then on, where memory was refused; any other has what it had
+abbrev pub Puts : RecordState → List ℕ → List ℕ → RecordState → List ℕ → Type 0
+Puts Off were text state are = (state ≡ Off) × (are ≡ were)
+Puts On were text state are = ((state ≡ On) × (are ≡ were ++ text)) ⊎ ((state ≡ OutOfMemory) × (are ≡ []))
+Puts OutOfMemory were text state are = (state ≡ OutOfMemory) × (are ≡ were)
+
+abbrev pub Records : Record → List ℕ → Record → Type 0
+Records was text is = Puts was.state was.out.items text is.state is.out.items
+
+-- a record begins with this text, if it is told anything
+abbrev pub Begins : Bool → List ℕ → Record → Type 0
+Begins is_on text is = Puts (state_when is_on) [] text is.state is.out.items
+
+-- a configuration whose last line has its end
+abbrev pub whole_lines : List ℕ → List ℕ
+whole_lines config = if is_empty config || ends_with nat_eq config (10 ∷ []) then config else config ++ 10 ∷ []
+
+-- with which number ids begin, where that isn't 0
+abbrev pub first_line : ℕ → List ℕ
+first_line first = if first == 0 then [] else told_first first
+
+-- a trace begins with the configuration, `%%`, and with which number ids begin
+abbrev pub trace_head : List ℕ → ℕ → List ℕ
+trace_head config first = whole_lines config ++ codes "%%\n" ++ first_line first
