@@ -13,7 +13,7 @@ use gateway_core::DATAGRAM_ROOM;
 use live_ends::STOP_FROM_AFAR;
 use live_journal::{count, report};
 use live_play::{LivePlay, Teller};
-use std::alloc::Global;
+use std::alloc::{AllocError, Global};
 use surroundings::{Lines, Surroundings};
 use turns::{Ready, Schedule, Situation, Turn};
 
@@ -153,18 +153,23 @@ impl<S: Surroundings + Drop, T: Teller + Drop> Desk<S, T> {
         self.lines.answer(&mut self.exchange.around, text);
     }
 
+    /// What was counted so far, as text. Its only error is want of memory.
+    pub fn counts(&self) -> Result<Vec<u8>, AllocError> {
+        let exchange = &self.exchange;
+        report(
+            self.alloc,
+            &self.play.gateway,
+            &exchange.journal,
+            exchange.faults,
+        )
+    }
+
     // What was counted so far is answered.
     #[tactic(auto, using(live_play::proofs::RunLemmas::stays_so))]
     fn answer_counts(&mut self)
         ensures { (entries : List Entry) × Ran (at_desk T.told S.sent self.old) entries (at_desk T.told S.sent self.new) }
     {
-        let exchange = &self.exchange;
-        match report(
-            self.alloc,
-            &self.play.gateway,
-            &exchange.journal,
-            exchange.faults,
-        ) {
+        match self.counts() {
             Ok(counts) => self.answer(counts.as_slice()),
             Err(_) => self.answer(OUT_OF_MEMORY),
         }

@@ -100,7 +100,7 @@ impl<S: Surroundings + Drop> Exchange<S> {
 
     /// The moment at which the network hands something out, in ms, if it will.
     pub fn network_due(&self) -> Option<u64>
-        ensures { result ≡ next_due self.now.network }
+        ensures { result ≡ next_due self.entry.now.network }
     {
         match &self.network {
             Some(network) => network.next_due(),

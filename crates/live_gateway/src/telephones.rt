@@ -1,6 +1,7 @@
 //! What the lines ask for that come to the telephones' socket.
 ghost use Rattle.std.specs.Prelude.{◌≡◌, Some};
 ghost use Rattle.mg_bytes.specs.Words.{words as words_of};
+ghost use Rattle.rgw_scripts.specs.declared.step.ScriptLine.TheVariants.{Whole};
 ghost use Rattle.rgw_scripts.specs.Script.{line_in};
 ghost use Rattle.live_gateway.specs.Asking.{AsksFor};
 

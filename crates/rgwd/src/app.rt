@@ -8,8 +8,8 @@ use crate::words::{Settings, read_words};
 use config_faults::{Flaw, flaw_of, told, told_setup};
 use gateway_core::Gateway;
 use live_ends::{Live, Outlets, RecordState, Stream, hold_standard};
-use live_gateway::{Desk, boxed};
-use live_journal::{Journal, Trace, report};
+use live_gateway::boxed;
+use live_journal::{Journal, Trace};
 use rgw_scenes::gateway_from;
 use rgw_scripts::{PlayFault, read_limited};
 use std::alloc::{AllocError, Global};
@@ -105,31 +105,16 @@ fn served_ending<'w, F: Write + Drop>(
     Ending::Served
 }
 
-// What was counted.
-fn counts_of<R: Net + Clock>(
-    alloc: Global,
-    desk: &Desk<Live<'_, R>, Trace>,
-) -> Result<Vec<u8>, AllocError> {
-    let exchange = &desk.exchange;
-    report(
-        alloc,
-        &desk.play.gateway,
-        &exchange.journal,
-        exchange.faults,
-    )
-}
-
 // Serves until the end, writes what was recorded, and says what was counted.
 fn serve_to_end<'w, R: Files + Net + Clock + RandomSource>(
     rt: &R,
-    alloc: Global,
     opened: &mut Opened<'_, R>,
     outlets: &mut Outlets<R::File>,
 ) -> Result<Ending<'w>, AllocError> {
     opened.desk.run(&mut opened.visitors, outlets);
     opened.desk.play.end();
     opened.desk.write(outlets);
-    let counts = counts_of(alloc, &opened.desk)?;
+    let counts = opened.desk.counts()?;
     let exchange = &opened.desk.exchange;
     outlets.finish(rt, counts.as_slice(), exchange.now.time);
     Ok(served_ending(&exchange.journal, &opened.desk.play.teller, outlets))
@@ -158,7 +143,7 @@ fn serve_opened<'w, R: Files + Net + Clock + RandomSource>(
     if wait_first(rt, &mut opened.desk.exchange.around, begun).is_err() {
         return Err(Ending::Clock);
     }
-    let ending = serve_to_end(rt, alloc, opened, outlets);
+    let ending = serve_to_end(rt, opened, outlets);
     opened.desk.answer_stop();
     Ok(ending?)
 }
