@@ -1,7 +1,11 @@
 //! The loop: it asks what comes next, and does that.
-ghost use Rattle.std.specs.Prelude.{◌≡◌, [], List};
+ghost use Rattle.std.specs.Prelude.{◌≡◌, [], List, IfOk};
+ghost use Rattle.plain_machine.specs.Event.{GatewayEvent};
+ghost use Rattle.plain_machine.specs.Lists.{plain};
+ghost use Rattle.gateway_core.specs.Stands.{Stands};
 ghost use Rattle.traces.specs.Writing.{Entry};
 ghost use Rattle.live_play.specs.Running.{Ran};
+ghost use Rattle.live_journal.specs.Reporting.{counts_text};
 ghost use Rattle.live_gateway.specs.Desk.{at_desk};
 
 use crate::answering::{DONE, OUT_OF_MEMORY, UNKNOWN, act_answer, question_answer, show, take_act};
@@ -154,7 +158,11 @@ impl<S: Surroundings + Drop, T: Teller + Drop> Desk<S, T> {
     }
 
     /// What was counted so far, as text. Its only error is want of memory.
-    pub fn counts(&self) -> Result<Vec<u8>, AllocError> {
+    pub fn counts(&self) -> Result<Vec<u8>, AllocError>
+        ensures { (events : List GatewayEvent) → Stands self.now.play.value.gateway.value events → IfOk result (λ text. text.items
+            ≡ counts_text self.now.exchange.value.journal.value self.now.exchange.value.faults self.now.play.value.gateway.value.setup
+            (plain self.now.play.value.gateway.value.setup events)) }
+    {
         let exchange = &self.exchange;
         report(
             self.alloc,

@@ -6,6 +6,7 @@ ghost use Rattle.live_gateway.specs.Exchanging.{handed_by, next_due};
 use crate::spoilt_way::SpoiltWay;
 use crate::visitors::Visitors;
 use bad_network::{Fate, Packet, Way};
+use exchange_log::Note;
 use gateway_core::Gateway;
 use live_ends::{NEXT_OFFER, Now};
 use live_journal::{Faults, Journal, count};
@@ -95,7 +96,8 @@ impl<S: Surroundings + Drop> Exchange<S> {
         ensures around { self.new.around ≡ self.old.around }
     {
         count(&mut self.faults.refused);
-        self.journal.refused(self.now, source, bytes);
+        self.journal
+            .untaken(self.now, source, bytes, Note::OutOfMemory);
     }
 
     /// The moment at which the network hands something out, in ms, if it will.
@@ -197,7 +199,8 @@ impl<S: Surroundings + Drop> Exchange<S> {
             Err(_) => true,
         };
         if is_lost {
-            self.journal.lost(self.now, source, &room[..len]);
+            self.journal
+                .untaken(self.now, source, &room[..len], Note::Lost);
             return None;
         }
         self.handed_over(room)

@@ -9,7 +9,7 @@ use std::io::Write;
 
 /// Where what was recorded is written.
 pub trait Recorder<T: Teller> {
-    /// Keeps what was recorded at a turn, at this moment, in microseconds since 1970, and writes as much of what is kept as is taken at once.
+    /// Keeps what was recorded at a turn, at this moment, in microseconds since 1970, and writes of what is kept as much as is taken.
     fn write(&mut self, journal: &mut Journal, trace: &mut T, time: u64)
         ensures { Grows (T.told trace.old) [] (T.told trace.new) };
 

@@ -1,3 +1,4 @@
 pub mod Computing
 pub mod CountLemmas
 pub mod RecordLemmas
+pub mod LostLemmas

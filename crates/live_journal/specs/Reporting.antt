@@ -1,10 +1,17 @@
 -- Counts as they are told, a kind a line.
-use Rattle.std.specs.Prelude.{ℕ, ◌+◌, ◌==◌, if◌then◌else◌, codes, decimal, slice_index, List, [], ◌∷◌, ◌++◌}
+use Rattle.std.specs.Prelude.{ℕ, suc, ◌+◌, ◌==◌, if◌then◌else◌, codes, decimal, slice_index, List, [], ◌∷◌, ◌++◌}
 use Rattle.std.specs.List.{flat_map}
 use Rattle.std.specs.Borrow.{Bor}
+use Rattle.std.specs.Option.{unwrap_or}
 use Rattle.mgcp_text.specs.declared.message.Verb.TheVariants.{Ntfy, Rsip}
+use Rattle.plain_machine.specs.Lists.{lost_of}
+use Rattle.plain_machine.specs.Machine.{Machine}
+use Rattle.plain_machine.specs.declared.setup.Setup.{Setup}
+use Rattle.live_ends.specs.Backlog.{sum_within}
+use Rattle.live_ends.specs.Written.{written_line}
 use Rattle.page_answers.specs.Metrics.{code_text}
 use Rattle.sent_counts.specs.Counting.{place_of}
+use Rattle.live_journal.specs.declared.journal.Journal.{Journal}
 use Rattle.live_journal.specs.declared.message_tally.MessageTally.{MessageTally}
 use Rattle.live_journal.specs.declared.reporting.Faults.{Faults}
 
@@ -56,6 +63,11 @@ others_text tally lost faults =
     ∷ (codes "\nlost events ", lost) ∷ (codes " refused ", faults.refused)
     ∷ (codes "\nfaults receive ", faults.receive) ∷ (codes " send ", faults.send) ∷ [])
 
+-- how many events of so many lines, from the first on, were lost
+unfoldable pub lost_of_lines : Machine → ℕ → ℕ
+lost_of_lines m 0 = 0
+lost_of_lines m (suc lines) = sum_within (lost_of_lines m lines) (unwrap_or (lost_of m (suc lines)) 0)
+
 -- what came, and how it was answered
 unfoldable pub traffic_text : MessageTally → List ℕ
 traffic_text tally =
@@ -65,3 +77,9 @@ traffic_text tally =
 -- all of it, where so many events of all lines were lost
 abbrev pub report_text : MessageTally → ℕ → Faults → List ℕ
 report_text tally lost faults = traffic_text tally ++ others_text tally lost faults ++ codes "\n"
+
+-- all that is told of a gateway that is this machine
+abbrev pub counts_text : Journal → Faults → Setup → Machine → List ℕ
+counts_text journal faults setup m =
+    report_text journal.tally.value (lost_of_lines m setup.names.lines) faults
+    ++ written_line journal.written journal.capture.value.name

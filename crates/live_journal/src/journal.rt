@@ -49,21 +49,16 @@ impl Journal {
         self.show(now.clock, Kind::Received, Some(source), bytes);
     }
 
-    /// The gateway took an event, of which `Gateway::outcomes`, `sent` and `given_up` tell: all that is counted. What it sends is handed out
+    /// The gateway took an event, of which `outcomes`, `sent` and `given_up` of it tell: all that is counted. What it sends is handed out
     /// next.
     pub fn turned(&mut self, now: Now, gateway: &Gateway) {
         self.tally.turned(gateway);
         self.log.turned(now, gateway);
     }
 
-    /// A datagram was sent to the gateway, and a bad network lost it.
-    pub fn lost(&mut self, now: Now, source: SocketAddrV4, bytes: &[u8]) {
-        self.log.leave(now, source, bytes, Note::Lost);
-    }
-
-    /// A datagram came, and the gateway refused it, for want of memory.
-    pub fn refused(&mut self, now: Now, source: SocketAddrV4, bytes: &[u8]) {
-        self.log.leave(now, source, bytes, Note::OutOfMemory);
+    /// A datagram that was sent to the gateway isn't taken, for this reason: a bad network lost it, or memory was refused.
+    pub fn untaken(&mut self, now: Now, source: SocketAddrV4, bytes: &[u8], why: Note) {
+        self.log.leave(now, source, bytes, why);
     }
 
     /// A datagram is sent.

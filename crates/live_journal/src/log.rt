@@ -7,7 +7,7 @@ use mgcp_text::{Message, TransactionId, read_message};
 use piggyback::parts;
 use plain_machine::line_of_id;
 use std::alloc::Global;
-use std::collections::BTreeMap;
+use std::collections::{BTreeMap, VecDeque};
 use std::net::{Ipv4Addr, SocketAddrV4};
 use transmission::texts;
 
@@ -38,9 +38,8 @@ pub struct Log {
     pub(crate) domain: Text,
     // What each line sent last; line 0 is the gateway itself.
     own: BTreeMap<u16, OwnCommand>,
-    // The messages of the event that was taken last, and how many of them were handed out.
-    messages: Vec<SentMessage>,
-    handed: usize,
+    // The messages of the event that was taken last that weren't handed out yet.
+    messages: VecDeque<SentMessage>,
     /// When a datagram came last, in microseconds since 1970, and from where.
     pub(crate) came: Stamp,
     /// That datagram, until the gateway took it: so nothing is read again to tell what its texts are.
@@ -58,8 +57,7 @@ impl Log {
             record: Record::new(alloc, is_on),
             domain: Text::of(Vec::from_slice(alloc, domain)?),
             own: BTreeMap::new(alloc),
-            messages: Vec::new(alloc),
-            handed: 0,
+            messages: VecDeque::new(alloc),
             came: Stamp {
                 moment: 0,
                 peer: SocketAddrV4::new(Ipv4Addr::UNSPECIFIED, 0),
@@ -173,10 +171,9 @@ impl Log {
 
     fn take_turn(&mut self, now: Now, gateway: &Gateway) -> Result<(), OutOfMemory> {
         self.put_arrival(gateway.outcomes())?;
-        self.handed = 0;
         self.messages.clear();
         for message in gateway.sent() {
-            self.messages.push(*message)?;
+            self.messages.push_back(*message)?;
         }
         for given_up in gateway.given_up() {
             self.give_up(now, *given_up)?;
@@ -189,13 +186,6 @@ impl Log {
         if self.record.is_on() && self.take_turn(now, gateway).is_err() {
             self.record.refuse();
         }
-    }
-
-    // The label of the next message that is handed out.
-    fn next_label(&mut self) -> Option<Label> {
-        let label = self.messages.get(self.handed)?.label;
-        self.handed = self.handed.saturating_add(1);
-        Some(label)
     }
 
     // A command of the gateway's own is sent for the first time.
@@ -236,8 +226,8 @@ impl Log {
 
     fn datagram_sent(&mut self, to: Stamp, bytes: &[u8]) -> Result<(), OutOfMemory> {
         for text in parts(bytes) {
-            match self.next_label() {
-                Some(label) => self.labelled_sent(to, label, text)?,
+            match self.messages.pop_front() {
+                Some(message) => self.labelled_sent(to, message.label, text)?,
                 None => self.put_text(to, Way::Sent, text, None)?,
             }
         }

@@ -1,8 +1,11 @@
 //! What is told at the end: counts, one kind a line.
-ghost use Rattle.std.specs.Prelude.{◌≡◌, ◌++◌, OnOk};
+ghost use Rattle.std.specs.Prelude.{◌≡◌, ◌++◌, List, OnOk, IfOk};
 ghost use Rattle.std.specs.List.{flat_map};
+ghost use Rattle.plain_machine.specs.Event.{GatewayEvent};
+ghost use Rattle.plain_machine.specs.Lists.{plain};
+ghost use Rattle.gateway_core.specs.Stands.{Stands};
 ghost use Rattle.page_answers.specs.Metrics.{code_text};
-ghost use Rattle.live_journal.specs.Reporting.{told, entry_text, datagrams_text, verbs_text, commands_text, texts_text, answer_text, answers_from, traffic_text, others_text, report_text};
+ghost use Rattle.live_journal.specs.Reporting.{told, entry_text, datagrams_text, verbs_text, commands_text, texts_text, answer_text, answers_from, lost_of_lines, traffic_text, others_text, report_text, counts_text};
 
 use crate::journal::Journal;
 use crate::message_tally::MessageTally;
@@ -33,7 +36,10 @@ impl Faults {
 }
 
 // How many events of all lines were lost.
-fn lost_of(gateway: &Gateway) -> u64 {
+fn lost_of(gateway: &Gateway) -> u64
+    ensures { (events : List GatewayEvent) → Stands gateway.now events →
+        result ≡ lost_of_lines (plain gateway.now.setup events) gateway.now.setup.names.lines }
+{
     let mut lost: u64 = 0;
     for before in 0..gateway.lines() {
         lost = lost.saturating_add(gateway.lost(before + 1));
@@ -208,7 +214,10 @@ pub fn report(
     gateway: &Gateway,
     journal: &Journal,
     faults: Faults,
-) -> Result<Vec<u8>, AllocError> {
+) -> Result<Vec<u8>, AllocError>
+    ensures { (events : List GatewayEvent) → Stands gateway.now events → IfOk result (λ text. text.items
+        ≡ counts_text journal.now faults gateway.now.setup (plain gateway.now.setup events)) }
+{
     let mut text = Vec::new(alloc);
     put_report(alloc, &mut text, &journal.tally, lost_of(gateway), faults)?;
     let capture = journal.capture.name.as_bytes();

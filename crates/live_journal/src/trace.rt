@@ -1,6 +1,6 @@
 //! The trace, as a record keeps it until it is written.
 ghost use Rattle.std.specs.Prelude.{◌≡◌, ◌++◌, OnOk, None};
-ghost use Rattle.live_journal.specs.Recording.{whole_lines, first_line, trace_head, Begins};
+ghost use Rattle.live_journal.specs.Recording.{whole_lines, trace_head, Begins};
 
 use live_ends::Record;
 use live_play::Teller;
@@ -25,16 +25,7 @@ fn put_config(out: &mut Vec<u8>, config: &[u8]) -> Result<(), OutOfMemory>
     out.extend_from_slice(b"\n")
 }
 
-// Puts with which number ids begin, where that isn't 0.
-fn put_first_line(alloc: Global, out: &mut Vec<u8>, first: u32) -> Result<(), OutOfMemory>
-    ensures { OnOk result (out.new.items ≡ out.old.items ++ first_line first) }
-{
-    if first == 0 {
-        return Ok(());
-    }
-    put_first(alloc, out, first)
-}
-
+// Puts its head: the configuration, `%%`, and with which number ids begin, where that isn't 0.
 fn put_head(
     alloc: Global,
     out: &mut Vec<u8>,
@@ -45,7 +36,10 @@ fn put_head(
 {
     put_config(out, config)?;
     out.extend_from_slice(b"%%\n")?;
-    put_first_line(alloc, out, first)
+    if first == 0 {
+        return Ok(());
+    }
+    put_first(alloc, out, first)
 }
 
 impl Trace {
