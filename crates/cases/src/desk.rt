@@ -6,16 +6,18 @@
 //! - `<`, `>` a datagram comes from the first gateway, 127.0.0.1:2427, or goes there, or from and to the address behind them.
 //! - `type AUEP ..` this is typed at the socket for commands.
 //! - `print ..` a line of standard output.
-use crate::stories::{Place, Program, Records, Story, Transcript, Watched, Words, words_in};
+use crate::stories::{Place, Program, Records, Story, Transcript, Words, put_given, words_in};
 use agent_texts::{AgentConfig, ConfigRefusal, Journal, read_config};
 use bad_network::BadNetwork;
 use call_desk::Switchboard;
 use live_agent::{Recorder, Wire, serve};
+use live_ends::Written;
+use live_gateway::boxed;
 use scenario_files::refused;
 use std::alloc::{AllocError, Global};
 use std::net::{Ipv4Addr, SocketAddrV4};
 use std::{io, mem};
-use surroundings::Surroundings;
+use surroundings::{Scripted, Surroundings};
 
 // Microseconds in a millisecond.
 const MICROSECONDS: u64 = 1000;
@@ -34,19 +36,11 @@ numbers = [\"203\", \"204\"]
 /// The program `rgca`.
 pub struct CallAgent;
 
-// Keeps what was recorded at a turn.
-fn keep_all(records: &mut Records, journal: &mut Journal, time: u64) -> Result<(), AllocError> {
-    let moment = records.moment_of(time);
-    records.keep(moment, b"print ", &mut journal.told)?;
-    records.keep(moment, b"log ", &mut journal.log)?;
-    records.keep_capture(moment, &mut journal.capture)
-}
-
 impl Recorder for Records {
     fn write(&mut self, journal: &mut Journal, time: u64) {
-        if keep_all(self, journal, time).is_err() {
-            self.is_refused = true;
-        }
+        self.keep(time, b"print ", &mut journal.told);
+        self.keep(time, b"log ", &mut journal.log);
+        self.keep_capture(time, &mut journal.capture);
     }
 
     fn is_offering(&self) -> bool {
@@ -73,56 +67,55 @@ fn journal_of(alloc: Global, words: &Words) -> Result<Journal, AllocError> {
 }
 
 // What a call agent stands on, over what a story has of sockets and a clock.
-fn wire_of(alloc: Global, words: &Words, story: &mut Story) -> io::Result<Box<Wire<Watched>>> {
+fn wire_of(alloc: Global, words: &Words, story: &mut Story) -> io::Result<Box<Wire<Scripted>>> {
     let network = match words.network {
         Some(spoiling) => Some(BadNetwork::new(alloc, spoiling)),
         None => None,
     };
     let journal = journal_of(alloc, words)?;
-    let mut around = mem::replace(&mut story.around, Watched::new(alloc, words.own));
+    let mut around = mem::replace(&mut story.around, Scripted::new(alloc, words.own));
     around.own = words.own;
     let end = words.stop_after.unwrap_or(story.moment.saturating_add(1));
     let wire = Wire::new(alloc, around, network, journal, Some(end))?;
-    Ok(Box::new(alloc, wire)?)
+    Ok(boxed(alloc, wire)?)
 }
 
-// Serves to the end, and tells what was counted, where that is asked for.
+// Serves to the end, and puts what is given, with what was counted, where that is asked for.
 fn run(
     alloc: Global,
     board: &mut Switchboard,
-    wire: &mut Wire<Watched>,
-    records: &mut Records,
+    wire: &mut Wire<Scripted>,
     is_counted: bool,
+    given: &mut Transcript,
 ) -> io::Result<()> {
-    let _ = serve(alloc, board, wire, records);
+    let mut records = Records::new(alloc, wire.around.time(), Written::ALL);
+    let _ = serve(alloc, board, wire, &mut records);
     let time = wire.around.time();
     records.write(&mut wire.journal, time);
     if is_counted {
         let counts = wire.journal.counts()?;
         let moment = records.moment_of(time);
-        records.given.tell(moment, b"count ", counts.as_slice())?;
+        records.given.tell(moment, b"count ", counts.as_slice());
     }
+    put_given(alloc, given, &wire.around);
+    given.append(&mut records.given);
     Ok(())
 }
 
-// What comes of a story.
-fn given_by(
+// Runs a call agent of this configuration by a story, and puts what it gives.
+fn play_with(
     alloc: Global,
     words: &Words,
     config: &AgentConfig,
     story: &mut Story,
-) -> io::Result<Box<Transcript>> {
-    let opened = story.around.time();
-    let mut records = Box::new(alloc, Records::new(alloc, opened))?;
+    given: &mut Transcript,
+) -> io::Result<()> {
+    let opened = story.around.time() / MICROSECONDS;
     let mut wire = wire_of(alloc, words, story)?;
-    let mut board = Switchboard::of(alloc, config, words.is_routed, opened / MICROSECONDS)?;
-    let ran = run(alloc, &mut board, &mut wire, &mut records, story.is_counted);
+    let mut board = Switchboard::of(alloc, config, words.is_routed, opened)?;
+    let ran = run(alloc, &mut board, &mut wire, story.is_counted, given);
     board.close();
-    ran?;
-    let mut given = Box::new(alloc, Transcript::new(alloc))?;
-    wire.around.give(&mut given)?;
-    records.give(&mut given)?;
-    Ok(given)
+    ran
 }
 
 impl Program for CallAgent {
@@ -136,13 +129,14 @@ impl Program for CallAgent {
         }
     }
 
-    fn given(alloc: Global, story: &mut Story) -> io::Result<Option<Box<Transcript>>> {
+    fn play(alloc: Global, story: &mut Story, given: &mut Transcript) -> io::Result<bool> {
         let Some(words) = words_in(alloc, story.words.as_slice(), CallAgent::place().own)? else {
-            return Ok(None);
+            return Ok(false);
         };
-        match config_in(alloc, story.settings.as_str())? {
-            Some(config) => Ok(Some(given_by(alloc, &words, &config, story)?)),
-            None => Ok(None),
-        }
+        let Some(config) = config_in(alloc, story.settings.as_str())? else {
+            return Ok(false);
+        };
+        play_with(alloc, &words, &config, story, given)?;
+        Ok(true)
     }
 }

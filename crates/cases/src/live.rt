@@ -9,12 +9,13 @@
 //! - `ask GET /state HTTP/1.1¶..` a visitor of the page asks that.
 //! - `pause 31000` the program is stopped, for so many ms.
 //! - `fault send` the next datagram can't be sent; `fault receive` none can be received.
+//! - `dropped 12` so many lines of the log are said not to be kept; `failed calls.pcap` a record is said not to be written.
 //! - `answer done` a line of an answer to who usually types, `answer 10.0.0.9:5000 done` to somebody else; `page ..` one of what a visitor gets; `log ..`, `trace ..`, `capture ..` what is
 //!   recorded; `count ..` what is counted at the end, and `replay ..` what a replay of the trace finds.
 mod browsers;
 
 use crate::live::browsers::Browsers;
-use crate::stories::{Place, Program, Records, Story, Transcript, Watched, Words, words_in};
+use crate::stories::{Place, Program, Records, Story, Transcript, Words, put_given, words_in};
 use bad_network::BadNetwork;
 use gateway_core::Gateway;
 use live_ends::{Now, Written};
@@ -28,32 +29,18 @@ use std::alloc::{AllocError, Global};
 use std::collections::VecDeque;
 use std::net::{Ipv4Addr, SocketAddrV4};
 use std::{io, mem};
-use surroundings::{Lines, Surroundings};
+use surroundings::{Lines, Scripted, Surroundings};
 use traces::{put_verdict, replay};
 
 /// The program `rgwd`.
 pub struct Live;
 
-// Keeps what was recorded at a turn.
-fn keep_all(
-    records: &mut Records,
-    journal: &mut Journal,
-    trace: &mut Trace,
-    time: u64,
-) -> Result<(), AllocError> {
-    let moment = records.moment_of(time);
-    let record = &mut trace.record;
-    records.trace.extend_from_slice(record.out.as_slice())?;
-    records.keep(moment, b"trace ", record)?;
-    records.keep(moment, b"log ", &mut journal.log.record)?;
-    records.keep_capture(moment, &mut journal.capture.record)
-}
-
 impl Recorder<Trace> for Records {
     fn write(&mut self, journal: &mut Journal, trace: &mut Trace, time: u64) {
-        if keep_all(self, journal, trace, time).is_err() {
-            self.is_refused = true;
-        }
+        self.keep_trace(time, &mut trace.record);
+        self.keep(time, b"log ", &mut journal.log.record);
+        self.keep_capture(time, &mut journal.capture.record);
+        journal.written = self.written;
     }
 
     fn is_offering(&self) -> bool {
@@ -121,10 +108,10 @@ fn exchange_of(
     words: &Words,
     gateway: &Gateway,
     story: &mut Story,
-) -> Result<Box<Exchange<Watched>>, AllocError> {
+) -> Result<Box<Exchange<Scripted>>, AllocError> {
     let network = network_of(alloc, words, gateway)?;
     let journal = journal_of(alloc, words, gateway)?;
-    let mut around = mem::replace(&mut story.around, Watched::new(alloc, words.own));
+    let mut around = mem::replace(&mut story.around, Scripted::new(alloc, words.own));
     around.own = words.own;
     let now = Now {
         clock: 0,
@@ -140,7 +127,7 @@ fn desk_of(
     config: &str,
     gateway: Box<Gateway>,
     story: &mut Story,
-) -> Result<Box<Desk<Watched, Trace>>, AllocError> {
+) -> Result<Box<Desk<Scripted, Trace>>, AllocError> {
     let exchange = exchange_of(alloc, words, &gateway, story)?;
     let first = words.first.number();
     let trace = Trace::new(alloc, words.has_trace, config.as_bytes(), first);
@@ -170,70 +157,58 @@ fn tell_replay(alloc: Global, records: &mut Records, moment: u64) -> io::Result<
     };
     let mut text = Vec::new(alloc);
     put_verdict(alloc, &mut text, &verdict)?;
-    records.given.tell(moment, b"replay ", text.as_slice())?;
+    records.given.tell(moment, b"replay ", text.as_slice());
     Ok(())
 }
 
-// Puts what was counted.
-fn tell_counts(
-    alloc: Global,
-    desk: &Desk<Watched, Trace>,
-    records: &mut Records,
-    moment: u64,
-) -> io::Result<()> {
-    let exchange = &desk.exchange;
-    let counts = report(
-        alloc,
-        &desk.play.gateway,
-        &exchange.journal,
-        exchange.faults,
-    )?;
-    records.given.tell(moment, b"count ", counts.as_bytes())?;
-    Ok(())
-}
-
-// Tells what the program tells at its end, and what a replay of its trace finds.
+// Tells what the program tells at its end, what a replay of its trace finds, and what was counted, where that is asked for.
 fn end(
     alloc: Global,
-    desk: &mut Desk<Watched, Trace>,
+    desk: &mut Desk<Scripted, Trace>,
     records: &mut Records,
     is_counted: bool,
 ) -> io::Result<()> {
     desk.play.end();
     desk.write(records);
-    let moment = records.moment_of(desk.exchange.now.time);
+    let exchange = &desk.exchange;
+    let moment = records.moment_of(exchange.now.time);
     if desk.play.teller.record.is_on() {
         tell_replay(alloc, records, moment)?;
     }
     if is_counted {
-        tell_counts(alloc, desk, records, moment)?;
+        let counts = report(
+            alloc,
+            &desk.play.gateway,
+            &exchange.journal,
+            exchange.faults,
+        )?;
+        records.given.tell(moment, b"count ", counts.as_slice());
     }
     Ok(())
 }
 
-// What comes of a story at a gateway.
-fn given_by(
+// Runs a gateway by a story, whose end is told or isn't, and puts what it gives.
+fn run(
     alloc: Global,
-    words: &Words,
-    config: &str,
-    gateway: Box<Gateway>,
-    story: &mut Story,
-) -> io::Result<Box<Transcript>> {
-    let mut visitors = visitors_of(alloc, words, story)?;
-    let mut records = boxed(alloc, Records::new(alloc, story.around.time()))?;
-    let mut desk = desk_of(alloc, words, config, gateway, story)?;
-    desk.run(&mut visitors, &mut *records);
-    if words.stop_after.is_some() || story.is_counted {
-        end(alloc, &mut desk, &mut records, story.is_counted)?;
+    desk: &mut Desk<Scripted, Trace>,
+    visitors: &mut Option<Box<Browsers>>,
+    story: &Story,
+    is_ended: bool,
+    given: &mut Transcript,
+) -> io::Result<()> {
+    let opened = desk.exchange.around.time();
+    let mut records = Records::new(alloc, opened, story.written);
+    desk.run(visitors, &mut records);
+    if is_ended || story.is_counted {
+        end(alloc, desk, &mut records, story.is_counted)?;
     }
     desk.answer_stop();
-    let mut given = boxed(alloc, Transcript::new(alloc))?;
-    desk.exchange.around.give(&mut given)?;
-    if let Some(browsers) = &mut visitors {
-        browsers.give(&mut given)?;
+    put_given(alloc, given, &desk.exchange.around);
+    if let Some(browsers) = visitors {
+        given.append(&mut browsers.given);
     }
-    records.give(&mut given)?;
-    Ok(given)
+    given.append(&mut records.given);
+    Ok(())
 }
 
 impl Program for Live {
@@ -247,14 +222,18 @@ impl Program for Live {
         }
     }
 
-    fn given(alloc: Global, story: &mut Story) -> io::Result<Option<Box<Transcript>>> {
+    fn play(alloc: Global, story: &mut Story, given: &mut Transcript) -> io::Result<bool> {
         let Some(words) = words_in(alloc, story.words.as_slice(), Live::place().own)? else {
-            return Ok(None);
+            return Ok(false);
         };
         let config = config_of(alloc, story.settings.as_str())?;
-        match gateway_in(alloc, config.as_str(), &words)? {
-            Some(gateway) => Ok(Some(given_by(alloc, &words, config.as_str(), gateway, story)?)),
-            None => Ok(None),
-        }
+        let Some(gateway) = gateway_in(alloc, config.as_str(), &words)? else {
+            return Ok(false);
+        };
+        let mut visitors = visitors_of(alloc, &words, story)?;
+        let mut desk = desk_of(alloc, &words, config.as_str(), gateway, story)?;
+        let is_ended = words.stop_after.is_some();
+        run(alloc, &mut desk, &mut visitors, story, is_ended, given)?;
+        Ok(true)
     }
 }

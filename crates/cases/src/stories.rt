@@ -1,17 +1,17 @@
 //! Stories: what comes to a program that runs in memory, and what it gives at it. `docs/SCENARIOS.md` says how they are written.
 //!
 //! Its loop is the program's own. Its sockets and its clock are those of `surroundings`, by a script, so it runs just so each time.
+mod given;
 mod records;
 mod story;
 mod transcript;
-mod watched;
 mod words;
 
+pub use crate::stories::given::put_given;
 pub use crate::stories::records::Records;
 use crate::stories::story::read_story;
 pub use crate::stories::story::{Place, Story, Visit};
 pub use crate::stories::transcript::Transcript;
-pub use crate::stories::watched::Watched;
 pub use crate::stories::words::{Words, words_in};
 use scenario_files::{Count, Pieces};
 use std::alloc::Global;
@@ -22,8 +22,8 @@ pub trait Program {
     /// Where it is, where a story says nothing else.
     fn place() -> Place;
 
-    /// What it gives to what comes in a story; nothing where it can't run.
-    fn given(alloc: Global, story: &mut Story) -> io::Result<Option<Box<Transcript>>>;
+    /// Puts what it gives to what comes in a story: whether it runs.
+    fn play(alloc: Global, story: &mut Story, given: &mut Transcript) -> io::Result<bool>;
 }
 
 // Whether a program gives what a story says. What differs is printed.
@@ -34,12 +34,13 @@ fn is_told<P: Program, R: AllocGlobal + Print>(
 ) -> io::Result<bool> {
     let alloc = rt.alloc();
     let mut story = read_story(alloc, lines, P::place())?;
-    let wanted = story.wanted.text(alloc)?;
-    let Some(given) = P::given(alloc, &mut story)? else {
+    let mut given = Transcript::new(alloc);
+    if !P::play(alloc, &mut story, &mut given)? {
         println!(rt; "= {title}\n  it can't be played")?;
         return Ok(false);
-    };
-    let given = given.text(alloc)?;
+    }
+    let given = given.text()?;
+    let wanted = story.wanted.text()?;
     if given.as_slice() == wanted.as_slice() {
         return Ok(true);
     }

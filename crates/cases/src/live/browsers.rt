@@ -1,16 +1,16 @@
 //! Visitors of a page in memory: each asks once, and gets an answer.
-use crate::stories::{Transcript, Visit, Watched};
+use crate::stories::{Transcript, Visit};
 use http_server::{Config, Connection};
 use live_gateway::Visitors;
 use live_page::Desk;
 use page_answers::Board;
-use scenario_files::refused;
 use std::alloc::Global;
 use std::collections::VecDeque;
 use std::hash::RandomState;
 use std::io;
 use std::net::SocketAddrV4;
 use std::random::RandomSource;
+use surroundings::Scripted;
 
 // Keys that aren't secret: nobody visits whom a script doesn't have.
 struct KnownKeys;
@@ -27,9 +27,8 @@ pub struct Browsers {
     alloc: Global,
     site: SocketAddrV4,
     visits: VecDeque<Visit>,
-    given: Transcript,
-    // Memory was refused for what they got.
-    is_refused: bool,
+    /// What they got.
+    pub given: Transcript,
 }
 
 // Puts what is answered to a request.
@@ -77,17 +76,7 @@ impl Browsers {
             site,
             visits,
             given: Transcript::new(alloc),
-            is_refused: false,
         }
-    }
-
-    /// Puts what they got behind what was given before.
-    pub fn give(&mut self, given: &mut Transcript) -> io::Result<()> {
-        given.append(&mut self.given)?;
-        if self.is_refused {
-            return Err(refused());
-        }
-        Ok(())
     }
 
     // The moment at which the next one comes.
@@ -110,13 +99,13 @@ impl Browsers {
         } else {
             answer.as_slice()
         };
-        self.given.tell(moment, b"page ", told)?;
+        self.given.tell(moment, b"page ", told);
         Ok(())
     }
 }
 
-impl Visitors<Watched> for Browsers {
-    fn is_ready(&self, _around: &Watched, moment: u64) -> bool {
+impl Visitors<Scripted> for Browsers {
+    fn is_ready(&self, _around: &Scripted, moment: u64) -> bool {
         match self.next() {
             Some(next) => next <= moment,
             None => false,
@@ -127,9 +116,9 @@ impl Visitors<Watched> for Browsers {
         self.next()
     }
 
-    fn turn(&mut self, _around: &mut Watched, board: &mut Board, moment: u64) {
+    fn turn(&mut self, _around: &mut Scripted, board: &mut Board, moment: u64) {
         if self.serve(board, moment).is_err() {
-            self.is_refused = true;
+            self.given.refuse();
         }
     }
 }

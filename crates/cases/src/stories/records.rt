@@ -1,10 +1,7 @@
 //! What a program records, kept as it is written.
 use crate::stories::Transcript;
-use live_ends::Record;
-use mg_bytes::OutOfMemory;
-use scenario_files::refused;
+use live_ends::{Record, Written};
 use std::alloc::Global;
-use std::io;
 
 const MICROSECONDS: u64 = 1000;
 
@@ -17,19 +14,19 @@ pub struct Records {
     pub given: Transcript,
     /// All of the trace.
     pub trace: Vec<u8>,
-    /// Memory was refused for it.
-    pub is_refused: bool,
+    /// What is said to become of it.
+    pub written: Written,
 }
 
 impl Records {
-    /// Nothing yet, at moment 0, where it is this time of day, in microseconds since 1970.
-    pub fn new(alloc: Global, opened: u64) -> Records {
+    /// Nothing yet, at moment 0, where it is this time of day, in microseconds since 1970; this is said to become of what is recorded.
+    pub fn new(alloc: Global, opened: u64, written: Written) -> Records {
         Records {
             alloc,
             opened,
             given: Transcript::new(alloc),
             trace: Vec::new(alloc),
-            is_refused: false,
+            written,
         }
     }
 
@@ -38,32 +35,28 @@ impl Records {
         time.saturating_sub(self.opened) / MICROSECONDS
     }
 
-    /// Keeps what was put together of a record, at this moment, each line behind this.
-    pub fn keep(
-        &mut self,
-        moment: u64,
-        before: &[u8],
-        record: &mut Record,
-    ) -> Result<(), OutOfMemory> {
-        self.given.tell(moment, before, record.out.as_slice())?;
+    /// Keeps what was put together of a record at this time, each line behind this.
+    pub fn keep(&mut self, time: u64, before: &[u8], record: &mut Record) {
+        let moment = self.moment_of(time);
+        self.given.tell(moment, before, record.out.as_slice());
         record.out.clear();
-        Ok(())
     }
 
-    /// Keeps what was put together of a capture, in hexadecimal digits.
-    pub fn keep_capture(&mut self, moment: u64, record: &mut Record) -> Result<(), OutOfMemory> {
-        let digits = hex::encode(self.alloc, record.out.as_slice())?;
-        self.given.tell(moment, b"capture ", digits.as_bytes())?;
-        record.out.clear();
-        Ok(())
-    }
-
-    /// Puts all of it behind what was given before.
-    pub fn give(&mut self, given: &mut Transcript) -> io::Result<()> {
-        given.append(&mut self.given)?;
-        if self.is_refused {
-            return Err(refused());
+    /// Keeps what was put together of a trace at this time.
+    pub fn keep_trace(&mut self, time: u64, record: &mut Record) {
+        if self.trace.extend_from_slice(record.out.as_slice()).is_err() {
+            self.given.refuse();
         }
-        Ok(())
+        self.keep(time, b"trace ", record);
+    }
+
+    /// Keeps what was put together of a capture at this time, in hexadecimal digits.
+    pub fn keep_capture(&mut self, time: u64, record: &mut Record) {
+        let moment = self.moment_of(time);
+        match hex::encode(self.alloc, record.out.as_slice()) {
+            Ok(digits) => self.given.tell(moment, b"capture ", digits.as_bytes()),
+            Err(_) => self.given.refuse(),
+        }
+        record.out.clear();
     }
 }

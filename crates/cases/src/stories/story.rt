@@ -1,12 +1,13 @@
 //! A story as it is written: what a program is called with, what comes, and what it gives.
+use crate::stories::given::typist;
 use crate::stories::transcript::Transcript;
-use crate::stories::watched::{Watched, typist};
+use live_ends::Written;
 use scenario_files::{bytes_of, in_full, number_in, put_line};
 use std::alloc::Global;
 use std::collections::VecDeque;
 use std::io;
 use std::net::{SocketAddr, SocketAddrV4};
-use surroundings::Happening;
+use surroundings::{Coming, Happening, Scripted};
 
 /// Where a program is, where a story says nothing else.
 #[derive(Clone, Copy)]
@@ -35,9 +36,11 @@ pub struct Story {
     /// Lines of its configuration.
     pub settings: String,
     /// Its sockets and its clock.
-    pub around: Watched,
+    pub around: Scripted,
     /// Who visits its page.
     pub visits: VecDeque<Visit>,
+    /// What becomes of what it records.
+    pub written: Written,
     pub wanted: Transcript,
     /// Whether it is said what was counted at the end.
     pub is_counted: bool,
@@ -69,8 +72,9 @@ impl Story {
             alloc,
             words: Vec::new(alloc),
             settings: String::new(alloc),
-            around: Watched::new(alloc, at.own),
+            around: Scripted::new(alloc, at.own),
             visits: VecDeque::new(alloc),
+            written: Written::ALL,
             wanted: Transcript::new(alloc),
             is_counted: false,
             moment: 0,
@@ -85,18 +89,18 @@ impl Story {
         words.parse::<SocketAddrV4>().unwrap_or(self.usual)
     }
 
-    // A datagram comes.
-    fn come(&mut self, source: SocketAddrV4, bytes: Vec<u8>) -> io::Result<()> {
-        self.around
-            .add(self.moment, Happening::Datagram { source, bytes })?;
-        Ok(())
+    // This happens now.
+    fn add(&mut self, what: Happening) -> io::Result<()> {
+        let moment = self.moment;
+        Ok(self.around.add(Coming { moment, what })?)
     }
 
     // `10.0.0.7:2727 VALUE`: a datagram of these bytes comes.
     fn put_raw(&mut self, rest: &str) -> io::Result<()> {
         let (source, value) = rest.split_once(' ').unwrap_or((rest, ""));
         let bytes = value_in(self.alloc, value)?;
-        self.come(self.peer_in(source), bytes)
+        let source = self.peer_in(source);
+        self.add(Happening::Datagram { source, bytes })
     }
 
     // `phone 1 off`, or `10.0.0.9:5000 phone 1 off`: this is typed.
@@ -108,9 +112,7 @@ impl Story {
         };
         let from = SocketAddr::V4(from);
         let text = value_in(self.alloc, value)?;
-        self.around
-            .add(self.moment, Happening::Lines { from, text })?;
-        Ok(())
+        self.add(Happening::Lines { from, text })
     }
 
     // Somebody visits the page.
@@ -124,66 +126,42 @@ impl Story {
         Ok(())
     }
 
-    // A socket fails.
-    fn put_fault(&mut self, rest: &str) -> io::Result<()> {
-        if rest == "send" {
-            self.around.add(self.moment, Happening::SendFault)?;
-        } else {
-            self.around.add_fault(self.moment)?;
-        }
-        Ok(())
+    // This record can't be written.
+    fn put_failed(&mut self, name: &str) {
+        let faults = match name {
+            "standard output" => &mut self.written.output,
+            "standard error" => &mut self.written.error,
+            _ => &mut self.written.capture,
+        };
+        *faults = 1;
     }
 
-    // This is to be given.
-    fn want(&mut self, line: &str) -> io::Result<()> {
-        self.is_counted = self.is_counted || line.starts_with("count ");
-        self.wanted.tell(self.moment, b"", line.as_bytes())?;
-        Ok(())
-    }
-
-    fn put_word(&mut self, word: &str) -> io::Result<()> {
-        self.words.push(word.to_string(self.alloc)?)?;
-        Ok(())
-    }
-
-    // Something happens.
-    fn put_happening(&mut self, word: &str, rest: &str) -> io::Result<()> {
+    // A line that stands between datagrams: what it is called with, what comes, or what is to be given.
+    fn put_between(&mut self, line: &str) -> io::Result<()> {
+        let (word, rest) = line.split_once(' ').unwrap_or((line, ""));
         match word {
             "at" => self.moment = number_in(rest),
-            "pause" => {
-                let ms = number_in(rest);
-                self.around.add(self.moment, Happening::Pause { ms })?;
-            }
+            "set" => put_line(&mut self.settings, rest)?,
+            "words" => self.words.push(rest.to_string(self.alloc)?)?,
             "raw" => self.put_raw(rest)?,
             "type" => self.put_typed(rest)?,
             "ask" => self.put_visit(rest, false)?,
             "look" => self.put_visit(rest, true)?,
-            _ => self.put_fault(rest)?,
+            "pause" => {
+                let ms = number_in(rest);
+                self.add(Happening::Pause { ms })?;
+            }
+            "fault" if rest == "send" => self.add(Happening::SendFault)?,
+            "fault" => self.add(Happening::ReceiveFault)?,
+            "dropped" => self.written.dropped = number_in(rest),
+            "failed" => self.put_failed(rest),
+            "" | "#" => {}
+            _ => {
+                self.is_counted = self.is_counted || word == "count";
+                self.wanted.tell(self.moment, b"", line.as_bytes());
+            }
         }
         Ok(())
-    }
-
-    // A line that stands between datagrams.
-    fn put_between(&mut self, line: &str) -> io::Result<LinePlace> {
-        let (word, rest) = line.split_once(' ').unwrap_or((line, ""));
-        match word {
-            "<" => {
-                self.peer = self.peer_in(rest);
-                return Ok(LinePlace::InHeard);
-            }
-            ">" => {
-                self.peer = self.peer_in(rest);
-                return Ok(LinePlace::InSent);
-            }
-            "at" | "pause" | "raw" | "type" | "ask" | "look" | "fault" => self.put_happening(
-                word, rest,
-            )?,
-            "set" => put_line(&mut self.settings, rest)?,
-            "words" => self.put_word(rest)?,
-            "" | "#" => {}
-            _ => self.want(line)?,
-        }
-        Ok(LinePlace::Between)
     }
 
     // The lines of a datagram that comes are whole.
@@ -194,8 +172,8 @@ impl Story {
             bytes.extend_from_slice(line.trim().as_bytes())?;
             bytes.extend_from_slice(b"\r\n")?;
         }
-        self.datagram.clear();
-        self.come(self.peer, bytes)
+        let source = self.peer;
+        self.add(Happening::Datagram { source, bytes })
     }
 
     // The lines of a datagram that goes out are whole.
@@ -203,15 +181,26 @@ impl Story {
         let full = in_full(self.alloc, self.datagram.as_str())?;
         let peer = self.peer;
         let text = format!(in self.alloc; "> {peer}\n{full}--\n")?;
-        self.datagram.clear();
-        self.wanted
-            .put(self.moment, Vec::from_slice(self.alloc, text.as_bytes())?)?;
+        let bytes = Vec::from_slice(self.alloc, text.as_bytes())?;
+        self.wanted.put(self.moment, Ok(bytes));
         Ok(())
     }
 
+    // Takes a line, where it stands: where the next one does.
     fn put(&mut self, place: LinePlace, line: &str) -> io::Result<LinePlace> {
         match place {
-            LinePlace::Between => return self.put_between(line),
+            LinePlace::Between if line.starts_with("<") || line.starts_with(">") => {
+                let is_heard = line.starts_with("<");
+                let (_, peer) = line.split_once(' ').unwrap_or((line, ""));
+                self.peer = self.peer_in(peer);
+                self.datagram.clear();
+                return Ok(if is_heard {
+                    LinePlace::InHeard
+                } else {
+                    LinePlace::InSent
+                });
+            }
+            LinePlace::Between => self.put_between(line)?,
             LinePlace::InHeard if line == "--" => self.end_heard()?,
             LinePlace::InSent if line == "--" => self.end_sent()?,
             LinePlace::InHeard | LinePlace::InSent => {

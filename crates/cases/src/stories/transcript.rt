@@ -1,25 +1,29 @@
 //! What a program gives, by moments.
 use mg_bytes::{OutOfMemory, put_decimal};
+use scenario_files::refused;
 use std::alloc::Global;
-
-/// What is given at a moment, in ms: whole lines.
-#[derive(Drop)]
-struct Entry {
-    moment: u64,
-    text: Vec<u8>,
-}
-
-/// What is given, in the order in which it was put.
-#[derive(Drop)]
-pub struct Transcript {
-    alloc: Global,
-    entries: Vec<Entry>,
-}
+use std::io;
 
 // What stands before the lines of each kind, in the order in which those of one moment are told, behind what is sent and answered.
 const KINDS: [&str; 7] = [
     "page ", "trace ", "print ", "log ", "capture ", "replay ", "count ",
 ];
+
+// What is given at a moment, in ms: whole lines of one kind, which has this place among the kinds.
+#[derive(Drop)]
+struct Entry {
+    moment: u64,
+    rank: usize,
+    text: Vec<u8>,
+}
+
+/// What is given, in the order in which it was put. That memory was refused for something is kept, and told at the end.
+#[derive(Drop)]
+pub struct Transcript {
+    alloc: Global,
+    entries: Vec<Entry>,
+    is_refused: bool,
+}
 
 // The place of a text's kind in that order; 0 where it was sent or answered.
 fn rank_of(text: &[u8]) -> usize {
@@ -31,8 +35,9 @@ fn rank_of(text: &[u8]) -> usize {
     0
 }
 
-/// Puts each line of a text behind this, but empty ones.
-pub fn put_lines(out: &mut Vec<u8>, before: &[u8], text: &[u8]) -> Result<(), OutOfMemory> {
+// The lines of a text but empty ones, each behind this.
+fn lines_behind(alloc: Global, before: &[u8], text: &[u8]) -> Result<Vec<u8>, OutOfMemory> {
+    let mut out = Vec::new(alloc);
     for line in text.split(|byte| *byte == b'\n') {
         let line = line.strip_suffix(b"\r".as_slice()).unwrap_or(line);
         if !line.is_empty() {
@@ -41,7 +46,7 @@ pub fn put_lines(out: &mut Vec<u8>, before: &[u8], text: &[u8]) -> Result<(), Ou
             out.push(b'\n')?;
         }
     }
-    Ok(())
+    Ok(out)
 }
 
 impl Transcript {
@@ -50,73 +55,63 @@ impl Transcript {
         Transcript {
             alloc,
             entries: Vec::new(alloc),
+            is_refused: false,
         }
     }
 
-    /// This was given then.
-    pub fn put(&mut self, moment: u64, text: Vec<u8>) -> Result<(), OutOfMemory> {
-        if !text.is_empty() {
-            self.entries.push(Entry { moment, text })?;
+    /// Memory was refused for what was given.
+    pub fn refuse(&mut self) {
+        self.is_refused = true;
+    }
+
+    /// This was given then, unless memory was refused for it.
+    pub fn put(&mut self, moment: u64, text: Result<Vec<u8>, OutOfMemory>) {
+        let Ok(text) = text else {
+            return self.refuse();
+        };
+        let rank = rank_of(text.as_slice());
+        if self.entries.push(Entry { moment, rank, text }).is_err() {
+            self.refuse();
         }
-        Ok(())
     }
 
     /// The lines of this text were given then, each behind this.
-    pub fn tell(&mut self, moment: u64, before: &[u8], text: &[u8]) -> Result<(), OutOfMemory> {
-        let mut lines = Vec::new(self.alloc);
-        put_lines(&mut lines, before, text)?;
-        self.put(moment, lines)
+    pub fn tell(&mut self, moment: u64, before: &[u8], text: &[u8]) {
+        if !text.is_empty() {
+            self.put(moment, lines_behind(self.alloc, before, text));
+        }
     }
 
     /// All of another one, behind all of this.
-    pub fn append(&mut self, other: &mut Transcript) -> Result<(), OutOfMemory> {
-        self.entries.append(&mut other.entries)?;
-        Ok(())
+    pub fn append(&mut self, other: &mut Transcript) {
+        self.is_refused = self.is_refused || other.is_refused;
+        if self.entries.append(&mut other.entries).is_err() {
+            self.refuse();
+        }
     }
 
-    // The first moment from this one on at which something was given.
-    fn moment_from(&self, from: u64) -> Option<u64> {
-        let mut first: Option<u64> = None;
+    // From the first moment to the last; what was given at one stands by kinds, and of one kind in the order in which it was put.
+    fn put_in_order(&mut self, out: &mut Vec<u8>) -> Result<(), OutOfMemory> {
+        self.entries
+            .sort_by_key(|entry| (entry.moment, entry.rank))?;
+        let mut last = None;
         for entry in self.entries.iter() {
-            if entry.moment >= from {
-                first = Some(first.unwrap_or(entry.moment).min(entry.moment));
+            if last != Some(entry.moment) {
+                last = Some(entry.moment);
+                out.extend_from_slice(b"at ")?;
+                put_decimal(self.alloc, out, entry.moment)?;
+                out.push(b'\n')?;
             }
-        }
-        first
-    }
-
-    // What of one kind was given at a moment.
-    fn put_kind(&self, out: &mut Vec<u8>, moment: u64, rank: usize) -> Result<(), OutOfMemory> {
-        for entry in self.entries.iter() {
-            if entry.moment == moment && rank_of(entry.text.as_slice()) == rank {
-                out.extend_from_slice(entry.text.as_slice())?;
-            }
+            out.extend_from_slice(entry.text.as_slice())?;
         }
         Ok(())
     }
 
-    // What was given at a moment, behind a line that says it.
-    fn put_moment(&self, out: &mut Vec<u8>, moment: u64) -> Result<(), OutOfMemory> {
-        out.extend_from_slice(b"at ")?;
-        put_decimal(self.alloc, out, moment)?;
-        out.push(b'\n')?;
-        for rank in 0..=KINDS.len() {
-            self.put_kind(out, moment, rank)?;
-        }
-        Ok(())
-    }
-
-    /// All of it, from the first moment to the last; what was given at one stands by kinds, and of one kind in the order in which it was
-    /// put.
-    pub fn text(&self, alloc: Global) -> Result<Vec<u8>, OutOfMemory> {
-        let mut out = Vec::new(alloc);
-        let mut from: u64 = 0;
-        for _ in 0..self.entries.len() {
-            let Some(moment) = self.moment_from(from) else {
-                return Ok(out);
-            };
-            self.put_moment(&mut out, moment)?;
-            from = moment.saturating_add(1);
+    /// All of it, behind a line with its moment, in order. Its only error is want of memory, also for what was given.
+    pub fn text(&mut self) -> io::Result<Vec<u8>> {
+        let mut out = Vec::new(self.alloc);
+        if self.put_in_order(&mut out).is_err() || self.is_refused {
+            return Err(refused());
         }
         Ok(out)
     }

@@ -29,21 +29,6 @@ fn address_in(value: &str) -> SocketAddrV4 {
 }
 
 impl Words {
-    // No words, of a program whose sockets are there.
-    fn none(own: [SocketAddrV4; 2]) -> Words {
-        Words {
-            own,
-            http: None,
-            has_log: false,
-            has_trace: false,
-            is_routed: false,
-            capture: None,
-            network: None,
-            first: FirstNumber::zero(),
-            stop_after: None,
-        }
-    }
-
     // Takes a word, with its value: whether there is such a word.
     fn take(&mut self, alloc: Global, name: &str, value: &str) -> io::Result<bool> {
         match name {
@@ -55,9 +40,10 @@ impl Words {
             "--route" => self.is_routed = true,
             "--capture" => self.capture = Some(value.to_string(alloc)?),
             "--network" => self.network = Spoiling::read(value.as_bytes()).ok(),
-            "--first" => self.first = FirstNumber::read(value.as_bytes()).unwrap_or(
-                FirstNumber::zero(),
-            ),
+            "--first" => match FirstNumber::read(value.as_bytes()) {
+                Some(first) => self.first = first,
+                None => return Ok(false),
+            },
             "--stop-after" => self.stop_after = decimal(value.as_bytes()),
             _ => return Ok(false),
         }
@@ -72,7 +58,17 @@ pub fn words_in(
     words: &[String],
     own: [SocketAddrV4; 2],
 ) -> io::Result<Option<Words>> {
-    let mut asked = Words::none(own);
+    let mut asked = Words {
+        own,
+        http: None,
+        has_log: false,
+        has_trace: false,
+        is_routed: false,
+        capture: None,
+        network: None,
+        first: FirstNumber::zero(),
+        stop_after: None,
+    };
     for word in words {
         let word = word.as_str();
         let (name, value) = word.split_once(' ').unwrap_or((word, ""));

@@ -1,0 +1,61 @@
+//! What a program sent and answered, over surroundings by a script.
+use crate::stories::transcript::Transcript;
+use mg_bytes::{OutOfMemory, lines};
+use std::alloc::Global;
+use std::net::{Ipv4Addr, SocketAddr, SocketAddrV4};
+use surroundings::{Answer, Scripted, SentDatagram};
+
+/// Who types where nobody else is said.
+pub fn typist() -> SocketAddrV4 {
+    SocketAddrV4::new(Ipv4Addr::LOCALHOST, 40000)
+}
+
+// A datagram, as a story tells it.
+fn datagram_text(alloc: Global, datagram: &SentDatagram) -> Result<Vec<u8>, OutOfMemory> {
+    let to = datagram.to;
+    let head = format!(in alloc; "> {to}\n")?;
+    let mut text = Vec::from_slice(alloc, head.as_bytes())?;
+    for line in lines(datagram.bytes.as_slice()) {
+        text.extend_from_slice(line)?;
+        text.push(b'\n')?;
+    }
+    text.extend_from_slice(b"--\n")?;
+    Ok(text)
+}
+
+// Puts those from this place on and before the other, but what couldn't be sent.
+fn put_sent(alloc: Global, given: &mut Transcript, around: &Scripted, from: usize, to: usize) {
+    for place in from..to {
+        if around.unsent.as_slice().contains(&place) {
+            continue;
+        }
+        if let Some(datagram) = around.sent.get(place) {
+            given.put(datagram.moment, datagram_text(alloc, datagram));
+        }
+    }
+}
+
+// Puts what was answered: to whom is told where it wasn't who usually types.
+fn put_answer(alloc: Global, given: &mut Transcript, answer: &Answer) {
+    let to = answer.to;
+    let text = answer.text.as_slice();
+    if to == SocketAddr::V4(typist()) {
+        given.tell(answer.moment, b"answer ", text);
+        return;
+    }
+    match format!(in alloc; "answer {to} ") {
+        Ok(before) => given.tell(answer.moment, before.as_bytes(), text),
+        Err(_) => given.refuse(),
+    }
+}
+
+/// Puts what was sent and answered, in its order.
+pub fn put_given(alloc: Global, given: &mut Transcript, around: &Scripted) {
+    let mut place = 0;
+    for answer in around.answers.iter() {
+        put_sent(alloc, given, around, place, answer.sent);
+        place = answer.sent;
+        put_answer(alloc, given, answer);
+    }
+    put_sent(alloc, given, around, place, around.sent.len());
+}
