@@ -2,7 +2,6 @@
 #include <arpa/inet.h>
 #include <stdio.h>
 #include <stdlib.h>
-#include <string.h>
 #include <sys/epoll.h>
 
 int main(int count, char **words)
@@ -10,17 +9,18 @@ int main(int count, char **words)
     int port = count > 1 ? atoi(words[1]) : 0, by = socket(AF_INET, SOCK_DGRAM, 0), ready = epoll_create1(0);
     struct sockaddr_in own = {.sin_family = AF_INET, .sin_port = htons(port), .sin_addr.s_addr = htonl(INADDR_LOOPBACK)}, from;
     struct epoll_event told = {.events = EPOLLIN};
-    char text[4001], answer[64], id[10];
+    char text[4001], answer[64];
     socklen_t length = sizeof from;
     ssize_t size;
 
     if (bind(by, (struct sockaddr *)&own, sizeof own) || epoll_ctl(ready, EPOLL_CTL_ADD, by, &told))
         return 1;
     while (epoll_wait(ready, &told, 1, -1) == 1)
-        while ((size = recvfrom(by, text, sizeof text - 1, MSG_DONTWAIT, (struct sockaddr *)&from, &length)) >= 0) {
+        while ((size = recvfrom(by, text, sizeof text - 1, MSG_DONTWAIT, (struct sockaddr *)&from, &length)) > 5) {
+            /* A verb has four letters. */
             text[size] = 0;
-            if (sscanf(text, "%*4s %9[0-9]", id) == 1)
-                sendto(by, answer, sprintf(answer, "200 %s OK\r\n", id), 0, (struct sockaddr *)&from, length);
+            size = sprintf(answer, "200 %lu OK\r\n", strtoul(text + 5, NULL, 10));
+            sendto(by, answer, size, 0, (struct sockaddr *)&from, length);
         }
     return 1;
 }
