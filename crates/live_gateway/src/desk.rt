@@ -15,7 +15,7 @@ use crate::telephones::{TelephoneRequest, request_in};
 use crate::visitors::Visitors;
 use gateway_core::DATAGRAM_ROOM;
 use live_ends::STOP_FROM_AFAR;
-use live_journal::{count, report};
+use live_journal::report;
 use live_play::{LivePlay, Teller};
 use std::alloc::{AllocError, Global};
 use surroundings::{Lines, Surroundings};
@@ -39,13 +39,6 @@ fn earlier(one: Option<u64>, other: Option<u64>) -> Option<u64> {
         (Some(one), Some(other)) => Some(one.min(other)),
         (Some(one), None) => Some(one),
         (None, other) => other,
-    }
-}
-
-fn is_by(due: Option<u64>, moment: u64) -> bool {
-    match due {
-        Some(due) => due <= moment,
-        None => false,
     }
 }
 
@@ -78,7 +71,8 @@ impl<S: Surroundings + Drop, T: Teller + Drop> Desk<S, T> {
         let told = self.exchange.around.told();
         Ready {
             commands: told.lines || !self.lines.is_empty(),
-            datagrams: told.datagrams || is_by(self.exchange.network_due(), ticked),
+            datagrams: told.datagrams
+                || matches!(self.exchange.network_due(), Some(due) if due <= ticked),
             visitors: match visitors {
                 Some(visitors) => visitors.is_ready(&self.exchange.around, moment),
                 None => false,
@@ -125,10 +119,8 @@ impl<S: Surroundings + Drop, T: Teller + Drop> Desk<S, T> {
         ensures { (entries : List Entry) × Ran (at_desk T.told S.sent self.old) entries (at_desk T.told S.sent self.new) }
     {
         self.exchange.begin(moment);
-        match self.play.tick(&mut *self.exchange, moment) {
-            Ok(()) => {}
-            Err(_) => count(&mut self.exchange.faults.refused),
-        }
+        let done = self.play.tick(&mut *self.exchange, moment);
+        self.exchange.count_refused(done.is_err());
     }
 
     // A datagram is taken, if one is there.
@@ -196,9 +188,7 @@ impl<S: Surroundings + Drop, T: Teller + Drop> Desk<S, T> {
                 let now = self.exchange.now;
                 self.exchange.journal.act(now, text);
                 let done = self.play.act(&mut *self.exchange, text, line, act);
-                if done.is_err() {
-                    count(&mut self.exchange.faults.refused);
-                }
+                self.exchange.count_refused(done.is_err());
                 let answer = act_answer(done, self.play.printed());
                 self.exchange.journal.answered(now.clock, answer);
                 self.lines.answer(&mut self.exchange.around, answer);
@@ -222,9 +212,7 @@ impl<S: Surroundings + Drop, T: Teller + Drop> Desk<S, T> {
     fn command(&mut self)
         ensures { (entries : List Entry) × Ran (at_desk T.told S.sent self.old) entries (at_desk T.told S.sent self.new) }
     {
-        if self.lines.hear(&mut self.exchange.around) {
-            count(&mut self.exchange.read);
-        }
+        self.exchange.hear(&mut self.lines);
         self.take_line();
         take_act(self.alloc, &mut self.exchange.journal, &mut self.lines);
     }
@@ -241,9 +229,7 @@ impl<S: Surroundings + Drop, T: Teller + Drop> Desk<S, T> {
             &mut self.exchange.journal,
             faults,
         );
-        if let Some(visitors) = visitors {
-            self.exchange.serve_visitor(&mut **visitors, moment);
-        }
+        self.exchange.serve_visitor(visitors, moment);
         take_act(self.alloc, &mut self.exchange.journal, &mut self.lines);
     }
 

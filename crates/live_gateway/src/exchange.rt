@@ -12,7 +12,7 @@ use live_ends::{NEXT_OFFER, Now};
 use live_journal::{Faults, Journal, count};
 use live_play::Outlet;
 use std::net::SocketAddrV4;
-use surroundings::{Fault, Surroundings};
+use surroundings::{Fault, Lines, Surroundings};
 use traces::Mark;
 
 /// The way between a gateway and others, and what is kept of what went over it.
@@ -90,6 +90,16 @@ impl<S: Surroundings + Drop> Exchange<S> {
         };
     }
 
+    /// The gateway took an input, or refused it.
+    pub fn count_refused(&mut self, is_refused: bool)
+        ensures network { self.new.network ≡ self.old.network }
+        ensures around { self.new.around ≡ self.old.around }
+    {
+        if is_refused {
+            count(&mut self.faults.refused);
+        }
+    }
+
     /// The gateway refused a datagram from there, for want of memory.
     pub fn refuse(&mut self, source: SocketAddrV4, bytes: &[u8])
         ensures network { self.new.network ≡ self.old.network }
@@ -125,11 +135,23 @@ impl<S: Surroundings + Drop> Exchange<S> {
     }
 
     /// A visitor is served, at this moment in ms, if one is there.
-    pub fn serve_visitor<V: Visitors<S>>(&mut self, visitors: &mut V, moment: u64)
+    pub fn serve_visitor<V: Visitors<S>>(&mut self, visitors: &mut Option<Box<V>>, moment: u64)
         ensures network { self.new.network ≡ self.old.network }
         ensures sent { S.sent self.new.around ≡ S.sent self.old.around }
     {
-        serve_visitor(&mut self.around, &mut self.journal, visitors, moment);
+        if let Some(visitors) = visitors {
+            serve_visitor(&mut self.around, &mut self.journal, &mut **visitors, moment);
+        }
+    }
+
+    /// A datagram of lines is taken, where no line is left and one has come.
+    pub fn hear(&mut self, lines: &mut Lines)
+        ensures network { self.new.network ≡ self.old.network }
+        ensures sent { S.sent self.new.around ≡ S.sent self.old.around }
+    {
+        if lines.hear(&mut self.around) {
+            count(&mut self.read);
+        }
     }
 
     /// Waits until something comes, but no longer than this, in ms, nor than until what waits to be taken is offered again.

@@ -15,13 +15,9 @@ pub struct PageReception {
 
 impl<'a, R: Net + Clock + RandomSource> Visitors<Live<'a, R>> for PageReception {
     fn is_ready(&self, around: &Live<'a, R>, moment: u64) -> bool {
-        if self.site.is_busy() || around.ready.has_visits() {
-            return true;
-        }
-        match self.site.next_deadline() {
-            Some(deadline) => deadline <= moment,
-            None => false,
-        }
+        self.site.is_busy()
+            || around.ready.has_visits()
+            || matches!(self.site.next_deadline(), Some(deadline) if deadline <= moment)
     }
 
     fn next_deadline(&self) -> Option<u64> {
