@@ -1,4 +1,5 @@
 pub mod Sending
 pub mod Keeping
 pub mod Requests
+pub mod Typing
 pub mod Example

@@ -3,6 +3,8 @@
 use Rattle.std.specs.Prelude.{ℕ, Bool, false, not, ◌&&◌, ◌||◌, ◌==◌, codes, if◌then◌else◌, List, [], ◌∷◌, nat_eq, bytes_eq}
 use Rattle.std.specs.List.{list_any, starts_with}
 use Rattle.std.specs.Net.Addr.{ipv4_octets}
+use Rattle.std.specs.declared.net.socket_addr.SocketAddr.{SocketAddr}
+use Rattle.std.specs.declared.net.socket_addr.SocketAddr.TheVariants.{V4, V6}
 use Rattle.std.specs.declared.net.socket_addr.SocketAddrV4.{SocketAddrV4}
 use Rattle.mg_bytes.specs.Lists.{is_empty}
 use Rattle.mg_bytes.specs.Lines.{line_of}
@@ -64,3 +66,8 @@ is_from sender own = own.port == sender.port && is_host (ipv4_octets own.ip) (ip
 -- it came from one of these sockets
 abbrev pub is_from_any : List SocketAddrV4 → SocketAddrV4 → Bool
 is_from_any own sender = list_any (is_from sender) own
+
+-- nothing that has an address of another kind did
+abbrev pub is_own : List SocketAddrV4 → SocketAddr → Bool
+is_own own (V4 sender) = is_from_any own sender
+is_own own (V6 sender) = false

@@ -2,9 +2,12 @@
 #![tactic(auto, unfolding(crate::proofs::Computing::on_examples))]
 
 ghost use Rattle.std.specs.Prelude.{◌≡◌, codes, map, true, false, [], ◌∷◌};
+ghost use Rattle.std.specs.declared.net.socket_addr.SocketAddr.TheVariants.{V4, V6};
+ghost use Rattle.std.specs.declared.net.socket_addr.SocketAddrV6.{SocketAddrV6};
 ghost use Rattle.mg_bytes.specs.Lines.{cut};
 ghost use Rattle.surroundings.specs.Example.{socket_at, everywhere, here, there};
-ghost use Rattle.surroundings.specs.Requests.{is_answer, is_request, requests_from, is_from, is_from_any};
+ghost use Rattle.surroundings.specs.Requests.{is_answer, is_request, requests_from, is_from, is_from_any, is_own};
+ghost use Rattle.surroundings.specs.Typing.{behind};
 
 /// Each answer of `rgwd` is known by its beginning, and each line of its counts.
 pub fn answers_of_a_gateway_are_known()
@@ -48,12 +51,15 @@ pub fn requests_are_no_answers()
     ensures answer { is_request (codes "done") ≡ false }
 {}
 
-/// Lines of answers are passed over, and what stands behind them is asked for none the less.
+/// Lines of answers are passed over, and what stands behind them is asked for none the less, a line behind the other.
 pub fn answers_are_passed_over()
     ensures between { requests_from (cut (codes "done\n\nshow 1\ndone\n")) ≡ codes "show 1\n" ∷ codes "done\n" ∷ [] }
     ensures none { requests_from (cut (codes "done\r\n! 1 OutOfMemory\r\n")) ≡ [] }
     ensures blanks { requests_from (cut (codes " ? phone\n\tline 1 on\ncounts")) ≡ codes "counts" ∷ [] }
     ensures nothing { requests_from [] ≡ [] }
+    ensures next { requests_from (behind (requests_from (cut (codes "\nshow 1\ndone\ncounts\n")))) ≡ codes "counts\n" ∷ [] }
+    ensures last { requests_from (behind (codes "counts\n" ∷ [])) ≡ [] }
+    ensures behind_nothing { behind [] ≡ [] }
 {}
 
 /// What comes from a socket of the program's own is known by its address and port; of a socket that listens at each address of
@@ -68,4 +74,6 @@ pub fn own_sockets_are_known()
     ensures first { is_from_any (socket_at here 2500 ∷ socket_at here 2427 ∷ []) (socket_at here 2500) ≡ true }
     ensures second { is_from_any (socket_at here 2500 ∷ socket_at here 2427 ∷ []) (socket_at here 2427) ≡ true }
     ensures none { is_from_any (socket_at here 2500 ∷ socket_at here 2427 ∷ []) (socket_at here 40000) ≡ false }
+    ensures of_its_kind { is_own (socket_at here 2500 ∷ []) (V4 (socket_at here 2500)) ≡ true }
+    ensures of_another_kind { (sender : SocketAddrV6) → is_own (socket_at everywhere 2500 ∷ []) (V6 sender) ≡ false }
 {}

@@ -12,6 +12,6 @@ mod surroundings;
 
 pub use crate::keeping::{SentDatagram, keep};
 pub use crate::lines::Lines;
-pub use crate::requests::{is_from_any, is_own, next_request};
+pub use crate::requests::is_own;
 pub use crate::scripted::{Answer, Coming, Happening, Scripted};
 pub use crate::surroundings::{Fault, Surroundings, Told};

@@ -1,9 +1,13 @@
 //! Lines of who types, which came in one datagram: each is a turn of its own.
-ghost use Rattle.std.specs.Prelude.{◌≡◌, ◌↔◌, IsSomeAnd, IsTrue};
+ghost use Rattle.std.specs.Prelude.{◌≡◌, ◌↔◌, ◌⊎◌, [], None, IfOk, IsSomeAnd, IsTrue, drop, false};
 ghost use Rattle.std.specs.Net.Addr.{IsLoopbackV4, IsLoopbackV6, MatchIp};
 ghost use Rattle.std.specs.Net.Socket.{socket_ip};
+ghost use Rattle.mg_bytes.specs.Lines.{cut, TakesLine};
+ghost use Rattle.mg_bytes.specs.Lists.{is_empty};
+ghost use Rattle.surroundings.specs.Requests.{requests_from};
+ghost use Rattle.surroundings.specs.Typing.{left_of, behind, EndsWith};
 
-use crate::requests::{is_own, next_request};
+use crate::requests::{from_request, is_own};
 use crate::surroundings::Surroundings;
 use mg_bytes::lines;
 use std::alloc::{AllocError, Global};
@@ -17,9 +21,8 @@ const ROOM: usize = 4096;
 pub struct Lines {
     sender: Option<SocketAddr>,
     text: Vec<u8>,
-    // Where the line begins that is answered next, and where what follows it does.
-    line: Option<usize>,
-    rest: usize,
+    // The line that is answered next begins here; where none is left the text ends here.
+    begin: usize,
 }
 
 // Whether somebody is at an address of the loopback, 127.0.0.0/8 (RFC 1122, 3.2.1.3), which no other machine can send from.
@@ -32,28 +35,95 @@ fn is_loopback(sender: Option<SocketAddr>) -> bool
     }
 }
 
+// The first line of a text.
+#[tactic(auto, using(crate::proofs::TypingLemmas::takes_first))]
+fn first_line(text: &[u8]) -> Option<&[u8]>
+    ensures { TakesLine (cut text.now) result (behind (cut text.now)) }
+{
+    let mut left = lines(text);
+    left.next()
+}
+
+// What stands behind it.
+#[tactic(auto, using(crate::proofs::TypingLemmas::behind_is, crate::proofs::TypingLemmas::ends_behind))]
+fn behind_first(text: &[u8]) -> &[u8]
+    ensures pieces { cut result.now ≡ behind (cut text.now) }
+    ensures end { EndsWith text.now result.now }
+{
+    let mut left = lines(text);
+    let _ = left.next();
+    left.rest()
+}
+
+// What is left of a text from here on.
+#[tactic(auto, using(crate::proofs::TypingLemmas::left_ends))]
+fn left_from(text: &[u8], begin: usize) -> &[u8]
+    ensures { result.now ≡ drop begin text.now }
+{
+    match text.get(begin..) {
+        Some(left) => left,
+        None => &[],
+    }
+}
+
+// Where the end of a text begins.
+#[tactic(auto, using(crate::proofs::TypingLemmas::place_is))]
+fn place_of(text: &[u8], end: &[u8]) -> usize
+    requires { EndsWith text.now end.now }
+    ensures { drop result text.now ≡ end.now }
+{
+    text.len().saturating_sub(end.len())
+}
+
+// Where the first line begins that asks for something.
+fn first_place(text: &[u8]) -> usize
+    ensures { cut (drop result text.now) ≡ requests_from (cut text.now) }
+{
+    place_of(text, from_request(text))
+}
+
+// Where the next one does behind the line that begins here.
+fn next_place(text: &[u8], begin: usize) -> usize
+    ensures { cut (drop result text.now) ≡ requests_from (behind (cut (drop begin text.now))) }
+{
+    let rest = behind_first(left_from(text, begin));
+    place_of(text, from_request(rest))
+}
+
 impl Lines {
     /// None so far; there is room for a datagram of them.
-    pub fn new(alloc: Global) -> Result<Lines, AllocError> {
+    #[tactic(auto, unfolding(mg_bytes::specs::Lines::cut))]
+    pub fn new(alloc: Global) -> Result<Lines, AllocError>
+        ensures left { IfOk result (λ lines. left_of lines ≡ []) }
+        ensures sender { IfOk result (λ lines. lines.sender ≡ None) }
+    {
         Ok(Lines {
             sender: None,
             text: Vec::with_capacity(alloc, ROOM)?,
-            line: None,
-            rest: 0,
+            begin: 0,
         })
+    }
+
+    // What is left, from the line on that is answered next.
+    fn left(&self) -> &[u8]
+        ensures { result.now ≡ drop self.now.begin self.now.text.items }
+    {
+        left_from(self.text.as_slice(), self.begin)
     }
 
     /// The line that is to be answered next, without its end and the blanks round it; an empty one is passed over, and so is one
     /// that is an answer itself.
-    pub fn line(&self) -> Option<&[u8]> {
-        let begin = self.line?;
-        let mut left = lines(self.text.get(begin..)?);
-        next_request(&mut left)
+    pub fn line(&self) -> Option<&[u8]>
+        ensures { TakesLine (left_of self.now) result (behind (left_of self.now)) }
+    {
+        first_line(self.left())
     }
 
     /// What stands behind that line in its datagram.
-    pub fn rest(&self) -> &[u8] {
-        self.text.get(self.rest..).unwrap_or(&[])
+    pub fn rest(&self) -> &[u8]
+        ensures { cut result.now ≡ behind (left_of self.now) }
+    {
+        behind_first(self.left())
     }
 
     /// Whether the line came from an address of the loopback (127.0.0.0/8), and so from this machine.
@@ -64,35 +134,58 @@ impl Lines {
     }
 
     /// Whether no line is left.
-    pub fn is_empty(&self) -> bool {
-        self.line.is_none()
+    #[tactic(auto, using(crate::proofs::TypingLemmas::is_left))]
+    pub fn is_empty(&self) -> bool
+        ensures { result ≡ is_empty (left_of self.now) }
+    {
+        match self.line() {
+            Some(_) => false,
+            None => true,
+        }
     }
 
     // The next line that asks for something is answered next.
-    fn advance(&mut self) {
-        let begin = self.rest;
-        let mut left = lines(self.text.get(begin..).unwrap_or(&[]));
-        let is_asked = next_request(&mut left).is_some();
-        self.rest = self.text.len().saturating_sub(left.rest().len());
-        self.line = if is_asked { Some(begin) } else { None };
+    fn advance(&mut self)
+        ensures left { left_of self.new ≡ requests_from (behind (left_of self.old)) }
+        ensures sender { self.new.sender ≡ self.old.sender }
+    {
+        let begin = next_place(self.text.as_slice(), self.begin);
+        self.begin = begin;
     }
 
-    // These lines have come, from somebody who is answered or from nobody.
-    fn begin(&mut self, sender: Option<SocketAddr>, text: &[u8]) {
-        self.sender = sender;
-        self.rest = 0;
+    // Nothing is left.
+    #[tactic(auto, unfolding(mg_bytes::specs::Lines::cut))]
+    fn clear(&mut self)
+        ensures left { left_of self.new ≡ [] }
+        ensures text { self.new.text.items ≡ [] }
+        ensures sender { self.new.sender ≡ self.old.sender }
+    {
         self.text.clear();
-        // Where memory is refused for more than there is room for, nothing has come.
-        let _ = self.text.extend_from_slice(text);
-        self.advance();
+        self.begin = 0;
+    }
+
+    // These lines are all that is left, of a sender who is answered or of nobody. Where memory is refused for more than there is room
+    // for, nothing is.
+    fn begin(&mut self, sender: Option<SocketAddr>, text: &[u8])
+        ensures left { (left_of self.new ≡ requests_from (cut text.now)) ⊎ (left_of self.new ≡ []) }
+        ensures sender { self.new.sender ≡ sender }
+    {
+        self.clear();
+        self.sender = sender;
+        match self.text.extend_from_slice(text) {
+            Ok(()) => self.begin = first_place(self.text.as_slice()),
+            Err(_) => self.clear(),
+        }
     }
 
     /// Takes a datagram of lines, where one has come and no line is left of the one before: whether one was taken. Nothing is made of one
     /// that came from the program's own sockets.
     pub fn hear<S: Surroundings>(&mut self, around: &mut S) -> bool
-        ensures { S.sent around.new ≡ S.sent around.old }
+        ensures waits { is_empty (left_of self.old) ≡ false → result ≡ false }
+        ensures same { result ≡ false → self.new ≡ self.old }
+        ensures sent { S.sent around.new ≡ S.sent around.old }
     {
-        if self.line.is_some() {
+        if !self.is_empty() {
             return false;
         }
         let mut room = [0u8; ROOM];
@@ -109,13 +202,17 @@ impl Lines {
     }
 
     /// Takes lines that came another way, where none is left; nobody is answered.
-    pub fn take(&mut self, text: &[u8]) {
+    pub fn take(&mut self, text: &[u8])
+        ensures left { (left_of self.new ≡ requests_from (cut text.now)) ⊎ (left_of self.new ≡ []) }
+        ensures sender { self.new.sender ≡ None }
+    {
         self.begin(None, text);
     }
 
     /// Answers the line, and goes on to the next.
     pub fn answer<S: Surroundings>(&mut self, around: &mut S, text: &[u8])
-        ensures { S.sent around.new ≡ S.sent around.old }
+        ensures left { left_of self.new ≡ requests_from (behind (left_of self.old)) }
+        ensures sent { S.sent around.new ≡ S.sent around.old }
     {
         if let Some(sender) = self.sender {
             around.answer(sender, text);
@@ -125,16 +222,19 @@ impl Lines {
 
     /// Answers the line together with all that stands behind it in its datagram.
     pub fn answer_all<S: Surroundings>(&mut self, around: &mut S, text: &[u8])
-        ensures { S.sent around.new ≡ S.sent around.old }
+        ensures left { left_of self.new ≡ [] }
+        ensures sent { S.sent around.new ≡ S.sent around.old }
     {
         if let Some(sender) = self.sender {
             around.answer(sender, text);
         }
-        self.line = None;
+        self.clear();
     }
 
     /// Goes on to the next line; nothing is answered.
-    pub fn pass_over(&mut self) {
+    pub fn pass_over(&mut self)
+        ensures { left_of self.new ≡ requests_from (behind (left_of self.old)) }
+    {
         self.advance();
     }
 }

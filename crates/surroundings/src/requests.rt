@@ -1,11 +1,13 @@
 //! What a socket for commands takes for a request: no line of an answer, and nothing from the program's own sockets. So no two
 //! programs answer each other for ever, and none itself, whoever forges a datagram between them.
 ghost use Rattle.std.specs.Prelude.{◌≡◌};
-ghost use Rattle.mg_bytes.specs.Lines.{TakesLine};
+ghost use Rattle.std.specs.declared.net.socket_addr.SocketAddr.{SocketAddr};
+ghost use Rattle.mg_bytes.specs.Lines.{cut};
 ghost use Rattle.mg_bytes.specs.Words.{words as words_of};
-ghost use Rattle.surroundings.specs.Requests.{is_marked, tells_outcome, tells_messages, tells_losses, is_answer_word, begins_answer, is_answer, is_request, requests_from, is_host, is_from, is_from_any};
+ghost use Rattle.surroundings.specs.Requests.{is_marked, tells_outcome, tells_messages, tells_losses, is_answer_word, begins_answer, is_answer, is_request, requests_from, is_host, is_from, is_from_any, is_own};
+ghost use Rattle.surroundings.specs.Typing.{EndsWith};
 
-use mg_bytes::{Lines, words};
+use mg_bytes::{lines, words};
 use std::net::{SocketAddr, SocketAddrV4};
 
 fn is_marked(line: &[u8]) -> bool
@@ -72,17 +74,21 @@ fn is_request(line: &[u8]) -> bool
     !line.is_empty() && !is_answer(line)
 }
 
-/// The next line that asks for something; those before it are passed over.
-#[tactic(auto, unfolding(crate::specs::Requests::requests_from))]
-pub fn next_request<'a>(lines: &mut Lines<'a>) -> Option<&'a [u8]>
-    ensures { TakesLine (requests_from lines.old) result lines.new }
+// What is left of a text from the first line on that asks for something.
+#[tactic(auto, unfolding(crate::specs::Requests::requests_from), using(crate::proofs::TypingLemmas::ends_itself, crate::proofs::TypingLemmas::ends_empty))]
+pub(crate) fn from_request(text: &[u8]) -> &[u8]
+    ensures pieces { cut result.now ≡ requests_from (cut text.now) }
+    ensures end { EndsWith text.now result.now }
 {
-    while let Some(line) = lines.next() {
+    let mut rest = text;
+    let mut left = lines(text);
+    while let Some(line) = left.next() {
         if is_request(line) {
-            return Some(line);
+            return rest;
         }
+        rest = left.rest();
     }
-    None
+    &[]
 }
 
 // Whether the host of a socket here may have sent from this one.
@@ -101,8 +107,8 @@ fn is_from(sender: SocketAddrV4, own: SocketAddrV4) -> bool
     own.port() == sender.port() && is_host(here.as_slice(), there.as_slice())
 }
 
-/// Whether what has this sender came from one of these sockets.
-pub fn is_from_any(own: &[SocketAddrV4], sender: SocketAddrV4) -> bool
+// Whether what has this sender came from one of these sockets.
+fn is_from_any(own: &[SocketAddrV4], sender: SocketAddrV4) -> bool
     ensures { result ≡ is_from_any own.now sender }
 {
     for socket in own {
@@ -113,8 +119,10 @@ pub fn is_from_any(own: &[SocketAddrV4], sender: SocketAddrV4) -> bool
     false
 }
 
-/// The same of a sender of any kind: the program's own sockets have addresses of one kind alone.
-pub fn is_own(own: &[SocketAddrV4], sender: SocketAddr) -> bool {
+/// Whether what has this sender, of any kind, came from one of these sockets: they have addresses of one kind alone.
+pub fn is_own(own: &[SocketAddrV4], sender: SocketAddr) -> bool
+    ensures { result ≡ is_own own.now sender }
+{
     match sender {
         SocketAddr::V4(sender) => is_from_any(own, sender),
         SocketAddr::V6(_) => false,

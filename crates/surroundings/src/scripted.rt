@@ -1,5 +1,6 @@
 //! A program's surroundings in memory, by a script.
-ghost use Rattle.std.specs.Prelude.{◌≡◌, ◌≤◌, ◌<◌, length, IfSome};
+ghost use Rattle.std.specs.Prelude.{◌≡◌, ◌≤◌, ◌<◌, ◌++◌, ◌∷◌, [], Some, length, IfSome, OnOk, OnErr};
+ghost use Rattle.surroundings.specs.Keeping.{told_by};
 
 use crate::keeping::{SentDatagram, keep};
 use crate::surroundings::{Fault, Surroundings, Told};
@@ -80,7 +81,12 @@ fn fill(room: &mut [u8], bytes: &[u8]) -> usize
 
 impl Scripted {
     /// At moment 0, with sockets at these addresses; nothing is to happen.
-    pub fn new(alloc: Global, own: [SocketAddrV4; 2]) -> Scripted {
+    pub fn new(alloc: Global, own: [SocketAddrV4; 2]) -> Scripted
+        ensures sent { told_by result ≡ Some [] }
+        ensures own { result.own ≡ own }
+        ensures moment { result.moment ≡ 0 }
+        ensures coming { result.coming.items ≡ [] }
+    {
         Scripted {
             alloc,
             own,
@@ -95,7 +101,11 @@ impl Scripted {
     }
 
     /// This happens behind all that was to happen so far, and at no earlier moment.
-    pub fn add(&mut self, coming: Coming) -> Result<(), AllocError> {
+    pub fn add(&mut self, coming: Coming) -> Result<(), AllocError>
+        ensures ok { OnOk result (self.new.coming.items ≡ self.old.coming.items ++ coming ∷ []) }
+        ensures err { OnErr result (self.new.coming.items ≡ self.old.coming.items) }
+        ensures sent { told_by self.new ≡ told_by self.old }
+    {
         self.coming.push_back(coming)?;
         Ok(())
     }
