@@ -111,7 +111,9 @@ impl<T: Teller + Drop> LivePlay<T> {
     }
 
     /// What is answered to a line by which something was asked, or was done that was refused.
-    pub fn printed(&self) -> &[u8] {
+    pub fn printed(&self) -> &[u8]
+        ensures { result.now ≡ self.now.printed.items }
+    {
         self.printed.as_slice()
     }
 
