@@ -20,7 +20,7 @@ use bad_network::BadNetwork;
 use gateway_core::Gateway;
 use live_ends::{Now, Written};
 use live_gateway::{Desk, Exchange, Recorder, SpoiltWay, boxed};
-use live_journal::{Capture, Journal, Log, MessageTally, Trace, report};
+use live_journal::{Capture, Journal, Log, MessageTally, Trace};
 use live_play::LivePlay;
 use page_answers::Board;
 use rgw_play::{PlayFault, gateway_from};
@@ -170,18 +170,12 @@ fn end(
 ) -> io::Result<()> {
     desk.play.end();
     desk.write(records);
-    let exchange = &desk.exchange;
-    let moment = records.moment_of(exchange.now.time);
+    let moment = records.moment_of(desk.exchange.now.time);
     if desk.play.teller.record.is_on() {
         tell_replay(alloc, records, moment)?;
     }
     if is_counted {
-        let counts = report(
-            alloc,
-            &desk.play.gateway,
-            &exchange.journal,
-            exchange.faults,
-        )?;
+        let counts = desk.counts()?;
         records.given.tell(moment, b"count ", counts.as_slice());
     }
     Ok(())
