@@ -240,6 +240,13 @@ fn give_up<S: Surroundings + Drop>(board: &mut Switchboard, wire: &mut Wire<S>, 
     }
 }
 
+// The same of all gateways.
+fn give_up_all<S: Surroundings + Drop>(board: &mut Switchboard, wire: &mut Wire<S>) {
+    for place in 0..board.gateways() {
+        give_up(board, wire, place);
+    }
+}
+
 // The clock of a gateway's agent goes on.
 fn tick_one<S: Surroundings + Drop>(
     board: &mut Switchboard,
@@ -251,15 +258,15 @@ fn tick_one<S: Surroundings + Drop>(
         Ok(outputs) => wire.send_all(outputs.as_slice(), true),
         Err(_) => count(&mut wire.journal.tally.refused),
     }
-    give_up(board, wire, place);
 }
 
-// The clock goes on.
+// The clock goes on, that of each agent first: by one that was behind what is issued now would be sent again at once.
 fn tick<S: Surroundings + Drop>(board: &mut Switchboard, wire: &mut Wire<S>, moment: u64) {
     wire.now.clock = moment;
     for place in 0..board.gateways() {
         tick_one(board, wire, place, moment);
     }
+    give_up_all(board, wire);
 }
 
 // The earlier of two moments.
