@@ -1,4 +1,6 @@
 //! The loop: it asks what comes next, and does that.
+#![tactic(auto, using(live_play::proofs::RunLemmas::stays_so))]
+
 ghost use Rattle.std.specs.Prelude.{◌≡◌, [], List, IfOk};
 ghost use Rattle.plain_machine.specs.Event.{GatewayEvent};
 ghost use Rattle.plain_machine.specs.Lists.{plain};
@@ -13,7 +15,8 @@ use crate::exchange::Exchange;
 use crate::recorder::Recorder;
 use crate::telephones::{TelephoneRequest, request_in};
 use crate::visitors::Visitors;
-use gateway_core::DATAGRAM_ROOM;
+use exchange_log::Note;
+use gateway_core::{DATAGRAM_ROOM, Refusal};
 use live_ends::STOP_FROM_AFAR;
 use live_journal::report;
 use live_play::{LivePlay, Teller};
@@ -114,7 +117,6 @@ impl<S: Surroundings + Drop, T: Teller + Drop> Desk<S, T> {
     }
 
     // The clock goes on.
-    #[tactic(auto, using(live_play::proofs::RunLemmas::stays_so))]
     fn tick(&mut self, moment: u64)
         ensures { (entries : List Entry) × Ran (at_desk T.told S.sent self.old) entries (at_desk T.told S.sent self.new) }
     {
@@ -124,7 +126,6 @@ impl<S: Surroundings + Drop, T: Teller + Drop> Desk<S, T> {
     }
 
     // A datagram is taken, if one is there.
-    #[tactic(auto, using(live_play::proofs::RunLemmas::stays_so))]
     fn datagram(&mut self)
         ensures { (entries : List Entry) × Ran (at_desk T.told S.sent self.old) entries (at_desk T.told S.sent self.new) }
     {
@@ -132,17 +133,19 @@ impl<S: Surroundings + Drop, T: Teller + Drop> Desk<S, T> {
         let Some((source, len)) = self.exchange.receive(&mut room) else {
             return;
         };
-        match self
+        let done = self
             .play
-            .datagram(&mut *self.exchange, source, &room[..len])
-        {
-            Ok(()) => self.exchange.journal.log.explain(&self.play.gateway),
-            Err(_) => self.exchange.refuse(source, &room[..len]),
+            .datagram(&mut *self.exchange, source, &room[..len]);
+        self.exchange.count_refused(done.is_err());
+        let now = self.exchange.now;
+        let journal = &mut self.exchange.journal;
+        match done {
+            Ok(()) => journal.log.explain(&self.play.gateway),
+            Err(_) => journal.untaken(now, source, &room[..len], Note::OutOfMemory),
         }
     }
 
     // This is answered to the line, which is done with.
-    #[tactic(auto, using(live_play::proofs::RunLemmas::stays_so))]
     fn answer(&mut self, text: &[u8])
         ensures { (entries : List Entry) × Ran (at_desk T.told S.sent self.old) entries (at_desk T.told S.sent self.new) }
     {
@@ -164,8 +167,18 @@ impl<S: Surroundings + Drop, T: Teller + Drop> Desk<S, T> {
         )
     }
 
+    // The act that the line asked for was done, or refused: that is answered.
+    fn answer_act(&mut self, done: Result<(), Refusal>)
+        ensures { at_desk T.told S.sent self.new ≡ at_desk T.told S.sent self.old }
+    {
+        self.exchange.count_refused(done.is_err());
+        let answer = act_answer(done, self.play.printed());
+        let clock = self.exchange.now.clock;
+        self.exchange.journal.answered(clock, answer);
+        self.lines.answer(&mut self.exchange.around, answer);
+    }
+
     // What was counted so far is answered.
-    #[tactic(auto, using(live_play::proofs::RunLemmas::stays_so))]
     fn answer_counts(&mut self)
         ensures { (entries : List Entry) × Ran (at_desk T.told S.sent self.old) entries (at_desk T.told S.sent self.new) }
     {
@@ -188,10 +201,7 @@ impl<S: Surroundings + Drop, T: Teller + Drop> Desk<S, T> {
                 let now = self.exchange.now;
                 self.exchange.journal.act(now, text);
                 let done = self.play.act(&mut *self.exchange, text, line, act);
-                self.exchange.count_refused(done.is_err());
-                let answer = act_answer(done, self.play.printed());
-                self.exchange.journal.answered(now.clock, answer);
-                self.lines.answer(&mut self.exchange.around, answer);
+                self.answer_act(done);
             }
             TelephoneRequest::Show { line } => {
                 let asked = self.play.ask(text, line);
@@ -218,7 +228,6 @@ impl<S: Surroundings + Drop, T: Teller + Drop> Desk<S, T> {
     }
 
     // A visitor is served, if one is there.
-    #[tactic(auto, using(live_play::proofs::RunLemmas::stays_so))]
     fn visit<V: Visitors<S>>(&mut self, visitors: &mut Option<Box<V>>, moment: u64)
         ensures { (entries : List Entry) × Ran (at_desk T.told S.sent self.old) entries (at_desk T.told S.sent self.new) }
     {
@@ -234,7 +243,6 @@ impl<S: Surroundings + Drop, T: Teller + Drop> Desk<S, T> {
     }
 
     // A turn of somebody's, or a wait, where it is now this moment.
-    #[tactic(auto, using(live_play::proofs::RunLemmas::stays_so))]
     fn do_turn<V: Visitors<S>>(&mut self, turn: Turn, visitors: &mut Option<Box<V>>, moment: u64)
         ensures { (entries : List Entry) × Ran (at_desk T.told S.sent self.old) entries (at_desk T.told S.sent self.new) }
     {
@@ -299,8 +307,8 @@ impl<S: Surroundings + Drop, T: Teller + Drop> Desk<S, T> {
     /// stands behind that in the datagram isn't done.
     pub fn answer_stop(&mut self) {
         let is_asked = match self.lines.line() {
-            Some(b"stop") => self.lines.is_from_loopback(),
-            _ => false,
+            Some(line) => line == b"stop".as_slice() && self.lines.is_from_loopback(),
+            None => false,
         };
         if is_asked {
             self.lines.answer_all(&mut self.exchange.around, DONE);

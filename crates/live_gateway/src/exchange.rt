@@ -41,20 +41,6 @@ fn put_into(room: &mut [u8], bytes: &[u8]) -> usize
     len
 }
 
-// A visitor is answered by the board of a journal.
-fn serve_visitor<S: Surroundings, V: Visitors<S>>(
-    around: &mut S,
-    journal: &mut Journal,
-    visitors: &mut V,
-    moment: u64,
-)
-    ensures { S.sent around.new ≡ S.sent around.old }
-{
-    if let Some(board) = &mut journal.board {
-        visitors.turn(around, board, moment);
-    }
-}
-
 impl<S: Surroundings + Drop> Exchange<S> {
     /// The way over these surroundings, over which nothing went.
     pub fn new(
@@ -100,16 +86,6 @@ impl<S: Surroundings + Drop> Exchange<S> {
         }
     }
 
-    /// The gateway refused a datagram from there, for want of memory.
-    pub fn refuse(&mut self, source: SocketAddrV4, bytes: &[u8])
-        ensures network { self.new.network ≡ self.old.network }
-        ensures around { self.new.around ≡ self.old.around }
-    {
-        count(&mut self.faults.refused);
-        self.journal
-            .untaken(self.now, source, bytes, Note::OutOfMemory);
-    }
-
     /// The moment at which the network hands something out, in ms, if it will.
     pub fn network_due(&self) -> Option<u64>
         ensures { result ≡ next_due self.entry.now.network }
@@ -139,8 +115,11 @@ impl<S: Surroundings + Drop> Exchange<S> {
         ensures network { self.new.network ≡ self.old.network }
         ensures sent { S.sent self.new.around ≡ S.sent self.old.around }
     {
+        let journal = &mut *self.journal;
         if let Some(visitors) = visitors {
-            serve_visitor(&mut self.around, &mut self.journal, &mut **visitors, moment);
+            if let Some(board) = &mut journal.board {
+                visitors.turn(&mut self.around, board, moment);
+            }
         }
     }
 
@@ -181,6 +160,19 @@ impl<S: Surroundings + Drop> Exchange<S> {
         }
     }
 
+    // A packet comes to the gateway out of the network: how long it is.
+    fn hand_in(&mut self, packet: &Packet, room: &mut [u8]) -> usize
+        ensures length { length room.new ≡ length room.old }
+        ensures within { result ≤ length room.new }
+        ensures network { self.new.network ≡ self.old.network }
+        ensures around { self.new.around ≡ self.old.around }
+    {
+        let late = packet.due.saturating_sub(packet.offered);
+        let len = put_into(room, packet.bytes.as_bytes());
+        self.journal.came(self.now, packet.peer, &room[..len], late);
+        len
+    }
+
     // A datagram that the network hands to the gateway now, if there is one. Those that go out now are sent; one that can't be is lost.
     fn handed_over(&mut self, room: &mut [u8]) -> Option<(SocketAddrV4, usize)>
         ensures length { length room.new ≡ length room.old }
@@ -190,10 +182,7 @@ impl<S: Surroundings + Drop> Exchange<S> {
         for _ in 0..u16::MAX {
             let packet = self.take_due()?;
             if packet.way == Way::In {
-                let late = packet.due.saturating_sub(packet.offered);
-                let len = put_into(room, packet.bytes.as_bytes());
-                self.journal.came(self.now, packet.peer, &room[..len], late);
-                return Some((packet.peer, len));
+                return Some((packet.peer, self.hand_in(&packet, room)));
             }
             let _ = self.around.send(packet.peer, packet.bytes.as_bytes());
         }

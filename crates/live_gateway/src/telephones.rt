@@ -59,10 +59,13 @@ fn telephone_request(alloc: Global, line: &[u8]) -> TelephoneRequest
 pub fn request_in(alloc: Global, line: &[u8], is_from_loopback: bool) -> TelephoneRequest
     ensures { AsksFor result (line_in (words_of line.now)) }
 {
-    match line {
-        b"counts" => TelephoneRequest::Counts,
-        b"stop" if is_from_loopback => TelephoneRequest::Stop,
-        b"stop" => TelephoneRequest::StopFromAfar,
-        line => telephone_request(alloc, line),
+    if line == b"counts".as_slice() {
+        TelephoneRequest::Counts
+    } else if line == b"stop".as_slice() && is_from_loopback {
+        TelephoneRequest::Stop
+    } else if line == b"stop".as_slice() {
+        TelephoneRequest::StopFromAfar
+    } else {
+        telephone_request(alloc, line)
     }
 }

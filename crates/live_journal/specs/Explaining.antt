@@ -1,5 +1,5 @@
 -- What the log says of commands that weren't done.
-use Rattle.std.specs.Prelude.{ℕ, nat_le, if◌then◌else◌, List, [], Option, Some, None}
+use Rattle.std.specs.Prelude.{ℕ, nat_le, ◌==◌, if◌then◌else◌, List, [], Option, Some, None}
 use Rattle.command_forms.specs.declared.refused.FaultyPart.{FaultyPart}
 use Rattle.command_forms.specs.Explaining.{explanation_of}
 use Rattle.exchange_log.specs.declared.note.Note.TheVariants as notes
@@ -14,10 +14,16 @@ use Rattle.gateway_core.specs.declared.outcome.TextOutcome.TheVariants.{NoMessag
 abbrev pub least_refusal : ℕ
 least_refusal = 400
 
+-- a command that comes before the gateway serves is refused for that (RFC 3435, 2.4): nothing of it is at fault
+abbrev pub not_ready : ℕ
+not_ready = 405
+
 -- a command is refused: what of it is at fault is told, where that is known, or the code alone
 abbrev pub refused_text : Stamp → ℕ → ℕ → Option FaultyPart → List ℕ
 refused_text stamp id code None = note_line stamp (notes.Refused id code)
-refused_text stamp id code (Some at) = refused_line stamp id (explanation_of (record { code = code; at = at }))
+refused_text stamp id code (Some at) =
+    if code == not_ready then note_line stamp (notes.Refused id code)
+    else refused_line stamp id (explanation_of (record { code = code; at = at }))
 
 abbrev pub reply_text : Stamp → ℕ → Reply → List ℕ
 reply_text stamp id (First code fault) = if nat_le least_refusal code then refused_text stamp id code fault else []

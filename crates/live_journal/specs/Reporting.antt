@@ -1,5 +1,5 @@
 -- Counts as they are told, a kind a line.
-use Rattle.std.specs.Prelude.{ℕ, suc, ◌+◌, ◌==◌, if◌then◌else◌, codes, decimal, slice_index, List, [], ◌∷◌, ◌++◌}
+use Rattle.std.specs.Prelude.{ℕ, zero, suc, ◌+◌, ◌==◌, if◌then◌else◌, codes, decimal, slice_index, List, [], ◌∷◌, ◌++◌}
 use Rattle.std.specs.List.{flat_map}
 use Rattle.std.specs.Borrow.{Bor}
 use Rattle.std.specs.Option.{unwrap_or}
@@ -65,7 +65,7 @@ others_text tally lost faults =
 
 -- how many events of so many lines, from the first on, were lost
 unfoldable pub lost_of_lines : Machine → ℕ → ℕ
-lost_of_lines m 0 = 0
+lost_of_lines m zero = 0
 lost_of_lines m (suc lines) = sum_within (lost_of_lines m lines) (unwrap_or (lost_of m (suc lines)) 0)
 
 -- what came, and how it was answered

@@ -30,6 +30,7 @@ pub fn counts_are_told_in_a_row()
 pub fn what_was_refused_is_told()
     ensures part { (stamp : Stamp) → reason_text stamp (Command (Some Rqnt) 1207 (First 518 (Some (Value 82))))
         ≡ refused_line stamp 1207 (explanation_of (record { code = 518; at = Value 82 })) }
+    ensures ready { (stamp : Stamp) → reason_text stamp (Command (Some Rqnt) 1207 (First 405 (Some (Value 82)))) ≡ note_line stamp (Refused 1207 405) }
     ensures code { (stamp : Stamp) → reason_text stamp (Command (Some Rqnt) 1207 (First 401 None)) ≡ note_line stamp (Refused 1207 401) }
     ensures unread { (stamp : Stamp) → reason_text stamp (Command None 1207 (First 510 None)) ≡ note_line stamp (Refused 1207 510) }
     ensures least { (stamp : Stamp) → reason_text stamp (Command (Some Rqnt) 1207 (First 400 None)) ≡ note_line stamp (Refused 1207 400) }

@@ -14,6 +14,9 @@ use std::alloc::Global;
 // The least return code that refuses a command (RFC 3435, 2.4).
 const LEAST_REFUSAL: u16 = 400;
 
+// A command that comes before the gateway serves is refused for that, whatever it asks for (RFC 3435, 2.4).
+const NOT_READY: u16 = 405;
+
 // Notes why a command was refused with this code: by what of it is at fault, or by the code alone.
 fn put_refusal(
     alloc: Global,
@@ -26,11 +29,11 @@ fn put_refusal(
     ensures { OnOk result (out.new.items ≡ out.old.items ++ refused_text stamp id code fault) }
 {
     match fault {
-        Some(at) => {
+        Some(at) if code != NOT_READY => {
             let why = explain(alloc, &Refused { code, at })?;
             put_refused(alloc, out, stamp, id, why.as_bytes())
         }
-        None => put_note(alloc, out, stamp, Note::Refused { id, code }),
+        Some(_) | None => put_note(alloc, out, stamp, Note::Refused { id, code }),
     }
 }
 

@@ -1,0 +1,7 @@
+use Rattle.live_gateway.specs.Exchanging.{handed_by}
+use Rattle.live_gateway.proofs.desk.Desk.take_line.Goals as goal
+
+pub returns-in-Show : goal.returns-in-Show
+returns-in-Show g c =
+    rw (c.answer.ensures, c.deref_mut-in-Show-3.ensures.value)
+    (c.ask-asked.ensures (handed_by c.args.self.now.exchange.value.network (g.S.Surroundings.sent c.args.self.now.exchange.value.around)))
