@@ -1,6 +1,5 @@
 -- Events that were lost, line by line.
-use Rattle.std.proofs.Common.{◌≡◌, ℕ, suc, ◌+◌, Option, Some, refl, ap, arith}
-use Rattle.std.specs.Option.{unwrap_or}
+use Rattle.std.proofs.Common.{◌≡◌, ℕ, suc, ◌+◌, Some, refl, arith}
 use Rattle.plain_machine.specs.Lists.{lost_of}
 use Rattle.plain_machine.specs.Machine.{Machine}
 use Rattle.live_ends.specs.Backlog.{sum_within}

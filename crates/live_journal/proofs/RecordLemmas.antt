@@ -1,5 +1,5 @@
 -- What is put into a record, by whether it is told all.
-use Rattle.std.proofs.Common.{inl, inr, ◌≡◌, ◌⊎◌, ℕ, Bool, true, false, List, [], ◌++◌, refl}
+use Rattle.std.proofs.Common.{inl, inr, ◌≡◌, ℕ, true, false, List, [], ◌++◌}
 use Rattle.live_ends.specs.declared.record.RecordState.{RecordState}
 use Rattle.live_ends.specs.declared.record.RecordState.TheVariants.{Off, On, OutOfMemory}
 use Rattle.live_ends.specs.Recording.{is_told}
