@@ -26,12 +26,7 @@ fn put_config(out: &mut Vec<u8>, config: &[u8]) -> Result<(), OutOfMemory>
 }
 
 // Puts its head: the configuration, `%%`, and with which number ids begin, where that isn't 0.
-fn put_head(
-    alloc: Global,
-    out: &mut Vec<u8>,
-    config: &[u8],
-    first: u32,
-) -> Result<(), OutOfMemory>
+fn put_head(alloc: Global, out: &mut Vec<u8>, config: &[u8], first: u32) -> Result<(), OutOfMemory>
     ensures { OnOk result (out.new.items ≡ out.old.items ++ trace_head config.now first) }
 {
     put_config(out, config)?;
