@@ -13,12 +13,12 @@ use Rattle.call_routing.specs.declared.told.Told.{Told}
 use Rattle.call_routing.specs.declared.told.Told.TheVariants.{OffHook, OnHook, Flash, Dialled, TimedOut, Restarted, Disconnected}
 use Rattle.call_routing.specs.declared.command.Outcome.{Outcome}
 use Rattle.call_routing.specs.declared.line.Line.{Line}
-use Rattle.call_routing.specs.Phases.{other_end, left, rings, ringing_in, is_free, is_in_call, is_in, waits}
+use Rattle.call_routing.specs.Phases.{other_end, named_by, left, rings, ringing_in, is_free, is_in_call, is_in, waits}
 use Rattle.call_routing.specs.Calls.{CallState, joined, parted, cut_off, cut_off_in, turned, answered_by, picked_up, hearing, greatest_call, caller_of, begun, put_through, reached, dialled, dialled_in, given_up_in, timed_out, heard, failed, found, found_in}
 use Rattle.call_routing.specs.Line.{landed, failing, finding, spent}
 use Rattle.call_routing.specs.Next.{line_stands, is_ready, next_of}
 use Rattle.call_routing.specs.Exchange.{ExchangeState, opening, phase_of, line_of, flight_in, told, answered, due_by, due}
-use Rattle.call_laws.specs.Turns.{Turn, after, named_by, IsApart, IsAsBefore}
+use Rattle.call_laws.specs.Turns.{Turn, after, IsApart, IsAsBefore}
 use Rattle.call_routing.proofs.ElementLemmas.{set_here, set_other, changed_other}
 use Rattle.call_laws.proofs.PhaseLemmas.{AreMutual}
 use Rattle.call_laws.proofs.CallLaws.{cut_free, always_mutual}

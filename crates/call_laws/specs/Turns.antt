@@ -1,8 +1,7 @@
 -- All that happens to an exchange, turn after turn, in whatever order its owner takes it.
 use Rattle.std.specs.Prelude.{◌≡◌, ◌≢◌, ℕ, ◌+◌, ◌==◌, ◌&&◌, not, is_some, Bool, true, false, List, [], ◌∷◌, ◌++◌, Option, Some, None}
 use Rattle.std.specs.List.{list_all}
-use Rattle.call_routing.specs.declared.phase.Phase.{Phase}
-use Rattle.call_routing.specs.declared.phase.Phase.TheVariants.{Resting, Dialling, Hearing, InCall}
+use Rattle.call_routing.specs.declared.phase.Phase.TheVariants.{Resting}
 use Rattle.call_routing.specs.declared.told.Told.{Told}
 use Rattle.call_routing.specs.declared.told.Told.TheVariants.{OffHook, OnHook, Flash, Dialled, TimedOut, Restarted, Disconnected}
 use Rattle.call_routing.specs.declared.asked.Asked.TheVariants.{Rest}
@@ -10,6 +9,7 @@ use Rattle.call_routing.specs.declared.command.Command.{Command}
 use Rattle.call_routing.specs.declared.command.Outcome.{Outcome}
 use Rattle.call_routing.specs.declared.line.Leg.TheVariants.{Absent}
 use Rattle.call_routing.specs.declared.line.Line.{Line}
+use Rattle.call_routing.specs.Phases.{named_by}
 use Rattle.call_routing.specs.Line.{is_given_up}
 use Rattle.call_routing.specs.Exchange.{ExchangeState, phase_of, line_of, told, answered, due, sent_to}
 
@@ -117,14 +117,6 @@ pub record IsAtRest (exchange : ExchangeState) (line : ℕ) : Type 0 where
   pub clear : (is : Line) → line_of exchange line ≡ Some is → IsClear is
 
 -- Whom a turn concerns
-
--- the line at the other end of the call of a line in this phase
-abbrev pub named_by : Option Phase → Option ℕ
-named_by None = None
-named_by (Some Resting) = None
-named_by (Some Dialling) = None
-named_by (Some (Hearing tone)) = None
-named_by (Some (InCall part)) = Some part.other
 
 -- another line than this one, and at the other end of its call neither before nor behind what happens to it
 pub record IsApart (old new : ExchangeState) (line other : ℕ) : Type 0 where

@@ -6,13 +6,13 @@ ghost use Rattle.mg_bytes.specs.declared.letter.Letter.TheVariants as keys;
 ghost use Rattle.mg_packages.specs.declared.event.LineEvent.TheVariants as events;
 ghost use Rattle.mg_packages.specs.declared.signal.Signal.TheVariants.{DialTone};
 ghost use Rattle.event_values.specs.declared.observed.Observed.TheVariants as observed;
-ghost use Rattle.call_routing.specs.Phases.{other_end};
+ghost use Rattle.call_routing.specs.Phases.{other_end, named_by};
 ghost use Rattle.call_routing.specs.Calls.{greatest_call, caller_of, put_through, all_resting};
 ghost use Rattle.call_routing.specs.Line.{is_success};
 ghost use Rattle.call_routing.specs.Numbers.{line_called, told_in};
 ghost use Rattle.call_routing.specs.Parameters.{verb_of, request_lines, creation_lines, change_lines, deletion_lines, parameters_of};
 ghost use Rattle.call_routing.specs.Exchange.{phase_of, due};
-ghost use Rattle.call_laws.specs.Turns.{named_by, tells, sends, after, is_sent, is_answered, is_coded, count_turns, commands_in, leaves_alone};
+ghost use Rattle.call_laws.specs.Turns.{tells, sends, after, is_sent, is_answered, is_coded, count_turns, commands_in, leaves_alone};
 ghost use Rattle.call_laws.specs.Example.{opened, all_sent, driven, coded, accepted, given_up, created_first, created_second, ready, dial, ring, pick_up, connect, hang_up, then_is, phase_then, sent_at, key};
 
 use call_routing::{Asked, Command, Leg, Phase, Side, Told, Tone};

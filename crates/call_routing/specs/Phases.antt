@@ -44,6 +44,14 @@ talks_in Resting = None
 talks_in Dialling = None
 talks_in (Hearing tone) = None
 
+-- the line at the other end of the call of a line in this phase
+abbrev pub named_by : Option Phase → Option ℕ
+named_by None = None
+named_by (Some Resting) = None
+named_by (Some Dialling) = None
+named_by (Some (Hearing tone)) = None
+named_by (Some (InCall part)) = Some part.other
+
 -- a line is in a call
 abbrev pub is_in_call : Option Phase → Bool
 is_in_call (Some (InCall part)) = true

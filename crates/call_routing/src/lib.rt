@@ -23,5 +23,5 @@ pub use crate::command::{Command, Outcome};
 pub use crate::exchange::Exchange;
 pub use crate::line::{Leg, Line};
 pub use crate::number_plan::NumberPlan;
-pub use crate::phase::{Part, Phase, Side, Tone};
+pub use crate::phase::{Part, Phase, Side, Tone, named_by};
 pub use crate::told::{Told, told_in};

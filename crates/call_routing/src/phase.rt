@@ -1,6 +1,6 @@
 //! The phases of a line, and the parts of both ends in a call.
 ghost use Rattle.std.specs.Prelude.{◌≡◌};
-ghost use Rattle.call_routing.specs.Phases.{across, is_called, other_end, rings, left, ringing_in, talks_in, is_free, is_in, waits};
+ghost use Rattle.call_routing.specs.Phases.{across, is_called, other_end, named_by, rings, left, ringing_in, talks_in, is_free, is_in, waits};
 
 /// Which end of a call a line is.
 #[derive(Clone, Copy)]
@@ -87,6 +87,16 @@ pub(crate) fn other_end(line: usize, part: Part) -> Part
         other: line,
         side: across(part.side),
         answered: part.answered,
+    }
+}
+
+/// The line at the other end of the call of a line in this phase; `None` of one that is in no call, and where there is no line.
+pub fn named_by(phase: Option<Phase>) -> Option<usize>
+    ensures { result ≡ named_by phase }
+{
+    match phase {
+        Some(Phase::InCall(part)) => Some(part.other),
+        Some(Phase::Resting | Phase::Dialling | Phase::Hearing(_)) | None => None,
     }
 }
 
