@@ -11,6 +11,33 @@ greatest_count = 18446744073709551615
 abbrev pub one_more : ℕ → ℕ
 one_more number = min (number + 1) greatest_count
 
+-- nothing was counted
+abbrev pub nothing_counted : Tally
+nothing_counted = record {
+  calls = 0;
+  set_up = 0;
+  abandoned = 0;
+  failed = 0;
+  busy = 0;
+  wrong_number = 0;
+  datagrams_in = 0;
+  strange = 0;
+  datagrams_out = 0;
+  again = 0;
+  commands = 0;
+  answered = 0;
+  given_up = 0;
+  notifications = 0;
+  announcements = 0;
+  strange_names = 0;
+  lost = 0;
+  copied = 0;
+  late = 0;
+  refused = 0;
+  receive_faults = 0;
+  send_faults = 0;
+}
+
 -- a number with what stands before it
 abbrev pub entry_text : Bor (List ℕ) × ℕ → List ℕ
 entry_text entry = entry.0.now ++ decimal entry.1

@@ -1,4 +1,9 @@
 //! Why a configuration is refused, in words: the key, what stands there, and what may.
+ghost use Rattle.std.specs.Prelude.{◌≡◌, ◌++◌, IfOk, OnOk};
+ghost use Rattle.toml.specs.View.{view};
+ghost use Rattle.exchange_log.specs.Grouping.{number_shown};
+ghost use Rattle.agent_texts.specs.ConfigFaults.{key_behind, place_text, value_text, up_to, fault_text, missing_line, unknown_line, value_line, refused_line, count_line, name_line, limit_line, IsTold};
+
 use endpoint_names::LONGEST_DOMAIN;
 use exchange_log::{put_number, put_shown};
 use std::alloc::{AllocError, Global};
@@ -48,52 +53,65 @@ pub enum ValueFault {
     Twice,
 }
 
-fn put(out: &mut Vec<u8>, words: &[&str]) -> Result<(), AllocError> {
-    for word in words {
-        out.extend_from_slice(word.as_bytes())?;
-    }
-    Ok(())
+fn put(out: &mut Vec<u8>, words: &str) -> Result<(), AllocError>
+    ensures { OnOk result (out.new.items ≡ out.old.items ++ words.now) }
+{
+    out.extend_from_slice(words.as_bytes())
 }
 
-fn put_place(out: &mut Vec<u8>, place: Place<'_>) -> Result<(), AllocError> {
+fn put_key(out: &mut Vec<u8>, key: &str) -> Result<(), AllocError>
+    ensures { OnOk result (out.new.items ≡ out.old.items ++ key_behind key.now) }
+{
+    if key.is_empty() {
+        return Ok(());
+    }
+    put(out, ".")?;
+    put_shown(out, key.as_bytes())
+}
+
+fn put_place(out: &mut Vec<u8>, place: Place<'_>) -> Result<(), AllocError>
+    ensures { OnOk result (out.new.items ≡ out.old.items ++ place_text place.entry) }
+{
     let Some(domain) = place.gateway else {
         return put_shown(out, place.key.as_bytes());
     };
-    put(out, &["gateways.\""])?;
+    put(out, "gateways.\"")?;
     put_shown(out, domain.as_bytes())?;
-    put(out, &["\""])?;
-    if place.key.is_empty() {
-        return Ok(());
-    }
-    put(out, &["."])?;
-    put_shown(out, place.key.as_bytes())
+    put(out, "\"")?;
+    put_key(out, place.key)
 }
 
 // Puts a text that stands there, or of what kind it is.
-fn put_value(out: &mut Vec<u8>, value: &Value) -> Result<(), AllocError> {
+fn put_value(out: &mut Vec<u8>, value: &Value) -> Result<(), AllocError>
+    ensures { OnOk result (out.new.items ≡ out.old.items ++ value_text (view value.now)) }
+{
     let Some(text) = value.as_str() else {
-        return put(out, &[value.type_str()]);
+        return put(out, value.type_str());
     };
-    put(out, &["\""])?;
+    put(out, "\"")?;
     put_shown(out, text.as_bytes())?;
-    put(out, &["\""])
+    put(out, "\"")
 }
 
 // Puts that at least one is wanted, and so many at most.
-fn put_up_to(alloc: Global, out: &mut Vec<u8>, most: usize, of: &str) -> Result<(), AllocError> {
-    put(out, &[", wanted 1 to "])?;
+fn put_up_to(alloc: Global, out: &mut Vec<u8>, most: usize, of: &str) -> Result<(), AllocError>
+    ensures { OnOk result (out.new.items ≡ out.old.items ++ up_to most of.now) }
+{
+    put(out, ", wanted 1 to ")?;
     put_number(alloc, out, most as u64)?;
-    put(out, &[of])
+    put(out, of)
 }
 
 // Puts what may stand there.
-fn put_fault(alloc: Global, out: &mut Vec<u8>, fault: ValueFault) -> Result<(), AllocError> {
+fn put_fault(alloc: Global, out: &mut Vec<u8>, fault: ValueFault) -> Result<(), AllocError>
+    ensures { OnOk result (out.new.items ≡ out.old.items ++ fault_text fault) }
+{
     match fault {
         ValueFault::NoAddress => put(
             out,
-            &[", wanted an address a.b.c.d:port, with a port from 1 on"],
+            ", wanted an address a.b.c.d:port, with a port from 1 on",
         ),
-        ValueFault::NoDigitMap => put(out, &[", wanted a digit map, as \"(2xx|0)\""]),
+        ValueFault::NoDigitMap => put(out, ", wanted a digit map, as \"(2xx|0)\""),
         ValueFault::NoDomain => {
             put_up_to(
                 alloc,
@@ -102,7 +120,7 @@ fn put_fault(alloc: Global, out: &mut Vec<u8>, fault: ValueFault) -> Result<(), 
                 " letters, digits, \"-\" and \".\"",
             )
         }
-        ValueFault::NoGateway => put(out, &[", wanted a table with address and numbers"]),
+        ValueFault::NoGateway => put(out, ", wanted a table with address and numbers"),
         ValueFault::NoGateways => put_up_to(alloc, out, MOST_GATEWAYS, " tables"),
         ValueFault::NoNumber => {
             put_up_to(
@@ -113,14 +131,16 @@ fn put_fault(alloc: Global, out: &mut Vec<u8>, fault: ValueFault) -> Result<(), 
             )
         }
         ValueFault::NoNumbers => put_up_to(alloc, out, MOST_NUMBERS, " numbers in a list"),
-        ValueFault::Twice => put(out, &[" stands twice"]),
+        ValueFault::Twice => put(out, " stands twice"),
     }
 }
 
 // A line about a key.
-fn place_line(alloc: Global, before: &str, place: Place<'_>) -> Result<Vec<u8>, AllocError> {
+fn place_line(alloc: Global, before: &str, place: Place<'_>) -> Result<Vec<u8>, AllocError>
+    ensures { IfOk result (λ line. line.items ≡ before.now ++ place_text place.entry) }
+{
     let mut line = Vec::new(alloc);
-    put(&mut line, &[before])?;
+    put(&mut line, before)?;
     put_place(&mut line, place)?;
     Ok(line)
 }
@@ -131,9 +151,11 @@ fn value_line(
     place: Place<'_>,
     value: &Value,
     fault: ValueFault,
-) -> Result<Vec<u8>, AllocError> {
+) -> Result<Vec<u8>, AllocError>
+    ensures { IfOk result (λ line. line.items ≡ value_line (place_text place.entry) (view value.now) fault) }
+{
     let mut line = place_line(alloc, "", place)?;
-    put(&mut line, &[": "])?;
+    put(&mut line, ": ")?;
     put_value(&mut line, value)?;
     put_fault(alloc, &mut line, fault)?;
     Ok(line)
@@ -145,86 +167,94 @@ fn count_line(
     place: Place<'_>,
     count: usize,
     fault: ValueFault,
-) -> Result<Vec<u8>, AllocError> {
+) -> Result<Vec<u8>, AllocError>
+    ensures { IfOk result (λ line. line.items ≡ count_line (place_text place.entry) count fault) }
+{
     let mut line = place_line(alloc, "", place)?;
-    put(&mut line, &[": "])?;
+    put(&mut line, ": ")?;
     put_number(alloc, &mut line, count as u64)?;
     put_fault(alloc, &mut line, fault)?;
     Ok(line)
 }
 
-// A line about a key that may not be so.
-fn name_line(alloc: Global, place: Place<'_>, fault: ValueFault) -> Result<Vec<u8>, AllocError> {
-    let mut line = place_line(alloc, "", place)?;
-    put_fault(alloc, &mut line, fault)?;
-    Ok(line)
-}
-
-fn words_line(alloc: Global, words: &str) -> Result<Vec<u8>, AllocError> {
-    Vec::from_slice(alloc, words.as_bytes())
-}
-
-// A line about a text that is too long.
-fn limit_line(alloc: Global, limit: usize) -> Result<Vec<u8>, AllocError> {
-    let mut line = Vec::new(alloc);
-    put(&mut line, &["over "])?;
-    put_number(alloc, &mut line, limit as u64)?;
-    put(&mut line, &[" bytes"])?;
-    Ok(line)
-}
-
-// The refusal that a line tells, unless memory was refused for it.
-fn told(line: Result<Vec<u8>, AllocError>) -> ConfigRefusal {
-    match line {
-        Ok(line) => ConfigRefusal::Told { line },
-        Err(_) => ConfigRefusal::OutOfMemory,
-    }
-}
-
-/// What stands at a key may not; or the key is missing.
-pub fn refused(
+/// What stands at a key may not; or the key is missing. As with all of these, an error is for want of memory only.
+pub(crate) fn refused(
     alloc: Global,
     place: Place<'_>,
     value: Option<&Value>,
     fault: ValueFault,
-) -> ConfigRefusal {
-    match value {
-        Some(value) => told(value_line(alloc, place, value, fault)),
-        None => missing(alloc, place),
-    }
+) -> Result<ConfigRefusal, AllocError>
+    ensures { IfOk result (λ refusal. IsTold (refused_line (place_text place.entry) value.entry fault) refusal) }
+{
+    let Some(value) = value else {
+        return missing(alloc, place);
+    };
+    Ok(ConfigRefusal::Told {
+        line: value_line(alloc, place, value, fault)?,
+    })
 }
 
 /// A key is missing.
-pub fn missing(alloc: Global, place: Place<'_>) -> ConfigRefusal {
-    told(place_line(alloc, "missing: ", place))
+pub fn missing(alloc: Global, place: Place<'_>) -> Result<ConfigRefusal, AllocError>
+    ensures { IfOk result (λ refusal. IsTold (missing_line (place_text place.entry)) refusal) }
+{
+    Ok(ConfigRefusal::Told {
+        line: place_line(alloc, "missing: ", place)?,
+    })
 }
 
 /// There is no such key.
-pub fn unknown(alloc: Global, place: Place<'_>) -> ConfigRefusal {
-    told(place_line(alloc, "unknown key ", place))
+pub(crate) fn unknown(alloc: Global, place: Place<'_>) -> Result<ConfigRefusal, AllocError>
+    ensures { IfOk result (λ refusal. IsTold (unknown_line (place_text place.entry)) refusal) }
+{
+    Ok(ConfigRefusal::Told {
+        line: place_line(alloc, "unknown key ", place)?,
+    })
 }
 
 /// So many may not stand at a key.
-pub fn miscounted(
+pub(crate) fn miscounted(
     alloc: Global,
     place: Place<'_>,
     count: usize,
     fault: ValueFault,
-) -> ConfigRefusal {
-    told(count_line(alloc, place, count, fault))
+) -> Result<ConfigRefusal, AllocError>
+    ensures { IfOk result (λ refusal. IsTold (count_line (place_text place.entry) count fault) refusal) }
+{
+    Ok(ConfigRefusal::Told {
+        line: count_line(alloc, place, count, fault)?,
+    })
 }
 
 /// A key may not be so.
-pub fn misnamed(alloc: Global, place: Place<'_>, fault: ValueFault) -> ConfigRefusal {
-    told(name_line(alloc, place, fault))
+pub(crate) fn misnamed(
+    alloc: Global,
+    place: Place<'_>,
+    fault: ValueFault,
+) -> Result<ConfigRefusal, AllocError>
+    ensures { IfOk result (λ refusal. IsTold (name_line (place_text place.entry) fault) refusal) }
+{
+    let mut line = place_line(alloc, "", place)?;
+    put_fault(alloc, &mut line, fault)?;
+    Ok(ConfigRefusal::Told { line })
 }
 
 /// It has a fault that these words tell.
-pub fn said(alloc: Global, words: &str) -> ConfigRefusal {
-    told(words_line(alloc, words))
+pub(crate) fn said(alloc: Global, words: &str) -> Result<ConfigRefusal, AllocError>
+    ensures { IfOk result (λ refusal. IsTold words.now refusal) }
+{
+    Ok(ConfigRefusal::Told {
+        line: Vec::from_slice(alloc, words.as_bytes())?,
+    })
 }
 
 /// The text has more bytes than this.
-pub fn too_long(alloc: Global, limit: usize) -> ConfigRefusal {
-    told(limit_line(alloc, limit))
+pub fn too_long(alloc: Global, limit: usize) -> Result<ConfigRefusal, AllocError>
+    ensures { IfOk result (λ refusal. IsTold (limit_line limit) refusal) }
+{
+    let mut line = Vec::new(alloc);
+    put(&mut line, "over ")?;
+    put_number(alloc, &mut line, limit as u64)?;
+    put(&mut line, " bytes")?;
+    Ok(ConfigRefusal::Told { line })
 }

@@ -1,8 +1,18 @@
 //! Worked examples of the definitions, as theorems: each sentence of a definition has one that a slip in it breaks.
 #![tactic(auto, unfolding(crate::proofs::Computing::on_examples))]
 
-ghost use Rattle.std.specs.Prelude.{◌≡◌, codes, [], ◌∷◌};
-ghost use Rattle.agent_texts.specs.Counts.{greatest_count, one_more, told};
+ghost use Rattle.std.specs.Prelude.{◌≡◌, codes, pos, [], ◌∷◌, true, false, Some, None};
+ghost use Rattle.toml.specs.Data.{string, integer};
+ghost use Rattle.call_routing.specs.declared.phase.Tone.TheVariants as tones;
+ghost use Rattle.call_routing.specs.declared.phase.Phase.TheVariants as phases;
+ghost use Rattle.agent_texts.specs.declared.config_fault.ValueFault.TheVariants as faults;
+ghost use Rattle.agent_texts.specs.declared.standing.Progress.TheVariants.{Ringing, Answered, Connected};
+ghost use Rattle.agent_texts.specs.declared.standing.Standing.TheVariants.{Rest, Dialling, Busy, Reorder, Called};
+ghost use Rattle.agent_texts.specs.Counts.{greatest_count, one_more, nothing_counted, told};
+ghost use Rattle.agent_texts.specs.ConfigFaults.{place_by, value_text, fault_text, missing_line, unknown_line, value_line, count_line, name_line, limit_line};
+ghost use Rattle.agent_texts.specs.Standings.{standing_of, with_change};
+ghost use Rattle.agent_texts.specs.Stations.{number_at};
+ghost use Rattle.agent_texts.specs.Example.{rings_other, calls, exchange_with, answered_with};
 
 /// Numbers are told behind what they are the number of, and a count stays at its greatest value.
 pub fn counts_are_told_in_a_row()
@@ -11,4 +21,66 @@ pub fn counts_are_told_in_a_row()
     ensures more { one_more 4 ≡ 5 }
     ensures most { one_more greatest_count ≡ greatest_count }
     ensures last { one_more 18446744073709551614 ≡ greatest_count }
+{}
+
+/// A fault is told with its key, what stands there, and what may.
+pub fn faults_are_told_by_key_and_value()
+    ensures own { place_by None (codes "own") ≡ codes "own" }
+    ensures of_gateway { place_by (Some (codes "gw1")) (codes "address") ≡ codes "gateways.\"gw1\".address" }
+    ensures gateway { place_by (Some (codes "gw\n")) [] ≡ codes "gateways.\"gw\\x0a\"" }
+    ensures text { value_text (string (codes "a\n")) ≡ codes "\"a\\x0a\"" }
+    ensures kind { value_text (integer (pos 7)) ≡ codes "integer" }
+    ensures missing { missing_line (codes "own") ≡ codes "missing: own" }
+    ensures unknown { unknown_line (codes "map") ≡ codes "unknown key map" }
+    ensures value { value_line (codes "own") (string (codes "x")) faults.NoAddress
+        ≡ codes "own: \"x\", wanted an address a.b.c.d:port, with a port from 1 on" }
+    ensures count { count_line (codes "gateways") 1025 faults.NoGateways ≡ codes "gateways: 1,025, wanted 1 to 1,024 tables" }
+    ensures name { name_line (codes "gateways.\"-\"") faults.NoDomain
+        ≡ codes "gateways.\"-\", wanted 1 to 64 letters, digits, \"-\" and \".\"" }
+    ensures limit { limit_line 1048576 ≡ codes "over 1,048,576 bytes" }
+{}
+
+/// What may stand at a key.
+pub fn what_may_stand_at_a_key()
+    ensures map { fault_text faults.NoDigitMap ≡ codes ", wanted a digit map, as \"(2xx|0)\"" }
+    ensures gateway { fault_text faults.NoGateway ≡ codes ", wanted a table with address and numbers" }
+    ensures number { fault_text faults.NoNumber ≡ codes ", wanted 1 to 32 of 0 to 9, A to D, * and #, in quotes" }
+    ensures numbers { fault_text faults.NoNumbers ≡ codes ", wanted 1 to 96 numbers in a list" }
+    ensures twice { fault_text faults.Twice ≡ codes " stands twice" }
+{}
+
+/// A line stands as its phase is; a call is connected once both ends were given the description of the other's.
+pub fn a_line_stands_as_its_phase_is()
+    ensures rest { standing_of (exchange_with phases.Resting) 0 ≡ Rest }
+    ensures dials { standing_of (exchange_with phases.Dialling) 0 ≡ Dialling }
+    ensures busy { standing_of (exchange_with (phases.Hearing tones.Busy)) 0 ≡ Busy }
+    ensures reorder { standing_of (exchange_with (phases.Hearing tones.Reorder)) 0 ≡ Reorder }
+    ensures called { standing_of (answered_with false false) 1 ≡ Called }
+    ensures rings { standing_of (exchange_with (phases.InCall rings_other)) 0 ≡ calls Ringing }
+    ensures neither { standing_of (answered_with false false) 0 ≡ calls Answered }
+    ensures one { standing_of (answered_with true false) 0 ≡ calls Answered }
+    ensures other { standing_of (answered_with false true) 0 ≡ calls Answered }
+    ensures both { standing_of (answered_with true true) 0 ≡ calls Connected }
+    ensures no_line { standing_of (exchange_with phases.Dialling) 7 ≡ Rest }
+{}
+
+/// A call is counted when it rings, when it is connected, and when it ends before that; and a number that led to none.
+pub fn calls_are_counted_as_they_come()
+    ensures rings { (with_change Dialling (calls Ringing) nothing_counted).calls ≡ 1 }
+    ensures answered { with_change (calls Ringing) (calls Answered) nothing_counted ≡ nothing_counted }
+    ensures connected { (with_change (calls Answered) (calls Connected) nothing_counted).set_up ≡ 1 }
+    ensures ended { with_change (calls Connected) Busy nothing_counted ≡ nothing_counted }
+    ensures failed { (with_change (calls Ringing) Reorder nothing_counted).failed ≡ 1 }
+    ensures failed_later { (with_change (calls Answered) Reorder nothing_counted).failed ≡ 1 }
+    ensures abandoned { (with_change (calls Ringing) Rest nothing_counted).abandoned ≡ 1 }
+    ensures hung_up { (with_change (calls Answered) Busy nothing_counted).abandoned ≡ 1 }
+    ensures busy { (with_change Dialling Busy nothing_counted).busy ≡ 1 }
+    ensures wrong { (with_change Dialling Reorder nothing_counted).wrong_number ≡ 1 }
+    ensures dials { with_change Rest Dialling nothing_counted ≡ nothing_counted }
+    ensures hears { with_change Called Busy nothing_counted ≡ nothing_counted }
+{}
+
+/// A place without a station has no number.
+pub fn a_station_has_a_number()
+    ensures none { number_at [] 3 ≡ codes "?" }
 {}

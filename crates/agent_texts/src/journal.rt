@@ -1,4 +1,8 @@
 //! What is told of the conversation: on standard output, in the log, in a capture, and in counts.
+ghost use Rattle.std.specs.Prelude.{◌≡◌, ◌++◌, [], IfOk, OnOk};
+ghost use Rattle.live_ends.specs.Written.{written_line};
+ghost use Rattle.agent_texts.specs.Counts.{counts_text, nothing_counted};
+
 use crate::tally::{Tally, count};
 use crate::text::header_word;
 use event_values::{Observed, write_observed};
@@ -84,7 +88,12 @@ fn note_for(read: &Result<Message<'_>, TextFault>, is_repeat: bool) -> Option<No
 
 impl Journal {
     /// A journal with a log and a capture where they are asked for; the socket for gateways is here.
-    pub fn new(alloc: Global, has_log: bool, has_capture: bool, here: SocketAddrV4) -> Journal {
+    pub fn new(alloc: Global, has_log: bool, has_capture: bool, here: SocketAddrV4) -> Journal
+        ensures told { result.told.out.items ≡ [] }
+        ensures log { result.log.out.items ≡ [] }
+        ensures tally { result.tally ≡ nothing_counted }
+        ensures capture_name { result.capture_name.items ≡ [] }
+    {
         let mut capture = Record::new(alloc, has_capture);
         if has_capture && put_head(&mut capture.out).is_err() {
             capture.refuse();
@@ -102,7 +111,9 @@ impl Journal {
     }
 
     /// The capture's file has this name. An error is for want of memory.
-    pub fn name_capture(&mut self, name: &str) -> Result<(), OutOfMemory> {
+    pub fn name_capture(&mut self, name: &str) -> Result<(), OutOfMemory>
+        ensures { OnOk result (self.new.capture_name.items ≡ self.old.capture_name.items ++ name.now) }
+    {
         self.capture_name.extend_from_slice(name.as_bytes())
     }
 
@@ -118,7 +129,10 @@ impl Journal {
     }
 
     /// What was counted, as text, one kind a line. Its only error is want of memory.
-    pub fn counts(&self) -> Result<Vec<u8>, OutOfMemory> {
+    pub fn counts(&self) -> Result<Vec<u8>, OutOfMemory>
+        ensures { IfOk result (λ text. text.items
+            ≡ counts_text self.now.tally ++ written_line self.now.written self.now.capture_name.items) }
+    {
         let counts = self.tally.text(self.alloc)?;
         let mut text = Vec::from_slice(self.alloc, counts.as_bytes())?;
         self.written
@@ -127,7 +141,9 @@ impl Journal {
     }
 
     /// Tells a line of these pieces.
-    pub fn tell(&mut self, pieces: &[&[u8]]) {
+    pub(crate) fn tell(&mut self, pieces: &[&[u8]])
+        ensures { self.new.tally ≡ self.old.tally }
+    {
         if self.told.is_on() && put_line(&mut self.told.out, pieces).is_err() {
             self.told.refuse();
         }

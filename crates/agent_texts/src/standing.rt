@@ -1,4 +1,8 @@
 //! How lines stand, as it is told to people.
+ghost use Rattle.std.specs.Prelude.{◌≡◌};
+ghost use Rattle.call_routing.specs.Exchange.{line_of};
+ghost use Rattle.agent_texts.specs.Standings.{stands_for, is_joined, progress_of, tone_standing, part_standing, standing_of, with_progress, with_failure, with_end, with_refusal, with_rest, with_change};
+
 use crate::journal::Journal;
 use crate::station::{Station, number_at};
 use crate::tally::{Tally, count};
@@ -34,19 +38,30 @@ pub enum Standing {
     Called,
 }
 
-// Whether a line's connection for this call was given the description of the other end.
-fn is_joined(exchange: &Exchange, line: usize, call: u64) -> bool {
-    let Some(line) = exchange.line(line) else {
-        return false;
-    };
-    match &line.leg {
-        Leg::Standing { call: of, .. } => line.joined && *of == call,
+// Whether a connection stands for this call.
+fn stands_for(leg: &Leg, call: u64) -> bool
+    ensures { result ≡ stands_for leg.now call }
+{
+    match leg {
+        Leg::Standing { call: of, .. } => *of == call,
         Leg::Absent | Leg::Unknown { .. } => false,
     }
 }
 
+// Whether a line's connection for this call was given the description of the other end.
+fn is_joined(exchange: &Exchange, line: usize, call: u64) -> bool
+    ensures { result ≡ is_joined (line_of exchange.now line) call }
+{
+    match exchange.line(line) {
+        Some(line) => line.joined && stands_for(&line.leg, call),
+        None => false,
+    }
+}
+
 // How far the call of a line has come.
-fn progress_of(exchange: &Exchange, line: usize, part: Part) -> Progress {
+fn progress_of(exchange: &Exchange, line: usize, part: Part) -> Progress
+    ensures { result ≡ progress_of exchange.now line part }
+{
     if !part.answered {
         return Progress::Ringing;
     }
@@ -57,21 +72,39 @@ fn progress_of(exchange: &Exchange, line: usize, part: Part) -> Progress {
     }
 }
 
-/// How a line stands now.
-pub fn standing_of(exchange: &Exchange, line: usize) -> Standing {
+fn tone_standing(tone: Tone) -> Standing
+    ensures { result ≡ tone_standing tone }
+{
+    match tone {
+        Tone::Busy => Standing::Busy,
+        Tone::Reorder => Standing::Reorder,
+    }
+}
+
+fn part_standing(side: Side, part: Part, progress: Progress) -> Standing
+    ensures { result ≡ part_standing side part progress }
+{
+    match side {
+        Side::Called => Standing::Called,
+        Side::Caller => Standing::Caller {
+            call: part.call,
+            other: part.other,
+            progress,
+        },
+    }
+}
+
+/// How a line stands now; one that there isn't is at rest.
+pub fn standing_of(exchange: &Exchange, line: usize) -> Standing
+    ensures { result ≡ standing_of exchange.now line }
+{
     match exchange.phase(line) {
         None | Some(Phase::Resting) => Standing::Rest,
         Some(Phase::Dialling) => Standing::Dialling,
-        Some(Phase::Hearing(Tone::Busy)) => Standing::Busy,
-        Some(Phase::Hearing(Tone::Reorder)) => Standing::Reorder,
-        Some(Phase::InCall(part)) => match part.side {
-            Side::Called => Standing::Called,
-            Side::Caller => Standing::Caller {
-                call: part.call,
-                other: part.other,
-                progress: progress_of(exchange, line, part),
-            },
-        },
+        Some(Phase::Hearing(tone)) => tone_standing(tone),
+        Some(Phase::InCall(part)) => {
+            part_standing(part.side, part, progress_of(exchange, line, part))
+        }
     }
 }
 
@@ -82,36 +115,74 @@ fn is_caller_in(standing: Standing, call: u64) -> bool {
     }
 }
 
+// Counts how far a call of a line has come.
+fn count_progress(tally: &mut Tally, progress: Progress)
+    ensures { tally.new ≡ with_progress progress tally.old }
+{
+    match progress {
+        Progress::Ringing => count(&mut tally.calls),
+        Progress::Answered => {}
+        Progress::Connected => count(&mut tally.set_up),
+    }
+}
+
+// Counts that a call of a line, which stands so now, ended before its ends were connected.
+fn count_failure(tally: &mut Tally, is: Standing)
+    ensures { tally.new ≡ with_failure is tally.old }
+{
+    match is {
+        Standing::Reorder => count(&mut tally.failed),
+        Standing::Rest
+        | Standing::Dialling
+        | Standing::Busy
+        | Standing::Caller { .. }
+        | Standing::Called => count(&mut tally.abandoned),
+    }
+}
+
+// Counts the end of a call that has come so far, of a line that stands so now.
+fn count_end(tally: &mut Tally, progress: Progress, is: Standing)
+    ensures { tally.new ≡ with_end progress is tally.old }
+{
+    match progress {
+        Progress::Ringing | Progress::Answered => count_failure(tally, is),
+        Progress::Connected => {}
+    }
+}
+
+// Counts that what a line dialled led to no call.
+fn count_refusal(tally: &mut Tally, is: Standing)
+    ensures { tally.new ≡ with_refusal is tally.old }
+{
+    match is {
+        Standing::Busy => count(&mut tally.busy),
+        Standing::Reorder => count(&mut tally.wrong_number),
+        Standing::Rest | Standing::Dialling | Standing::Caller { .. } | Standing::Called => {}
+    }
+}
+
+// Counts what became of a line that has no call of its own now.
+fn count_rest(tally: &mut Tally, was: Standing, is: Standing)
+    ensures { tally.new ≡ with_rest was is tally.old }
+{
+    match was {
+        Standing::Caller { progress, .. } => count_end(tally, progress, is),
+        Standing::Dialling => count_refusal(tally, is),
+        Standing::Rest | Standing::Busy | Standing::Reorder | Standing::Called => {}
+    }
+}
+
 // Counts what becomes of a line that stood so.
-fn count_change(tally: &mut Tally, was: Standing, is: Standing) {
-    match (was, is) {
-        (
-            _,
-            Standing::Caller {
-                progress: Progress::Ringing,
-                ..
-            },
-        ) => count(&mut tally.calls),
-        (
-            _,
-            Standing::Caller {
-                progress: Progress::Connected,
-                ..
-            },
-        ) => count(&mut tally.set_up),
-        (
-            Standing::Caller {
-                progress: Progress::Connected,
-                ..
-            },
-            _,
-        ) => {}
-        (_, Standing::Caller { .. }) => {}
-        (Standing::Caller { .. }, Standing::Reorder) => count(&mut tally.failed),
-        (Standing::Caller { .. }, _) => count(&mut tally.abandoned),
-        (Standing::Dialling, Standing::Busy) => count(&mut tally.busy),
-        (Standing::Dialling, Standing::Reorder) => count(&mut tally.wrong_number),
-        _ => {}
+fn count_change(tally: &mut Tally, was: Standing, is: Standing)
+    ensures { tally.new ≡ with_change was is tally.old }
+{
+    match is {
+        Standing::Caller { progress, .. } => count_progress(tally, progress),
+        Standing::Rest
+        | Standing::Dialling
+        | Standing::Busy
+        | Standing::Reorder
+        | Standing::Called => count_rest(tally, was, is),
     }
 }
 
@@ -140,7 +211,9 @@ fn tell_call(
     line: usize,
     other: usize,
     words: &[u8],
-) {
+)
+    ensures { journal.new.tally ≡ journal.old.tally }
+{
     let mut number = Vec::new(alloc);
     if put_decimal(alloc, &mut number, call).is_err() {
         journal.told.refuse();
@@ -158,8 +231,47 @@ fn tell_call(
 }
 
 // Tells how a line stands that is in no call.
-fn tell_line(journal: &mut Journal, number: &[u8], words: &[u8]) {
+fn tell_line(journal: &mut Journal, number: &[u8], words: &[u8])
+    ensures { journal.new.tally ≡ journal.old.tally }
+{
     journal.tell(&[b"line ".as_slice(), number, words]);
+}
+
+// Tells that a call of a line is over that stood so, where it is in that no longer.
+fn tell_end(
+    alloc: Global,
+    journal: &mut Journal,
+    stations: &[Station],
+    line: usize,
+    was: Standing,
+    is: Standing,
+)
+    ensures { journal.new.tally ≡ journal.old.tally }
+{
+    if let Standing::Caller { call, other, .. } = was
+        && !is_caller_in(is, call)
+    {
+        tell_call(alloc, journal, stations, call, line, other, b" over");
+    }
+}
+
+// Tells how a line stands now.
+fn tell_standing(
+    alloc: Global,
+    journal: &mut Journal,
+    stations: &[Station],
+    line: usize,
+    is: Standing,
+)
+    ensures { journal.new.tally ≡ journal.old.tally }
+{
+    match is {
+        Standing::Caller { call, other, .. } => {
+            tell_call(alloc, journal, stations, call, line, other, words_of(is));
+        }
+        Standing::Called => {}
+        _ => tell_line(journal, number_at(stations, line), words_of(is)),
+    }
 }
 
 /// Tells and counts what became of the line at this place, which stood otherwise before.
@@ -170,18 +282,10 @@ pub fn tell_change(
     line: usize,
     was: Standing,
     is: Standing,
-) {
+)
+    ensures { journal.new.tally ≡ with_change was is journal.old.tally }
+{
     count_change(&mut journal.tally, was, is);
-    if let Standing::Caller { call, other, .. } = was
-        && !is_caller_in(is, call)
-    {
-        tell_call(alloc, journal, stations, call, line, other, b" over");
-    }
-    match is {
-        Standing::Caller { call, other, .. } => {
-            tell_call(alloc, journal, stations, call, line, other, words_of(is));
-        }
-        Standing::Called => {}
-        _ => tell_line(journal, number_at(stations, line), words_of(is)),
-    }
+    tell_end(alloc, journal, stations, line, was, is);
+    tell_standing(alloc, journal, stations, line, is);
 }

@@ -1,4 +1,7 @@
 //! The telephones of all gateways.
+ghost use Rattle.std.specs.Prelude.{◌≡◌};
+ghost use Rattle.agent_texts.specs.Stations.{number_at};
+
 use mg_bytes::Text;
 
 /// A line of a gateway, with its telephone.
@@ -15,7 +18,9 @@ pub struct Station {
 }
 
 /// The number of the station at this place.
-pub fn number_at(stations: &[Station], place: usize) -> &[u8] {
+pub(crate) fn number_at(stations: &[Station], place: usize) -> &[u8]
+    ensures { result.now ≡ number_at stations.now place }
+{
     match stations.get(place) {
         Some(station) => station.number.as_bytes(),
         None => b"?",

@@ -1,0 +1,42 @@
+-- What the worked examples speak of.
+use Rattle.std.specs.Prelude.{ℕ, Bool, true, false, codes, List, [], ◌∷◌, None}
+use Rattle.call_routing.specs.declared.phase.Side.TheVariants as sides
+use Rattle.call_routing.specs.declared.phase.Part.{Part}
+use Rattle.call_routing.specs.declared.phase.Phase.{Phase}
+use Rattle.call_routing.specs.declared.phase.Phase.TheVariants.{InCall}
+use Rattle.call_routing.specs.declared.line.Leg.TheVariants as legs
+use Rattle.call_routing.specs.declared.line.Line.{Line}
+use Rattle.call_routing.specs.Exchange.{ExchangeState, opening}
+use Rattle.agent_texts.specs.declared.standing.Progress.{Progress}
+use Rattle.agent_texts.specs.declared.standing.Standing.{Standing}
+use Rattle.agent_texts.specs.declared.standing.Standing.TheVariants.{Caller}
+
+-- in call 3 the first line calls the second one
+abbrev pub rings_other : Part
+rings_other = record { call = 3; other = 1; side = sides.Caller; answered = false }
+
+abbrev pub caller : Part
+caller = record { call = 3; other = 1; side = sides.Caller; answered = true }
+
+abbrev pub called : Part
+called = record { call = 3; other = 0; side = sides.Called; answered = true }
+
+abbrev pub calls : Progress → Standing
+calls progress = Caller 3 1 progress
+
+-- a line whose connection for that call was given the description of the other's, or wasn't
+abbrev pub joined_line : Bool → Line
+joined_line joined = record { leg = legs.Standing 3 (codes "A") (codes "v=0"); joined = joined; asked = None; flight = None }
+
+-- an exchange whose first line is in this phase
+abbrev pub exchange_with : Phase → ExchangeState
+exchange_with phase =
+    let opened = opening 2 0 in record opened { calls = record opened.calls { phases = phase ∷ [] } }
+
+-- one whose first line calls the second, which has answered
+abbrev pub answered_with : Bool → Bool → ExchangeState
+answered_with one other =
+    let opened = opening 2 0 in record {
+      calls = record opened.calls { phases = InCall caller ∷ InCall called ∷ [] };
+      lines = joined_line one ∷ joined_line other ∷ [];
+    }
