@@ -1,2 +1,3 @@
 pub mod Computing
+pub mod FlightLemmas
 pub mod WaitingLemmas

@@ -1,26 +1,17 @@
 -- What the worked examples speak of.
-use Rattle.std.specs.Prelude.{ℕ, List, false, true, None}
-use Rattle.agent_texts.specs.declared.standing.Standing.TheVariants.{Rest}
+use Rattle.std.specs.Prelude.{ℕ, List, false, true, codes}
+use Rattle.endpoint_names.specs.declared.route.Route.TheVariants.{One}
+use Rattle.endpoint_names.specs.RouteExample.{agent_at}
+use Rattle.outbound.specs.Flight.{InFlight, sent_first}
 use Rattle.mgcp_text.specs.declared.message.Param.{Param}
 use Rattle.call_routing.specs.declared.phase.Side.{Side}
 use Rattle.call_routing.specs.declared.phase.Part.{Part}
-use Rattle.call_desk.specs.declared.care.Duty.TheVariants.{Clear}
 use Rattle.call_desk.specs.declared.care.Care.{Care}
-use Rattle.call_desk.specs.Duties.{begun, landed}
+use Rattle.call_desk.specs.Duties.{new_care, begun, landed}
 
--- a line of which nothing is known; once it was cleared; and once it was audited
-abbrev pub fresh : Care
-fresh = record {
-  next = Clear;
-  flight = None;
-  is_outlived = false;
-  has_told = false;
-  is_found_off = false;
-  shown = Rest;
-}
-
+-- a line once it was cleared, and once it was audited
 abbrev pub cleared : Care
-cleared = landed (begun fresh)
+cleared = landed (begun new_care)
 
 abbrev pub audited : Care
 audited = landed (begun cleared)
@@ -37,3 +28,7 @@ part side = record { call = 7; other = 3; side = side; answered = false }
 
 abbrev pub answered_part : Side → Part
 answered_part side = record { call = 7; other = 3; side = side; answered = true }
+
+-- a command that was issued at moment 0
+abbrev pub issued : InFlight
+issued = sent_first 7 (One (agent_at 1)) (codes "AUEP 7 aaln/1 MGCP 1.0\r\n") 0

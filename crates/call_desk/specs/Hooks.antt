@@ -3,7 +3,8 @@ use Rattle.std.specs.Prelude.{ℕ, Bool, true, false, ◌||◌, ◌&&◌, codes,
 use Rattle.mg_bytes.specs.Case.{same_but_case}
 use Rattle.mg_bytes.specs.Items.{items_of}
 use Rattle.mgcp_text.specs.declared.message.Param.{Param}
-use Rattle.mgcp_text.specs.Message.{param_at}
+use Rattle.mgcp_text.specs.Message.{params_in, param_at}
+use Rattle.mgcp_text.specs.Reading.{Outcome as Read, message, no_header, bad_version, bad_body}
 use Rattle.call_routing.specs.declared.phase.Side.{Side}
 use Rattle.call_routing.specs.declared.phase.Side.TheVariants.{Caller, Called}
 use Rattle.call_routing.specs.declared.phase.Phase.{Phase}
@@ -34,6 +35,13 @@ hook_at (Some param) = hook_among (items_of param.value)
 -- what the parameters of an answer tell
 abbrev pub hook_told : List Param → Option Bool
 hook_told params = hook_at (param_at (codes "ES") params)
+
+-- what an answer tells, by what it was read as; one that can't be read tells nothing
+abbrev pub hook_by : Read → Option Bool
+hook_by (message answer) = hook_told (params_in answer)
+hook_by no_header = None
+hook_by (bad_version id) = None
+hook_by (bad_body id) = None
 
 abbrev pub is_lifted : Side → Bool → Bool
 is_lifted Caller answered = true

@@ -1,7 +1,11 @@
 pub mod Waiting
+pub mod Flights
+pub mod Clock
 pub mod Duties
 pub mod Hooks
 pub mod Responses
 pub mod Orders
+pub mod Turns
+pub mod Boards
 pub mod Typed
 pub mod Example

@@ -1,5 +1,5 @@
 -- Which command a line is sent now.
-use Rattle.std.specs.Prelude.{ℕ, List, Option, Some, None, slice_get, slice_set}
+use Rattle.std.specs.Prelude.{ℕ, Bool, false, List, Option, Some, None, slice_get, slice_set}
 use Rattle.call_routing.specs.declared.command.Command.{Command}
 use Rattle.call_routing.specs.Parameters.{verb_of, parameters_of}
 use Rattle.call_routing.specs.Exchange.{ExchangeState, due, sent_to}
@@ -18,6 +18,15 @@ shown order = (order.verb.now, order.rest)
 abbrev pub duty_of : Option Care → Option Duty
 duty_of None = None
 duty_of (Some care) = duty_begun care
+
+-- what the command in flight to a line is for
+abbrev pub flight_of : Option Care → Option Duty
+flight_of None = None
+flight_of (Some care) = care.flight
+
+abbrev pub was_found_off : Option Care → Bool
+was_found_off None = false
+was_found_off (Some care) = care.is_found_off
 
 abbrev pub cared_to : (Care → Care) → List Care → ℕ → Option Care → List Care
 cared_to change cares line None = cares

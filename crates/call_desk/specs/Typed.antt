@@ -1,6 +1,6 @@
 -- A command that is typed: its line ends, and what its first line says.
-use Rattle.std.specs.Prelude.{ℕ, Bool, ◌==◌, if◌then◌else◌, List, [], ◌∷◌, ◌++◌, Option, Some, None}
-use Rattle.std.specs.List.{concat}
+use Rattle.std.specs.Prelude.{ℕ, Bool, false, ◌&&◌, ◌||◌, ◌==◌, nat_eq, if◌then◌else◌, List, [], ◌∷◌, ◌++◌, Option, Some, None}
+use Rattle.std.specs.List.{concat, ends_with}
 use Rattle.mg_bytes.specs.Bytes.{carriage_return, line_feed}
 use Rattle.mg_bytes.specs.Lines.{cut, line_of, crlf}
 use Rattle.mg_bytes.specs.Words.{words}
@@ -8,19 +8,37 @@ use Rattle.mg_bytes.specs.Words.{words}
 abbrev pub backslash : ℕ
 backslash = 92
 
--- a backslash with an n ends a line, as a line feed does; with another byte it stands for itself
+abbrev pub letter_n : ℕ
+letter_n = 110
+
+-- a backslash that was typed stands for itself, wherever no n is behind it
+abbrev pub held : Bool → List ℕ
+held is_escaped = if is_escaped then backslash ∷ [] else []
+
+-- a line feed ends a line, with a carriage return before it or without; a backslash waits for what is behind it
+abbrev pub plain_byte : ℕ → List ℕ
+plain_byte byte =
+    if byte == line_feed then crlf
+    else if byte == carriage_return || byte == backslash then []
+    else byte ∷ []
+
+-- an n behind a backslash ends a line too
 abbrev pub typed_byte : Bool → ℕ → List ℕ
 typed_byte is_escaped byte =
-    if byte == line_feed then crlf
-    else if byte == carriage_return then []
-    else if byte == backslash then []
-    else if is_escaped then (if byte == 110 then crlf else backslash ∷ byte ∷ [])
-    else byte ∷ []
+    if is_escaped && byte == letter_n then crlf else held is_escaped ++ plain_byte byte
 
 -- the bytes of a message that a typed text is, behind a backslash or not
 unfoldable pub typed_from : Bool → List ℕ → List ℕ
-typed_from is_escaped [] = []
+typed_from is_escaped [] = held is_escaped
 typed_from is_escaped (byte ∷ bytes) = typed_byte is_escaped byte ++ typed_from (byte == backslash) bytes
+
+-- the last line has its end
+abbrev pub ended : List ℕ → List ℕ
+ended text = if ends_with nat_eq text crlf then text else text ++ crlf
+
+-- a line that was typed, and what stands behind it
+abbrev pub typed_text : List ℕ → List ℕ → List ℕ
+typed_text line rest = ended ((typed_from false line ++ crlf) ++ typed_from false rest)
 
 -- a verb, a name, and what stands behind their line
 abbrev pub Command : Type 0

@@ -1,6 +1,6 @@
 //! What is kept of a line beside what the exchange knows: which command is next, and what the one in flight is for.
 ghost use Rattle.std.specs.Prelude.{◌≡◌, option_map};
-ghost use Rattle.call_desk.specs.Duties.{next_behind, told_still, duty_begun, begun, landed, owed_behind, owed, outlived, told_care, fixed_order};
+ghost use Rattle.call_desk.specs.Duties.{new_care, next_behind, told_still, duty_begun, begun, landed, owed_behind, owed, lost, outlived, announced, found, told_of, told_care, fixed_order};
 
 use agent_texts::Standing;
 
@@ -117,11 +117,49 @@ impl Care {
         self.next = owed_behind(self.next, duty);
     }
 
+    /// The command in flight was given up: what that was for, which is owed again where the exchange doesn't know of it.
+    pub(crate) fn lose(&mut self) -> Option<Duty>
+        ensures duty { result ≡ self.old.flight }
+        ensures care { self.new ≡ lost self.old }
+    {
+        let duty = self.land();
+        match duty {
+            Some(Duty::Clear) => self.owe(Duty::Clear),
+            Some(Duty::Audit) => self.owe(Duty::Audit),
+            Some(Duty::Route) | None => {}
+        }
+        duty
+    }
+
     /// Its gateway has started again.
     pub(crate) fn outlive(&mut self)
         ensures { self.new ≡ outlived self.old }
     {
         self.is_outlived = self.flight.is_some();
+    }
+
+    /// It is announced: it has started again, or lost its agent.
+    pub(crate) fn announce(&mut self, is_restart: bool)
+        ensures { self.new ≡ announced is_restart self.old }
+    {
+        if is_restart {
+            self.outlive();
+        }
+        self.owe(Duty::Audit);
+    }
+
+    /// An audit has found its handset lifted, or not.
+    pub(crate) fn find(&mut self, is_off: bool)
+        ensures { self.new ≡ found is_off self.old }
+    {
+        self.is_found_off = is_off;
+    }
+
+    /// How it stands was told.
+    pub(crate) fn show(&mut self, standing: Standing)
+        ensures { self.new ≡ told_of standing self.old }
+    {
+        self.shown = standing;
     }
 
     /// The line has told something: whether an audit had found its handset lifted before.

@@ -3,19 +3,23 @@
 
 ghost use Rattle.std.specs.Prelude.{◌≡◌, [], ◌∷◌, true, false, Some, None, codes};
 ghost use Rattle.mg_bytes.specs.Items.{items_of};
+ghost use Rattle.call_routing.specs.Phases.{named_by};
 ghost use Rattle.call_desk.specs.declared.care.Duty.TheVariants.{Clear, Audit, Route};
-ghost use Rattle.call_desk.specs.Waiting.{waits, other_end};
-ghost use Rattle.call_desk.specs.Duties.{duty_begun, begun, landed, owed, outlived, told_care, fixed_order};
+ghost use Rattle.call_desk.specs.Waiting.{waits, settling, settled_at};
+ghost use Rattle.call_desk.specs.Flights.{end_of_time, most_steps, falls, over_by};
+ghost use Rattle.call_desk.specs.Clock.{first_id, tick_to};
+ghost use Rattle.call_desk.specs.Duties.{new_care, duty_begun, begun, landed, owed, lost, outlived, announced, found, told_of, told_care, fixed_order};
 ghost use Rattle.call_desk.specs.Hooks.{hook_of, hook_among, hook_told, is_off, was_off, told_by_hook, notified};
 ghost use Rattle.call_desk.specs.Responses.{creates, connection_in, created, is_creation};
-ghost use Rattle.call_desk.specs.Typed.{typed_from, typed_in};
-ghost use Rattle.call_desk.specs.Example.{fresh, cleared, audited, found_off, param, part, answered_part};
+ghost use Rattle.call_desk.specs.Typed.{typed_from, typed_text, typed_in};
+ghost use Rattle.call_desk.specs.Example.{cleared, audited, found_off, param, part, answered_part, issued};
 
+use agent_texts::Standing;
 use call_routing::{Asked, Command, Outcome, Phase, Side, Told, Tone};
 
 /// A line is cleared first, then audited, and then the exchange says what it is sent; one command at a time.
 pub fn a_line_is_cleared_audited_and_routed()
-    ensures first { duty_begun fresh ≡ Some Clear }
+    ensures first { duty_begun new_care ≡ Some Clear }
     ensures second { duty_begun cleared ≡ Some Audit }
     ensures third { duty_begun audited ≡ Some Route }
     ensures from_then_on { duty_begun (landed (begun audited)) ≡ Some Route }
@@ -28,7 +32,7 @@ pub fn a_line_is_cleared_audited_and_routed()
 pub fn an_audit_asks_for_what_is_told_since()
     ensures older { (begun (told_care cleared)).has_told ≡ false }
     ensures newer { (told_care (begun cleared)).has_told ≡ true }
-    ensures clearing { (begun (told_care fresh)).has_told ≡ true }
+    ensures clearing { (begun (told_care new_care)).has_told ≡ true }
     ensures routing { (begun (told_care audited)).has_told ≡ true }
     ensures found { found_off.is_found_off ≡ true }
     ensures found_no_more { (told_care found_off).is_found_off ≡ false }
@@ -36,17 +40,35 @@ pub fn an_audit_asks_for_what_is_told_since()
 
 /// A line that isn't cleared yet is cleared, whatever is owed; another is audited, or cleared again.
 pub fn what_is_owed_comes_next()
-    ensures uncleared { (owed fresh Audit).next ≡ Clear }
+    ensures uncleared { (owed new_care Audit).next ≡ Clear }
     ensures audit { (owed audited Audit).next ≡ Audit }
     ensures clearing { (owed audited Clear).next ≡ Clear }
     ensures cleared_again { (owed cleared Clear).next ≡ Clear }
 {}
 
+/// What was given up is owed again, where the exchange doesn't know of it.
+pub fn what_was_given_up_is_owed_again()
+    ensures clearing { (lost (begun new_care)).next ≡ Clear }
+    ensures audit { (lost (begun cleared)).next ≡ Audit }
+    ensures route { (lost (begun audited)).next ≡ Route }
+    ensures lands { (lost (begun audited)).flight ≡ None }
+{}
+
 /// What a gateway is answered that has started again since isn't believed.
 pub fn a_restart_outlives_what_is_in_flight()
-    ensures in_flight { (outlived (begun fresh)).is_outlived ≡ true }
-    ensures none { (outlived fresh).is_outlived ≡ false }
-    ensures next_one { (begun (landed (outlived (begun fresh)))).is_outlived ≡ false }
+    ensures in_flight { (outlived (begun new_care)).is_outlived ≡ true }
+    ensures none { (outlived new_care).is_outlived ≡ false }
+    ensures next_one { (begun (landed (outlived (begun new_care)))).is_outlived ≡ false }
+{}
+
+/// A line that is announced is asked for its hook; what is in flight to one that has started again isn't believed.
+pub fn a_line_that_is_announced_is_audited()
+    ensures audit { (announced false audited).next ≡ Audit }
+    ensures uncleared { (announced true new_care).next ≡ Clear }
+    ensures restart { (announced true (begun audited)).is_outlived ≡ true }
+    ensures disconnected { (announced false (begun audited)).is_outlived ≡ false }
+    ensures found { (found true audited).is_found_off ≡ true }
+    ensures shown { (told_of Standing.Busy audited).shown ≡ Standing.Busy }
 {}
 
 /// The commands that the exchange doesn't know of.
@@ -113,11 +135,11 @@ pub fn a_connection_was_created()
 
 /// What happens to a line in a call concerns the other end.
 pub fn a_call_has_another_end()
-    ensures call { other_end (Some (Phase.InCall (part Side.Caller))) ≡ Some 3 }
-    ensures rest { other_end (Some Phase.Resting) ≡ None }
-    ensures dials { other_end (Some Phase.Dialling) ≡ None }
-    ensures hears { other_end (Some (Phase.Hearing Tone.Busy)) ≡ None }
-    ensures no_line { other_end None ≡ None }
+    ensures call { named_by (Some (Phase.InCall (part Side.Caller))) ≡ Some 3 }
+    ensures rest { named_by (Some Phase.Resting) ≡ None }
+    ensures dials { named_by (Some Phase.Dialling) ≡ None }
+    ensures hears { named_by (Some (Phase.Hearing Tone.Busy)) ≡ None }
+    ensures no_line { named_by None ≡ None }
 {}
 
 /// What is typed has the line ends of a message.
@@ -127,8 +149,14 @@ pub fn what_is_typed_becomes_a_message()
     ensures whole { typed_from false (codes "K: 1\r\nX: 2") ≡ codes "K: 1\r\nX: 2" }
     ensures other { typed_from false (codes "a\\b") ≡ codes "a\\b" }
     ensures bare { typed_from false (codes "n") ≡ codes "n" }
-    ensures last { typed_from false (codes "a\\") ≡ codes "a" }
-    ensures feed_behind { typed_from true (codes "\n") ≡ codes "\r\n" }
+    ensures two { typed_from false (codes "a\\\\b") ≡ codes "a\\\\b" }
+    ensures last_of_two { typed_from false (codes "a\\\\nb") ≡ codes "a\\\r\nb" }
+    ensures last { typed_from false (codes "a\\") ≡ codes "a\\" }
+    ensures feed_behind { typed_from true (codes "\n") ≡ codes "\\\r\n" }
+    ensures return_behind { typed_from true (codes "\r\n") ≡ codes "\\\r\n" }
+    ensures alone { typed_text (codes "AUEP aaln/1") [] ≡ codes "AUEP aaln/1\r\n" }
+    ensures open_line { typed_text (codes "RQNT aaln/1") (codes "X: 1") ≡ codes "RQNT aaln/1\r\nX: 1\r\n" }
+    ensures whole_lines { typed_text (codes "RQNT aaln/1") (codes "X: 1\n") ≡ codes "RQNT aaln/1\r\nX: 1\r\n" }
 {}
 
 /// A command begins with a verb and a name alone.
@@ -147,4 +175,37 @@ pub fn a_line_waits_until_it_is_settled()
     ensures not_put { waits (3 ∷ 5 ∷ []) false 4 ≡ false }
     ensures all { waits [] true 4 ≡ true }
     ensures none { waits [] false 4 ≡ false }
+{}
+
+/// Of those that wait each is settled in its turn, or all lines are.
+pub fn lines_are_settled_one_by_one()
+    ensures some { settling (3 ∷ 5 ∷ []) false 9 ≡ 2 }
+    ensures all { settling (3 ∷ 5 ∷ []) true 9 ≡ 9 }
+    ensures second { settled_at (3 ∷ 5 ∷ []) false 40 1 ≡ Some 5 }
+    ensures past { settled_at (3 ∷ 5 ∷ []) false 40 2 ≡ None }
+    ensures of_all { settled_at (3 ∷ 5 ∷ []) true 40 2 ≡ Some 42 }
+{}
+
+/// A command is repeated by the rules of its agent, and given up behind its seventh repeat; a final response under its id ends it.
+pub fn a_command_is_over_as_its_agent_has_it()
+    ensures not_due { (falls most_steps issued 499) ≡ (false, issued) }
+    ensures first { (falls most_steps issued 500).1.repeats ≡ 1 }
+    ensures several { (falls most_steps issued 7500).1.repeats ≡ 4 }
+    ensures in_flight { (falls most_steps issued 23499).0 ≡ false }
+    ensures given_up { (falls most_steps issued 23500).0 ≡ true }
+    ensures waits { over_by None issued 499 ≡ (false, issued) }
+    ensures answered { over_by (Some (7, 200)) issued 100 ≡ (true, issued) }
+    ensures another { over_by (Some (8, 200)) issued 100 ≡ (false, issued) }
+    ensures provisional { (over_by (Some (7, 100)) issued 100).1.due ≡ 5100 }
+    ensures not_over { (over_by (Some (7, 100)) issued 100).0 ≡ false }
+    ensures too_late { over_by (Some (7, 200)) issued end_of_time ≡ (false, issued) }
+{}
+
+/// A clock goes on by a second at most, and an agent's first id is one of the first 900 million.
+pub fn clocks_go_on_by_a_second()
+    ensures here { tick_to 100 700 ≡ 700 }
+    ensures far { tick_to 100 5000 ≡ 1100 }
+    ensures first { first_id 0 ≡ 1 }
+    ensures last { first_id 899999999 ≡ 900000000 }
+    ensures again { first_id 900000000 ≡ 1 }
 {}

@@ -1,4 +1,11 @@
 //! A gateway that a call agent works with.
+ghost use Rattle.std.specs.Prelude.{◌≡◌, [], None, IfOk, OnOk, OnErr};
+ghost use Rattle.endpoint_names.specs.declared.route.Route.TheVariants as routes;
+ghost use Rattle.plain_machine.specs.Event.{tick};
+ghost use Rattle.call_agent.specs.Hearing.{hears};
+ghost use Rattle.call_agent.specs.AgentStands.{AgentStands, AgentTook, AgentStays};
+ghost use Rattle.call_desk.specs.Clock.{first_id, tick_to};
+
 use crate::flight::Flight;
 use agent_texts::copied;
 use call_agent::{Agent, IssueFault, Issued};
@@ -20,14 +27,14 @@ const FIRST_IDS: u64 = 900_000_000;
 
 /// A gateway, with the agent that works with it.
 #[derive(Drop)]
-pub struct Gateway {
-    pub agent: Agent,
-    pub address: SocketAddrV4,
+pub(crate) struct Gateway {
+    pub(crate) agent: Agent,
+    pub(crate) address: SocketAddrV4,
     /// What stands behind the `@` of its endpoints' names.
-    pub domain: Text,
+    pub(crate) domain: Text,
     /// The place of its first line among those of all gateways, and how many it has.
-    pub first: usize,
-    pub lines: u16,
+    pub(crate) first: usize,
+    pub(crate) lines: u16,
     // What isn't answered yet, in the order in which it was issued.
     flights: Vec<Flight>,
     // The moment of the agent's clock, in ms.
@@ -36,11 +43,25 @@ pub struct Gateway {
     announced: Option<(u32, u64)>,
 }
 
+// The first id that an agent issues that is started at this time of day, in ms.
+fn first_id(time: u64) -> u32
+    ensures { result ≡ first_id time }
+{
+    (time % FIRST_IDS) as u32 + 1
+}
+
+// How far a clock that has come to here goes on to a moment, in ms.
+fn tick_to(ticked: u64, moment: u64) -> u64
+    ensures { result ≡ tick_to ticked moment }
+{
+    moment.min(ticked.saturating_add(LONGEST_TICK))
+}
+
 impl Gateway {
     /// A gateway at this address with this domain and so many lines, of which the first has this place. The agent has this address of
     /// its own. It is this time of day, in ms: an agent that is started again issues its commands behind the ids of the one before, of
     /// which the gateway may know some still. An error is for want of memory only.
-    pub fn new(
+    pub(crate) fn new(
         alloc: Global,
         own: SocketAddrV4,
         address: SocketAddrV4,
@@ -48,11 +69,28 @@ impl Gateway {
         first: usize,
         lines: u16,
         time: u64,
-    ) -> Result<Gateway, OutOfMemory> {
+    ) -> Result<Gateway, OutOfMemory>
+        ensures agent { IfOk result (λ made. AgentStands made.agent []) }
+        ensures setup { IfOk result (λ made. made.agent.setup ≡ record {
+          own = routes.One own;
+          gateway = address;
+          domain = domain.now;
+          lines = lines;
+          first = first_id time;
+        }) }
+        ensures kept { IfOk result (λ made. (made.address, made.domain, made.first, made.lines) ≡ (address, domain.now, first, lines)) }
+        ensures quiet { IfOk result (λ made. (made.flights.items, made.ticked, made.announced) ≡ ([], 0, None)) }
+    {
         let kept = copied(alloc, domain)?;
-        let domain = copied(alloc, domain)?;
-        let first_id = (time % FIRST_IDS) as u32 + 1;
-        let agent = Agent::new(alloc, Route::One(own), address, domain, lines, first_id)?;
+        let named = copied(alloc, domain)?;
+        let agent = Agent::new(
+            alloc,
+            Route::One(own),
+            address,
+            named,
+            lines,
+            first_id(time),
+        )?;
         Ok(Gateway {
             agent,
             address,
@@ -83,8 +121,14 @@ impl Gateway {
     }
 
     /// The clock goes on to this moment (in ms), but by no more than a second: what is sent.
-    pub fn tick(&mut self, moment: u64) -> Result<Outputs, Refusal> {
-        let moment = moment.min(self.ticked.saturating_add(LONGEST_TICK));
+    pub(crate) fn tick(&mut self, moment: u64) -> Result<Outputs, Refusal>
+        ensures ok { IfOk result (λ outputs.
+            AgentTook self.old.agent (hears (tick (tick_to self.old.ticked moment))) self.new.agent outputs) }
+        ensures ticked { OnOk result (self.new.ticked ≡ tick_to self.old.ticked moment) }
+        ensures err { OnErr result (AgentStays self.old.agent self.new.agent) }
+        ensures not_ticked { OnErr result (self.new.ticked ≡ self.old.ticked) }
+    {
+        let moment = tick_to(self.ticked, moment);
         let outputs = self.agent.step(Event::Tick { moment })?;
         self.ticked = moment;
         Ok(outputs)
@@ -96,7 +140,7 @@ impl Gateway {
         let now = self.ticked;
         for place in 0..self.flights.len() {
             let is_over = match self.flights.get_mut(place) {
-                Some(flight) => flight.is_over(&response, now),
+                Some(flight) => flight.is_over(response, now),
                 None => false,
             };
             if is_over && place < self.flights.len() {

@@ -1,7 +1,8 @@
 //! What an answer to an audit tells of a line's hook, and what the exchange is told by that.
-ghost use Rattle.std.specs.Prelude.{◌≡◌};
+ghost use Rattle.std.specs.Prelude.{◌≡◌, ◌≢◌, None};
 ghost use Rattle.mg_bytes.specs.Items.{items_of};
-ghost use Rattle.call_desk.specs.Hooks.{hook_of, hook_among, hook_told, is_lifted, is_off, was_off, changed, told_by_hook, is_off_hook, notified};
+ghost use Rattle.mgcp_text.specs.Reading.{read_text};
+ghost use Rattle.call_desk.specs.Hooks.{hook_of, hook_among, hook_told, hook_by, is_lifted, is_off, was_off, changed, told_by_hook, is_off_hook, notified};
 
 use call_routing::{Phase, Side, Told};
 use mg_bytes::{list_items, same_no_case};
@@ -46,7 +47,9 @@ fn hook_told(params: &[Param<'_>]) -> Option<bool>
 }
 
 /// What an answer to an audit tells of a hook; nothing where memory is refused.
-pub(crate) fn audited_hook(alloc: Global, text: &[u8]) -> Option<bool> {
+pub(crate) fn audited_hook(alloc: Global, text: &[u8]) -> Option<bool>
+    ensures { result ≢ None → result ≡ hook_by (read_text text.now) }
+{
     match read_message(alloc, text) {
         Ok(message) => hook_told(message.params()),
         Err(_) => None,

@@ -1,27 +1,30 @@
 //! The exchange in the program's hands: which command each line is sent, and what its answer means for the line's calls.
 //!
 //! Nothing goes over all lines but the opening: those to which something has happened wait, and are settled.
-ghost use Rattle.std.specs.Prelude.{◌≡◌, IfOk, option_map, slice_get, slice_set};
-ghost use Rattle.call_routing.specs.Exchange.{flight_in, line_of};
+ghost use Rattle.std.specs.Prelude.{◌≡◌, ◌×◌, ◌⊎◌, ℕ, true, length, replicate, IfOk, IfSome, OnOk, OnErr, option_map, slice_get, slice_set};
+ghost use Rattle.call_routing.specs.Phases.{named_by};
+ghost use Rattle.call_routing.specs.Exchange.{opening, phase_of, flight_in, line_of};
 ghost use Rattle.call_routing.specs.Numbers.{told_in};
-ghost use Rattle.call_desk.specs.Duties.{begun};
+ghost use Rattle.call_desk.specs.declared.care.Duty.TheVariants.{Audit};
+ghost use Rattle.call_desk.specs.Duties.{new_care, begun, landed, owed, lost, announced, found, told_of, told_care};
 ghost use Rattle.call_desk.specs.Hooks.{notified};
-ghost use Rattle.call_desk.specs.Orders.{shown, duty_of, cared, routed, ordered};
-ghost use Rattle.call_desk.specs.Waiting.{other_end};
+ghost use Rattle.call_desk.specs.Orders.{shown, duty_of, flight_of, was_found_off, cared, routed, ordered};
+ghost use Rattle.call_desk.specs.Turns.{forsaken, heard_by, announced_by, IsAnswered, IsAudited};
+ghost use Rattle.call_desk.specs.Waiting.{waits, settling, settled_at, Settles};
 
 use crate::care::{Care, Duty, NEW_CARE, fixed_order};
 use crate::hooks::{audited_hook, notified, told_by_hook};
 use crate::responses::outcome_of;
 use crate::worklist::Worklist;
-use agent_texts::{Journal, Station, copied, standing_of, tell_change};
-use call_routing::{Command, Exchange, NumberPlan, Outcome, Phase, Told, told_in};
+use agent_texts::{Journal, Standing, Station, copied, standing_of, tell_change};
+use call_routing::{Command, Exchange, NumberPlan, Outcome, Told, named_by, told_in};
 use event_values::Observed;
 use mg_bytes::{OutOfMemory, Text};
 use std::alloc::Global;
 
 /// An exchange, and what is kept of its lines beside that.
 #[derive(Drop)]
-pub struct Office {
+pub(crate) struct Office {
     exchange: Exchange,
     plan: NumberPlan,
     map: Text,
@@ -32,19 +35,34 @@ pub struct Office {
 
 /// A command that is to be issued.
 #[derive(Drop)]
-pub struct Order {
-    pub verb: &'static [u8],
+pub(crate) struct Order {
+    pub(crate) verb: &'static [u8],
     /// What stands behind the command line.
-    pub rest: Text,
+    pub(crate) rest: Text,
 }
 
-// The other end of the call of a line in this phase, if it is in one.
-fn other_end(phase: Option<Phase>) -> Option<usize>
-    ensures { result ≡ other_end phase }
+// Lines of which nothing is known.
+fn new_cares(alloc: Global, count: usize) -> Result<Vec<Care>, OutOfMemory>
+    ensures { IfOk result (λ cares. cares.items ≡ replicate count new_care) }
 {
-    match phase {
-        Some(Phase::InCall(part)) => Some(part.other),
-        Some(Phase::Resting | Phase::Dialling | Phase::Hearing(_)) | None => None,
+    let mut cares = Vec::new(alloc);
+    for _ in 0..count {
+        cares.push(NEW_CARE)?;
+    }
+    Ok(cares)
+}
+
+// Something happens to a line: it waits, and so does the other end of its call. To be said before and behind it.
+fn touch(worklist: &mut Worklist, exchange: &Exchange, line: usize)
+    ensures line { waits worklist.new.waiting.items worklist.new.is_all line ≡ true }
+    ensures end { IfSome (named_by (phase_of exchange.now line)) (λ other.
+        waits worklist.new.waiting.items worklist.new.is_all other ≡ true) }
+    ensures others { (other : ℕ) → waits worklist.old.waiting.items worklist.old.is_all other ≡ true
+        → waits worklist.new.waiting.items worklist.new.is_all other ≡ true }
+{
+    worklist.put(line);
+    if let Some(other) = named_by(exchange.phase(line)) {
+        worklist.put(other);
     }
 }
 
@@ -67,6 +85,86 @@ fn begin(cares: &mut Vec<Care>, line: usize) -> Option<Duty>
     let duty = care.begin();
     set_care(cares, line, care);
     duty
+}
+
+// No command to the line is in flight any more: what that was for.
+fn land(cares: &mut Vec<Care>, line: usize) -> Option<Duty>
+    ensures duty { result ≡ flight_of (slice_get cares.old.items line) }
+    ensures cares { cares.new.items ≡ cared landed cares.old.items line }
+{
+    let mut care = cares.get(line).copied()?;
+    let duty = care.land();
+    set_care(cares, line, care);
+    duty
+}
+
+// The command in flight to the line was given up: what that was for.
+fn lose(cares: &mut Vec<Care>, line: usize) -> Option<Duty>
+    ensures duty { result ≡ flight_of (slice_get cares.old.items line) }
+    ensures cares { cares.new.items ≡ cared lost cares.old.items line }
+{
+    let mut care = cares.get(line).copied()?;
+    let duty = care.lose();
+    set_care(cares, line, care);
+    duty
+}
+
+// The line has told something: whether an audit had found its handset lifted before.
+fn tell(cares: &mut Vec<Care>, line: usize) -> bool
+    ensures was { result ≡ was_found_off (slice_get cares.old.items line) }
+    ensures cares { cares.new.items ≡ cared told_care cares.old.items line }
+{
+    let Some(mut care) = cares.get(line).copied() else {
+        return false;
+    };
+    let was_found_off = care.tell();
+    set_care(cares, line, care);
+    was_found_off
+}
+
+// The line's hook is to be asked for next.
+fn owe_audit(cares: &mut Vec<Care>, line: usize)
+    ensures { cares.new.items ≡ cared (λ care. owed care Audit) cares.old.items line }
+{
+    let Some(mut care) = cares.get(line).copied() else {
+        return;
+    };
+    care.owe(Duty::Audit);
+    set_care(cares, line, care);
+}
+
+// The line is announced.
+fn announce(cares: &mut Vec<Care>, line: usize, is_restart: bool)
+    ensures { cares.new.items ≡ cared (announced is_restart) cares.old.items line }
+{
+    let Some(mut care) = cares.get(line).copied() else {
+        return;
+    };
+    care.announce(is_restart);
+    set_care(cares, line, care);
+}
+
+// An audit has found the line's handset lifted, or not.
+fn find(cares: &mut Vec<Care>, line: usize, is_off: bool)
+    ensures { cares.new.items ≡ cared (found is_off) cares.old.items line }
+{
+    let Some(mut care) = cares.get(line).copied() else {
+        return;
+    };
+    care.find(is_off);
+    set_care(cares, line, care);
+}
+
+// How the line stands is told: how it stood when that was told last.
+fn show(cares: &mut Vec<Care>, line: usize, standing: Standing) -> Option<Standing>
+    ensures was { result ≡ option_map (λ care. care.shown) (slice_get cares.old.items line) }
+    ensures cares { cares.new.items ≡ cared (told_of standing) cares.old.items line }
+{
+    let mut care = cares.get(line).copied()?;
+    let was = care.shown;
+    care.show(standing);
+    set_care(cares, line, care);
+    Some(was)
 }
 
 // The exchange's command to a line, if one is in flight.
@@ -97,6 +195,42 @@ fn routed(
     }))
 }
 
+// A command to the line that was for this was given up.
+fn forsake(exchange: &mut Exchange, line: usize, duty: Option<Duty>)
+    ensures { exchange.new ≡ forsaken exchange.old line duty }
+{
+    match duty {
+        Some(Duty::Route) => exchange.answer(line, Outcome::GivenUp),
+        Some(Duty::Clear | Duty::Audit) | None => {}
+    }
+}
+
+// The exchange's command to the line was answered.
+fn answer(alloc: Global, exchange: &mut Exchange, line: usize, code: u16, text: &[u8])
+    ensures { IsAnswered exchange.old exchange.new line code text.now }
+{
+    let outcome = outcome_of(alloc, code, flight_at(exchange, line), text);
+    exchange.answer(line, outcome);
+}
+
+// The line was audited: what that tells.
+fn tell_hook(alloc: Global, exchange: &mut Exchange, line: usize, text: &[u8]) -> Told
+    ensures { IsAudited exchange.old exchange.new line text.now result }
+{
+    let told = told_by_hook(audited_hook(alloc, text), exchange.phase(line));
+    exchange.tell(line, told);
+    told
+}
+
+// A line that is announced has started again: a call that it was in is over.
+fn restart(exchange: &mut Exchange, line: usize, is_restart: bool)
+    ensures { exchange.new ≡ announced_by is_restart exchange.old line }
+{
+    if is_restart {
+        exchange.tell(line, Told::Restarted);
+    }
+}
+
 // What a notification that told these events is to the exchange, where an audit had found the handset lifted before, or hadn't.
 fn heard(
     alloc: Global,
@@ -110,20 +244,64 @@ fn heard(
     Ok(notified(was_found_off, told))
 }
 
+// A notification of the line told these events.
+fn hear(
+    alloc: Global,
+    exchange: &mut Exchange,
+    plan: &NumberPlan,
+    was_found_off: bool,
+    line: usize,
+    observed: &[Observed],
+) -> Result<(), OutOfMemory>
+    ensures ok { OnOk result (exchange.new
+        ≡ heard_by exchange.old line (notified was_found_off (told_in plan.now observed.now))) }
+    ensures err { OnErr result (exchange.new ≡ exchange.old) }
+{
+    match heard(alloc, plan, was_found_off, observed)? {
+        Some(told) => exchange.tell(line, told),
+        None => {}
+    }
+    Ok(())
+}
+
+// A notification of the line told these events. Where memory is refused for that the line's hook is asked for.
+fn take_told(
+    alloc: Global,
+    exchange: &mut Exchange,
+    cares: &mut Vec<Care>,
+    plan: &NumberPlan,
+    line: usize,
+    observed: &[Observed],
+)
+    ensures { (exchange.new ≡ heard_by exchange.old line
+        (notified (was_found_off (slice_get cares.old.items line)) (told_in plan.now observed.now)))
+        ⊎ ((exchange.new ≡ exchange.old)
+        × (cares.new.items ≡ cared (λ care. owed care Audit) (cared told_care cares.old.items line) line)) }
+{
+    let was_found_off = tell(cares, line);
+    match hear(alloc, exchange, plan, was_found_off, line, observed) {
+        Ok(()) => {}
+        Err(_) => owe_audit(cares, line),
+    }
+}
+
 impl Office {
     /// An exchange for so many lines, none of which is known yet.
-    pub fn new(
+    pub(crate) fn new(
         alloc: Global,
         count: usize,
         plan: NumberPlan,
         map: Text,
-    ) -> Result<Office, OutOfMemory> {
-        let mut cares = Vec::new(alloc);
-        for _ in 0..count {
-            cares.push(NEW_CARE)?;
-        }
+    ) -> Result<Office, OutOfMemory>
+        ensures exchange { IfOk result (λ office. office.exchange ≡ opening count 0) }
+        ensures dialled { IfOk result (λ office. (office.plan ≡ plan) × (office.map ≡ map)) }
+        ensures cares { IfOk result (λ office. office.cares.items ≡ replicate count new_care) }
+        ensures all_wait { IfOk result (λ office. office.worklist.is_all ≡ true) }
+    {
+        let exchange = Exchange::new(alloc, count, 0)?;
+        let cares = new_cares(alloc, count)?;
         Ok(Office {
-            exchange: Exchange::new(alloc, count, 0)?,
+            exchange,
             plan,
             map,
             cares,
@@ -131,47 +309,30 @@ impl Office {
         })
     }
 
-    // Something happens to a line: it waits, and so does the other end of its call. To be said before and behind it.
-    fn touch(&mut self, line: usize) {
-        self.worklist.put(line);
-        if let Some(other) = other_end(self.exchange.phase(line)) {
-            self.worklist.put(other);
-        }
-    }
-
-    // The line is to be cleared or audited next.
-    fn owe(&mut self, line: usize, duty: Duty) {
-        if let Some(care) = self.cares.get_mut(line) {
-            care.owe(duty);
-        }
-    }
-
-    // No command to the line is in flight any more: what that was for.
-    fn land(&mut self, line: usize) -> Option<Duty> {
-        match self.cares.get_mut(line) {
-            Some(care) => care.land(),
-            None => None,
-        }
-    }
-
     /// Those lines to which something has happened are settled now.
-    pub fn begin_settling(&mut self) {
+    pub(crate) fn begin_settling(&mut self)
+        ensures { Settles self.old.worklist self.new.worklist }
+    {
         self.worklist.begin();
     }
 
     /// How many lines are settled now.
-    pub fn settling(&self) -> usize {
+    pub(crate) fn settling(&self) -> usize
+        ensures { result ≡ settling self.now.worklist.settled.items self.now.worklist.settles_all (length self.now.cares.items) }
+    {
         self.worklist.len(self.cares.len())
     }
 
     /// The line that is settled so many behind the first.
-    pub fn settled_at(&self, index: usize) -> Option<usize> {
+    pub(crate) fn settled_at(&self, index: usize) -> Option<usize>
+        ensures { result ≡ settled_at self.now.worklist.settled.items self.now.worklist.settles_all 0 index }
+    {
         self.worklist.at(0, index)
     }
 
     /// The command that is to be issued to the line now, if one is; it is in flight from then on. After an error, which is for want of
     /// memory, it was given up.
-    pub fn order(&mut self, alloc: Global, line: usize) -> Result<Option<Order>, OutOfMemory>
+    pub(crate) fn order(&mut self, alloc: Global, line: usize) -> Result<Option<Order>, OutOfMemory>
         ensures { IfOk result (λ order. option_map shown order
             ≡ ordered (slice_get self.old.cares.items line) self.old.exchange line self.old.map) }
     {
@@ -193,15 +354,9 @@ impl Office {
     {
         let order = routed(alloc, &mut self.exchange, line, self.map.as_bytes())?;
         if order.is_none() {
-            let _ = self.land(line);
+            let _ = land(&mut self.cares, line);
         }
         Ok(order)
-    }
-
-    // The exchange's command to the line was answered.
-    fn answer(&mut self, alloc: Global, line: usize, code: u16, text: &[u8]) {
-        let outcome = outcome_of(alloc, code, flight_at(&self.exchange, line), text);
-        self.exchange.answer(line, outcome);
     }
 
     // The line was audited. What it told since then is newer.
@@ -211,16 +366,8 @@ impl Office {
             None => true,
         };
         if !has_told {
-            let told = told_by_hook(audited_hook(alloc, text), self.exchange.phase(line));
-            self.find(line, matches!(told, Told::OffHook));
-            self.exchange.tell(line, told);
-        }
-    }
-
-    // From now on an audit has found the line's handset lifted, or not.
-    fn find(&mut self, line: usize, is_off: bool) {
-        if let Some(care) = self.cares.get_mut(line) {
-            care.is_found_off = is_off;
+            let told = tell_hook(alloc, &mut self.exchange, line, text);
+            find(&mut self.cares, line, matches!(told, Told::OffHook));
         }
     }
 
@@ -234,72 +381,68 @@ impl Office {
 
     /// The command in flight to the line was answered by this final response. Where the gateway has started again since, that says
     /// nothing of what is there now, and the command counts as given up.
-    pub fn answered(&mut self, alloc: Global, line: usize, code: u16, text: &[u8]) {
+    pub(crate) fn answered(&mut self, alloc: Global, line: usize, code: u16, text: &[u8]) {
         if self.is_outlived(line) {
             return self.given_up(line);
         }
-        self.touch(line);
-        match self.land(line) {
-            Some(Duty::Route) => self.answer(alloc, line, code, text),
+        touch(&mut self.worklist, &self.exchange, line);
+        match land(&mut self.cares, line) {
+            Some(Duty::Route) => answer(alloc, &mut self.exchange, line, code, text),
             Some(Duty::Audit) => self.audited(alloc, line, text),
             Some(Duty::Clear) | None => {}
         }
-        self.touch(line);
+        touch(&mut self.worklist, &self.exchange, line);
     }
 
     /// The command in flight to the line was given up, or couldn't be issued.
-    pub fn given_up(&mut self, line: usize) {
-        self.touch(line);
-        match self.land(line) {
-            Some(Duty::Route) => self.exchange.answer(line, Outcome::GivenUp),
-            Some(Duty::Audit) => self.owe(line, Duty::Audit),
-            Some(Duty::Clear) => self.owe(line, Duty::Clear),
-            None => {}
-        }
-        self.touch(line);
-    }
-
-    // The line has told something: whether an audit had found its handset lifted before.
-    fn tell(&mut self, line: usize) -> bool {
-        match self.cares.get_mut(line) {
-            Some(care) => care.tell(),
-            None => false,
-        }
+    pub(crate) fn given_up(&mut self, line: usize)
+        ensures exchange { self.new.exchange
+            ≡ forsaken self.old.exchange line (flight_of (slice_get self.old.cares.items line)) }
+        ensures cares { self.new.cares.items ≡ cared lost self.old.cares.items line }
+        ensures waits { waits self.new.worklist.waiting.items self.new.worklist.is_all line ≡ true }
+    {
+        touch(&mut self.worklist, &self.exchange, line);
+        let duty = lose(&mut self.cares, line);
+        forsake(&mut self.exchange, line, duty);
+        touch(&mut self.worklist, &self.exchange, line);
     }
 
     /// A notification of the line told this. Where memory is refused the line's hook is asked for.
-    pub fn told(&mut self, alloc: Global, line: usize, observed: &[Observed]) {
-        self.touch(line);
-        let was_found_off = self.tell(line);
-        match heard(alloc, &self.plan, was_found_off, observed) {
-            Ok(Some(told)) => self.exchange.tell(line, told),
-            Ok(None) => {}
-            Err(_) => self.owe(line, Duty::Audit),
-        }
-        self.touch(line);
-    }
-
-    // The line has started again: a call that it was in is over, and what is in flight to it was issued to what it was before.
-    fn restart(&mut self, line: usize) {
-        self.exchange.tell(line, Told::Restarted);
-        if let Some(care) = self.cares.get_mut(line) {
-            care.outlive();
-        }
+    pub(crate) fn told(&mut self, alloc: Global, line: usize, observed: &[Observed])
+        ensures exchange { (self.new.exchange ≡ heard_by self.old.exchange line
+            (notified (was_found_off (slice_get self.old.cares.items line)) (told_in self.old.plan observed.now)))
+            ⊎ ((self.new.exchange ≡ self.old.exchange)
+            × (self.new.cares.items ≡ cared (λ care. owed care Audit) (cared told_care self.old.cares.items line) line)) }
+        ensures waits { waits self.new.worklist.waiting.items self.new.worklist.is_all line ≡ true }
+    {
+        touch(&mut self.worklist, &self.exchange, line);
+        take_told(
+            alloc,
+            &mut self.exchange,
+            &mut self.cares,
+            &self.plan,
+            line,
+            observed,
+        );
+        touch(&mut self.worklist, &self.exchange, line);
     }
 
     /// The line is announced: it has started again, and knows of no call and no request (RFC 3435, 4.4.6); or it lost its agent, and
-    /// with that a notification (RFC 3435, 4.4.7). Its handset may have been moved, so its hook is asked for.
-    pub fn announced(&mut self, line: usize, is_restart: bool) {
-        self.touch(line);
-        if is_restart {
-            self.restart(line);
-        }
-        self.owe(line, Duty::Audit);
-        self.touch(line);
+    /// with that a notification (RFC 3435, 4.4.7). Its handset may have been moved, so its hook is asked for. What is in flight to one
+    /// that has started again was issued to what it was before.
+    pub(crate) fn announced(&mut self, line: usize, is_restart: bool)
+        ensures exchange { self.new.exchange ≡ announced_by is_restart self.old.exchange line }
+        ensures cares { self.new.cares.items ≡ cared (announced is_restart) self.old.cares.items line }
+        ensures waits { waits self.new.worklist.waiting.items self.new.worklist.is_all line ≡ true }
+    {
+        touch(&mut self.worklist, &self.exchange, line);
+        restart(&mut self.exchange, line, is_restart);
+        announce(&mut self.cares, line, is_restart);
+        touch(&mut self.worklist, &self.exchange, line);
     }
 
     /// Tells and counts how the line stands, where that has changed.
-    pub fn show(
+    pub(crate) fn show(
         &mut self,
         alloc: Global,
         journal: &mut Journal,
@@ -307,12 +450,10 @@ impl Office {
         line: usize,
     ) {
         let is = standing_of(&self.exchange, line);
-        let Some(care) = self.cares.get_mut(line) else {
+        let Some(was) = show(&mut self.cares, line, is) else {
             return;
         };
-        let was = care.shown;
         if was != is {
-            care.shown = is;
             tell_change(alloc, journal, stations, line, was, is);
         }
     }

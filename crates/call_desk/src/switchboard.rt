@@ -1,4 +1,8 @@
 //! The gateways that a call agent works with, and their lines.
+ghost use Rattle.std.specs.Prelude.{◌≡◌, length, position, slice_get};
+ghost use Rattle.call_desk.specs.Boards.{is_at, settling_in, SettlesIn, taking_in};
+ghost use Rattle.call_desk.specs.Waiting.{Settles};
+
 use crate::flight::Flight;
 use crate::gateway::Gateway;
 use crate::office::{Office, Order};
@@ -13,6 +17,7 @@ use mgcp_text::{Message, Param, TextFault, TransactionId, Verb, param_at, read_m
 use plain_machine::{Event, Outputs, Refusal};
 use std::alloc::Global;
 use std::net::SocketAddrV4;
+use transmission::same_address;
 
 /// The gateways, the lines of all of them, and where calls are routed the exchange.
 #[derive(Drop)]
@@ -59,6 +64,12 @@ fn whole_name(alloc: Global, local: &[u8], domain: &[u8]) -> Result<Vec<u8>, Out
     name.push(b'@')?;
     name.extend_from_slice(domain)?;
     Ok(name)
+}
+
+fn is_at(gateway: &Gateway, address: SocketAddrV4) -> bool
+    ensures { result ≡ is_at address gateway.now }
+{
+    same_address(gateway.address, address)
 }
 
 // The least of two moments.
@@ -139,20 +150,26 @@ impl Switchboard {
     pub fn close(self) {}
 
     /// How many gateways there are.
-    pub fn gateways(&self) -> usize {
+    pub fn gateways(&self) -> usize
+        ensures { result ≡ length self.now.gateways.items }
+    {
         self.gateways.len()
     }
 
     /// The lines to which something has happened are settled now: each is shown (`show`), then each is sent what it is to be sent
     /// (`issue_next`).
-    pub fn begin_settling(&mut self) {
+    pub fn begin_settling(&mut self)
+        ensures { SettlesIn self.old.office self.new.office }
+    {
         if let Some(office) = &mut self.office {
             office.begin_settling();
         }
     }
 
     /// How many lines are settled now.
-    pub fn settling(&self) -> usize {
+    pub fn settling(&self) -> usize
+        ensures { result ≡ settling_in self.now.office }
+    {
         match &self.office {
             Some(office) => office.settling(),
             None => 0,
@@ -181,10 +198,12 @@ impl Switchboard {
     }
 
     /// The place of the gateway at this address.
-    pub fn place_of(&self, address: SocketAddrV4) -> Option<usize> {
+    pub fn place_of(&self, address: SocketAddrV4) -> Option<usize>
+        ensures { result ≡ position (is_at address) self.now.gateways.items }
+    {
         self.gateways
             .iter()
-            .position(|gateway| gateway.address == address)
+            .position(|gateway| is_at(gateway, address))
     }
 
     // The place of the gateway that an endpoint's name means, and the name without its domain. Where there is one gateway alone its
@@ -469,7 +488,10 @@ impl Switchboard {
     }
 
     /// The lines are taken from now on whose notifications came from the gateway at this place: how many they are.
-    pub fn begin_taking(&mut self, place: usize) -> usize {
+    pub fn begin_taking(&mut self, place: usize) -> usize
+        ensures count { result ≡ taking_in (slice_get self.old.gateways.items place) self.new.notifying }
+        ensures settles { Settles self.old.notifying self.new.notifying }
+    {
         self.notifying.begin();
         match self.gateways.get(place) {
             Some(gateway) => self.notifying.len(usize::from(gateway.lines)),

@@ -1,6 +1,6 @@
 //! Lines that wait until they are settled, so that what happens to one costs nothing at the others.
 ghost use Rattle.std.specs.Prelude.{◌≡◌, ℕ, true, false, [], IsPermutation};
-ghost use Rattle.call_desk.specs.Waiting.{waits};
+ghost use Rattle.call_desk.specs.Waiting.{waits, settling, settled_at};
 
 use std::alloc::Global;
 use std::mem;
@@ -63,7 +63,9 @@ impl Worklist {
     }
 
     /// How many lines are settled now, where there are so many.
-    pub(crate) fn len(&self, lines: usize) -> usize {
+    pub(crate) fn len(&self, lines: usize) -> usize
+        ensures { result ≡ settling self.now.settled.items self.now.settles_all lines }
+    {
         if self.settles_all {
             lines
         } else {
@@ -72,7 +74,9 @@ impl Worklist {
     }
 
     /// The line of these that is settled so many behind the first, where the first line that there is has this place.
-    pub(crate) fn at(&self, first: usize, index: usize) -> Option<usize> {
+    pub(crate) fn at(&self, first: usize, index: usize) -> Option<usize>
+        ensures { result ≡ settled_at self.now.settled.items self.now.settles_all first index }
+    {
         if self.settles_all {
             return Some(first.saturating_add(index));
         }

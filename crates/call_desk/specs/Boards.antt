@@ -1,0 +1,27 @@
+-- What is asked of the gateways of a board, and of the lines of its exchange.
+use Rattle.std.specs.Prelude.{ℕ, Bool, length, Option, Some, None, IsSomeAnd, ◌≡◌}
+use Rattle.std.specs.declared.net.socket_addr.SocketAddrV4.{SocketAddrV4}
+use Rattle.transmission.specs.Packing.{same_address}
+use Rattle.call_desk.specs.declared.gateway.Gateway.{Gateway}
+use Rattle.call_desk.specs.declared.office.Office.{Office}
+use Rattle.call_desk.specs.declared.worklist.Worklist.{Worklist}
+use Rattle.call_desk.specs.Waiting.{settling, Settles}
+
+-- the gateway is at this address
+abbrev pub is_at : SocketAddrV4 → Gateway → Bool
+is_at address gateway = same_address gateway.address address
+
+-- so many lines of the exchange are settled now; none where there is no exchange
+abbrev pub settling_in : Option Office → ℕ
+settling_in None = 0
+settling_in (Some office) = settling office.worklist.settled.items office.worklist.settles_all (length office.cares.items)
+
+-- those lines of the exchange that waited are settled from now on
+abbrev pub SettlesIn : Option Office → Option Office → Type 0
+SettlesIn None is = is ≡ None
+SettlesIn (Some was) is = IsSomeAnd is (λ office. Settles was.worklist office.worklist)
+
+-- so many lines of the gateway are taken, of those whose notifications came; none where there is no such gateway
+abbrev pub taking_in : Option Gateway → Worklist → ℕ
+taking_in None notifying = 0
+taking_in (Some gateway) notifying = settling notifying.settled.items notifying.settles_all gateway.lines
