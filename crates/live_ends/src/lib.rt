@@ -12,6 +12,7 @@ mod live;
 mod now;
 mod outlet;
 mod outlets;
+mod program;
 mod readiness;
 mod record;
 mod standing;
@@ -24,6 +25,9 @@ pub use crate::live::{Live, STOP_FROM_AFAR, bind};
 pub use crate::now::Now;
 pub use crate::outlet::{Outlet, OutletState};
 pub use crate::outlets::{NEXT_OFFER, Outlets};
+pub use crate::program::{
+    OUT_OF_MEMORY, SystemFault, open_capture, open_outlets, put_pieces, say_last, words_of,
+};
 pub use crate::readiness::{MOST_VISITORS, Readiness, Visit};
 pub use crate::record::{Record, RecordState};
 pub use crate::standing::hold_standard;

@@ -1,0 +1,107 @@
+//! How a program begins and ends, whichever it is: its words, its outlets, the file of its capture, and what it says at last.
+ghost use Rattle.std.specs.Prelude.{◌≡◌};
+
+use crate::outlet::Outlet;
+use crate::outlets::Outlets;
+use crate::stream::{Stream, make_for_owner};
+use std::alloc::Global;
+use std::io::{ErrorKind, Write};
+use std::os::fd::AsRawFd;
+use std::rt::{Clock, Env, Files};
+use std::{env, fmt};
+use system_reasons::reason_of;
+
+/// What is said where memory is refused.
+pub const OUT_OF_MEMORY: &[u8] = b"out of memory\n";
+
+/// Why the system doesn't give what is asked of it. A reason is what `system_reasons::reason_of` makes of its error.
+#[derive(Clone, Copy)]
+pub enum SystemFault {
+    /// Memory was refused.
+    OutOfMemory,
+    /// It refuses it.
+    Refused { reason: &'static str },
+}
+
+impl SystemFault {
+    /// What an error of this kind is.
+    pub fn of(kind: ErrorKind) -> SystemFault
+        ensures { kind ≡ ErrorKind.OutOfMemory → result ≡ SystemFault.OutOfMemory }
+    {
+        if kind == ErrorKind::OutOfMemory {
+            return SystemFault::OutOfMemory;
+        }
+        SystemFault::Refused {
+            reason: reason_of(kind),
+        }
+    }
+}
+
+/// The program's words, of which the first is its name.
+pub fn words_of<R: AllocGlobal + Env>(rt: &R) -> Result<Vec<String>, SystemFault> {
+    match env::args(rt) {
+        Ok(args) => match args.collect::<Vec<String>>(rt.alloc()) {
+            Ok(words) => Ok(words),
+            Err(_) => Err(SystemFault::OutOfMemory),
+        },
+        Err(fault) => Err(SystemFault::of(fault.kind())),
+    }
+}
+
+/// Standard output and standard error; `None` where memory is refused for them, and then that is said.
+pub fn open_outlets<R: AllocGlobal + Files>(rt: &R) -> Option<Outlets<R::File>>
+where
+    R::File: AsRawFd,
+{
+    match Outlets::open(rt, rt.alloc()) {
+        Ok(outlets) => Some(outlets),
+        Err(_) => {
+            let _ = Stream::error(rt).take(OUT_OF_MEMORY);
+            None
+        }
+    }
+}
+
+/// The outlet of a capture, whose file isn't there yet, if one is asked for. To be opened once all sockets are had: so none is left where
+/// a program doesn't start.
+pub fn open_capture<R: Files>(
+    rt: &R,
+    alloc: Global,
+    file: Option<&str>,
+) -> Result<Option<Outlet<R::File>>, SystemFault> {
+    let Some(file) = file else {
+        return Ok(None);
+    };
+    match make_for_owner(rt, file) {
+        Ok(stream) => match Outlet::new(alloc, file, stream) {
+            Ok(outlet) => Ok(Some(outlet)),
+            Err(_) => Err(SystemFault::OutOfMemory),
+        },
+        Err(fault) => Err(SystemFault::of(fault.kind())),
+    }
+}
+
+/// Says how a program ends, on standard output where its words ask for just that, else on standard error, and offers what waits for a
+/// second: whether standard output took all.
+pub fn say_last<R: Clock, F: Write + Drop>(
+    rt: &R,
+    outlets: &mut Outlets<F>,
+    text: &[u8],
+    is_asked: bool,
+) -> bool {
+    if is_asked {
+        outlets.output.say(text);
+        outlets.finish(rt, b"", 0);
+    } else {
+        outlets.finish(rt, text, 0);
+    }
+    outlets.output.is_open()
+}
+
+/// Writes the pieces of a text.
+pub fn put_pieces<W: fmt::Write>(f: &mut fmt::Formatter<W>, pieces: &[&str]) -> fmt::Result {
+    for piece in pieces {
+        f.write_str(piece)?;
+    }
+    Ok(())
+}
