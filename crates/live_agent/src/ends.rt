@@ -1,6 +1,7 @@
 //! The two sockets of a check, and the clock.
 use crate::check_fault::CheckFault;
 use gateway_checks::{Player, SOCKETS, Socket, Turn, put_responses};
+use live_ends::SystemFault;
 use mio::net::UdpSocket;
 use mio::{Events, Interest, Poll, Token};
 use std::alloc::Global;
@@ -8,7 +9,6 @@ use std::io;
 use std::net::{Ipv4Addr, Net, SocketAddr, SocketAddrV4};
 use std::rt::Clock;
 use std::time::{Duration, Instant};
-use system_reasons::reason_of;
 
 // The room for a datagram; what is longer is cut off.
 const ROOM: usize = 4096;
@@ -55,18 +55,15 @@ fn opened<R: Net>(
 
 // Why there is no socket at this address.
 fn unbound(address: SocketAddrV4, kind: io::ErrorKind) -> CheckFault {
-    if kind == io::ErrorKind::OutOfMemory {
-        return CheckFault::OutOfMemory;
-    }
-    CheckFault::Unbound {
-        address,
-        reason: reason_of(kind),
+    match SystemFault::of(kind) {
+        SystemFault::OutOfMemory => CheckFault::OutOfMemory,
+        SystemFault::Refused { reason } => CheckFault::Unbound { address, reason },
     }
 }
 
 impl<'a, R: Net + Clock> Ends<'a, R> {
     /// Opens the sockets: the first at this address. Moments count from now.
-    pub fn open(
+    pub(crate) fn open(
         rt: &'a R,
         alloc: Global,
         gateway: SocketAddrV4,
@@ -99,7 +96,7 @@ impl<'a, R: Net + Clock> Ends<'a, R> {
     }
 
     /// The moment, in ms.
-    pub fn now(&self) -> Result<u64, CheckFault> {
+    pub(crate) fn now(&self) -> Result<u64, CheckFault> {
         match self.start.elapsed(self.rt) {
             Ok(passed) => Ok(u64::try_from(passed.as_millis()).unwrap_or(u64::MAX)),
             Err(_) => Err(CheckFault::System),
@@ -170,7 +167,7 @@ impl<'a, R: Net + Clock> Ends<'a, R> {
     }
 
     /// Plays a check to its end.
-    pub fn play(&mut self, player: &mut Player<'_>) -> Result<(), CheckFault> {
+    pub(crate) fn play(&mut self, player: &mut Player<'_>) -> Result<(), CheckFault> {
         for _ in 0..u64::MAX {
             let now = self.now()?;
             match player.turn(now)? {
@@ -183,7 +180,7 @@ impl<'a, R: Net + Clock> Ends<'a, R> {
     }
 
     /// Waits for so long, in ms.
-    pub fn rest(&mut self, ms: u64) -> Result<(), CheckFault> {
+    pub(crate) fn rest(&mut self, ms: u64) -> Result<(), CheckFault> {
         let until = self.now()?.saturating_add(ms);
         self.wait(until)
     }

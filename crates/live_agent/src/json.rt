@@ -1,6 +1,6 @@
 //! The report as JSON.
 ghost use Rattle.std.specs.Prelude.{◌≡◌, IfOk, string_bytes};
-ghost use Rattle.serde_json.specs.Data.{array};
+ghost use Rattle.serde_json.specs.Data.{Data, array};
 ghost use Rattle.serde_json.specs.View.{view, items_view};
 ghost use Rattle.serde_json.specs.Written.{IsInOrder};
 ghost use Rattle.live_agent.specs.Report.{check_data, report_data};
@@ -38,12 +38,14 @@ fn check_object(
 }
 
 /// What came of a check: its verdict, if it was played, its rule, and what was said.
-pub fn check_value(
+pub(crate) fn check_value(
     alloc: Global,
     check: &Check<'_>,
     verdict: Option<Verdict>,
     said: &str,
-) -> Result<Value, OutOfMemory> {
+) -> Result<Value, OutOfMemory>
+    ensures { IfOk result (λ value. (lines : Data) × (view value ≡ check_data check.now verdict lines)) }
+{
     let said = said_value(alloc, said)?;
     check_object(alloc, check, verdict, said)
 }
@@ -63,7 +65,7 @@ fn report_value(alloc: Global, checks: Vec<Value>, tally: &Tally) -> Result<Valu
 }
 
 /// All of it as JSON.
-pub fn report_text(alloc: Global, checks: Vec<Value>, tally: &Tally) -> Result<String, OutOfMemory>
+pub(crate) fn report_text(alloc: Global, checks: Vec<Value>, tally: &Tally) -> Result<String, OutOfMemory>
     ensures { IfOk result (λ text. IsInOrder (string_bytes text) (report_data (array (items_view checks.items)) tally.now)) }
 {
     let value = report_value(alloc, checks, tally)?;

@@ -5,14 +5,15 @@ use crate::wire::Wire;
 use agent_texts::{AgentConfig, Journal};
 use bad_network::{BadNetwork, Spoiling};
 use call_desk::Switchboard;
-use live_ends::{Live, LiveClock, Outlet, Outlets, Record, RecordState, bind, make_for_owner};
+use live_ends::{
+    Live, LiveClock, Outlets, Record, RecordState, SystemFault, bind, open_capture,
+};
 use mg_bytes::OutOfMemory;
 use std::alloc::Global;
 use std::io::{ErrorKind, Write};
 use std::net::{Net, SocketAddr, SocketAddrV4};
 use std::rt::{Clock, Files};
 use surroundings::Surroundings;
-use system_reasons::reason_of;
 
 // Microseconds in a millisecond.
 const MICROSECONDS: u64 = 1000;
@@ -34,21 +35,25 @@ pub struct WireSettings {
 
 // What went wrong with the socket for gateways.
 fn listen_fault(kind: ErrorKind) -> ServeFault {
-    if kind == ErrorKind::OutOfMemory {
-        return ServeFault::OutOfMemory;
-    }
-    ServeFault::Listen {
-        reason: reason_of(kind),
+    match SystemFault::of(kind) {
+        SystemFault::OutOfMemory => ServeFault::OutOfMemory,
+        SystemFault::Refused { reason } => ServeFault::Listen { reason },
     }
 }
 
 // What went wrong with the socket for commands.
 fn control_fault(kind: ErrorKind) -> ServeFault {
-    if kind == ErrorKind::OutOfMemory {
-        return ServeFault::OutOfMemory;
+    match SystemFault::of(kind) {
+        SystemFault::OutOfMemory => ServeFault::OutOfMemory,
+        SystemFault::Refused { reason } => ServeFault::Control { reason },
     }
-    ServeFault::Control {
-        reason: reason_of(kind),
+}
+
+// What went wrong with the file of a capture.
+fn capture_fault(fault: SystemFault) -> ServeFault {
+    match fault {
+        SystemFault::OutOfMemory => ServeFault::OutOfMemory,
+        SystemFault::Refused { reason } => ServeFault::Capture { reason },
     }
 }
 
@@ -188,27 +193,6 @@ fn serve_over<R: Net + Clock, F: Write + Drop>(
     }
 }
 
-// The outlet of a capture, whose file isn't there yet, if one is asked for.
-fn open_capture<R: Files>(
-    rt: &R,
-    alloc: Global,
-    capture: Option<&str>,
-) -> Result<Option<Outlet<R::File>>, ServeFault> {
-    let Some(file) = capture else {
-        return Ok(None);
-    };
-    match make_for_owner(rt, file) {
-        Ok(stream) => match Outlet::new(alloc, file, stream) {
-            Ok(outlet) => Ok(Some(outlet)),
-            Err(_) => Err(ServeFault::OutOfMemory),
-        },
-        Err(e) if e.kind() == ErrorKind::OutOfMemory => Err(ServeFault::OutOfMemory),
-        Err(e) => Err(ServeFault::Capture {
-            reason: reason_of(e.kind()),
-        }),
-    }
-}
-
 // Makes the file of a capture, if one is asked for, once the sockets are had, and serves.
 fn serve_captured<R: Files + Net + Clock>(
     rt: &R,
@@ -219,7 +203,10 @@ fn serve_captured<R: Files + Net + Clock>(
     capture: Option<&str>,
     outlets: &mut Outlets<R::File>,
 ) -> Result<(), ServeFault> {
-    outlets.capture = open_capture(rt, alloc, capture)?;
+    match open_capture(rt, alloc, capture) {
+        Ok(opened) => outlets.capture = opened,
+        Err(fault) => return Err(capture_fault(fault)),
+    }
     match wire.journal.name_capture(capture.unwrap_or("")) {
         Ok(()) => serve_over(rt, alloc, config, is_routed, wire, outlets),
         Err(_) => Err(ServeFault::OutOfMemory),

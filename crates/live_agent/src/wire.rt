@@ -1,4 +1,6 @@
 //! The wire: what datagrams and typed lines come over, and a bad network, where one lies between; and the journal of what goes over it.
+ghost use Rattle.std.specs.Prelude.{◌≡◌, ◌×◌, IfOk};
+
 use agent_texts::{Journal, count};
 use bad_network::{BadNetwork, Fate, Packet, Way};
 use exchange_log::{Note, Stamp, put_pause};
@@ -58,7 +60,12 @@ impl<S: Surroundings + Drop> Wire<S> {
         network: Option<BadNetwork>,
         journal: Journal,
         end: Option<u64>,
-    ) -> Result<Wire<S>, AllocError> {
+    ) -> Result<Wire<S>, AllocError>
+        ensures around { IfOk result (λ wire. wire.around ≡ around) }
+        ensures network { IfOk result (λ wire. wire.network ≡ network) }
+        ensures journal { IfOk result (λ wire. wire.journal ≡ journal) }
+        ensures moments { IfOk result (λ wire. (wire.now.clock ≡ 0) × (wire.read ≡ 0) × (wire.end ≡ end)) }
+    {
         let now = Now {
             clock: 0,
             time: around.time(),
