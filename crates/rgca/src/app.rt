@@ -1,29 +1,34 @@
 //! The program: reads its words and its configuration, and serves or checks.
 use crate::check_words::read_check_words;
 use crate::ending::{Ending, check_words_ending, config_ending};
-use crate::words::{Settings, WordFault, read_words};
+use crate::words::{Settings, read_words};
 use agent_texts::{AgentConfig, ConfigRefusal, Place, missing, read_config, too_long};
 use live_agent::{ServeFault, WireSettings, check_gateway, serve_agent};
-use live_ends::{Outlets, Stream, hold_standard};
+use live_ends::{
+    OUT_OF_MEMORY, Outlets, SystemFault, hold_standard, open_outlets, say_last, words_of,
+};
 use rgw_scripts::{LIMIT, PlayFault, read_limited};
 use std::alloc::{AllocError, Global};
-use std::env;
 use std::fs::File;
-use std::io::{ErrorKind, Write};
+use std::io::Write;
 use std::net::Net;
 use std::os::fd::AsRawFd;
 use std::rt::{Clock, Env, Files};
-use system_reasons::{reason_of, reason_of_reader};
+use system_reasons::reason_of_reader;
 
-// The program's words, of which the first is its name.
-fn words_of<R: AllocGlobal + Env>(rt: &R) -> Result<Vec<String>, WordFault> {
-    match env::args(rt) {
-        Ok(args) => match args.collect::<Vec<String>>(rt.alloc()) {
-            Ok(words) => Ok(words),
-            Err(_) => Err(WordFault::OutOfMemory),
-        },
-        Err(e) if e.kind() == ErrorKind::OutOfMemory => Err(WordFault::OutOfMemory),
-        Err(_) => Err(WordFault::Usage),
+// How the program ends where the system doesn't give it its words.
+fn wordless_ending<'w>(fault: SystemFault) -> Ending<'w> {
+    match fault {
+        SystemFault::OutOfMemory => Ending::OutOfMemory,
+        SystemFault::Refused { .. } => Ending::Usage,
+    }
+}
+
+// How it ends where the system doesn't let it read this file.
+fn unreadable<'w>(file: &'w str, fault: SystemFault) -> Ending<'w> {
+    match fault {
+        SystemFault::OutOfMemory => Ending::OutOfMemory,
+        SystemFault::Refused { reason } => Ending::Unreadable { file, reason },
     }
 }
 
@@ -31,13 +36,7 @@ fn words_of<R: AllocGlobal + Env>(rt: &R) -> Result<Vec<String>, WordFault> {
 fn config_text<'w, R: Files>(rt: &R, alloc: Global, file: &'w str) -> Result<Vec<u8>, Ending<'w>> {
     let mut reader = match File::open(rt, file) {
         Ok(reader) => reader,
-        Err(e) if e.kind() == ErrorKind::OutOfMemory => return Err(Ending::OutOfMemory),
-        Err(e) => {
-            return Err(Ending::Unreadable {
-                file,
-                reason: reason_of(e.kind()),
-            });
-        }
+        Err(e) => return Err(unreadable(file, SystemFault::of(e.kind()))),
     };
     match read_limited(alloc, &mut reader) {
         Ok(text) => Ok(text),
@@ -56,7 +55,7 @@ fn config_of(
     text: &[u8],
 ) -> Result<AgentConfig, ConfigRefusal> {
     if text.len() > LIMIT {
-        return Err(too_long(alloc, LIMIT));
+        return Err(too_long(alloc, LIMIT)?);
     }
     let config = read_config(alloc, text)?;
     if settings.route && config.map.is_none() {
@@ -64,7 +63,7 @@ fn config_of(
             gateway: None,
             key: "digit_map",
         };
-        return Err(missing(alloc, place));
+        return Err(missing(alloc, place)?);
     }
     Ok(config)
 }
@@ -181,16 +180,10 @@ fn tell<R: AllocGlobal + Clock, F: Write + Drop>(
     let said = ending_text(rt.alloc(), ending);
     let text = match &said {
         Ok(text) => text.as_bytes(),
-        Err(_) => b"out of memory\n",
+        Err(_) => OUT_OF_MEMORY,
     };
-    match ending {
-        Ending::Help | Ending::CheckHelp | Ending::Version => {
-            outlets.output.say(text);
-            outlets.finish(rt, b"", 0);
-        }
-        _ => outlets.finish(rt, text, 0),
-    }
-    if outlets.output.is_open() {
+    let is_asked = matches!(ending, Ending::Help | Ending::CheckHelp | Ending::Version);
+    if say_last(rt, outlets, text, is_asked) {
         ending.status()
     } else {
         Ending::Write.status()
@@ -235,7 +228,7 @@ fn run_with<R: AllocGlobal + Env + Files + Net + Clock>(
             };
             tell(rt, outlets, &ending)
         }
-        Err(fault) => tell(rt, outlets, &Ending::from(fault)),
+        Err(fault) => tell(rt, outlets, &wordless_ending(fault)),
     }
 }
 
@@ -245,11 +238,8 @@ where
     R::File: AsRawFd,
 {
     let _held = hold_standard(rt, rt.alloc());
-    match Outlets::open(rt, rt.alloc()) {
-        Ok(mut outlets) => run_with(rt, &mut outlets),
-        Err(_) => {
-            let _ = Stream::error(rt).take(b"out of memory\n");
-            Ending::OutOfMemory.status()
-        }
+    match open_outlets(rt) {
+        Some(mut outlets) => run_with(rt, &mut outlets),
+        None => Ending::OutOfMemory.status(),
     }
 }

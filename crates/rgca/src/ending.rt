@@ -1,9 +1,14 @@
 //! How the program ends: its status, and what it says then.
-use crate::help::{CHECK_HELP, CHECK_USAGE, HELP, USAGE, VERSIONS, put_pieces};
+ghost use Rattle.std.specs.Prelude.{◌≡◌};
+ghost use Rattle.rgca.specs.Statuses.{status_of};
+ghost use Rattle.rgca.specs.Endings.{word_ending, check_ending, config_by};
+
+use crate::help::{CHECK_HELP, CHECK_USAGE, HELP, USAGE, VERSIONS};
 use crate::words::WordFault;
 use agent_texts::ConfigRefusal;
 use bad_network::SpoilingFault;
 use live_agent::CheckFault;
+use live_ends::put_pieces;
 use std::fmt;
 use std::net::SocketAddrV4;
 
@@ -96,7 +101,9 @@ pub enum Ending<'a> {
 impl<'a> Ending<'a> {
     /// The exit status: 0 served or told, 2 words or a configuration that are refused, 3 memory, a
     /// file, a socket or a stream, or a gateway that can't be checked; else that of a check.
-    pub fn status(&self) -> u8 {
+    pub fn status(&self) -> u8
+        ensures { result ≡ status_of self.now }
+    {
         match self {
             Ending::Served | Ending::Help | Ending::CheckHelp | Ending::Version => 0,
             Ending::Checked { status } => *status,
@@ -123,28 +130,43 @@ impl<'a> Ending<'a> {
     }
 }
 
+// How the program ends by its words.
+fn word_ending<'a>(fault: WordFault) -> Ending<'a>
+    ensures { result ≡ word_ending fault.entry }
+{
+    match fault {
+        WordFault::OutOfMemory => Ending::OutOfMemory,
+        WordFault::Usage => Ending::Usage,
+        WordFault::Told => Ending::Told,
+        WordFault::Help => Ending::Help,
+        WordFault::Version => Ending::Version,
+        WordFault::BadAddress { word } => Ending::BadAddress { word },
+        WordFault::BadNetwork { fault } => Ending::BadNetwork { fault },
+        WordFault::BadLine { word } => Ending::BadLine { word },
+        WordFault::SameLine => Ending::SameLine,
+    }
+}
+
 impl<'a> From<WordFault> for Ending<'a> {
     fn from(fault: WordFault) -> Ending<'a> {
-        match fault {
-            WordFault::OutOfMemory => Ending::OutOfMemory,
-            WordFault::Usage => Ending::Usage,
-            WordFault::Told => Ending::Told,
-            WordFault::Help => Ending::Help,
-            WordFault::Version => Ending::Version,
-            WordFault::BadAddress { word } => Ending::BadAddress { word },
-            WordFault::BadNetwork { fault } => Ending::BadNetwork { fault },
-            WordFault::BadLine { word } => Ending::BadLine { word },
-            WordFault::SameLine => Ending::SameLine,
-        }
+        word_ending(fault)
     }
 }
 
 /// How the program ends by words behind `check`.
-pub fn check_words_ending<'a>(fault: WordFault) -> Ending<'a> {
+pub fn check_words_ending<'a>(fault: WordFault) -> Ending<'a>
+    ensures { result ≡ check_ending fault.entry }
+{
     match fault {
         WordFault::Usage => Ending::CheckUsage,
         WordFault::Help => Ending::CheckHelp,
-        other => Ending::from(other),
+        WordFault::OutOfMemory
+        | WordFault::Told
+        | WordFault::Version
+        | WordFault::BadAddress { .. }
+        | WordFault::BadNetwork { .. }
+        | WordFault::BadLine { .. }
+        | WordFault::SameLine => word_ending(fault),
     }
 }
 
@@ -177,7 +199,9 @@ impl<'a> From<CheckFault> for Ending<'a> {
 }
 
 /// How the program ends by a configuration that is refused.
-pub fn config_ending(file: &str, refusal: ConfigRefusal) -> Ending<'_> {
+pub fn config_ending(file: &str, refusal: ConfigRefusal) -> Ending<'_>
+    ensures { result ≡ config_by file.entry refusal.entry }
+{
     match refusal {
         ConfigRefusal::OutOfMemory => Ending::OutOfMemory,
         ConfigRefusal::Told { line } => Ending::Config { file, line },

@@ -4,6 +4,7 @@
 mod app;
 mod check_words;
 mod ending;
+mod examples;
 mod help;
 mod words;
 

@@ -1,4 +1,9 @@
 //! Reads the words of the command line.
+ghost use Rattle.std.specs.Prelude.{◌≡◌, ◌≢◌, IfOk, IfErr};
+ghost use Rattle.std.specs.Net.Grammar.{IsSocketV4Text};
+ghost use Rattle.clap.specs.Values.{kind_of};
+ghost use Rattle.clap.specs.declared.error.kind.ErrorKind.TheVariants as kinds;
+
 use crate::help::{CONTROL, USAGE, VERSION};
 use bad_network::{Spoiling, SpoilingFault};
 use clap::error::ErrorKind;
@@ -115,18 +120,31 @@ fn command<'a>(alloc: Global) -> Result<Command<'a>, AllocError> {
     Ok(command)
 }
 
+// The address that a text is, which stands behind a word.
+fn address_of(text: &str, word: &'static str) -> Result<SocketAddrV4, WordFault>
+    ensures address { IfOk result (λ address. IsSocketV4Text text.now address) }
+    ensures other { IfErr result (λ fault. fault ≡ WordFault.BadAddress word.entry) }
+{
+    match text.parse::<SocketAddrV4>() {
+        Ok(address) => Ok(address),
+        Err(_) => Err(WordFault::BadAddress { word }),
+    }
+}
+
 /// The address behind a word, if that stands there.
 pub fn address_behind(
     matches: &ArgMatches<'_>,
     name: &str,
     word: &'static str,
-) -> Result<Option<SocketAddrV4>, WordFault> {
-    let Some(text) = matches.get_str(name) else {
-        return Ok(None);
-    };
-    match text.parse::<SocketAddrV4>() {
-        Ok(address) => Ok(Some(address)),
-        Err(_) => Err(WordFault::BadAddress { word }),
+) -> Result<Option<SocketAddrV4>, WordFault>
+    ensures { IfErr result (λ fault. fault ≡ WordFault.BadAddress word.entry) }
+{
+    match matches.get_str(name) {
+        Some(text) => match address_of(text, word) {
+            Ok(address) => Ok(Some(address)),
+            Err(fault) => Err(fault),
+        },
+        None => Ok(None),
     }
 }
 
@@ -141,8 +159,14 @@ fn spoiling_behind(matches: &ArgMatches<'_>) -> Result<Option<Spoiling>, WordFau
     }
 }
 
-/// Why no settings are found in words, by clap's error: this outlet says which words are wrong.
-pub fn fault_of<F: Write + Drop>(alloc: Global, fault: &Error, said: &mut Outlet<F>) -> WordFault {
+/// Why no settings are found in words, by clap's error: this outlet says which words are wrong, where memory isn't refused for that.
+pub fn fault_of<F: Write + Drop>(alloc: Global, fault: &Error, said: &mut Outlet<F>) -> WordFault
+    ensures memory { kind_of fault.now ≡ kinds.OutOfMemory → result ≡ WordFault.OutOfMemory }
+    ensures help { kind_of fault.now ≡ kinds.DisplayHelp → result ≡ WordFault.Help }
+    ensures version { kind_of fault.now ≡ kinds.DisplayVersion → result ≡ WordFault.Version }
+    ensures told { kind_of fault.now ≢ kinds.DisplayHelp → kind_of fault.now ≢ kinds.DisplayVersion → result ≢ WordFault.OutOfMemory
+        → result ≡ WordFault.Told }
+{
     let kind = fault.kind();
     if kind == ErrorKind::OutOfMemory {
         return WordFault::OutOfMemory;
