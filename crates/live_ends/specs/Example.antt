@@ -1,5 +1,6 @@
 -- What the worked examples speak of.
 use Rattle.std.specs.Prelude.{ℕ, false, true, List}
+use Rattle.live_ends.specs.declared.written.Written.{Written}
 use Rattle.live_ends.specs.Backlog.{BacklogState}
 
 -- this waits, and nothing was dropped
@@ -13,3 +14,7 @@ full waiting unnoted dropped = record { waiting = waiting; is_full = true; is_ov
 -- this waits, and nothing is kept any more
 abbrev pub over : List ℕ → BacklogState
 over waiting = record { waiting = waiting; is_full = false; is_over = true; unnoted = 0; dropped = 0 }
+
+-- so many lines weren't kept, and so often it failed at standard output, standard error and a capture
+abbrev pub lost : ℕ → ℕ → ℕ → ℕ → Written
+lost dropped output error capture = record { dropped = dropped; output = output; error = error; capture = capture }

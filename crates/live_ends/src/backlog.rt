@@ -1,5 +1,5 @@
 //! What waits for somebody who takes it later, up to a bound.
-ghost use Rattle.std.specs.Prelude.{◌≡◌, ◌<◌, ◌≤◌, ◌+◌, IfOk, length, drop, true};
+ghost use Rattle.std.specs.Prelude.{◌≡◌, ◌<◌, ◌≤◌, ◌+◌, IfOk, length, drop, true, false};
 ghost use Rattle.std.specs.Vec.{vec_capacity};
 ghost use Rattle.live_ends.specs.Backlog.{nothing_waits, lines_ended, is_kept, with_text, offered, may_note, noted, ended, taken, closed};
 
@@ -167,6 +167,8 @@ impl Backlog {
     /// are kept again then.
     pub fn note(&mut self, note: &[u8])
         ensures noted { may_note TEXT_ROOM self.old ≡ true → length note.now ≤ NOTE_ROOM → self.new ≡ noted self.old note.now }
+        ensures too_long { NOTE_ROOM < length note.now → self.new ≡ self.old }
+        ensures not_now { may_note TEXT_ROOM self.old ≡ false → self.new ≡ self.old }
     {
         if self.may_note() && note.len() <= NOTE_ROOM {
             self.put(note);

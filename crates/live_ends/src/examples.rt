@@ -3,7 +3,12 @@
 
 ghost use Rattle.std.specs.Prelude.{◌≡◌, codes, true, false, [], ◌∷◌};
 ghost use Rattle.live_ends.specs.Backlog.{nothing_waits, lines_ended, is_kept, offered, offered_all, may_note, noted, ended, taken, closed, kept_of, lines_of_all};
-ghost use Rattle.live_ends.specs.Example.{waits, full, over};
+ghost use Rattle.live_ends.specs.Recording.{state_when, is_told, is_open, faults_of, said, given_up, state_given_up, offer_left};
+ghost use Rattle.live_ends.specs.Written.{written_line};
+ghost use Rattle.live_ends.specs.Looking.{no_visit, has_visits};
+ghost use Rattle.live_ends.specs.declared.record.RecordState.TheVariants.{Off, On, OutOfMemory};
+ghost use Rattle.live_ends.specs.declared.outlet.OutletState.TheVariants.{Open, BrokenOff};
+ghost use Rattle.live_ends.specs.Example.{waits, full, over, lost};
 
 /// A text is kept behind what waits, where there is room for both; else nothing of it is, nor of those behind it.
 pub fn texts_are_kept_in_their_order()
@@ -44,4 +49,51 @@ pub fn the_first_that_finds_no_room_ends_it()
     ensures one { kept_of 6 nothing_waits (codes "ab\n" ∷ codes "cdef\ng\n" ∷ codes "c\n" ∷ []) ≡ 1 }
     ensures all { kept_of 6 nothing_waits (codes "ab\n" ∷ codes "c\n" ∷ []) ≡ 2 }
     ensures lines { lines_of_all (codes "ab\n" ∷ codes "c\nd\n" ∷ []) ≡ 3 }
+{}
+
+/// A record is told all where it is on, until memory is refused.
+pub fn a_record_is_on_or_off()
+    ensures on { state_when true ≡ On }
+    ensures off { state_when false ≡ Off }
+    ensures told { is_told On ≡ true }
+    ensures not_told { is_told Off ≡ false }
+    ensures refused { is_told OutOfMemory ≡ false }
+{}
+
+/// An outlet that is broken off has one fault. Lines that are said are kept whole, or it is as if they hadn't been.
+pub fn an_outlet_is_open_or_has_a_fault()
+    ensures open { is_open Open ≡ true }
+    ensures broken_off { is_open BrokenOff ≡ false }
+    ensures no_fault { faults_of Open ≡ 0 }
+    ensures fault { faults_of BrokenOff ≡ 1 }
+    ensures said { said 6 (waits (codes "ab\n")) (codes "cd\n") ≡ waits (codes "ab\ncd\n") }
+    ensures no_room { said 5 (waits (codes "ab\n")) (codes "cd\n") ≡ waits (codes "ab\n") }
+{}
+
+/// What waits is given up once it was offered for a second; where nothing waits all stays as it is.
+pub fn what_waits_is_offered_for_a_second()
+    ensures all { offer_left 0 ≡ 1000 }
+    ensures some { offer_left 999 ≡ 1 }
+    ensures late { offer_left 1500 ≡ 0 }
+    ensures given_up { given_up (waits (codes "ab\n")) ≡ over [] }
+    ensures nothing { given_up (waits []) ≡ waits [] }
+    ensures broken_off { state_given_up Open (waits (codes "ab\n")) ≡ BrokenOff }
+    ensures open { state_given_up Open (waits []) ≡ Open }
+{}
+
+/// What wasn't recorded is told in a line, with the names of where it failed.
+pub fn what_was_not_recorded_is_told()
+    ensures nothing { written_line (lost 0 0 0 0) (codes "calls.pcap") ≡ codes "records dropped 0 write faults 0\n" }
+    ensures capture { written_line (lost 12 0 0 1) (codes "calls.pcap") ≡ codes "records dropped 12 write faults 1 calls.pcap\n" }
+    ensures output { written_line (lost 0 1 0 0) (codes "calls.pcap") ≡ codes "records dropped 0 write faults 1 standard output\n" }
+    ensures all { written_line (lost 0 1 1 1) (codes "a.pcap")
+        ≡ codes "records dropped 0 write faults 3 standard output standard error a.pcap\n" }
+{}
+
+/// Something was told of a site where somebody may have come, or a visitor's socket may be read or written.
+pub fn a_site_is_told_of_its_sockets()
+    ensures nothing { has_visits false (no_visit ∷ no_visit ∷ []) ≡ false }
+    ensures somebody { has_visits true (no_visit ∷ []) ≡ true }
+    ensures readable { has_visits false (no_visit ∷ record { is_readable = true; is_writable = false } ∷ []) ≡ true }
+    ensures writable { has_visits false (record { is_readable = false; is_writable = true } ∷ no_visit ∷ []) ≡ true }
 {}

@@ -15,4 +15,5 @@ pub fn the_first_texts_are_kept_whole()
     ensures few { (room : ℕ) (backlog : BacklogState) (texts : List (List ℕ)) → length backlog.waiting ≤ room →
         length (offered_all room backlog texts).waiting ≤ room }
     ensures rooms { TEXT_ROOM + NOTE_ROOM ≡ MOST_KEPT }
+    ensures mebibyte { MOST_KEPT ≡ 2 ^ 20 }
 {}

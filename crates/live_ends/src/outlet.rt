@@ -1,4 +1,12 @@
 //! An outlet: what is recorded waits there until it is taken.
+ghost use Rattle.std.specs.Prelude.{◌≡◌, ◌≢◌, ◌≤◌, [], true, false, IfOk, length};
+ghost use Rattle.mg_bytes.specs.Lists.{is_empty};
+ghost use Rattle.live_ends.specs.declared.outlet.OutletState.TheVariants.{Open, BrokenOff};
+ghost use Rattle.live_ends.specs.declared.record.RecordState.TheVariants.{Off};
+ghost use Rattle.live_ends.specs.declared.backlog.TheConstants.{NOTE_ROOM, TEXT_ROOM};
+ghost use Rattle.live_ends.specs.Backlog.{nothing_waits, is_kept, offered, ended, closed};
+ghost use Rattle.live_ends.specs.Recording.{is_open, faults_of, said, Notes, KeepsLog, given_up, state_given_up};
+
 use crate::backlog::Backlog;
 use crate::record::Record;
 use crate::stream::Stream;
@@ -34,9 +42,40 @@ pub struct Outlet<F> {
     is_told: bool,
 }
 
+// Keeps whole lines, as they are, where there is room for them: whether there is.
+#[tactic(auto, unfolding(crate::specs::Backlog::offered))]
+fn say(backlog: &mut Backlog, lines: &[u8]) -> bool
+    ensures kept { result ≡ is_kept TEXT_ROOM backlog.old lines.now }
+    ensures new { backlog.new ≡ said TEXT_ROOM backlog.old lines.now }
+{
+    if !backlog.has_room(lines) {
+        return false;
+    }
+    backlog.keep(lines)
+}
+
+// Notes the lines that weren't kept, where that may be and memory is there.
+fn note_dropped(alloc: Global, backlog: &mut Backlog, moment: u64)
+    ensures { Notes TEXT_ROOM backlog.old moment backlog.new }
+{
+    if !backlog.may_note() {
+        return;
+    }
+    let mut note = Vec::new(alloc);
+    let lines = backlog.unnoted();
+    match put_notice(alloc, &mut note, moment, Notice::Dropped { lines }) {
+        Ok(()) => backlog.note(note.as_slice()),
+        Err(_) => {}
+    }
+}
+
 impl<F: Write + Drop> Outlet<F> {
     /// The outlet of this name, over this stream. Its only error is want of memory.
-    pub fn new(alloc: Global, name: &str, stream: Stream<F>) -> Result<Outlet<F>, AllocError> {
+    pub fn new(alloc: Global, name: &str, stream: Stream<F>) -> Result<Outlet<F>, AllocError>
+        ensures backlog { IfOk result (λ outlet. outlet.backlog ≡ nothing_waits) }
+        ensures state { IfOk result (λ outlet. outlet.state ≡ Open) }
+        ensures told { IfOk result (λ outlet. outlet.is_told ≡ false) }
+    {
         Ok(Outlet {
             alloc,
             name: String::from_str(alloc, name)?,
@@ -48,32 +87,45 @@ impl<F: Write + Drop> Outlet<F> {
     }
 
     /// How it stands.
-    pub fn state(&self) -> OutletState {
+    pub fn state(&self) -> OutletState
+        ensures { result ≡ self.now.state }
+    {
         self.state
     }
 
     /// Whether all is written, as it is taken.
-    pub fn is_open(&self) -> bool {
+    pub fn is_open(&self) -> bool
+        ensures { result ≡ is_open self.now.state }
+    {
         matches!(self.state, OutletState::Open)
     }
 
     /// How often it failed, or was broken off: once, or not at all.
-    pub fn faults(&self) -> u64 {
+    pub fn faults(&self) -> u64
+        ensures { result ≡ faults_of self.now.state }
+    {
         if self.is_open() { 0 } else { 1 }
     }
 
     /// Whether nothing waits to be taken.
-    pub fn is_taken(&self) -> bool {
+    pub fn is_taken(&self) -> bool
+        ensures { result ≡ is_empty self.now.backlog.waiting }
+    {
         self.backlog.waiting().is_empty()
     }
 
     /// How many lines weren't kept.
-    pub fn dropped(&self) -> u64 {
+    pub fn dropped(&self) -> u64
+        ensures { result ≡ self.now.backlog.dropped }
+    {
         self.backlog.dropped()
     }
 
     // Nothing is recorded from then on, and nothing waits.
-    fn fail(&mut self, kind: ErrorKind) {
+    fn fail(&mut self, kind: ErrorKind)
+        ensures state { is_open self.new.state ≡ false }
+        ensures backlog { self.new.backlog ≡ closed self.old.backlog }
+    {
         self.state = OutletState::Failed {
             reason: reason_of(kind),
         };
@@ -81,26 +133,31 @@ impl<F: Write + Drop> Outlet<F> {
     }
 
     /// Keeps whole lines, as they are, where there is room for them: whether there is.
-    pub fn say(&mut self, lines: &[u8]) -> bool {
-        self.backlog.has_room(lines) && self.backlog.keep(lines)
+    pub fn say(&mut self, lines: &[u8]) -> bool
+        ensures kept { result ≡ is_kept TEXT_ROOM self.old.backlog lines.now }
+        ensures backlog { self.new.backlog ≡ said TEXT_ROOM self.old.backlog lines.now }
+        ensures state { self.new.state ≡ self.old.state }
+    {
+        say(&mut self.backlog, lines)
     }
 
     /// Notes the lines that weren't kept, at this moment, in microseconds since 1970: where there are any that wasn't noted of, and no
     /// more than half of the room is taken.
-    pub fn note_dropped(&mut self, moment: u64) {
-        if !self.backlog.may_note() {
-            return;
-        }
-        let mut note = Vec::new(self.alloc);
-        let lines = self.backlog.unnoted();
-        if put_notice(self.alloc, &mut note, moment, Notice::Dropped { lines }).is_ok() {
-            self.backlog.note(note.as_slice());
-        }
+    pub fn note_dropped(&mut self, moment: u64)
+        ensures backlog { Notes TEXT_ROOM self.old.backlog moment self.new.backlog }
+        ensures state { self.new.state ≡ self.old.state }
+    {
+        note_dropped(self.alloc, &mut self.backlog, moment);
     }
 
     /// Keeps what a turn put together of a log, behind a note of the lines before it that weren't kept, at this moment, in microseconds
     /// since 1970.
-    pub fn keep_log(&mut self, record: &mut Record, moment: u64) {
+    pub fn keep_log(&mut self, record: &mut Record, moment: u64)
+        ensures backlog { KeepsLog TEXT_ROOM self.old.backlog moment record.old.out.items self.new.backlog }
+        ensures state { self.new.state ≡ self.old.state }
+        ensures out { record.new.out.items ≡ [] }
+        ensures record { record.new.state ≡ record.old.state }
+    {
         if record.out.is_empty() {
             return;
         }
@@ -111,7 +168,20 @@ impl<F: Write + Drop> Outlet<F> {
 
     /// Keeps what a turn put together of a record that is of no use with a gap: where there is no room for all of it, it is broken off
     /// before that, with this last line.
-    pub fn keep_whole(&mut self, record: &mut Record, last: &[u8]) {
+    pub fn keep_whole(&mut self, record: &mut Record, last: &[u8])
+        ensures nothing { record.old.out.items ≡ [] → self.new.backlog ≡ self.old.backlog }
+        ensures kept { record.old.out.items ≢ [] → is_kept TEXT_ROOM self.old.backlog record.old.out.items ≡ true →
+            self.new.backlog ≡ offered TEXT_ROOM self.old.backlog record.old.out.items }
+        ensures told { is_kept TEXT_ROOM self.old.backlog record.old.out.items ≡ true →
+            (self.new.state ≡ self.old.state) × (record.new.state ≡ record.old.state) }
+        ensures ended { record.old.out.items ≢ [] → is_kept TEXT_ROOM self.old.backlog record.old.out.items ≡ false → record.new.state ≡ Off }
+        ensures broken_off { record.old.out.items ≢ [] → is_kept TEXT_ROOM self.old.backlog record.old.out.items ≡ false →
+            is_open self.old.state ≡ true → self.new.state ≡ BrokenOff }
+        ensures last { record.old.out.items ≢ [] → is_kept TEXT_ROOM self.old.backlog record.old.out.items ≡ false →
+            is_open self.old.state ≡ true → length last.now ≤ NOTE_ROOM → length self.old.backlog.waiting ≤ TEXT_ROOM →
+            self.new.backlog ≡ ended self.old.backlog last.now }
+        ensures out { record.new.out.items ≡ [] }
+    {
         if record.out.is_empty() {
             return;
         }
@@ -152,7 +222,10 @@ impl<F: Write + Drop> Outlet<F> {
     }
 
     /// What waits is given up.
-    pub fn give_up(&mut self) {
+    pub fn give_up(&mut self)
+        ensures backlog { self.new.backlog ≡ given_up self.old.backlog }
+        ensures state { self.new.state ≡ state_given_up self.old.state self.old.backlog }
+    {
         if !self.is_taken() {
             self.state = OutletState::BrokenOff;
             self.backlog.close();

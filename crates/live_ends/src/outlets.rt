@@ -1,4 +1,9 @@
 //! The outlets of a program: standard output, standard error, and the file of a capture.
+ghost use Rattle.std.specs.Prelude.{◌≡◌, ◌&&◌, IfSome, IfNone};
+ghost use Rattle.mg_bytes.specs.Lists.{is_empty};
+ghost use Rattle.live_ends.specs.Backlog.{sum_within};
+ghost use Rattle.live_ends.specs.Recording.{faults_of, offer_left};
+
 use crate::outlet::Outlet;
 use crate::stream::{Stream, wait_for_streams};
 use crate::written::Written;
@@ -23,12 +28,19 @@ pub struct Outlets<F> {
     pub capture: Option<Outlet<F>>,
 }
 
+// How long it is still offered after so long, in ms.
+fn offer_left(passed: u64) -> u64
+    ensures { result ≡ offer_left passed }
+{
+    LONGEST_OFFER.saturating_sub(passed)
+}
+
 // How long it is still offered, in ms; no longer where the clock has failed.
 fn time_left<R: Clock>(rt: &R, start: Instant) -> u64 {
     match start.elapsed(rt) {
         Ok(passed) => {
             let passed = u64::try_from(passed.as_millis()).unwrap_or(u64::MAX);
-            LONGEST_OFFER.saturating_sub(passed)
+            offer_left(passed)
         }
         Err(_) => 0,
     }
@@ -59,7 +71,13 @@ impl<F: Write + Drop> Outlets<F> {
     }
 
     /// What became of what was recorded so far.
-    pub fn written(&self) -> Written {
+    pub fn written(&self) -> Written
+        ensures dropped { result.dropped ≡ sum_within self.now.output.backlog.dropped self.now.error.backlog.dropped }
+        ensures output { result.output ≡ faults_of self.now.output.state }
+        ensures error { result.error ≡ faults_of self.now.error.state }
+        ensures capture { IfSome self.now.capture (λ capture. result.capture ≡ faults_of capture.state) }
+        ensures no_capture { IfNone self.now.capture (result.capture ≡ 0) }
+    {
         Written {
             dropped: self.output.dropped().saturating_add(self.error.dropped()),
             output: self.output.faults(),
@@ -72,7 +90,9 @@ impl<F: Write + Drop> Outlets<F> {
     }
 
     /// Whether nothing waits to be taken.
-    pub fn are_taken(&self) -> bool {
+    pub fn are_taken(&self) -> bool
+        ensures { result ≡ (is_empty self.now.output.backlog.waiting && is_empty self.now.error.backlog.waiting) }
+    {
         self.output.is_taken() && self.error.is_taken()
     }
 

@@ -1,4 +1,8 @@
 //! Which sockets may have something, as the system tells it.
+ghost use Rattle.std.specs.Prelude.{◌≡◌, replicate};
+ghost use Rattle.std.specs.List.{list_any};
+ghost use Rattle.live_ends.specs.Looking.{no_visit, is_visit, has_visits};
+
 use mio::event::Event;
 use mio::net::{TcpListener, TcpStream, UdpSocket};
 use mio::{Events, Interest, Poll, Token};
@@ -52,6 +56,24 @@ fn note_visit(visit: &mut Visit, event: &Event) {
     visit.is_writable = visit.is_writable || event.is_writable();
 }
 
+fn is_visit(visit: Visit) -> bool
+    ensures { result ≡ is_visit visit }
+{
+    visit.is_readable || visit.is_writable
+}
+
+// Whether something was told of a visitor's socket.
+fn is_any_visit(visits: &[Visit]) -> bool
+    ensures { result ≡ list_any is_visit visits.now }
+{
+    for visit in visits {
+        if is_visit(*visit) {
+            return true;
+        }
+    }
+    false
+}
+
 impl Readiness {
     /// Watches these sockets, of which the second one is for commands: to each something may have come already.
     pub fn watch<R: Net>(
@@ -93,21 +115,18 @@ impl Readiness {
     }
 
     /// Nothing was told of the site's visitors.
-    pub fn forget_visits(&mut self) {
+    pub fn forget_visits(&mut self)
+        ensures visits { self.new.visits ≡ replicate MOST_VISITORS no_visit }
+        ensures listener { self.new.listener ≡ self.old.listener }
+    {
         self.visits = [NO_VISIT; MOST_VISITORS];
     }
 
     /// Whether anything was told of a site's sockets.
-    pub fn has_visits(&self) -> bool {
-        if self.listener {
-            return true;
-        }
-        for visit in self.visits.iter() {
-            if visit.is_readable || visit.is_writable {
-                return true;
-            }
-        }
-        false
+    pub fn has_visits(&self) -> bool
+        ensures { result ≡ has_visits self.now.listener self.now.visits }
+    {
+        self.listener || is_any_visit(&self.visits)
     }
 
     /// Waits until something comes, but no longer than this, in ms.

@@ -1,4 +1,8 @@
 //! What is put together while a turn goes on, to be kept for an outlet when it is over.
+ghost use Rattle.std.specs.Prelude.{◌≡◌, []};
+ghost use Rattle.live_ends.specs.declared.record.RecordState.TheVariants.{Off, OutOfMemory};
+ghost use Rattle.live_ends.specs.Recording.{state_when, is_told};
+
 use std::alloc::Global;
 
 /// How it stands with a record.
@@ -22,7 +26,10 @@ pub struct Record {
 
 impl Record {
     /// A record that has nothing yet.
-    pub fn new(alloc: Global, is_on: bool) -> Record {
+    pub fn new(alloc: Global, is_on: bool) -> Record
+        ensures state { result.state ≡ state_when is_on }
+        ensures out { result.out.items ≡ [] }
+    {
         let state = if is_on {
             RecordState::On
         } else {
@@ -35,23 +42,33 @@ impl Record {
     }
 
     /// How it stands.
-    pub fn state(&self) -> RecordState {
+    pub fn state(&self) -> RecordState
+        ensures { result ≡ self.now.state }
+    {
         self.state
     }
 
     /// Whether it is told all.
-    pub fn is_on(&self) -> bool {
+    pub fn is_on(&self) -> bool
+        ensures { result ≡ is_told self.now.state }
+    {
         matches!(self.state, RecordState::On)
     }
 
     /// Memory was refused: nothing is told from then on.
-    pub fn refuse(&mut self) {
+    pub fn refuse(&mut self)
+        ensures state { self.new.state ≡ OutOfMemory }
+        ensures out { self.new.out.items ≡ [] }
+    {
         self.state = RecordState::OutOfMemory;
         self.out.clear();
     }
 
     /// Nothing is told from then on.
-    pub fn end(&mut self) {
+    pub fn end(&mut self)
+        ensures state { self.new.state ≡ Off }
+        ensures out { self.new.out.items ≡ [] }
+    {
         self.state = RecordState::Off;
         self.out.clear();
     }

@@ -1,4 +1,7 @@
 //! Where something is written that nobody may read: by no write that waits.
+ghost use Rattle.std.specs.Prelude.{◌≡◌};
+ghost use Rattle.live_ends.specs.declared.stream.Way.TheVariants.{Own};
+
 use libc::net::{POLLNVAL, POLLOUT, poll};
 use libc::types::pollfd;
 use std::fs::OpenOptions;
@@ -162,7 +165,9 @@ impl<F: Write + Drop> Stream<F> {
     }
 
     /// A stream over what never waits, as a file, or what takes its place in memory.
-    pub fn over(file: F) -> Stream<F> {
+    pub fn over(file: F) -> Stream<F>
+        ensures { result.way ≡ Own file }
+    {
         Stream {
             number: -1,
             way: Way::Own(file),

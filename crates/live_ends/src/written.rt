@@ -1,4 +1,7 @@
 //! What became of what was recorded.
+ghost use Rattle.std.specs.Prelude.{◌≡◌, ◌++◌, OnOk};
+ghost use Rattle.live_ends.specs.Written.{name_text, numbers_text, names_text, faults_in, written_line};
+
 use exchange_log::put_shown;
 use mg_bytes::{OutOfMemory, put_decimal};
 use std::alloc::Global;
@@ -13,11 +16,40 @@ pub struct Written {
 }
 
 // Puts a name, behind a blank, where that failed.
-fn put_name(out: &mut Vec<u8>, faults: u64, name: &[u8]) -> Result<(), OutOfMemory> {
+#[tactic(auto, unfolding(crate::specs::Written::name_text))]
+fn put_name(out: &mut Vec<u8>, faults: u64, name: &[u8]) -> Result<(), OutOfMemory>
+    ensures { OnOk result (out.new.items ≡ out.old.items ++ name_text faults name.now) }
+{
     if faults > 0 {
         out.push(b' ')?;
         put_shown(out, name)?;
     }
+    Ok(())
+}
+
+// How many lines weren't kept, and how many write faults there were.
+fn put_numbers(
+    alloc: Global,
+    out: &mut Vec<u8>,
+    dropped: u64,
+    faults: u64,
+) -> Result<(), OutOfMemory>
+    ensures { OnOk result (out.new.items ≡ out.old.items ++ numbers_text dropped faults) }
+{
+    out.extend_from_slice(b"records dropped ")?;
+    put_decimal(alloc, out, dropped)?;
+    out.extend_from_slice(b" write faults ")?;
+    put_decimal(alloc, out, faults)?;
+    Ok(())
+}
+
+// Where they were.
+fn put_names(out: &mut Vec<u8>, written: Written, capture: &[u8]) -> Result<(), OutOfMemory>
+    ensures { OnOk result (out.new.items ≡ out.old.items ++ names_text written capture.now) }
+{
+    put_name(out, written.output, b"standard output")?;
+    put_name(out, written.error, b"standard error")?;
+    put_name(out, written.capture, capture)?;
     Ok(())
 }
 
@@ -30,26 +62,29 @@ impl Written {
         capture: 0,
     };
 
+    // How many write faults there were.
+    fn faults(self) -> u64
+        ensures { result ≡ faults_in self }
+    {
+        self.output
+            .saturating_add(self.error)
+            .saturating_add(self.capture)
+    }
+
     /// Puts it as a line, where the capture's file has this name: `records dropped 12 write faults 1 calls.pcap`. Its only error is want
     /// of memory.
+    #[tactic(auto, unfolding(crate::specs::Written::written_line))]
     pub fn put_line(
         self,
         alloc: Global,
         out: &mut Vec<u8>,
         capture: &[u8],
-    ) -> Result<(), OutOfMemory> {
-        let faults = self
-            .output
-            .saturating_add(self.error)
-            .saturating_add(self.capture);
-        out.extend_from_slice(b"records dropped ")?;
-        put_decimal(alloc, out, self.dropped)?;
-        out.extend_from_slice(b" write faults ")?;
-        put_decimal(alloc, out, faults)?;
-        put_name(out, self.output, b"standard output")?;
-        put_name(out, self.error, b"standard error")?;
-        put_name(out, self.capture, capture)?;
-        out.push(b'\n')?;
+    ) -> Result<(), OutOfMemory>
+        ensures { OnOk result (out.new.items ≡ out.old.items ++ written_line self capture.now) }
+    {
+        put_numbers(alloc, out, self.dropped, self.faults())?;
+        put_names(out, self, capture)?;
+        out.extend_from_slice(b"\n")?;
         Ok(())
     }
 }

@@ -1,0 +1,10 @@
+use Rattle.std.proofs.Common.{codes}
+use Rattle.live_ends.specs.Written.{name_text}
+use Rattle.live_ends.proofs.WrittenLemmas.{three_put}
+use Rattle.live_ends.proofs.written.put_names.Goals as goal
+
+pub returns : goal.returns
+returns c =
+    three_put c.args.out.now.items c.put_name.new.out.items c.put_name-2.new.out.items c.put_name-3.new.out.items
+    (name_text c.args.written.output (codes "standard output")) (name_text c.args.written.error (codes "standard error"))
+    (name_text c.args.written.capture c.args.capture.now) c.in_ok-put_name.ensures c.in_ok-put_name-2.ensures c.in_ok-put_name-3.ensures

@@ -1,0 +1,15 @@
+-- What was told of a site's sockets.
+use Rattle.std.specs.Prelude.{Bool, false, ◌||◌, List}
+use Rattle.std.specs.List.{list_any}
+use Rattle.live_ends.specs.declared.readiness.Visit.{Visit}
+
+-- nothing of one
+abbrev pub no_visit : Visit
+no_visit = record { is_readable = false; is_writable = false }
+
+abbrev pub is_visit : Visit → Bool
+is_visit visit = visit.is_readable || visit.is_writable
+
+-- somebody may have come, or something was told of a visitor's socket
+abbrev pub has_visits : Bool → List Visit → Bool
+has_visits listener visits = listener || list_any is_visit visits
