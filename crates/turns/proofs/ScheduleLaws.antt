@@ -1,7 +1,7 @@
 -- What comes next, however things stand.
 use Rattle.std.proofs.Common.{inl, inr, ◌≡◌, ◌⊎◌, ℕ, ◌+◌, ◌-◌, ◌<◌, ◌≤◌, ◌^◌, Bool, true, false, cond, List, [], ◌∷◌, Option, Some, None, refl, sym, ◌∙◌, ap, subst, arith, zero-le}
-use Rattle.std.specs.Prelude.{◌&&◌, not, nat_lt, if◌then◌else◌, count_by}
-use Rattle.std.proofs.lemmas.Bool.{true≢false, ltb-true, ltb-false}
+use Rattle.std.specs.Prelude.{◌&&◌, not, nat_lt, nat_le, if◌then◌else◌, count_by}
+use Rattle.std.proofs.lemmas.Bool.{true≢false, ltb-true, ltb-false, leb-false}
 use Rattle.std.proofs.lemmas.List.Sums.{sum_by-cons}
 use Rattle.turns.specs.declared.circle.Ready.{Ready}
 use Rattle.turns.specs.declared.circle.Source.{Source}
@@ -310,7 +310,9 @@ read_no_tick s at late before left =
     (λ some. by_found (first_ready false (of_sockets at.ready) s.last) refl) (λ none moment e. absurd cc) where
       by_found : (found : Option Source) → first_ready false (of_sockets at.ready) s.last ≡ found → NoTick (read_by found s at late before left).0
       by_found None is = λ moment e. absurd cc
-      by_found (Some found) is = found_no_tick at found (no_clock (of_sockets at.ready) found (found_is_ready false (of_sockets at.ready) s.last found is))
+      by_found (Some found) is =
+          by_if (λ (r : Turn × Schedule). NoTick r.0) (is_stale s at) (Look, asked s at) (turn_of at found, record (taken s at found) { mode = Reading late before (left - 1) })
+          (λ stale moment e. absurd cc) (λ seen. found_no_tick at found (no_clock (of_sockets at.ready) found (found_is_ready false (of_sockets at.ready) s.last found is)))
 
 onward_bounds : (mode : Mode) (s : Schedule) (at : Situation) → at.moment < 2 ^ 64 → Bounded at (onward mode s at).0
 onward_bounds Rounds s at few = round_bounds s at few
@@ -368,7 +370,9 @@ read_less s at late before left =
     (λ some. by_found some (first_ready false (of_sockets at.ready) s.last)) (λ none source e. absurd cc) where
       by_found : nat_lt 0 left ≡ true → (found : Option Source) → OneLess late before left (read_by found s at late before left)
       by_found some None = λ source e. absurd cc
-      by_found some (Some found) = λ source e. (ltb-true 0 left some, refl)
+      by_found some (Some found) =
+          by_if (OneLess late before left) (is_stale s at) (Look, asked s at) (turn_of at found, record (taken s at found) { mode = Reading late before (left - 1) })
+          (λ stale source e. absurd cc) (λ seen source e. (ltb-true 0 left some, refl))
 
 pub pause_gets_less : (s : Schedule) (at : Situation) (late before left : ℕ) (source : Source) → source_of (next_of (reading s late before left) at).0 ≡ Some source
     → (0 < left) × ((next_of (reading s late before left) at).1.mode ≡ Reading late before (left - 1))
@@ -397,7 +401,9 @@ round_waits s at = by_found (first_ready (is_tick_due s at) at.ready s.last) ref
 
 read_no_wait : (due : Bool) (s : Schedule) (at : Situation) (late before left : ℕ) (found : Option Source) → Waits due at (read_by found s at late before left).0
 read_no_wait due s at late before left None = λ until e. absurd cc
-read_no_wait due s at late before left (Some found) = turn_no_wait due at found
+read_no_wait due s at late before left (Some found) =
+    by_if (λ (r : Turn × Schedule). Waits due at r.0) (is_stale s at) (Look, asked s at) (turn_of at found, record (taken s at found) { mode = Reading late before (left - 1) })
+    (λ stale until e. absurd cc) (λ seen. turn_no_wait due at found)
 
 onward_waits : (mode : Mode) (s : Schedule) (at : Situation) → Waits (is_tick_due s at) at (onward mode s at).0
 onward_waits Rounds s at = round_waits s at
@@ -421,3 +427,32 @@ nobody_ready_waits s at until source is = (next_waits s at until is).0 source
 
 pub waits_within : (s : Schedule) (at : Situation) (until : ℕ) → (next_of s at).0 ≡ Wait until → until ≤ at.moment + longest_wait
 waits_within s at until is = omega (arith, (next_waits s at until is).1)
+
+-- ---- what wasn't asked for
+
+fresh_now : (b : Bool) (s : Schedule) (moment : ℕ) → s.is_fresh ≡ b → (if b then record s { looked = moment } else s).is_fresh ≡ true
+    → moment - (if b then record s { looked = moment } else s).looked ≡ 0
+fresh_now true s moment is fresh = omega arith
+fresh_now false s moment is fresh = absurd (true≢false (sym fresh ∙ is))
+
+seen_lately : (fresh unseen : Bool) → (not fresh && unseen) ≡ false → (fresh ≡ true) ⊎ (unseen ≡ false)
+seen_lately true unseen e = inl refl
+seen_lately false unseen e = inr e
+
+not_stale : (s : Schedule) (at : Situation) → is_stale (met s at) at ≡ false → at.moment - (met s at).looked < 2
+not_stale s at seen = by_kind (seen_lately (met s at).is_fresh (nat_le 2 (at.moment - (met s at).looked)) seen) where
+  by_kind : ((met s at).is_fresh ≡ true) ⊎ (nat_le 2 (at.moment - (met s at).looked) ≡ false) → at.moment - (met s at).looked < 2
+  by_kind (inl fresh) = let now = fresh_now s.is_fresh s at.moment refl fresh in omega (arith, now)
+  by_kind (inr late) = omega (arith, leb-false 2 (at.moment - (met s at).looked) late)
+
+taken_seen : (s : Schedule) (at : Situation) (found : Option Source) (source : Source) → source_of (round_by found s at).0 ≡ Some source → is_stale s at ≡ false
+taken_seen s at None source is = absurd cc
+taken_seen s at (Some found) source is =
+    by_if (λ (r : Turn × Schedule). source_of r.0 ≡ Some source → is_stale s at ≡ false) (is_stale s at) (Look, asked s at) (turn_of at found, taken s at found)
+    (λ stale e. absurd cc) (λ seen e. seen) is
+
+pub taken_unseen : (s : Schedule) (at : Situation) (source : Source) → is_round s at ≡ true → source_of (next_of s at).0 ≡ Some source
+    → at.moment - (met s at).looked < 2
+taken_unseen s at source going is =
+    not_stale s at (taken_seen (met s at) at (first_ready (is_tick_due (met s at) at) at.ready (met s at).last) source
+    (ap (λ (r : Turn × Schedule). source_of r.0) (sym (next_round s at going)) ∙ is))

@@ -117,7 +117,7 @@ is_reading Rounds = false
 is_reading (Reading lateness before left) = true
 is_reading (CatchingUp left) = false
 
--- it was stopped; while what came meanwhile is read, it isn't asked again
+-- it was stopped; while what came meanwhile is read, that isn't asked again
 abbrev pub is_paused : Schedule → Situation → Bool
 is_paused s at = nat_lt longest_oversleep (lateness_of s at) && not (is_reading s.mode)
 
@@ -140,9 +140,11 @@ of_sockets ready = record ready { visitors = false }
 abbrev pub read_by : Option Source → Schedule → Situation → ℕ → ℕ → ℕ → Turn × Schedule
 read_by None s at late before left = noted s at late (Some (at.read - before))
 read_by (Some source) s at late before left =
-    (turn_of at source, record (taken s at source) { mode = Reading late before (left - 1) })
+    if is_stale s at then (Look, asked s at)
+    else (turn_of at source, record (taken s at source) { mode = Reading late before (left - 1) })
 
--- what came in a pause is read, lines and datagrams by turns, until nothing is left of it or it was enough
+-- what came in a pause is read, lines and datagrams by turns, until nothing is left of it or it was enough; so in a flood of the ones
+-- the others are seen too
 abbrev pub read_on : Schedule → Situation → ℕ → ℕ → ℕ → Turn × Schedule
 read_on s at late before left =
     read_by (if nat_lt 0 left then first_ready false (of_sockets at.ready) s.last else None) s at late before left

@@ -30,6 +30,8 @@ pub fn an_idle_one_sleeps()
     ensures end { wait_until (ending_at 300 (due_at 400 (standing 100 100 nobody))) ≡ 300 }
     ensures past { wait_until (due_at 90 (standing 100 100 nobody)) ≡ 101 }
     ensures round { turns_from asleep (standing 7 0 (ready true true true) ∷ []) ≡ Tick 7 ∷ [] }
+    ensures round_again { turns_from asleep (standing 7 7 (ready false true false) ∷ standing 7 7 nobody ∷ standing 8 7 (ready true true true) ∷ [])
+        ≡ Datagram ∷ Wait 1007 ∷ Tick 8 ∷ [] }
 {}
 
 /// Who is ready has a turn after one of each other.
@@ -53,6 +55,8 @@ pub fn it_is_looked_for_what_has_come()
     ensures first { turns_from (opening 0) (standing 1 0 (ready false true false) ∷ standing 2 1 (ready false true false) ∷ [])
         ≡ Tick 1 ∷ Look ∷ [] }
     ensures idle { turns_from (opening 0) (standing 5 5 nobody ∷ []) ≡ Wait 1005 ∷ [] }
+    ensures begun { turns_from (opening 5000) (standing 5000 0 (ready true true true) ∷ standing 5001 1000 (ready true true true) ∷ [])
+        ≡ Tick 1000 ∷ Command ∷ [] }
 {}
 
 /// Who wakes more than 500 ms too late was stopped: what came meanwhile is read before the clock goes on, and then the clock catches
@@ -62,7 +66,7 @@ pub fn a_pause_is_read_first()
     ensures late { turns_from asleep (wakes_at 1501) ≡ Look ∷ [] }
     ensures whole { turns_from asleep (standing 4200 0 nobody
         ∷ standing 4200 0 (ready true true true) ∷ having_read 1 (standing 4200 0 (ready true true true))
-        ∷ having_read 2 (standing 4201 0 (ready false true true)) ∷ having_read 3 (standing 4202 0 (ready false true true))
+        ∷ having_read 2 (standing 4201 0 (ready false true true)) ∷ having_read 3 (standing 4201 0 (ready false true true))
         ∷ having_read 3 (standing 4202 0 (ready false false true)) ∷ having_read 3 (standing 4203 0 (ready false true true))
         ∷ having_read 3 (standing 4203 1000 (ready false true true)) ∷ having_read 3 (standing 4203 2000 (ready false true true))
         ∷ having_read 3 (standing 4203 3000 (ready false true true)) ∷ having_read 3 (standing 4203 4000 (ready false true true))
@@ -72,6 +76,27 @@ pub fn a_pause_is_read_first()
     ensures once { turns_from asleep (standing 4200 0 nobody ∷ standing 9200 0 (ready false true false)
         ∷ standing 9200 0 nobody ∷ standing 9200 0 nobody ∷ [])
         ≡ Look ∷ Datagram ∷ Note (record { lateness = 3200; read = Some 0 }) ∷ Tick 1000 ∷ [] }
+    ensures again { turns_from asleep (standing 4200 0 nobody ∷ standing 4200 0 nobody ∷ standing 9200 0 (ready false true false)
+        ∷ standing 9200 0 (ready false true false) ∷ having_read 1 (standing 9200 0 nobody) ∷ [])
+        ≡ Look ∷ Note (record { lateness = 3200; read = Some 0 }) ∷ Look ∷ Datagram ∷ Note (record { lateness = 5000; read = Some 1 }) ∷ [] }
+    ensures others { turns_from asleep (standing 4200 0 nobody ∷ standing 4200 0 (ready false true false)
+        ∷ standing 4202 0 (ready false true false) ∷ standing 4202 0 (ready true true false) ∷ standing 4202 0 (ready true true false) ∷ [])
+        ≡ Look ∷ Datagram ∷ Look ∷ Command ∷ Datagram ∷ [] }
+    ensures rounds_behind { turns_from asleep (standing 2000 0 nobody ∷ standing 2000 0 nobody ∷ standing 2000 0 nobody
+        ∷ standing 2000 1000 nobody ∷ standing 2000 2000 (ready false true false) ∷ standing 2001 2000 (ready false true true) ∷ [])
+        ≡ Look ∷ Note (record { lateness = 1000; read = Some 0 }) ∷ Tick 1000 ∷ Tick 2000 ∷ Datagram ∷ Visit ∷ [] }
+{}
+
+/// Who is stopped while somebody has a turn was stopped too, by the moment of the turn before, and of a look.
+pub fn a_stop_within_a_turn_is_a_pause()
+    ensures slow { turns_from asleep (standing 7 7 (ready false true false) ∷ standing 507 7 (ready false true false)
+        ∷ standing 507 7 (ready false true false) ∷ []) ≡ Datagram ∷ Look ∷ Tick 507 ∷ [] }
+    ensures stopped { turns_from asleep (standing 7 7 (ready false true false) ∷ standing 508 7 (ready false true false)
+        ∷ standing 508 7 (ready false true false) ∷ []) ≡ Datagram ∷ Look ∷ Datagram ∷ [] }
+    ensures slow_look { turns_from asleep (standing 7 7 (ready false true false) ∷ standing 9 7 (ready false true false)
+        ∷ standing 509 7 (ready false true false) ∷ []) ≡ Datagram ∷ Look ∷ Tick 509 ∷ [] }
+    ensures stopped_in_a_look { turns_from asleep (standing 7 7 (ready false true false) ∷ standing 9 7 (ready false true false)
+        ∷ standing 510 7 (ready false true false) ∷ standing 510 7 (ready false true false) ∷ []) ≡ Datagram ∷ Look ∷ Look ∷ Datagram ∷ [] }
 {}
 
 /// Of what came in a pause so much is read in 4,096 turns, and no more.
@@ -97,6 +122,9 @@ pub fn a_refused_tick_waits_for_a_ms()
     ensures pause { turns_from asleep (standing 2600 0 nobody ∷ standing 2600 0 nobody ∷ standing 2600 0 nobody
         ∷ standing 2600 0 nobody ∷ standing 2600 0 nobody ∷ standing 2600 0 (ready false true false) ∷ [])
         ≡ Look ∷ Note (record { lateness = 1600; read = Some 0 }) ∷ Tick 1000 ∷ Tick 1000 ∷ Tick 1000 ∷ Datagram ∷ [] }
+    ensures others { turns_from asleep (standing 7 0 (ready false true false) ∷ standing 7 0 (ready false true false) ∷ standing 7 0 nobody ∷ [])
+        ≡ Tick 7 ∷ Datagram ∷ Wait 1007 ∷ [] }
+    ensures not_refused { turns_from asleep (standing 1500 0 nobody ∷ standing 1500 1000 nobody ∷ []) ≡ Tick 1000 ∷ Tick 1500 ∷ [] }
 {}
 
 /// The end comes before all else, once ticks have come to it.

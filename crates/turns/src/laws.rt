@@ -8,7 +8,7 @@ ghost use Rattle.turns.specs.declared.turn.Turn.TheVariants.{Tick, Note, Wait};
 ghost use Rattle.turns.specs.Circle.{is_ready};
 ghost use Rattle.turns.specs.Clock.{longest_tick, longest_wait, is_over};
 ghost use Rattle.turns.specs.Schedule.{longest_unseen, met, is_tick_due, next_of};
-ghost use Rattle.turns.specs.Runs.{turns_from, is_turn_of, source_of, IsReadyIn, reading};
+ghost use Rattle.turns.specs.Runs.{turns_from, is_turn_of, source_of, is_round, IsReadyIn, reading};
 
 /// While a source is ready, and has no turn, each other one has one turn at most.
 pub fn who_is_ready_waits_for_one_turn_of_each_other()
@@ -36,4 +36,10 @@ pub fn nobody_who_is_ready_waits()
     ensures nobody { (s : Schedule) (at : Situation) (until : ℕ) (source : Source) → (next_of s at).0 ≡ Wait until →
         is_ready (is_tick_due (met s at) at) at.ready source ≡ false }
     ensures bounded { (s : Schedule) (at : Situation) (until : ℕ) → (next_of s at).0 ≡ Wait until → until ≤ at.moment + longest_wait }
+{}
+
+/// Nobody has a turn in a round where it wasn't asked for 2 ms what has come.
+pub fn nothing_is_taken_unseen()
+    ensures { (s : Schedule) (at : Situation) (source : Source) → is_round s at ≡ true → source_of (next_of s at).0 ≡ Some source →
+        at.moment - (met s at).looked < longest_unseen }
 {}

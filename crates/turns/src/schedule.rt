@@ -251,6 +251,9 @@ fn read_by(
         let read = at.read.saturating_sub(before);
         return noted(schedule, at, lateness, Some(read));
     };
+    if is_stale(schedule, at) {
+        return (Turn::Look, asked(schedule, at));
+    }
     let mode = Mode::Reading {
         lateness,
         before,
