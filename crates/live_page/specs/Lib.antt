@@ -4,4 +4,6 @@ pub mod Fields
 pub mod Serving
 pub mod Answering
 pub mod Places
+pub mod Seating
+pub mod Waiting
 pub mod Example

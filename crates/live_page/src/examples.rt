@@ -8,6 +8,9 @@ ghost use Rattle.live_page.specs.Asking.{route_of, is_refused, reading_status, r
 ghost use Rattle.live_page.specs.Fields.{kind_of, policy, kind_fields, fields_at};
 ghost use Rattle.live_page.specs.declared.fields.Content.TheVariants as contents;
 ghost use Rattle.live_page.specs.Places.{room_from, idlest, place_for};
+ghost use Rattle.live_page.specs.Seating.{held_by, seated};
+ghost use Rattle.live_page.specs.Waiting.{sooner, soonest_from};
+ghost use Rattle.live_ends.specs.declared.readiness.TheConstants.{MOST_VISITORS};
 ghost use Rattle.live_page.specs.Example.{here, at_port, elsewhere, once, this_host, other_host, third_host, mine, theirs, seven, eight, other_eight};
 ghost use Rattle.live_page.specs.declared.asked.Asked.TheVariants.{Strange, Reading, Acting, Forbidden, Unsuited, Missing};
 ghost use Rattle.live_page.specs.declared.route.Route.TheVariants.{Page, Style, Script, State, Metrics, Events, Phone, Nothing};
@@ -122,6 +125,20 @@ pub fn an_address_has_at_most_eight()
     ensures room { room_from 8 this_host (mine 1 ∷ theirs 2 ∷ None ∷ mine 3 ∷ []) ≡ 6 }
     ensures none_left { room_from 8 this_host (mine 1 ∷ eight) ≡ 0 }
     ensures nobody { idlest (Some other_host) seven ≡ None }
+    // Who comes sits there from that moment on, and the others where they sat.
+    ensures seated { seated (mine 5 ∷ None ∷ theirs 2 ∷ []) other_host 70 ≡ mine 5 ∷ theirs 70 ∷ theirs 2 ∷ [] }
+    ensures unseated { seated [] this_host 70 ≡ [] }
+    ensures held { held_by this_host (mine 1 ∷ theirs 2 ∷ None ∷ mine 3 ∷ []) ≡ 2 }
+    ensures places { MOST_VISITORS ≡ 16 }
+{}
+
+/// Of those who are waited for it is the first whose time is over.
+pub fn the_first_is_waited_for()
+    ensures first { sooner (Some 20) (Some 10) ≡ Some 10 }
+    ensures before { sooner (Some 10) (Some 20) ≡ Some 10 }
+    ensures nobody_before { sooner None (Some 20) ≡ Some 20 }
+    ensures free { sooner (Some 20) None ≡ Some 20 }
+    ensures nobody { soonest_from None (None ∷ None ∷ []) ≡ None }
 {}
 
 /// What is read says of what kind it is, and what a browser may make of it; what isn't there says nothing.

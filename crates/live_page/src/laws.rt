@@ -1,5 +1,6 @@
 //! Laws of what requests may do, for every request and every address.
-ghost use Rattle.std.specs.Prelude.{◌≡◌, ◌≢◌, ℕ, List, [], codes, IsTrue, Some, false};
+ghost use Rattle.std.specs.Prelude.{◌≡◌, ◌≢◌, ℕ, List, [], replicate, codes, IsTrue, Option, Some, None, false};
+ghost use Rattle.std.specs.declared.net.ipv4_addr.Ipv4Addr.{Ipv4Addr};
 ghost use Rattle.std.specs.declared.net.socket_addr.SocketAddrV4.{SocketAddrV4};
 ghost use Rattle.http.specs.declared.request.Parts.{Parts};
 ghost use Rattle.http.specs.declared.request.Request.{Request};
@@ -9,6 +10,8 @@ ghost use Rattle.http_server.specs.Response.{IsResponse};
 ghost use Rattle.live_page.specs.Access.{is_known_host, is_same_origin, is_origin_at};
 ghost use Rattle.live_page.specs.Asking.{asked_of, is_at_home, may_change, field};
 ghost use Rattle.live_page.specs.Answering.{Answers};
+ghost use Rattle.live_page.specs.declared.places.Seat.{Seat};
+ghost use Rattle.live_page.specs.Seating.{AreFew, seated};
 ghost use Rattle.live_page.specs.declared.asked.Asked.TheVariants.{Acting, Strange};
 ghost use Rattle.live_page.specs.declared.desk.Desk.{Desk};
 
@@ -33,4 +36,10 @@ pub fn another_host_is_told_nothing()
 pub fn a_strange_host_has_no_origin_here()
     ensures { (site : SocketAddrV4) (host origin : List ℕ) → IsTrue (is_same_origin site (Some host) (Some origin))
         → IsTrue (is_known_host site host) × IsTrue (is_origin_at host origin) }
+{}
+
+/// No address ever has more places than it may have, whoever comes and whenever; nobody who comes gets more than one.
+pub fn an_address_has_no_more_places_than_it_may()
+    ensures none { (places : ℕ) → AreFew (replicate places None) }
+    ensures few { (seats : List (Option Seat)) (host : Ipv4Addr) (now : ℕ) → AreFew seats → AreFew (seated seats host now) }
 {}

@@ -1,4 +1,7 @@
 //! The site: the socket at which browsers ask for the page, and whose turn it is.
+ghost use Rattle.std.specs.Prelude.{◌≡◌, ◌||◌, None, is_some, map};
+ghost use Rattle.live_page.specs.Waiting.{deadline_of, sooner, soonest_from, is_late, stays_at, has_more, is_behind, turn_from, next_turn};
+
 use crate::desk::Desk;
 use crate::places::{Seat, place_for};
 use crate::visitor::Visitor;
@@ -33,6 +36,80 @@ fn host_of(source: SocketAddr) -> Ipv4Addr {
     }
 }
 
+fn deadline_of(place: &Option<Box<Visitor>>) -> Option<u64>
+    ensures { result ≡ deadline_of place.now }
+{
+    match place {
+        Some(visitor) => Some(visitor.deadline),
+        None => None,
+    }
+}
+
+// Of two moments the earlier one, where there are two.
+fn sooner(next: Option<u64>, deadline: Option<u64>) -> Option<u64>
+    ensures { result ≡ sooner next deadline }
+{
+    match (next, deadline) {
+        (next, None) => next,
+        (None, Some(deadline)) => Some(deadline),
+        (Some(next), Some(deadline)) => Some(next.min(deadline)),
+    }
+}
+
+// The first moment at which somebody's time is over.
+#[tactic(auto, unfolding(crate::specs::Waiting::soonest_from))]
+fn soonest(places: &[Option<Box<Visitor>>]) -> Option<u64>
+    ensures { result ≡ soonest_from None places.now }
+{
+    let mut next = None;
+    for place in places {
+        next = sooner(next, deadline_of(place));
+    }
+    next
+}
+
+// Whether the time is over of whoever has the place.
+fn is_late(place: &Option<Box<Visitor>>, now: u64) -> bool
+    ensures { result ≡ is_late now place.now }
+{
+    match place {
+        Some(visitor) => visitor.deadline <= now,
+        None => false,
+    }
+}
+
+// Whether whoever has the place has more to do at once.
+fn has_more(place: &Option<Box<Visitor>>) -> bool
+    ensures { result ≡ has_more place.now }
+{
+    match place {
+        Some(visitor) => visitor.has_turn,
+        None => false,
+    }
+}
+
+fn is_behind(last: Option<usize>, place: usize) -> bool
+    ensures { result ≡ is_behind last place }
+{
+    match last {
+        Some(last) => last < place,
+        None => true,
+    }
+}
+
+// The first place behind this one, where one is meant, whose visitor has more to do.
+#[tactic(auto, unfolding(crate::specs::Waiting::turn_from))]
+fn turn_behind(places: &[Option<Box<Visitor>>], last: Option<usize>) -> Option<usize>
+    ensures { result ≡ turn_from last 0 places.now }
+{
+    for (place, held) in places.iter().enumerate() {
+        if is_behind(last, place) && has_more(held) {
+            return Some(place);
+        }
+    }
+    None
+}
+
 impl Site {
     /// A site at this address, whose sockets are watched from now on.
     pub fn open<R: Net>(
@@ -62,56 +139,50 @@ impl Site {
     }
 
     /// The address of its socket, where that is known.
-    pub fn address(&self) -> Option<SocketAddrV4> {
+    pub fn address(&self) -> Option<SocketAddrV4>
+        ensures { result ≡ self.now.address }
+    {
         self.address
     }
 
-    // The next place behind the last whose visitor has more to do.
-    fn next_place(&self) -> Option<usize> {
-        for step in 1..=MOST_VISITORS {
-            let place = (self.last % MOST_VISITORS + step) % MOST_VISITORS;
-            if let Some(Some(visitor)) = self.places.get(place) {
-                if visitor.has_turn {
-                    return Some(place);
-                }
-            }
+    // The next place behind the last whose visitor has more to do; behind all of them the first.
+    fn next_place(&self) -> Option<usize>
+        ensures { result ≡ next_turn self.now.last self.now.places.items }
+    {
+        let places = self.places.as_slice();
+        match turn_behind(places, Some(self.last)) {
+            Some(place) => Some(place),
+            None => turn_behind(places, None),
         }
-        None
     }
 
     /// Whether a visitor has more to do at once.
-    pub fn has_turn(&self) -> bool {
+    pub fn has_turn(&self) -> bool
+        ensures { result ≡ is_some (next_turn self.now.last self.now.places.items) }
+    {
         self.next_place().is_some()
     }
 
     /// Whether a visitor has, or somebody may have come.
-    pub fn is_busy(&self) -> bool {
+    pub fn is_busy(&self) -> bool
+        ensures { result ≡ (self.now.may_accept || is_some (next_turn self.now.last self.now.places.items)) }
+    {
         self.may_accept || self.has_turn()
     }
 
     /// The moment at which somebody's time is over, in ms.
-    pub fn next_deadline(&self) -> Option<u64> {
-        let mut next: Option<u64> = None;
-        for place in self.places.iter() {
-            if let Some(visitor) = place {
-                let deadline = visitor.deadline;
-                next = Some(match next {
-                    Some(earlier) => earlier.min(deadline),
-                    None => deadline,
-                });
-            }
-        }
-        next
+    pub fn next_deadline(&self) -> Option<u64>
+        ensures { result ≡ soonest_from None self.now.places.items }
+    {
+        soonest(self.places.as_slice())
     }
 
     /// Those whose time is over go.
-    pub fn close_late(&mut self, now: u64) {
+    pub fn close_late(&mut self, now: u64)
+        ensures { self.new.places.items ≡ map (stays_at now) self.old.places.items }
+    {
         for place in self.places.iter_mut() {
-            let is_late = match place {
-                Some(visitor) => visitor.deadline <= now,
-                None => false,
-            };
-            if is_late {
+            if is_late(place, now) {
                 *place = None;
             }
         }
