@@ -2,3 +2,4 @@ pub mod TickLaws
 pub mod ReadingLaws
 pub mod PieceLaws
 pub mod ReplayLaws
+pub mod LiveLaws

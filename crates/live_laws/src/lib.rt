@@ -2,6 +2,7 @@
 #![tactic(auto)]
 
 pub mod lines;
+pub mod live;
 pub mod replays;
 pub mod shown;
 pub mod ticks;
