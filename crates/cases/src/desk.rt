@@ -6,16 +6,20 @@
 //! - `<`, `>` a datagram comes from the first gateway, 127.0.0.1:2427, or goes there, or from and to the address behind them.
 //! - `type AUEP ..` this is typed at the socket for commands.
 //! - `print ..` a line of standard output.
-use crate::stories::{Place, Program, Records, Story, Transcript, Words, put_given, words_in};
+use crate::stories::{
+    Place, Program, Records, Story, Transcript, Words, is_told, put_given, words_in,
+};
+use crate::titled::Titled;
 use agent_texts::{AgentConfig, ConfigRefusal, Journal, read_config};
 use bad_network::BadNetwork;
 use call_desk::Switchboard;
 use live_agent::{Recorder, Wire, serve};
 use live_ends::Written;
 use live_gateway::boxed;
+use mg_bytes::OutOfMemory;
 use scenario_files::refused;
 use std::alloc::{AllocError, Global};
-use std::net::{Ipv4Addr, SocketAddrV4};
+use std::net::{Ipv4Addr, Net, SocketAddrV4};
 use std::{io, mem};
 use surroundings::{Scripted, Surroundings};
 
@@ -73,23 +77,20 @@ fn wire_of(alloc: Global, words: &Words, story: &mut Story) -> io::Result<Box<Wi
         None => None,
     };
     let journal = journal_of(alloc, words)?;
-    let mut around = mem::replace(&mut story.around, Scripted::new(alloc, words.own));
-    around.own = words.own;
+    let own = words.own;
+    let mut around = mem::replace(&mut story.around, Scripted::new(alloc, own));
+    around.own = own;
     let end = words.stop_after.unwrap_or(story.moment.saturating_add(1));
     let wire = Wire::new(alloc, around, network, journal, Some(end))?;
     Ok(boxed(alloc, wire)?)
 }
 
-// Serves to the end, and puts what is given, with what was counted, where that is asked for.
-fn run(
-    alloc: Global,
-    board: &mut Switchboard,
+// Puts what is given at the end, with what was counted, where that is asked for.
+fn end(
     wire: &mut Wire<Scripted>,
+    records: &mut Records,
     is_counted: bool,
-    given: &mut Transcript,
-) -> io::Result<()> {
-    let mut records = Records::new(alloc, wire.around.time(), Written::ALL);
-    let _ = serve(alloc, board, wire, &mut records);
+) -> Result<(), OutOfMemory> {
     let time = wire.around.time();
     records.write(&mut wire.journal, time);
     if is_counted {
@@ -97,25 +98,53 @@ fn run(
         let moment = records.moment_of(time);
         records.given.tell(moment, b"count ", counts.as_slice());
     }
-    put_given(alloc, given, &wire.around);
-    given.append(&mut records.given);
     Ok(())
 }
 
-// Runs a call agent of this configuration by a story, and puts what it gives.
+// Serves to the end, and puts what is given.
+fn run(
+    alloc: Global,
+    board: &mut Switchboard,
+    wire: &mut Wire<Scripted>,
+    is_counted: bool,
+    given: &mut Transcript,
+) {
+    let mut records = Records::new(alloc, wire.around.time(), Written::ALL);
+    let _ = serve(alloc, board, wire, &mut records);
+    if end(wire, &mut records, is_counted).is_err() {
+        given.refuse();
+    }
+    put_given(alloc, given, &wire.around);
+    given.append(&mut records.given);
+}
+
+// Plays a story with a call agent of this configuration.
 fn play_with(
     alloc: Global,
     words: &Words,
     config: &AgentConfig,
     story: &mut Story,
     given: &mut Transcript,
-) -> io::Result<()> {
+) -> io::Result<bool> {
     let opened = story.around.time() / MICROSECONDS;
     let mut wire = wire_of(alloc, words, story)?;
     let mut board = Switchboard::of(alloc, config, words.is_routed, opened)?;
-    let ran = run(alloc, &mut board, &mut wire, story.is_counted, given);
+    run(alloc, &mut board, &mut wire, story.is_counted, given);
     board.close();
-    ran
+    Ok(true)
+}
+
+// Plays a story where the program is called with these words.
+fn play_asked(
+    alloc: Global,
+    words: &Words,
+    story: &mut Story,
+    given: &mut Transcript,
+) -> io::Result<bool> {
+    match config_in(alloc, story.settings.as_str())? {
+        Some(config) => play_with(alloc, words, &config, story, given),
+        None => Ok(false),
+    }
 }
 
 impl Program for CallAgent {
@@ -130,13 +159,15 @@ impl Program for CallAgent {
     }
 
     fn play(alloc: Global, story: &mut Story, given: &mut Transcript) -> io::Result<bool> {
-        let Some(words) = words_in(alloc, story.words.as_slice(), CallAgent::place().own)? else {
-            return Ok(false);
-        };
-        let Some(config) = config_in(alloc, story.settings.as_str())? else {
-            return Ok(false);
-        };
-        play_with(alloc, &words, &config, story, given)?;
-        Ok(true)
+        match words_in(alloc, story.words.as_slice(), CallAgent::place().own)? {
+            Some(words) => play_asked(alloc, &words, story, given),
+            None => Ok(false),
+        }
+    }
+}
+
+impl Titled for CallAgent {
+    fn is_told<R: AllocGlobal + Net + Print>(rt: &R, title: &str, lines: &str) -> io::Result<bool> {
+        is_told::<CallAgent, R>(rt, title, lines)
     }
 }

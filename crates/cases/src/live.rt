@@ -15,7 +15,10 @@
 mod browsers;
 
 use crate::live::browsers::Browsers;
-use crate::stories::{Place, Program, Records, Story, Transcript, Words, put_given, words_in};
+use crate::stories::{
+    Place, Program, Records, Story, Transcript, Words, is_told, put_given, words_in,
+};
+use crate::titled::Titled;
 use bad_network::BadNetwork;
 use gateway_core::Gateway;
 use live_ends::{Now, Written};
@@ -27,7 +30,7 @@ use rgw_play::{PlayFault, gateway_from};
 use scenario_files::{input_of, read_scenario, refused};
 use std::alloc::{AllocError, Global};
 use std::collections::VecDeque;
-use std::net::{Ipv4Addr, SocketAddrV4};
+use std::net::{Ipv4Addr, Net, SocketAddrV4};
 use std::{io, mem};
 use surroundings::{Lines, Scripted, Surroundings};
 use traces::{put_verdict, replay};
@@ -111,8 +114,9 @@ fn exchange_of(
 ) -> Result<Box<Exchange<Scripted>>, AllocError> {
     let network = network_of(alloc, words, gateway)?;
     let journal = journal_of(alloc, words, gateway)?;
-    let mut around = mem::replace(&mut story.around, Scripted::new(alloc, words.own));
-    around.own = words.own;
+    let own = words.own;
+    let mut around = mem::replace(&mut story.around, Scripted::new(alloc, own));
+    around.own = own;
     let now = Now {
         clock: 0,
         time: around.time(),
@@ -189,7 +193,7 @@ fn run(
     story: &Story,
     is_ended: bool,
     given: &mut Transcript,
-) -> io::Result<()> {
+) -> io::Result<bool> {
     let opened = desk.exchange.around.time();
     let mut records = Records::new(alloc, opened, story.written);
     desk.run(visitors, &mut records);
@@ -202,7 +206,36 @@ fn run(
         given.append(&mut browsers.given);
     }
     given.append(&mut records.given);
-    Ok(())
+    Ok(true)
+}
+
+// Plays a story with a gateway of this configuration.
+fn play_with(
+    alloc: Global,
+    words: &Words,
+    config: &str,
+    gateway: Box<Gateway>,
+    story: &mut Story,
+    given: &mut Transcript,
+) -> io::Result<bool> {
+    let mut visitors = visitors_of(alloc, words, story)?;
+    let mut desk = desk_of(alloc, words, config, gateway, story)?;
+    let is_ended = words.stop_after.is_some();
+    run(alloc, &mut desk, &mut visitors, story, is_ended, given)
+}
+
+// Plays a story where the program is called with these words.
+fn play_asked(
+    alloc: Global,
+    words: &Words,
+    story: &mut Story,
+    given: &mut Transcript,
+) -> io::Result<bool> {
+    let config = config_of(alloc, story.settings.as_str())?;
+    match gateway_in(alloc, config.as_str(), words)? {
+        Some(gateway) => play_with(alloc, words, config.as_str(), gateway, story, given),
+        None => Ok(false),
+    }
 }
 
 impl Program for Live {
@@ -217,17 +250,15 @@ impl Program for Live {
     }
 
     fn play(alloc: Global, story: &mut Story, given: &mut Transcript) -> io::Result<bool> {
-        let Some(words) = words_in(alloc, story.words.as_slice(), Live::place().own)? else {
-            return Ok(false);
-        };
-        let config = config_of(alloc, story.settings.as_str())?;
-        let Some(gateway) = gateway_in(alloc, config.as_str(), &words)? else {
-            return Ok(false);
-        };
-        let mut visitors = visitors_of(alloc, &words, story)?;
-        let mut desk = desk_of(alloc, &words, config.as_str(), gateway, story)?;
-        let is_ended = words.stop_after.is_some();
-        run(alloc, &mut desk, &mut visitors, story, is_ended, given)?;
-        Ok(true)
+        match words_in(alloc, story.words.as_slice(), Live::place().own)? {
+            Some(words) => play_asked(alloc, &words, story, given),
+            None => Ok(false),
+        }
+    }
+}
+
+impl Titled for Live {
+    fn is_told<R: AllocGlobal + Net + Print>(rt: &R, title: &str, lines: &str) -> io::Result<bool> {
+        is_told::<Live, R>(rt, title, lines)
     }
 }

@@ -15,10 +15,12 @@ mod played;
 mod scripts;
 mod stories;
 mod streams;
+mod titled;
 
 use crate::calls::Calls;
 use crate::desk::CallAgent;
 use crate::live::Live;
+use crate::scripts::Scripts;
 use crate::streams::StreamScenario;
 use rows::Rows;
 use scenario_files::{Count, Kinds, play};
@@ -38,10 +40,10 @@ impl Kinds for All {
         text: &str,
     ) -> io::Result<Option<Count>> {
         let told = match kind {
-            "scripts" => scripts::told(rt, text),
+            "scripts" => titled::told::<Scripts, R>(rt, text),
             "program" => scenario_files::told::<Calls, R>(rt, text),
-            "desk" => stories::told::<CallAgent, R>(rt, text),
-            "live" => stories::told::<Live, R>(rt, text),
+            "desk" => titled::told::<CallAgent, R>(rt, text),
+            "live" => titled::told::<Live, R>(rt, text),
             "streams" => scenario_files::told::<StreamScenario, R>(rt, text),
             _ => return told_below(rt, kind, text),
         };

@@ -16,11 +16,16 @@
 //! - Before each step of a scenario without an exit status the player puts a mark: a step `show 65535`, which prints
 //!   `! 4 NoSuchLine`. So an output that stands behind another cause differs.
 use crate::played::printed_by;
-use scenario_files::{Count, Pieces, WrittenScenario, read_scenario};
+use crate::titled::{Titled, tell_unlike};
+use scenario_files::{WrittenScenario, read_scenario};
 use std::io;
 use std::net::Net;
 
-// Whether the program with these words prints what the scenario says. What differs is printed.
+/// Scripts of the program.
+pub struct Scripts;
+
+// Whether the program with these words prints what the scenario says. What differs is printed, `! 4 NoSuchLine` before what each step
+// gives.
 fn is_told_by<R: AllocGlobal + Net + Print>(
     rt: &R,
     title: &str,
@@ -28,13 +33,9 @@ fn is_told_by<R: AllocGlobal + Net + Print>(
     words: &str,
 ) -> io::Result<bool> {
     let printed = printed_by(rt, scenario, words)?;
-    if printed.as_slice() == scenario.printed.as_bytes() {
-        return Ok(true);
-    }
-    println!(rt; "= {title}\n{words} prints this, ! 4 NoSuchLine before what each step gives:")?;
-    rt.print(String::from_utf8_lossy(rt.alloc(), &printed)?)?;
-    println!(rt; "and not this:\n{}", scenario.printed)?;
-    Ok(false)
+    let who = format!(in rt.alloc(); "{words} prints")?;
+    let wanted = scenario.printed.as_bytes();
+    tell_unlike(rt, title, who.as_str(), &printed, wanted)
 }
 
 // Whether a scenario says that its script is played: what can't be played has an exit status.
@@ -42,28 +43,17 @@ fn is_played(text: &str) -> bool {
     text.lines().all(|line| !line.starts_with("status "))
 }
 
-// Whether the scenario's output is as it is told, that of each cause behind a mark. What can't be played has no marks: it
-// prints nothing of its causes, and may say a line's number.
-fn is_told<R: AllocGlobal + Net + Print>(rt: &R, title: &str, text: &str) -> io::Result<bool> {
-    let scenario = read_scenario(rt.alloc(), text, is_played(text))?;
-    if !scenario.words.is_empty() {
-        return is_told_by(rt, title, &scenario, scenario.words.as_str());
-    }
-    Ok(
-        is_told_by(rt, title, &scenario, "simulate")?
-            && is_told_by(rt, title, &scenario, "loopback")?,
-    )
-}
-
-/// Tells the scenarios of a file.
-pub fn told<R: AllocGlobal + Net + Print>(rt: &R, text: &str) -> io::Result<Count> {
-    let mut pieces = Pieces::new(rt.alloc());
-    let mut count = Count::nothing();
-    for block in text.split("\n= ").skip(1) {
-        let (title, lines) = block.split_once('\n').unwrap_or((block, ""));
-        if let Some(lines) = pieces.lines_under(rt.alloc(), title, lines)? {
-            count.put(is_told(rt, title, lines.as_str())?);
+// The scenario's output has to be as it is told, that of each cause behind a mark. What can't be played has no marks: it prints
+// nothing of its causes, and may say a line's number.
+impl Titled for Scripts {
+    fn is_told<R: AllocGlobal + Net + Print>(rt: &R, title: &str, lines: &str) -> io::Result<bool> {
+        let scenario = read_scenario(rt.alloc(), lines, is_played(lines))?;
+        if !scenario.words.is_empty() {
+            return is_told_by(rt, title, &scenario, scenario.words.as_str());
         }
+        Ok(
+            is_told_by(rt, title, &scenario, "simulate")?
+                && is_told_by(rt, title, &scenario, "loopback")?,
+        )
     }
-    Ok(count)
 }

@@ -13,7 +13,7 @@ use crate::stories::story::read_story;
 pub use crate::stories::story::{Place, Story, Visit};
 pub use crate::stories::transcript::Transcript;
 pub use crate::stories::words::{Words, words_in};
-use scenario_files::{Count, Pieces};
+use crate::titled::tell_unlike;
 use std::alloc::Global;
 use std::io;
 
@@ -26,40 +26,27 @@ pub trait Program {
     fn play(alloc: Global, story: &mut Story, given: &mut Transcript) -> io::Result<bool>;
 }
 
-// Whether a program gives what a story says. What differs is printed.
-fn is_told<P: Program, R: AllocGlobal + Print>(
+// What a program gives, and what a story says that it gives; nothing where it doesn't run.
+fn texts_of<P: Program>(alloc: Global, lines: &str) -> io::Result<Option<(Vec<u8>, Vec<u8>)>> {
+    let mut story = read_story(alloc, lines, P::place())?;
+    let mut given = Transcript::new(alloc);
+    if !P::play(alloc, &mut story, &mut given)? {
+        return Ok(None);
+    }
+    Ok(Some((given.text()?, story.wanted.text()?)))
+}
+
+/// Whether a program gives what a story says. What differs is printed.
+pub fn is_told<P: Program, R: AllocGlobal + Print>(
     rt: &R,
     title: &str,
     lines: &str,
 ) -> io::Result<bool> {
-    let alloc = rt.alloc();
-    let mut story = read_story(alloc, lines, P::place())?;
-    let mut given = Transcript::new(alloc);
-    if !P::play(alloc, &mut story, &mut given)? {
-        println!(rt; "= {title}\n  it can't be played")?;
-        return Ok(false);
-    }
-    let given = given.text()?;
-    let wanted = story.wanted.text()?;
-    if given.as_slice() == wanted.as_slice() {
-        return Ok(true);
-    }
-    println!(rt; "= {title}\nthe program gives this:")?;
-    rt.print(String::from_utf8_lossy(alloc, &given)?)?;
-    println!(rt; "and not this:")?;
-    rt.print(String::from_utf8_lossy(alloc, &wanted)?)?;
-    Ok(false)
-}
-
-/// Tells the stories of a file.
-pub fn told<P: Program, R: AllocGlobal + Print>(rt: &R, text: &str) -> io::Result<Count> {
-    let mut pieces = Pieces::new(rt.alloc());
-    let mut count = Count::nothing();
-    for block in text.split("\n= ").skip(1) {
-        let (title, lines) = block.split_once('\n').unwrap_or((block, ""));
-        if let Some(lines) = pieces.lines_under(rt.alloc(), title, lines)? {
-            count.put(is_told::<P, R>(rt, title, lines.as_str())?);
+    match texts_of::<P>(rt.alloc(), lines)? {
+        Some((given, wanted)) => tell_unlike(rt, title, "the program gives", &given, &wanted),
+        None => {
+            println!(rt; "= {title}\n  it can't be played")?;
+            Ok(false)
         }
     }
-    Ok(count)
 }

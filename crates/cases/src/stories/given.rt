@@ -10,17 +10,26 @@ pub fn typist() -> SocketAddrV4 {
     SocketAddrV4::new(Ipv4Addr::LOCALHOST, 40000)
 }
 
-// A datagram, as a story tells it.
-fn datagram_text(alloc: Global, datagram: &SentDatagram) -> Result<Vec<u8>, OutOfMemory> {
-    let to = datagram.to;
-    let head = format!(in alloc; "> {to}\n")?;
-    let mut text = Vec::from_slice(alloc, head.as_bytes())?;
-    for line in lines(datagram.bytes.as_slice()) {
+// Puts the lines of a datagram.
+fn put_lines(text: &mut Vec<u8>, bytes: &[u8]) -> Result<(), OutOfMemory> {
+    for line in lines(bytes) {
         text.extend_from_slice(line)?;
         text.push(b'\n')?;
     }
-    text.extend_from_slice(b"--\n")?;
-    Ok(text)
+    Ok(())
+}
+
+// Puts a datagram, as a story tells it.
+fn put_datagram(
+    alloc: Global,
+    text: &mut Vec<u8>,
+    datagram: &SentDatagram,
+) -> Result<(), OutOfMemory> {
+    let to = datagram.to;
+    let head = format!(in alloc; "> {to}\n")?;
+    text.extend_from_slice(head.as_bytes())?;
+    put_lines(text, datagram.bytes.as_slice())?;
+    text.extend_from_slice(b"--\n")
 }
 
 // Puts those from this place on and before the other, but what couldn't be sent.
@@ -30,7 +39,9 @@ fn put_sent(alloc: Global, given: &mut Transcript, around: &Scripted, from: usiz
             continue;
         }
         if let Some(datagram) = around.sent.get(place) {
-            given.put(datagram.moment, datagram_text(alloc, datagram));
+            let mut text = Vec::new(alloc);
+            let put = put_datagram(alloc, &mut text, datagram);
+            given.put(datagram.moment, put, text);
         }
     }
 }

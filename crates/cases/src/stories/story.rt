@@ -46,6 +46,8 @@ pub struct Story {
     pub is_counted: bool,
     /// The moment of which was told last, in ms.
     pub moment: u64,
+    // Where the next line stands.
+    place: LinePlace,
     // The other end of a datagram where none is said; that of the datagram whose lines are read, and these.
     usual: SocketAddrV4,
     peer: SocketAddrV4,
@@ -60,10 +62,67 @@ enum LinePlace {
     InSent,
 }
 
+// What a line says, by its first word.
+#[derive(Clone, Copy)]
+enum Says {
+    Heard,
+    Sent,
+    At,
+    Set,
+    Words,
+    Raw,
+    Typed,
+    Asks,
+    Looks,
+    Pause,
+    Fault,
+    Dropped,
+    Failed,
+    Nothing,
+    // This is to be given.
+    Given,
+}
+
+const FIRST_WORDS: [(&str, Says); 15] = [
+    ("<", Says::Heard),
+    (">", Says::Sent),
+    ("at", Says::At),
+    ("set", Says::Set),
+    ("words", Says::Words),
+    ("raw", Says::Raw),
+    ("type", Says::Typed),
+    ("ask", Says::Asks),
+    ("look", Says::Looks),
+    ("pause", Says::Pause),
+    ("fault", Says::Fault),
+    ("dropped", Says::Dropped),
+    ("failed", Says::Failed),
+    ("#", Says::Nothing),
+    ("", Says::Nothing),
+];
+
+fn said_by(word: &str) -> Says {
+    for (first, says) in FIRST_WORDS.iter() {
+        if *first == word {
+            return *says;
+        }
+    }
+    Says::Given
+}
+
 // A value in full, as its bytes.
 fn value_in(alloc: Global, words: &str) -> io::Result<Vec<u8>> {
     let full = in_full(alloc, words)?;
     bytes_of(alloc, full.as_str())
+}
+
+// Puts the lines of a datagram that comes, without the blanks round them.
+fn put_heard(bytes: &mut Vec<u8>, text: &str) -> io::Result<()> {
+    for line in text.lines() {
+        bytes.extend_from_slice(line.trim().as_bytes())?;
+        bytes.extend_from_slice(b"\r\n")?;
+    }
+    Ok(())
 }
 
 impl Story {
@@ -78,6 +137,7 @@ impl Story {
             wanted: Transcript::new(alloc),
             is_counted: false,
             moment: 0,
+            place: LinePlace::Between,
             usual: at.peer,
             peer: at.peer,
             datagram: String::new(alloc),
@@ -126,98 +186,106 @@ impl Story {
         Ok(())
     }
 
+    // A word that it is called with.
+    fn put_word(&mut self, word: &str) -> io::Result<()> {
+        let word = word.to_string(self.alloc)?;
+        Ok(self.words.push(word)?)
+    }
+
+    // A socket fails.
+    fn put_fault(&mut self, rest: &str) -> io::Result<()> {
+        if rest == "send" {
+            return self.add(Happening::SendFault);
+        }
+        self.add(Happening::ReceiveFault)
+    }
+
     // This record can't be written.
     fn put_failed(&mut self, name: &str) {
-        let faults = match name {
-            "standard output" => &mut self.written.output,
-            "standard error" => &mut self.written.error,
-            _ => &mut self.written.capture,
-        };
-        *faults = 1;
+        match name {
+            "standard output" => self.written.output = 1,
+            "standard error" => self.written.error = 1,
+            _ => self.written.capture = 1,
+        }
+    }
+
+    // A datagram's lines follow, of that address or of the usual one.
+    fn begin(&mut self, place: LinePlace, peer: &str) {
+        self.peer = self.peer_in(peer);
+        self.place = place;
+        self.datagram.clear();
     }
 
     // A line that stands between datagrams: what it is called with, what comes, or what is to be given.
     fn put_between(&mut self, line: &str) -> io::Result<()> {
         let (word, rest) = line.split_once(' ').unwrap_or((line, ""));
-        match word {
-            "at" => self.moment = number_in(rest),
-            "set" => put_line(&mut self.settings, rest)?,
-            "words" => self.words.push(rest.to_string(self.alloc)?)?,
-            "raw" => self.put_raw(rest)?,
-            "type" => self.put_typed(rest)?,
-            "ask" => self.put_visit(rest, false)?,
-            "look" => self.put_visit(rest, true)?,
-            "pause" => {
-                let ms = number_in(rest);
-                self.add(Happening::Pause { ms })?;
+        match said_by(word) {
+            Says::Set => return put_line(&mut self.settings, rest),
+            Says::Words => return self.put_word(rest),
+            Says::Raw => return self.put_raw(rest),
+            Says::Typed => return self.put_typed(rest),
+            Says::Asks => return self.put_visit(rest, false),
+            Says::Looks => return self.put_visit(rest, true),
+            Says::Fault => return self.put_fault(rest),
+            Says::Pause => {
+                return self.add(Happening::Pause {
+                    ms: number_in(rest),
+                });
             }
-            "fault" if rest == "send" => self.add(Happening::SendFault)?,
-            "fault" => self.add(Happening::ReceiveFault)?,
-            "dropped" => self.written.dropped = number_in(rest),
-            "failed" => self.put_failed(rest),
-            "" | "#" => {}
-            _ => {
-                self.is_counted = self.is_counted || word == "count";
-                self.wanted.tell(self.moment, b"", line.as_bytes());
-            }
+            Says::Heard => self.begin(LinePlace::InHeard, rest),
+            Says::Sent => self.begin(LinePlace::InSent, rest),
+            Says::At => self.moment = number_in(rest),
+            Says::Dropped => self.written.dropped = number_in(rest),
+            Says::Failed => self.put_failed(rest),
+            Says::Nothing => {}
+            Says::Given => self.want(word, line),
         }
         Ok(())
     }
 
+    // This is to be given.
+    fn want(&mut self, word: &str, line: &str) {
+        self.is_counted = self.is_counted || word == "count";
+        self.wanted.tell(self.moment, b"", line.as_bytes());
+    }
+
     // The lines of a datagram that comes are whole.
     fn end_heard(&mut self) -> io::Result<()> {
+        self.place = LinePlace::Between;
         let full = in_full(self.alloc, self.datagram.as_str())?;
         let mut bytes = Vec::new(self.alloc);
-        for line in full.as_str().lines() {
-            bytes.extend_from_slice(line.trim().as_bytes())?;
-            bytes.extend_from_slice(b"\r\n")?;
-        }
+        put_heard(&mut bytes, full.as_str())?;
         let source = self.peer;
         self.add(Happening::Datagram { source, bytes })
     }
 
     // The lines of a datagram that goes out are whole.
     fn end_sent(&mut self) -> io::Result<()> {
+        self.place = LinePlace::Between;
         let full = in_full(self.alloc, self.datagram.as_str())?;
         let peer = self.peer;
         let text = format!(in self.alloc; "> {peer}\n{full}--\n")?;
-        let bytes = Vec::from_slice(self.alloc, text.as_bytes())?;
-        self.wanted.put(self.moment, Ok(bytes));
+        let mut bytes = Vec::new(self.alloc);
+        let put = bytes.extend_from_slice(text.as_bytes());
+        self.wanted.put(self.moment, put, bytes);
         Ok(())
     }
 
-    // Takes a line, where it stands: where the next one does.
-    fn put(&mut self, place: LinePlace, line: &str) -> io::Result<LinePlace> {
-        match place {
-            LinePlace::Between if line.starts_with("<") || line.starts_with(">") => {
-                let is_heard = line.starts_with("<");
-                let (_, peer) = line.split_once(' ').unwrap_or((line, ""));
-                self.peer = self.peer_in(peer);
-                self.datagram.clear();
-                return Ok(if is_heard {
-                    LinePlace::InHeard
-                } else {
-                    LinePlace::InSent
-                });
-            }
-            LinePlace::Between => self.put_between(line)?,
-            LinePlace::InHeard if line == "--" => self.end_heard()?,
-            LinePlace::InSent if line == "--" => self.end_sent()?,
-            LinePlace::InHeard | LinePlace::InSent => {
-                put_line(&mut self.datagram, line)?;
-                return Ok(place);
-            }
+    fn put(&mut self, line: &str) -> io::Result<()> {
+        match self.place {
+            LinePlace::Between => self.put_between(line),
+            LinePlace::InHeard if line == "--" => self.end_heard(),
+            LinePlace::InSent if line == "--" => self.end_sent(),
+            LinePlace::InHeard | LinePlace::InSent => put_line(&mut self.datagram, line),
         }
-        Ok(LinePlace::Between)
     }
 }
 
 /// Reads a story of a program that is there.
 pub fn read_story(alloc: Global, text: &str, at: Place) -> io::Result<Box<Story>> {
     let mut story = Box::new(alloc, Story::new(alloc, at))?;
-    let mut place = LinePlace::Between;
     for line in text.lines() {
-        place = story.put(place, line)?;
+        story.put(line)?;
     }
     Ok(story)
 }

@@ -35,18 +35,29 @@ fn rank_of(text: &[u8]) -> usize {
     0
 }
 
-// The lines of a text but empty ones, each behind this.
-fn lines_behind(alloc: Global, before: &[u8], text: &[u8]) -> Result<Vec<u8>, OutOfMemory> {
-    let mut out = Vec::new(alloc);
+// Puts a line behind this.
+fn put_line(out: &mut Vec<u8>, before: &[u8], line: &[u8]) -> Result<(), OutOfMemory> {
+    out.extend_from_slice(before)?;
+    out.extend_from_slice(line)?;
+    Ok(out.push(b'\n')?)
+}
+
+// Puts the lines of a text but empty ones, each behind this.
+fn put_lines(out: &mut Vec<u8>, before: &[u8], text: &[u8]) -> Result<(), OutOfMemory> {
     for line in text.split(|byte| *byte == b'\n') {
         let line = line.strip_suffix(b"\r".as_slice()).unwrap_or(line);
         if !line.is_empty() {
-            out.extend_from_slice(before)?;
-            out.extend_from_slice(line)?;
-            out.push(b'\n')?;
+            put_line(out, before, line)?;
         }
     }
-    Ok(out)
+    Ok(())
+}
+
+// Puts the line that a moment is.
+fn put_moment(alloc: Global, out: &mut Vec<u8>, moment: u64) -> Result<(), OutOfMemory> {
+    out.extend_from_slice(b"at ")?;
+    put_decimal(alloc, out, moment)?;
+    Ok(out.push(b'\n')?)
 }
 
 impl Transcript {
@@ -64,11 +75,12 @@ impl Transcript {
         self.is_refused = true;
     }
 
-    /// This was given then, unless memory was refused for it.
-    pub fn put(&mut self, moment: u64, text: Result<Vec<u8>, OutOfMemory>) {
-        let Ok(text) = text else {
-            return self.refuse();
-        };
+    /// This text was given then, where memory was there to put it.
+    pub fn put(&mut self, moment: u64, put: Result<(), OutOfMemory>, text: Vec<u8>) {
+        self.is_refused = self.is_refused || put.is_err();
+        if text.is_empty() {
+            return;
+        }
         let rank = rank_of(text.as_slice());
         if self.entries.push(Entry { moment, rank, text }).is_err() {
             self.refuse();
@@ -78,7 +90,9 @@ impl Transcript {
     /// The lines of this text were given then, each behind this.
     pub fn tell(&mut self, moment: u64, before: &[u8], text: &[u8]) {
         if !text.is_empty() {
-            self.put(moment, lines_behind(self.alloc, before, text));
+            let mut lines = Vec::new(self.alloc);
+            let put = put_lines(&mut lines, before, text);
+            self.put(moment, put, lines);
         }
     }
 
@@ -98,9 +112,7 @@ impl Transcript {
         for entry in self.entries.iter() {
             if last != Some(entry.moment) {
                 last = Some(entry.moment);
-                out.extend_from_slice(b"at ")?;
-                put_decimal(self.alloc, out, entry.moment)?;
-                out.push(b'\n')?;
+                put_moment(self.alloc, out, entry.moment)?;
             }
             out.extend_from_slice(entry.text.as_slice())?;
         }

@@ -57,8 +57,8 @@ pub fn words_in(
     alloc: Global,
     words: &[String],
     own: [SocketAddrV4; 2],
-) -> io::Result<Option<Words>> {
-    let mut asked = Words {
+) -> io::Result<Option<Box<Words>>> {
+    let asked = Words {
         own,
         http: None,
         has_log: false,
@@ -69,6 +69,7 @@ pub fn words_in(
         first: FirstNumber::zero(),
         stop_after: None,
     };
+    let mut asked = Box::new(alloc, asked)?;
     for word in words {
         let word = word.as_str();
         let (name, value) = word.split_once(' ').unwrap_or((word, ""));
