@@ -92,13 +92,13 @@ impl Flight {
     }
 
     /// Whether it is over at a moment (in ms): answered by a response with this id and return code; without a response, given up.
-    pub(crate) fn is_over(&mut self, response: Option<(TransactionId, u16)>, moment: u64) -> bool
-        ensures over { (result, self.new.pending) ≡ over_by response self.old.pending moment }
+    pub(crate) fn is_over(&mut self, response: &Option<(TransactionId, u16)>, moment: u64) -> bool
+        ensures over { (result, self.new.pending) ≡ over_by response.now self.old.pending moment }
         ensures line { self.new.line ≡ self.old.line }
     {
         match response {
             None => is_given_up(&mut self.pending, moment),
-            Some((id, code)) => is_answered(&mut self.pending, id, code, moment),
+            Some((id, code)) => is_answered(&mut self.pending, *id, *code, moment),
         }
     }
 }

@@ -78,8 +78,9 @@ impl Gateway {
           lines = lines;
           first = first_id time;
         }) }
-        ensures kept { IfOk result (λ made. (made.address, made.domain, made.first, made.lines) ≡ (address, domain.now, first, lines)) }
-        ensures quiet { IfOk result (λ made. (made.flights.items, made.ticked, made.announced) ≡ ([], 0, None)) }
+        ensures named { IfOk result (λ made. (made.address ≡ address) × (made.domain ≡ domain.now)) }
+        ensures lines { IfOk result (λ made. (made.first ≡ first) × (made.lines ≡ lines)) }
+        ensures quiet { IfOk result (λ made. (made.flights.items ≡ []) × (made.ticked ≡ 0) × (made.announced ≡ None)) }
     {
         let kept = copied(alloc, domain)?;
         let named = copied(alloc, domain)?;
@@ -140,7 +141,7 @@ impl Gateway {
         let now = self.ticked;
         for place in 0..self.flights.len() {
             let is_over = match self.flights.get_mut(place) {
-                Some(flight) => flight.is_over(response, now),
+                Some(flight) => flight.is_over(&response, now),
                 None => false,
             };
             if is_over && place < self.flights.len() {

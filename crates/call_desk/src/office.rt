@@ -1,7 +1,7 @@
 //! The exchange in the program's hands: which command each line is sent, and what its answer means for the line's calls.
 //!
 //! Nothing goes over all lines but the opening: those to which something has happened wait, and are settled.
-ghost use Rattle.std.specs.Prelude.{◌≡◌, ◌×◌, ◌⊎◌, ℕ, true, length, replicate, IfOk, IfSome, OnOk, OnErr, option_map, slice_get, slice_set};
+ghost use Rattle.std.specs.Prelude.{◌≡◌, ◌⊎◌, ℕ, true, length, replicate, IfOk, IfSome, OnOk, OnErr, option_map, slice_get, slice_set};
 ghost use Rattle.call_routing.specs.Phases.{named_by};
 ghost use Rattle.call_routing.specs.Exchange.{opening, phase_of, flight_in, line_of};
 ghost use Rattle.call_routing.specs.Numbers.{told_in};
