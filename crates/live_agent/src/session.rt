@@ -201,13 +201,15 @@ fn stop_request<S: Surroundings + Drop>(wire: &Wire<S>) -> Request {
 
 fn request_of<S: Surroundings + Drop>(alloc: Global, wire: &Wire<S>) -> Option<Request> {
     let line = wire.lines.line()?;
-    match line {
-        b"counts" => Some(Request::Counts),
-        b"stop" | b"quit" => Some(stop_request(wire)),
-        _ => match typed_text(alloc, line, wire.lines.rest()) {
-            Ok(text) => Some(Request::Command { text }),
-            Err(_) => Some(Request::OutOfMemory),
-        },
+    if line == b"counts".as_slice() {
+        return Some(Request::Counts);
+    }
+    if line == b"stop".as_slice() || line == b"quit".as_slice() {
+        return Some(stop_request(wire));
+    }
+    match typed_text(alloc, line, wire.lines.rest()) {
+        Ok(text) => Some(Request::Command { text }),
+        Err(_) => Some(Request::OutOfMemory),
     }
 }
 
