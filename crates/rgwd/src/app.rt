@@ -1,19 +1,23 @@
 //! The program: reads its words and its configuration, opens its sockets, and serves.
 use crate::ending::Ending;
-use crate::opening::{Opened, open, open_capture};
+use crate::opening::{Opened, open};
 use crate::replaying::{REPLAY, replay_trace};
 use crate::starting::{Begun, Start};
 use crate::telling::{TELL, tell_line};
 use crate::words::{Settings, read_words};
 use config_faults::{Flaw, flaw_of, told, told_setup};
 use gateway_core::Gateway;
-use live_ends::{Live, Outlets, RecordState, Stream, hold_standard};
+use live_ends::{
+    Live, OUT_OF_MEMORY, Outlets, RecordState, SystemFault, hold_standard, open_capture,
+    open_outlets, say_last, words_of,
+};
 use live_gateway::boxed;
 use live_journal::{Journal, Trace};
 use rgw_scenes::gateway_from;
 use rgw_scripts::{PlayFault, read_limited};
 use std::alloc::{AllocError, Global};
 use std::fs::File;
+use std::io;
 use std::io::Write;
 use std::net::Net;
 use std::os::fd::AsRawFd;
@@ -21,16 +25,7 @@ use std::random::RandomSource;
 use std::rt::{Clock, Env, Files};
 use std::thread::sleep;
 use std::time::Duration;
-use std::{env, io};
 use system_reasons::reason_of_reader;
-
-// The program's words, of which the first is its name.
-fn words_of<'w, R: AllocGlobal + Env>(rt: &R) -> Result<Vec<String>, Ending<'w>> {
-    match env::args(rt) {
-        Ok(args) => Ok(args.collect::<Vec<String>>(rt.alloc())?),
-        Err(fault) => Err(Ending::Usage.unless_memory(fault.kind())),
-    }
-}
 
 // The text of the configuration; one byte more than are taken where it is too long.
 fn config_text<'w, R: Files>(rt: &R, alloc: Global, file: &'w str) -> Result<Vec<u8>, Ending<'w>> {
@@ -187,7 +182,14 @@ fn serve_with<'w, R: Files + Net + Clock + RandomSource>(
     outlets: &mut Outlets<R::File>,
 ) -> Result<Ending<'w>, Ending<'w>> {
     let mut opened = open(rt, alloc, settings, config, gateway)?;
-    outlets.capture = open_capture(rt, alloc, settings)?;
+    outlets.capture = match open_capture(rt, alloc, settings.capture) {
+        Ok(capture) => capture,
+        Err(SystemFault::OutOfMemory) => return Err(Ending::OutOfMemory),
+        Err(SystemFault::Refused { reason }) => {
+            let file = settings.capture.unwrap_or("");
+            return Err(Ending::Unwritable { file, reason });
+        }
+    };
     serve_opened(rt, alloc, begun, &mut opened, outlets)
 }
 
@@ -260,8 +262,10 @@ fn ending_by<'w, R: AllocGlobal + Files + Net + Clock + RandomSource>(
     if let Some(asked) = words_behind(REPLAY, words) {
         return replay_trace(rt, asked, outlets);
     }
-    let settings = read_words(rt.alloc(), words, &mut outlets.error)?;
-    perform(rt, rt.alloc(), &settings, outlets)
+    match read_words(rt.alloc(), words, &mut outlets.error) {
+        Ok(settings) => perform(rt, rt.alloc(), &settings, outlets),
+        Err(ending) => Err(ending),
+    }
 }
 
 // What a program says at its end.
@@ -269,8 +273,7 @@ fn ending_text(alloc: Global, ending: Ending<'_>) -> Result<String, AllocError> 
     format!(in alloc; "{ending}")
 }
 
-// Says how the program ends, what its words ask on standard output, and gives its status: what is said is offered for a second, and
-// where that is what was asked, and isn't taken, it's a fault.
+// Says how the program ends, and gives its status: where what its words ask isn't taken, it's a fault.
 fn tell<R: AllocGlobal + Files + Clock>(
     rt: &R,
     outlets: &mut Outlets<R::File>,
@@ -279,15 +282,10 @@ fn tell<R: AllocGlobal + Files + Clock>(
     let said = ending_text(rt.alloc(), ending);
     let text = match &said {
         Ok(text) => text.as_bytes(),
-        Err(_) => b"out of memory\n",
+        Err(_) => OUT_OF_MEMORY,
     };
-    if matches!(ending, Ending::Help | Ending::Version) {
-        outlets.output.say(text);
-        outlets.finish(rt, b"", 0);
-    } else {
-        outlets.finish(rt, text, 0);
-    }
-    if outlets.output.is_open() {
+    let is_asked = matches!(ending, Ending::Help | Ending::Version);
+    if say_last(rt, outlets, text, is_asked) {
         ending.status()
     } else {
         Ending::Write.status()
@@ -301,7 +299,8 @@ fn run_with<R: AllocGlobal + Env + Files + Net + Clock + RandomSource>(
 ) -> u8 {
     let words = match words_of(rt) {
         Ok(words) => words,
-        Err(ending) => return tell(rt, outlets, ending),
+        Err(SystemFault::OutOfMemory) => return tell(rt, outlets, Ending::OutOfMemory),
+        Err(SystemFault::Refused { .. }) => return tell(rt, outlets, Ending::Usage),
     };
     match ending_by(rt, words.as_slice(), outlets) {
         Ok(ending) | Err(ending) => tell(rt, outlets, ending),
@@ -314,11 +313,8 @@ where
     R::File: AsRawFd,
 {
     let _held = hold_standard(rt, rt.alloc());
-    match Outlets::open(rt, rt.alloc()) {
-        Ok(mut outlets) => run_with(rt, &mut outlets),
-        Err(_) => {
-            let _ = Stream::error(rt).take(b"out of memory\n");
-            Ending::OutOfMemory.status()
-        }
+    match open_outlets(rt) {
+        Some(mut outlets) => run_with(rt, &mut outlets),
+        None => Ending::OutOfMemory.status(),
     }
 }

@@ -2,9 +2,10 @@
 ghost use Rattle.std.specs.Prelude.{◌≡◌, ◌≢◌};
 ghost use Rattle.rgwd.specs.Statuses.{status_of};
 
-use crate::help::{HELP, USAGE, VERSIONS, put_pieces};
+use crate::help::{HELP, USAGE, VERSIONS};
 use bad_network::SpoilingFault;
 use gateway_core::FIRSTS;
+use live_ends::put_pieces;
 use new_start::LONGEST_SPREAD;
 use std::alloc::AllocError;
 use std::fmt;
@@ -158,6 +159,16 @@ impl<'a> From<AllocError> for Ending<'a> {
     }
 }
 
+// What is written of a file that can't be read or written.
+fn put_file<W: fmt::Write>(
+    f: &mut fmt::Formatter<W>,
+    file: &str,
+    fault: &str,
+    reason: &str,
+) -> fmt::Result {
+    put_pieces(f, &[file, fault, reason, "\n"])
+}
+
 // What is written: on standard output what the words ask, else a line on standard error, or nothing
 // where it served or checked or an answer is printed, or where all was said.
 impl<'a> fmt::Display for Ending<'a> {
@@ -174,12 +185,8 @@ impl<'a> fmt::Display for Ending<'a> {
             Ending::BadFirst => writeln!(f, "--first: wanted a number, 0 to {}", LAST_FIRST),
             Ending::BadSpread => writeln!(f, "--spread: wanted 0 to {} ms", LONGEST_SPREAD),
             Ending::NoTimeOfDay => f.write_str(NO_TIME_OF_DAY),
-            Ending::Unreadable { file, reason } => {
-                put_pieces(f, &[file, ": read fault", reason, "\n"])
-            }
-            Ending::Unwritable { file, reason } => {
-                put_pieces(f, &[file, ": write fault", reason, "\n"])
-            }
+            Ending::Unreadable { file, reason } => put_file(f, file, ": read fault", reason),
+            Ending::Unwritable { file, reason } => put_file(f, file, ": write fault", reason),
             Ending::Unbound {
                 word,
                 address,

@@ -1,6 +1,4 @@
 //! What the program says of itself: how it is used, and its version.
-use std::fmt;
-
 /// The version of the program.
 pub const VERSION: &str = "1.0";
 
@@ -52,11 +50,3 @@ pub const HELP: [&str; 7] = ["usage: ", USAGE, ABOVE, LISTEN, BETWEEN, PHONES, B
 
 /// The version of the program, and of its protocol, in pieces.
 pub const VERSIONS: [&str; 3] = ["rgwd ", VERSION, "\nMGCP 1.0 (RFC 3435)\n"];
-
-/// Writes the pieces of a text.
-pub fn put_pieces<W: fmt::Write>(f: &mut fmt::Formatter<W>, pieces: &[&str]) -> fmt::Result {
-    for piece in pieces {
-        f.write_str(piece)?;
-    }
-    Ok(())
-}

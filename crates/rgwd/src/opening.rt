@@ -8,7 +8,7 @@ use crate::reception::PageReception;
 use crate::words::Settings;
 use bad_network::BadNetwork;
 use gateway_core::Gateway;
-use live_ends::{Live, Now, Outlet, Written, bind, make_for_owner};
+use live_ends::{Live, Now, Written, bind};
 use live_gateway::{Desk, Exchange, SpoiltWay, boxed};
 use live_journal::{Capture, Journal, Log, MessageTally, Trace};
 use live_page::Site;
@@ -17,9 +17,8 @@ use mio::net::UdpSocket;
 use page_answers::Board;
 use std::alloc::{AllocError, Global};
 use std::net::{Ipv4Addr, Net, SocketAddr, SocketAddrV4};
-use std::rt::{Clock, Files};
+use std::rt::Clock;
 use surroundings::{Lines, Surroundings};
-use system_reasons::reason_of;
 
 /// What serves: a gateway over the machine's sockets, and visitors of its page.
 #[derive(Drop)]
@@ -67,24 +66,6 @@ fn open_site<'w, R: Net>(
     match Site::open(rt, alloc, address, &live.ready) {
         Ok(site) => Ok(Some(boxed(alloc, PageReception { site })?)),
         Err(fault) => Err(Ending::unbound("--http", address, fault.kind())),
-    }
-}
-
-/// The file for a capture, if one is asked for. To be made once all sockets are had: so none is left where a program doesn't start.
-pub fn open_capture<'w, R: Files>(
-    rt: &R,
-    alloc: Global,
-    settings: &Settings<'w>,
-) -> Result<Option<Outlet<R::File>>, Ending<'w>> {
-    let Some(file) = settings.capture else {
-        return Ok(None);
-    };
-    match make_for_owner(rt, file) {
-        Ok(stream) => Ok(Some(Outlet::new(alloc, file, stream)?)),
-        Err(fault) => {
-            let reason = reason_of(fault.kind());
-            Err(Ending::Unwritable { file, reason }.unless_memory(fault.kind()))
-        }
     }
 }
 

@@ -118,15 +118,9 @@ fn network_in<'a>(matches: &ArgMatches<'a>) -> Result<Option<Spoiling>, Ending<'
     }
 }
 
-// The number with which ids begin, if that stands there.
-fn first_in<'a>(matches: &ArgMatches<'a>) -> Result<Option<FirstNumber>, Ending<'a>> {
-    let Some(text) = matches.get_str("first") else {
-        return Ok(None);
-    };
-    match FirstNumber::read(text.as_bytes()) {
-        Some(first) => Ok(Some(first)),
-        None => Err(Ending::BadFirst),
-    }
+// The number with which ids begin, if that stands there and is one.
+fn first_in(matches: &ArgMatches<'_>) -> Option<FirstNumber> {
+    FirstNumber::read(matches.get_str("first")?.as_bytes())
 }
 
 // How long it waits at most before its clock begins, if that stands there.
@@ -144,6 +138,10 @@ fn settings_in<'a>(matches: &ArgMatches<'a>) -> Result<Settings<'a>, Ending<'a>>
     let Some(config) = matches.get_str("config") else {
         return Err(Ending::Usage);
     };
+    let first = first_in(matches);
+    if first.is_none() && matches.get_str("first").is_some() {
+        return Err(Ending::BadFirst);
+    }
     Ok(Settings {
         config,
         check: matches.get_flag("check"),
@@ -154,7 +152,7 @@ fn settings_in<'a>(matches: &ArgMatches<'a>) -> Result<Settings<'a>, Ending<'a>>
         log: matches.get_flag("log"),
         capture: matches.get_str("capture"),
         network: network_in(matches)?,
-        first: first_in(matches)?,
+        first,
         spread: longest_wait_in(matches)?,
         stop_after: matches.get_one::<u64>("stop-after"),
     })
