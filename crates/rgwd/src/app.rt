@@ -163,9 +163,9 @@ fn check_gateway<'w, F: Write + Drop>(
     Ok(Ending::Checked)
 }
 
-// A gateway of the configuration in this text, which has no flaw: without one memory alone is refused.
-fn gateway_of(alloc: Global, text: &[u8], start: Start) -> Result<Box<Gateway>, AllocError> {
-    match gateway_from(alloc, text, start.first.number()) {
+// A gateway of the configuration in this text, which has no flaw, whose ids begin with this number: without one memory alone is refused.
+fn gateway_of(alloc: Global, text: &[u8], first: u32) -> Result<Box<Gateway>, AllocError> {
+    match gateway_from(alloc, text, first) {
         Ok(gateway) => boxed(alloc, gateway),
         Err(_) => Err(AllocError),
     }
@@ -204,7 +204,7 @@ fn serve_config<'w, R: Files + Net + Clock + RandomSource>(
     let Some(start) = Start::now(rt, settings) else {
         return Err(Ending::NoTimeOfDay);
     };
-    let gateway = gateway_of(alloc, text, start)?;
+    let gateway = gateway_of(alloc, text, start.first.number())?;
     if settings.check {
         return Ok(check_gateway(alloc, settings, &gateway, outlets)?);
     }
@@ -273,22 +273,30 @@ fn ending_text(alloc: Global, ending: Ending<'_>) -> Result<String, AllocError> 
     format!(in alloc; "{ending}")
 }
 
-// Says how the program ends, and gives its status: where what its words ask isn't taken, it's a fault.
-fn tell<R: AllocGlobal + Files + Clock>(
+// Says this at the end, and gives the status: where what its words ask isn't taken, it's a fault.
+fn tell_text<R: Files + Clock>(
     rt: &R,
     outlets: &mut Outlets<R::File>,
     ending: Ending<'_>,
+    text: &[u8],
 ) -> u8 {
-    let said = ending_text(rt.alloc(), ending);
-    let text = match &said {
-        Ok(text) => text.as_bytes(),
-        Err(_) => OUT_OF_MEMORY,
-    };
     let is_asked = matches!(ending, Ending::Help | Ending::Version);
     if say_last(rt, outlets, text, is_asked) {
         ending.status()
     } else {
         Ending::Write.status()
+    }
+}
+
+// Says how the program ends, and gives its status.
+fn tell<R: AllocGlobal + Files + Clock>(
+    rt: &R,
+    outlets: &mut Outlets<R::File>,
+    ending: Ending<'_>,
+) -> u8 {
+    match ending_text(rt.alloc(), ending) {
+        Ok(text) => tell_text(rt, outlets, ending, text.as_bytes()),
+        Err(_) => tell_text(rt, outlets, ending, OUT_OF_MEMORY),
     }
 }
 
