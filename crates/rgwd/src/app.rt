@@ -204,7 +204,7 @@ fn serve_config<'w, R: Files + Net + Clock + RandomSource>(
     let Some(start) = Start::now(rt, settings) else {
         return Err(Ending::NoTimeOfDay);
     };
-    let gateway = gateway_of(alloc, text, start.first.number())?;
+    let gateway = gateway_of(alloc, text, start.first)?;
     if settings.check {
         return Ok(check_gateway(alloc, settings, &gateway, outlets)?);
     }
