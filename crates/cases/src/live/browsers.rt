@@ -1,7 +1,7 @@
 //! Visitors of a page in memory: each asks once, and gets an answer.
 use crate::stories::{Transcript, Visit};
 use http_server::{Config, Connection};
-use live_gateway::Visitors;
+use live_gateway::{Visitors, boxed};
 use live_page::Desk;
 use page_answers::Board;
 use std::alloc::Global;
@@ -53,7 +53,7 @@ fn put_answer(
 // What is answered to a request, over a connection of its own.
 fn answered(alloc: Global, desk: &mut Desk<'_>, request: &[u8]) -> io::Result<Vec<u8>> {
     let keys = RandomState::new(&KnownKeys)?;
-    let mut connection = Box::new(alloc, Connection::new(alloc, keys, Config::default()))?;
+    let mut connection = boxed(alloc, Connection::new(alloc, keys, Config::default()))?;
     let mut answer = Vec::new(alloc);
     put_answer(&mut connection, desk, request, &mut answer)?;
     Ok(answer)

@@ -2,6 +2,7 @@
 use crate::stories::given::typist;
 use crate::stories::transcript::Transcript;
 use live_ends::Written;
+use live_gateway::boxed;
 use scenario_files::{bytes_of, in_full, number_in, put_line};
 use std::alloc::Global;
 use std::collections::VecDeque;
@@ -283,7 +284,7 @@ impl Story {
 
 /// Reads a story of a program that is there.
 pub fn read_story(alloc: Global, text: &str, at: Place) -> io::Result<Box<Story>> {
-    let mut story = Box::new(alloc, Story::new(alloc, at))?;
+    let mut story = boxed(alloc, Story::new(alloc, at))?;
     for line in text.lines() {
         story.put(line)?;
     }

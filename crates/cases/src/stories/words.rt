@@ -1,5 +1,6 @@
 //! The words that a program is called with, as far as its loop asks for them.
 use bad_network::Spoiling;
+use live_gateway::boxed;
 use mg_bytes::decimal;
 use new_start::FirstNumber;
 use std::alloc::Global;
@@ -69,7 +70,7 @@ pub fn words_in(
         first: FirstNumber::zero(),
         stop_after: None,
     };
-    let mut asked = Box::new(alloc, asked)?;
+    let mut asked = boxed(alloc, asked)?;
     for word in words {
         let word = word.as_str();
         let (name, value) = word.split_once(' ').unwrap_or((word, ""));
