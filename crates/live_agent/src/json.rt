@@ -65,7 +65,11 @@ fn report_value(alloc: Global, checks: Vec<Value>, tally: &Tally) -> Result<Valu
 }
 
 /// All of it as JSON.
-pub(crate) fn report_text(alloc: Global, checks: Vec<Value>, tally: &Tally) -> Result<String, OutOfMemory>
+pub(crate) fn report_text(
+    alloc: Global,
+    checks: Vec<Value>,
+    tally: &Tally,
+) -> Result<String, OutOfMemory>
     ensures { IfOk result (λ text. IsInOrder (string_bytes text) (report_data (array (items_view checks.items)) tally.now)) }
 {
     let value = report_value(alloc, checks, tally)?;

@@ -5,9 +5,7 @@ use crate::wire::Wire;
 use agent_texts::{AgentConfig, Journal};
 use bad_network::{BadNetwork, Spoiling};
 use call_desk::Switchboard;
-use live_ends::{
-    Live, LiveClock, Outlets, Record, RecordState, SystemFault, bind, open_capture,
-};
+use live_ends::{Live, LiveClock, Outlets, Record, RecordState, SystemFault, bind, open_capture};
 use mg_bytes::OutOfMemory;
 use std::alloc::Global;
 use std::io::{ErrorKind, Write};
@@ -203,10 +201,10 @@ fn serve_captured<R: Files + Net + Clock>(
     capture: Option<&str>,
     outlets: &mut Outlets<R::File>,
 ) -> Result<(), ServeFault> {
-    match open_capture(rt, alloc, capture) {
-        Ok(opened) => outlets.capture = opened,
+    outlets.capture = match open_capture(rt, alloc, capture) {
+        Ok(opened) => opened,
         Err(fault) => return Err(capture_fault(fault)),
-    }
+    };
     match wire.journal.name_capture(capture.unwrap_or("")) {
         Ok(()) => serve_over(rt, alloc, config, is_routed, wire, outlets),
         Err(_) => Err(ServeFault::OutOfMemory),

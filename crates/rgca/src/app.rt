@@ -170,23 +170,30 @@ fn ending_text(alloc: Global, ending: &Ending<'_>) -> Result<String, AllocError>
     format!(in alloc; "{ending}")
 }
 
-// Says how the program ends, what its words ask on standard output, and gives its status: what is said is offered for a second, and
-// where that is what was asked, and isn't taken, it's a fault.
-fn tell<R: AllocGlobal + Clock, F: Write + Drop>(
+// Says this at the end, and gives the status: where what its words ask isn't taken, it's a fault.
+fn tell_text<R: Clock, F: Write + Drop>(
     rt: &R,
     outlets: &mut Outlets<F>,
     ending: &Ending<'_>,
+    text: &[u8],
 ) -> u8 {
-    let said = ending_text(rt.alloc(), ending);
-    let text = match &said {
-        Ok(text) => text.as_bytes(),
-        Err(_) => OUT_OF_MEMORY,
-    };
     let is_asked = matches!(ending, Ending::Help | Ending::CheckHelp | Ending::Version);
     if say_last(rt, outlets, text, is_asked) {
         ending.status()
     } else {
         Ending::Write.status()
+    }
+}
+
+// Says how the program ends, and gives its status.
+fn tell<R: AllocGlobal + Clock, F: Write + Drop>(
+    rt: &R,
+    outlets: &mut Outlets<F>,
+    ending: &Ending<'_>,
+) -> u8 {
+    match ending_text(rt.alloc(), ending) {
+        Ok(text) => tell_text(rt, outlets, ending, text.as_bytes()),
+        Err(_) => tell_text(rt, outlets, ending, OUT_OF_MEMORY),
     }
 }
 
