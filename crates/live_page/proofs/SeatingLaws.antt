@@ -117,7 +117,7 @@ idlest_found host seats place e = idlest_by host seats place (idlest_from 0 host
 held_same : (one other : Ipv4Addr) (seats : List (Option Seat)) → ipv4_octets one ≡ ipv4_octets other → held_by one seats ≡ held_by other seats
 unfolding held_by
 held_same one other [] e = refl
-held_same one other (None ∷ more) e = held_same one other more e
+held_same one other (None ∷ more) e = let m = held_same one other more e in omega (arith, m)
 held_same one other (Some seat ∷ more) e =
     let c : count_if (is_of one (Some seat)) ≡ count_if (is_of other (Some seat)) = ap (λ (o : List ℕ). count_if (bytes_eq (ipv4_octets seat.host) o)) e in
     let m = held_same one other more e in omega (arith, c, m)
@@ -134,7 +134,7 @@ module _ (seats : List (Option Seat)) (host : Ipv4Addr) (now : ℕ) (few : AreFe
 
   -- where the address has as many as it may have, its own visitor gives way
   own_few : (found : Option ℕ) → idlest (Some host) seats ≡ found → AreFew (seated_at seats host now found)
-  own_few None e = few
+  own_few None e other = few other
   own_few (Some place) e other =
       let f = idlest_found (Some host) seats place e in
       let seat = f.1.0 in
@@ -167,7 +167,7 @@ module _ (seats : List (Option Seat)) (host : Ipv4Addr) (now : ℕ) (few : AreFe
     set_few place (Some was) other e = set_few_by place was other (is_of other newcomer) e refl
 
     other_few : (found : Option ℕ) → AreFew (seated_at seats host now found)
-    other_few None = few
+    other_few None other = few other
     other_few (Some place) other = set_few place (slice_get seats place) other refl
 
   by_room : (b : Bool) → (room_from MOST_OF_ONE_HOST host seats == 0) ≡ b
@@ -187,7 +187,7 @@ module _ (seats : List (Option Seat)) (host : Ipv4Addr) (now : ℕ) (few : AreFe
 none_held : (host : Ipv4Addr) (places : ℕ) → held_by host (replicate places None) ≤ MOST_OF_ONE_HOST
 unfolding held_by
 none_held host zero = omega arith
-none_held host (suc places) = none_held host places
+none_held host (suc places) = let m = none_held host places in omega (arith, m)
 
 pub none_few : (places : ℕ) → AreFew (replicate places None)
 none_few places host = none_held host places
