@@ -40,20 +40,20 @@ pub fn question_answer(asked: Result<(), OutOfMemory>, printed: &[u8]) -> &[u8]
     }
 }
 
-/// What the page asks for is a line of nobody's, where no line is left.
-pub(crate) fn take_act(alloc: Global, journal: &mut Journal, lines: &mut Lines) {
-    if !lines.is_empty() {
-        return;
-    }
+/// What the page asks for next becomes a line of nobody's: whether it asks for something.
+pub(crate) fn take_act(alloc: Global, journal: &mut Journal, lines: &mut Lines) -> bool {
     let Some(board) = &mut journal.board else {
-        return;
+        return false;
     };
-    if let Some(act) = board.next_act() {
-        let mut line = Vec::new(alloc);
-        if act.put_line(alloc, &mut line).is_ok() {
-            lines.take(line.as_slice());
-        }
+    let Some(act) = board.next_act() else {
+        return false;
+    };
+    let mut line = Vec::new(alloc);
+    if act.put_line(alloc, &mut line).is_err() {
+        return false;
     }
+    lines.take(line.as_slice());
+    true
 }
 
 /// The page is shown the gateway as it is now.

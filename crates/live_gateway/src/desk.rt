@@ -31,6 +31,8 @@ pub struct Desk<S, T> {
     pub play: Box<LivePlay<T>>,
     pub exchange: Box<Exchange<S>>,
     pub lines: Box<Lines>,
+    // Whether the line that is left is the page's.
+    is_of_page: bool,
     schedule: Schedule,
     // The moment at which nothing comes any more.
     end: Option<u64>,
@@ -64,6 +66,7 @@ impl<S: Surroundings + Drop, T: Teller + Drop> Desk<S, T> {
             play,
             exchange,
             lines,
+            is_of_page: false,
             schedule: Schedule::starting_at(0),
             end,
         }
@@ -217,14 +220,26 @@ impl<S: Surroundings + Drop, T: Teller + Drop> Desk<S, T> {
         }
     }
 
-    // A line is taken, if one is there; behind the last one what the page asks for.
+    // What the page asks for is the next line, where none is left and it is its turn, or nobody typed.
+    fn take_from_page(&mut self, is_its_turn: bool)
+        ensures { at_desk T.told S.sent self.new ≡ at_desk T.told S.sent self.old }
+    {
+        let is_taken = is_its_turn || !self.exchange.around.told().lines;
+        if is_taken && self.lines.is_empty() {
+            self.is_of_page = take_act(self.alloc, &mut self.exchange.journal, &mut self.lines);
+        }
+    }
+
+    // A line is taken, if one is there. Who types and the page take turns: behind what was typed comes one act of the page's.
     #[tactic(auto, using(live_play::proofs::RunLemmas::stays_so, live_play::proofs::RunLemmas::goes_on_then))]
     fn command(&mut self)
         ensures { (entries : List Entry) × Ran (at_desk T.told S.sent self.old) entries (at_desk T.told S.sent self.new) }
     {
+        let was_page = self.is_of_page;
+        self.is_of_page = false;
         self.exchange.hear(&mut self.lines);
         self.take_line();
-        take_act(self.alloc, &mut self.exchange.journal, &mut self.lines);
+        self.take_from_page(!was_page);
     }
 
     // A visitor is served, if one is there.
@@ -239,7 +254,7 @@ impl<S: Surroundings + Drop, T: Teller + Drop> Desk<S, T> {
             faults,
         );
         self.exchange.serve_visitor(visitors, moment);
-        take_act(self.alloc, &mut self.exchange.journal, &mut self.lines);
+        self.take_from_page(false);
     }
 
     // A turn of somebody's, or a wait, where it is now this moment.
