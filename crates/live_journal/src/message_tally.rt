@@ -25,7 +25,8 @@ pub struct MessageTally {
 impl MessageTally {
     /// Nothing was counted. Its only error is want of memory.
     pub fn new(alloc: Global) -> Result<MessageTally, AllocError>
-        ensures datagrams { IfOk result (λ tally. (tally.datagrams_in, tally.datagrams_out) ≡ (0, 0)) }
+        ensures received { IfOk result (λ tally. tally.datagrams_in ≡ 0) }
+        ensures handed_out { IfOk result (λ tally. tally.datagrams_out ≡ 0) }
         ensures texts { IfOk result (λ tally. counts_in tally.texts ≡ no_counts) }
         ensures sent { IfOk result (λ tally. tally_in tally.sent ≡ no_tally) }
     {
