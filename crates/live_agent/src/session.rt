@@ -1,4 +1,7 @@
 //! Serves gateways and whoever types commands, a turn at a time, as a schedule says what comes next.
+ghost use Rattle.std.specs.Prelude.{◌≡◌};
+ghost use Rattle.live_agent.specs.Clock.{is_behind};
+
 use crate::recorder::Recorder;
 use crate::wire::Wire;
 use agent_texts::count;
@@ -15,6 +18,9 @@ use turns::{Schedule, Situation, Turn};
 // The room for a datagram: one byte more than any that is taken (RFC 3435, 3.5.4).
 const ROOM: usize = 4001;
 
+// By a clock that is further behind, in ms, no command is issued: it would be sent again too early, and given up.
+const LONGEST_LAG: u64 = 100;
+
 // What is answered to who types.
 const DONE: &[u8] = b"done\n";
 
@@ -26,8 +32,19 @@ fn send_issued<S: Surroundings + Drop>(wire: &mut Wire<S>, issued: &Issued) {
     wire.send(issued.datagram.to, issued.datagram.bytes.as_bytes(), false);
 }
 
-// Tells how the lines to which something has happened stand, and sends them what they are to be sent.
+// Whether a clock that has come to here is behind a moment, in ms.
+fn is_behind(moment: u64, ticked: u64) -> bool
+    ensures { result ≡ is_behind moment ticked }
+{
+    LONGEST_LAG < moment.saturating_sub(ticked)
+}
+
+// Tells how the lines to which something has happened stand, and sends them what they are to be sent. Where the clock is behind they go
+// on waiting.
 fn settle<S: Surroundings + Drop>(board: &mut Switchboard, wire: &mut Wire<S>) {
+    if wire.is_behind {
+        return;
+    }
     board.begin_settling();
     let lines = board.settling();
     for index in 0..lines {
@@ -263,11 +280,12 @@ fn tick_one<S: Surroundings + Drop>(
 }
 
 // The clock goes on, that of each agent first: by one that was behind what is issued now would be sent again at once.
-fn tick<S: Surroundings + Drop>(board: &mut Switchboard, wire: &mut Wire<S>, moment: u64) {
-    wire.now.clock = moment;
+fn tick<S: Surroundings + Drop>(board: &mut Switchboard, wire: &mut Wire<S>, to: u64, moment: u64) {
+    wire.now.clock = to;
     for place in 0..board.gateways() {
-        tick_one(board, wire, place, moment);
+        tick_one(board, wire, place, to);
     }
+    wire.is_behind = is_behind(moment, to);
     give_up_all(board, wire);
 }
 
@@ -302,6 +320,21 @@ fn situation<S: Surroundings + Drop>(
     })
 }
 
+// How long is waited at most until this moment, in ms, where it is now that one: no longer than to what falls due of what was issued
+// since it was asked what comes next.
+fn longest_wait<S: Surroundings + Drop>(
+    board: &Switchboard,
+    wire: &Wire<S>,
+    until: u64,
+    moment: u64,
+) -> u64 {
+    let until = match earlier(board.next_due(), wire.network_due()) {
+        Some(due) => until.min(due),
+        None => until,
+    };
+    until.saturating_sub(moment).max(1)
+}
+
 // A turn of somebody's, or a wait, where it is now this moment.
 fn do_turn<S: Surroundings + Drop>(
     alloc: Global,
@@ -311,14 +344,17 @@ fn do_turn<S: Surroundings + Drop>(
     moment: u64,
 ) {
     match turn {
-        Turn::Tick { moment } => tick(board, wire, moment),
+        Turn::Tick { moment: to } => tick(board, wire, to, moment),
         Turn::Command => {
             wire.hear_lines();
             answer_request(alloc, board, wire);
         }
         Turn::Datagram => take_datagram(board, wire),
         Turn::Look => wire.wait(0),
-        Turn::Wait { until } => wire.wait(until.saturating_sub(moment)),
+        Turn::Wait { until } => {
+            let longest = longest_wait(board, wire, until, moment);
+            wire.wait(longest);
+        }
         Turn::Note { pause } => wire.note_pause(pause),
         Turn::Visit | Turn::End => {}
     }
@@ -337,7 +373,9 @@ fn turn<S: Surroundings + Drop>(
         return Ok(false);
     }
     wire.begin();
-    // At the start all lines wait to be settled, and later those whose command couldn't be issued.
+    wire.is_behind = is_behind(at.moment, at.ticked);
+    // At the start all lines wait to be settled, and later those whose command couldn't be issued, or that something happened to while the
+    // clock was behind.
     settle(board, wire);
     do_turn(alloc, board, wire, turn, at.moment);
     Ok(true)

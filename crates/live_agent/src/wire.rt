@@ -23,6 +23,8 @@ pub struct Wire<S> {
     pub journal: Journal,
     // What clocks say at the turn under way.
     pub(crate) now: Now,
+    // The agents' clock is behind, as where what came in a pause is read.
+    pub(crate) is_behind: bool,
     // So many datagrams were read since the start, of lines too.
     pub(crate) read: u64,
     // The moment at which it ends, in ms.
@@ -77,6 +79,7 @@ impl<S: Surroundings + Drop> Wire<S> {
             network,
             journal,
             now,
+            is_behind: false,
             read: 0,
             end,
             is_offering: false,
