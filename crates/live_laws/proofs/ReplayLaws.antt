@@ -334,9 +334,10 @@ record WentAlike (setup : Setup) (one other : List GatewayEvent) (move : Move) :
 went_by : (setup : Setup) (one other : List GatewayEvent) (event : GatewayEvent) (refusal : Option Refusal) → plain setup one ≡ plain setup other
     → ((event_went setup one event refusal).shown ≡ (event_went setup other event refusal).shown)
     × (plain setup (event_went setup one event refusal).taken ≡ plain setup (event_went setup other event refusal).taken)
-went_by setup one other event None same =
-    (ap (λ (m : Machine). sends (outputs_from setup m (event ∷ [])) ∷ []) same,
-    plain_more setup one event ∙ ap (λ (m : Machine). (effect setup m event).value) same ∙ sym (plain_more setup other event))
+went_by setup one other event None same = (
+  ap (λ (m : Machine). sends (outputs_from setup m (event ∷ [])) ∷ []) same,
+  plain_more setup one event ∙ ap (λ (m : Machine). (effect setup m event).value) same ∙ sym (plain_more setup other event),
+)
 went_by setup one other event (Some refusal) same = (refl, same)
 
 gives_alike : (setup : Setup) (one other : List GatewayEvent) (event : GatewayEvent) → plain setup one ≡ plain setup other → WentAlike setup one other (give event)
@@ -410,10 +411,20 @@ raw_text source bytes =
     (append_assoc (codes "raw " ++ socket_v4_text source) (codes " ") (hex_text bytes) ∙ append_assoc (codes "raw ") (socket_v4_text source) (codes " " ++ hex_text bytes))
 
 raw_feedless : (source : SocketAddrV4) (bytes : List ℕ) → CanAnswer source → AllByRecursion (λ byte. byte < 256) bytes → Never is_line_feed (raw_line source bytes)
-raw_feedless source bytes can all =
-    (refl, (refl, (refl, (refl,
-    never_append is_line_feed (socket_v4_text source) (32 ∷ hex_text bytes) (never_address is_line_feed (λ d low high. grind (arith, nat_tests)) source can)
-    (refl, never_hex is_line_feed (λ d low high. grind (arith, nat_tests)) bytes all)))))
+raw_feedless source bytes can all = (
+  refl,
+  (
+    refl,
+    (
+      refl,
+      (
+        refl,
+        never_append is_line_feed (socket_v4_text source) (32 ∷ hex_text bytes) (never_address is_line_feed (λ d low high. grind (arith, nat_tests)) source can)
+            (refl, never_hex is_line_feed (λ d low high. grind (arith, nat_tests)) bytes all),
+      ),
+    ),
+  ),
+)
 
 from_feedless : (source : SocketAddrV4) → CanAnswer source → Never is_line_feed (codes "from " ++ socket_v4_text source)
 from_feedless source can = (refl, (refl, (refl, (refl, (refl, never_address is_line_feed (λ d low high. grind (arith, nat_tests)) source can)))))
