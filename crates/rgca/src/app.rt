@@ -222,19 +222,35 @@ fn check_words(words: &[String]) -> Option<&[String]> {
     }
 }
 
+// How the program with these words ends, of which the first is its name.
+fn ending_by<'w, R: AllocGlobal + Files + Net + Clock>(
+    rt: &R,
+    words: &'w [String],
+    outlets: &mut Outlets<R::File>,
+) -> Ending<'w> {
+    match check_words(words) {
+        Some(asked) => checked(rt, asked, outlets),
+        None => ending_of(rt, words, outlets),
+    }
+}
+
+// Does what these words ask, and gives the exit status.
+fn run_by<R: AllocGlobal + Files + Net + Clock>(
+    rt: &R,
+    words: &[String],
+    outlets: &mut Outlets<R::File>,
+) -> u8 {
+    let ending = ending_by(rt, words, outlets);
+    tell(rt, outlets, &ending)
+}
+
 // Runs the program with these outlets, and gives its exit status.
 fn run_with<R: AllocGlobal + Env + Files + Net + Clock>(
     rt: &R,
     outlets: &mut Outlets<R::File>,
 ) -> u8 {
     match words_of(rt) {
-        Ok(words) => {
-            let ending = match check_words(words.as_slice()) {
-                Some(asked) => checked(rt, asked, outlets),
-                None => ending_of(rt, words.as_slice(), outlets),
-            };
-            tell(rt, outlets, &ending)
-        }
+        Ok(words) => run_by(rt, words.as_slice(), outlets),
         Err(fault) => tell(rt, outlets, &wordless_ending(fault)),
     }
 }

@@ -132,7 +132,7 @@ impl<'a> Ending<'a> {
 
 // How the program ends by its words.
 fn word_ending<'a>(fault: WordFault) -> Ending<'a>
-    ensures { result ≡ word_ending fault.entry }
+    ensures { result ≡ word_ending fault }
 {
     match fault {
         WordFault::OutOfMemory => Ending::OutOfMemory,
@@ -155,7 +155,7 @@ impl<'a> From<WordFault> for Ending<'a> {
 
 /// How the program ends by words behind `check`.
 pub fn check_words_ending<'a>(fault: WordFault) -> Ending<'a>
-    ensures { result ≡ check_ending fault.entry }
+    ensures { result ≡ check_ending fault }
 {
     match fault {
         WordFault::Usage => Ending::CheckUsage,
@@ -200,7 +200,7 @@ impl<'a> From<CheckFault> for Ending<'a> {
 
 /// How the program ends by a configuration that is refused.
 pub fn config_ending(file: &str, refusal: ConfigRefusal) -> Ending<'_>
-    ensures { result ≡ config_by file.entry refusal.entry }
+    ensures { result ≡ config_by file.entry refusal }
 {
     match refusal {
         ConfigRefusal::OutOfMemory => Ending::OutOfMemory,
