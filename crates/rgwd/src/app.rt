@@ -100,15 +100,22 @@ fn served_ending<'w, F: Write + Drop>(
     Ending::Served
 }
 
-// Serves until the end, writes what was recorded, and says what was counted.
-fn serve_to_end<'w, R: Files + Net + Clock + RandomSource>(
-    rt: &R,
+// Serves until the end, and puts what was recorded into what is kept.
+fn run_to_end<R: Files + Net + Clock + RandomSource>(
     opened: &mut Opened<'_, R>,
     outlets: &mut Outlets<R::File>,
-) -> Result<Ending<'w>, AllocError> {
+) {
     opened.desk.run(&mut opened.visitors, outlets);
     opened.desk.play.end();
     opened.desk.write(outlets);
+}
+
+// Says what was counted, and offers what is kept.
+fn finish<'w, R: Files + Net + Clock + RandomSource>(
+    rt: &R,
+    opened: &Opened<'_, R>,
+    outlets: &mut Outlets<R::File>,
+) -> Result<Ending<'w>, AllocError> {
     let counts = opened.desk.counts()?;
     let exchange = &opened.desk.exchange;
     outlets.finish(rt, counts.as_slice(), exchange.now.time);
@@ -138,7 +145,8 @@ fn serve_opened<'w, R: Files + Net + Clock + RandomSource>(
     if wait_first(rt, &mut opened.desk.exchange.around, begun).is_err() {
         return Err(Ending::Clock);
     }
-    let ending = serve_to_end(rt, opened, outlets);
+    run_to_end(opened, outlets);
+    let ending = finish(rt, opened, outlets);
     opened.desk.answer_stop();
     Ok(ending?)
 }
@@ -163,9 +171,9 @@ fn check_gateway<'w, F: Write + Drop>(
     Ok(Ending::Checked)
 }
 
-// A gateway of the configuration in this text, which has no flaw, whose ids begin with this number: without one memory alone is refused.
-fn gateway_of(alloc: Global, text: &[u8], first: u32) -> Result<Box<Gateway>, AllocError> {
-    match gateway_from(alloc, text, first) {
+// A gateway of the configuration in this text, which has no flaw, at this start: without one memory alone is refused.
+fn gateway_of(alloc: Global, text: &[u8], start: &Start) -> Result<Box<Gateway>, AllocError> {
+    match gateway_from(alloc, text, start.first.number()) {
         Ok(gateway) => boxed(alloc, gateway),
         Err(_) => Err(AllocError),
     }
@@ -176,11 +184,12 @@ fn serve_with<'w, R: Files + Net + Clock + RandomSource>(
     rt: &R,
     alloc: Global,
     settings: &Settings<'w>,
-    begun: Begun,
+    start: Start,
     config: &[u8],
     gateway: Box<Gateway>,
     outlets: &mut Outlets<R::File>,
 ) -> Result<Ending<'w>, Ending<'w>> {
+    let begun = start.begun(gateway.setup().names.domain.as_bytes());
     let mut opened = open(rt, alloc, settings, config, gateway)?;
     outlets.capture = match open_capture(rt, alloc, settings.capture) {
         Ok(capture) => capture,
@@ -204,12 +213,11 @@ fn serve_config<'w, R: Files + Net + Clock + RandomSource>(
     let Some(start) = Start::now(rt, settings) else {
         return Err(Ending::NoTimeOfDay);
     };
-    let gateway = gateway_of(alloc, text, start.first)?;
+    let gateway = gateway_of(alloc, text, &start)?;
     if settings.check {
         return Ok(check_gateway(alloc, settings, &gateway, outlets)?);
     }
-    let begun = start.begun(gateway.setup().names.domain.as_bytes());
-    serve_with(rt, alloc, settings, begun, text, gateway, outlets)
+    serve_with(rt, alloc, settings, start, text, gateway, outlets)
 }
 
 // Says on standard error which flaw the configuration in this text has.

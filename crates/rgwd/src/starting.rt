@@ -15,7 +15,7 @@ const MICROSECONDS: u64 = 1000;
 #[derive(Clone, Copy)]
 pub struct Start {
     /// The number with which ids begin.
-    pub first: u32,
+    pub first: FirstNumber,
     // The time of day, in ms since 1970; 0 where the machine has none.
     time: u64,
     // How long it waits at most, in ms, where it waits.
@@ -49,7 +49,7 @@ impl Start {
         };
         let first = first_of(settings, time)?;
         Some(Start {
-            first: first.number(),
+            first,
             time: time.unwrap_or(0),
             spread: settings.spread,
         })
@@ -65,7 +65,7 @@ impl Start {
             None => None,
         };
         Begun {
-            first: self.first,
+            first: self.first.number(),
             waits,
         }
     }
