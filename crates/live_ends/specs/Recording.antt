@@ -26,7 +26,7 @@ is_told OutOfMemory = false
 abbrev pub is_open : OutletState → Bool
 is_open Open = true
 is_open BrokenOff = false
-is_open (Failed reason) = false
+is_open (Failed kind) = false
 
 -- one that failed, or was broken off, did that once
 abbrev pub faults_of : OutletState → ℕ

@@ -18,15 +18,15 @@ use system_reasons::reason_of;
 // So often something is written in a turn.
 const MOST_WRITES: u16 = 512;
 
-/// How it stands with an outlet. A reason is what `system_reasons::reason_of` makes of the system's error.
+/// How it stands with an outlet. No text is held here: a type that holds one for ever can't be that of a loop's recorder.
 #[derive(Clone, Copy)]
 pub enum OutletState {
     /// All is written, as it is taken.
     Open,
     /// Too much wasn't taken; nothing is recorded behind that.
     BrokenOff,
-    /// It can't be written, for this reason; nothing is recorded any more.
-    Failed { reason: &'static str },
+    /// It can't be written, by the system's error of this kind; nothing is recorded any more.
+    Failed { kind: ErrorKind },
 }
 
 /// Standard output, standard error or a file, and what waits for it.
@@ -126,9 +126,7 @@ impl<F: Write + Drop> Outlet<F> {
         ensures state { is_open self.new.state ≡ false }
         ensures backlog { self.new.backlog ≡ closed self.old.backlog }
     {
-        self.state = OutletState::Failed {
-            reason: reason_of(kind),
-        };
+        self.state = OutletState::Failed { kind };
         self.backlog.close();
     }
 
@@ -236,7 +234,8 @@ impl<F: Write + Drop> Outlet<F> {
     fn fault_line(&self) -> Result<String, AllocError> {
         let name = self.name.as_str();
         match self.state {
-            OutletState::Failed { reason } => {
+            OutletState::Failed { kind } => {
+                let reason = reason_of(kind);
                 format!(in self.alloc; "{name}: write fault{reason}\n")
             }
             _ => format!(in self.alloc; "{name}: broken off, nobody took it\n"),
