@@ -100,22 +100,15 @@ fn served_ending<'w, F: Write + Drop>(
     Ending::Served
 }
 
-// Serves until the end, and puts what was recorded into what is kept.
-fn run_to_end<R: Files + Net + Clock + RandomSource>(
+// Serves until the end, writes what was recorded, and says what was counted.
+fn serve_to_end<'w, R: Files + Net + Clock + RandomSource>(
+    rt: &R,
     opened: &mut Opened<'_, R>,
     outlets: &mut Outlets<R::File>,
-) {
+) -> Result<Ending<'w>, AllocError> {
     opened.desk.run(&mut opened.visitors, outlets);
     opened.desk.play.end();
     opened.desk.write(outlets);
-}
-
-// Says what was counted, and offers what is kept.
-fn finish<'w, R: Files + Net + Clock + RandomSource>(
-    rt: &R,
-    opened: &Opened<'_, R>,
-    outlets: &mut Outlets<R::File>,
-) -> Result<Ending<'w>, AllocError> {
     let counts = opened.desk.counts()?;
     let exchange = &opened.desk.exchange;
     outlets.finish(rt, counts.as_slice(), exchange.now.time);
@@ -145,8 +138,7 @@ fn serve_opened<'w, R: Files + Net + Clock + RandomSource>(
     if wait_first(rt, &mut opened.desk.exchange.around, begun).is_err() {
         return Err(Ending::Clock);
     }
-    run_to_end(opened, outlets);
-    let ending = finish(rt, opened, outlets);
+    let ending = serve_to_end(rt, opened, outlets);
     opened.desk.answer_stop();
     Ok(ending?)
 }
