@@ -1,12 +1,12 @@
 //! Worked examples of what comes next, as theorems: each sentence of a definition has one that a slip in it breaks.
 #![tactic(auto, unfolding(crate::proofs::Computing::on_examples))]
 
-ghost use Rattle.std.specs.Prelude.{◌≡◌, true, false, [], ◌∷◌, Some, None};
+ghost use Rattle.std.specs.Prelude.{◌≡◌, true, false, [], ◌∷◌, ◌++◌, Some, None};
 ghost use Rattle.turns.specs.declared.circle.Source.TheVariants as sources;
 ghost use Rattle.turns.specs.declared.schedule.Mode.TheVariants.{Reading};
 ghost use Rattle.turns.specs.declared.turn.Turn.TheVariants.{End, Look, Wait, Tick, Command, Datagram, Visit, Note};
 ghost use Rattle.turns.specs.Circle.{first_ready};
-ghost use Rattle.turns.specs.Clock.{wait_until};
+ghost use Rattle.turns.specs.Clock.{ticks_behind, wait_until};
 ghost use Rattle.turns.specs.Schedule.{opening};
 ghost use Rattle.turns.specs.Runs.{turns_from, schedule_after, reading};
 ghost use Rattle.turns.specs.Example.{ready, nobody, standing, having_read, due_at, ending_at, asleep, wakes_at};
@@ -28,6 +28,7 @@ pub fn an_idle_one_sleeps()
     ensures due { wait_until (due_at 250 (standing 100 100 nobody)) ≡ 250 }
     ensures far { wait_until (due_at 5000 (standing 100 100 nobody)) ≡ 1100 }
     ensures end { wait_until (ending_at 300 (due_at 400 (standing 100 100 nobody))) ≡ 300 }
+    ensures both { wait_until (ending_at 300 (due_at 250 (standing 100 100 nobody))) ≡ 250 }
     ensures past { wait_until (due_at 90 (standing 100 100 nobody)) ≡ 101 }
     ensures round { turns_from asleep (standing 7 0 (ready true true true) ∷ []) ≡ Tick 7 ∷ [] }
     ensures round_again { turns_from asleep (standing 7 7 (ready false true false) ∷ standing 7 7 nobody ∷ standing 8 7 (ready true true true) ∷ [])
@@ -85,6 +86,9 @@ pub fn a_pause_is_read_first()
     ensures rounds_behind { turns_from asleep (standing 2000 0 nobody ∷ standing 2000 0 nobody ∷ standing 2000 0 nobody
         ∷ standing 2000 1000 nobody ∷ standing 2000 2000 (ready false true false) ∷ standing 2001 2000 (ready false true true) ∷ [])
         ≡ Look ∷ Note (record { lateness = 1000; read = Some 0 }) ∷ Tick 1000 ∷ Tick 2000 ∷ Datagram ∷ Visit ∷ [] }
+    ensures commands_behind { turns_from asleep (standing 2000 0 nobody ∷ standing 2000 0 nobody ∷ standing 2000 0 nobody
+        ∷ standing 2000 1000 nobody ∷ standing 2000 2000 (ready true true false) ∷ [])
+        ≡ Look ∷ Note (record { lateness = 1000; read = Some 0 }) ∷ Tick 1000 ∷ Tick 2000 ∷ Command ∷ [] }
 {}
 
 /// Who is stopped while somebody has a turn was stopped too, by the moment of the turn before, and of a look.
@@ -104,6 +108,7 @@ pub fn a_flood_in_a_pause_is_cut_off()
     ensures most { (schedule_after asleep (wakes_at 1501)).mode ≡ Reading 501 0 4096 }
     ensures before { (schedule_after asleep (having_read 7 (standing 1501 0 nobody) ∷ [])).mode ≡ Reading 501 7 4096 }
     ensures one_less { (schedule_after (reading asleep 501 0 4096) (wakes_at 1502)).mode ≡ Reading 501 0 4095 }
+    ensures look { (schedule_after asleep (wakes_at 1501 ++ wakes_at 1501 ++ wakes_at 1503)).mode ≡ Reading 501 0 4095 }
     ensures last { turns_from (reading asleep 3200 7 1) (having_read 7 (standing 4200 0 (ready false true false))
         ∷ having_read 8 (standing 4200 0 (ready false true false)) ∷ []) ≡ Datagram ∷ Note (record { lateness = 3200; read = Some 1 }) ∷ [] }
 {}
@@ -125,6 +130,9 @@ pub fn a_refused_tick_waits_for_a_ms()
     ensures others { turns_from asleep (standing 7 0 (ready false true false) ∷ standing 7 0 (ready false true false) ∷ standing 7 0 nobody ∷ [])
         ≡ Tick 7 ∷ Datagram ∷ Wait 1007 ∷ [] }
     ensures not_refused { turns_from asleep (standing 1500 0 nobody ∷ standing 1500 1000 nobody ∷ []) ≡ Tick 1000 ∷ Tick 1500 ∷ [] }
+    ensures behind { turns_from asleep (standing 1500 0 nobody ∷ standing 1500 0 nobody ∷ []) ≡ Tick 1000 ∷ Wait 2500 ∷ [] }
+    ensures whole { ticks_behind (standing 3000 0 nobody) ≡ 4 }
+    ensures part { ticks_behind (standing 2997 0 nobody) ≡ 3 }
 {}
 
 /// The end comes before all else, once ticks have come to it.
