@@ -14,7 +14,7 @@ use Rattle.turns.specs.declared.schedule.Mode.TheVariants.{Rounds, Reading, Catc
 use Rattle.turns.specs.declared.schedule.Schedule.{Schedule}
 use Rattle.turns.specs.Circle.{is_ready, first_ready}
 use Rattle.turns.specs.Clock.{longest_tick, longest_wait, is_over, tick_to, wait_until}
-use Rattle.turns.specs.Schedule.{longest_read_pause, met, asked, taken, turn_of, is_tick_due, is_stale, round_by, round, is_paused, lateness_of, noted, woken, of_sockets, read_by, read_on, onward, next_met, next_of}
+use Rattle.turns.specs.Schedule.{longest_read_pause, is_far_behind, met, asked, taken, turn_of, is_tick_due, is_stale, round_by, round, is_paused, lateness_of, noted, woken, of_sockets, read_by, read_on, onward, next_met, next_of}
 use Rattle.turns.specs.Runs.{turns_from, source_of, is_its, is_turn_of, is_rounds, is_round, IsReadyIn, reading}
 
 -- ---- tests
@@ -301,12 +301,9 @@ found_no_tick at Commands other = λ moment is. absurd cc
 found_no_tick at Datagrams other = λ moment is. absurd cc
 found_no_tick at Visitors other = λ moment is. absurd cc
 
-found_in_pause : Schedule → Situation → ℕ → Option Source
-found_in_pause s at left = if nat_lt 0 left then first_ready false (of_sockets at.ready) s.last else None
-
 read_no_tick : (s : Schedule) (at : Situation) (late before left : ℕ) → NoTick (read_on s at late before left).0
 read_no_tick s at late before left =
-    by_if (λ (found : Option Source). NoTick (read_by found s at late before left).0) (nat_lt 0 left) (first_ready false (of_sockets at.ready) s.last) None
+    by_if (λ (found : Option Source). NoTick (read_by found s at late before left).0) (nat_lt 0 left && not (is_far_behind at)) (first_ready false (of_sockets at.ready) s.last) None
     (λ some. by_found (first_ready false (of_sockets at.ready) s.last) refl) (λ none moment e. absurd cc) where
       by_found : (found : Option Source) → first_ready false (of_sockets at.ready) s.last ≡ found → NoTick (read_by found s at late before left).0
       by_found None is = λ moment e. absurd cc
@@ -324,7 +321,7 @@ onward_bounds (CatchingUp left) s at few =
 
 woken_quiet : (P : Turn → Type 0) (s : Schedule) (at : Situation) → P (Note (record { lateness = lateness_of s at; read = None })) → P Look → P (woken s at).0
 woken_quiet P s at note look =
-    by_if (λ (r : Turn × Schedule). P r.0) (nat_lt longest_read_pause (lateness_of s at)) (noted s at (lateness_of s at) None) _ (λ long. note) (λ short. look)
+    by_if (λ (r : Turn × Schedule). P r.0) (is_far_behind at) (noted s at (lateness_of s at) None) _ (λ long. note) (λ short. look)
 
 pub ticks_within : (s : Schedule) (at : Situation) (moment : ℕ) → at.moment < 2 ^ 64 → (next_of s at).0 ≡ Tick moment
     → (at.ticked ≤ moment) × (moment ≤ at.moment) × (moment ≤ at.ticked + longest_tick)
@@ -366,18 +363,33 @@ OneLess late before left r = (source : Source) → source_of r.0 ≡ Some source
 
 read_less : (s : Schedule) (at : Situation) (late before left : ℕ) → OneLess late before left (read_on s at late before left)
 read_less s at late before left =
-    by_if (λ (found : Option Source). OneLess late before left (read_by found s at late before left)) (nat_lt 0 left) (first_ready false (of_sockets at.ready) s.last) None
+    by_if (λ (found : Option Source). OneLess late before left (read_by found s at late before left)) (nat_lt 0 left && not (is_far_behind at)) (first_ready false (of_sockets at.ready) s.last) None
     (λ some. by_found some (first_ready false (of_sockets at.ready) s.last)) (λ none source e. absurd cc) where
-      by_found : nat_lt 0 left ≡ true → (found : Option Source) → OneLess late before left (read_by found s at late before left)
+      by_found : (nat_lt 0 left && not (is_far_behind at)) ≡ true → (found : Option Source) → OneLess late before left (read_by found s at late before left)
       by_found some None = λ source e. absurd cc
       by_found some (Some found) =
           by_if (OneLess late before left) (is_stale s at) (Look, asked s at) (turn_of at found, record (taken s at found) { mode = Reading late before (left - 1) })
-          (λ stale source e. absurd cc) (λ seen source e. (ltb-true 0 left some, refl))
+          (λ stale source e. absurd cc) (λ seen source e. (ltb-true 0 left (both_hold (nat_lt 0 left) _ some).0, refl))
 
 pub pause_gets_less : (s : Schedule) (at : Situation) (late before left : ℕ) (source : Source) → source_of (next_of (reading s late before left) at).0 ≡ Some source
     → (0 < left) × ((next_of (reading s late before left) at).1.mode ≡ Reading late before (left - 1))
 pause_gets_less s at late before left source is =
     in_pause (OneLess late before left) s at late before left (λ x e. absurd cc) (λ m. read_less (reading m late before left) at late before left) source is
+
+-- nobody's turn comes where the clock is too far behind
+abbrev NotFar : Situation → Turn × Schedule → Type 0
+NotFar at r = (source : Source) → source_of r.0 ≡ Some source → at.moment - at.ticked ≤ longest_read_pause
+
+read_not_far : (s : Schedule) (at : Situation) (late before left : ℕ) → NotFar at (read_on s at late before left)
+read_not_far s at late before left =
+    by_if (λ (found : Option Source). NotFar at (read_by found s at late before left)) (nat_lt 0 left && not (is_far_behind at)) (first_ready false (of_sockets at.ready) s.last) None
+    (λ some source e. let near = ltb-false longest_read_pause (at.moment - at.ticked) (is_not (is_far_behind at) (both_hold (nat_lt 0 left) _ some).1) in omega (arith, near))
+    (λ none source e. absurd cc)
+
+pub pause_is_not_far : (s : Schedule) (at : Situation) (late before left : ℕ) (source : Source) → source_of (next_of (reading s late before left) at).0 ≡ Some source
+    → at.moment - at.ticked ≤ longest_read_pause
+pause_is_not_far s at late before left source is =
+    in_pause (NotFar at) s at late before left (λ x e. absurd cc) (λ m. read_not_far (reading m late before left) at late before left) source is
 
 -- ---- waiting
 

@@ -18,7 +18,8 @@ use Rattle.turns.specs.Clock.{is_over, tick_to, ticks_behind, wait_until}
 abbrev pub longest_oversleep : ℕ
 longest_oversleep = 500
 
--- what came in a longer pause isn't read first: three minutes after a transaction its id may be another's (RFC 3435, 3.2.1.2)
+-- what came isn't read first where the clock is behind by more: three minutes after a transaction its id may be another's (RFC 3435,
+-- 3.2.1.2)
 abbrev pub longest_read_pause : ℕ
 longest_read_pause = 150000
 
@@ -126,11 +127,15 @@ abbrev pub noted : Schedule → Situation → ℕ → Option ℕ → Turn × Sch
 noted s at late read =
     (Note (record { lateness = late; read = read }), record s { mode = CatchingUp (ticks_behind at); awaited = at.moment })
 
--- After a pause it is asked what has come, to be read at the moment that the clock had before; after one that was too long for
--- that the clock catches up at once.
+-- The clock is too far behind for what comes to be read at its moment, be it by one pause or by several behind one another.
+abbrev pub is_far_behind : Situation → Bool
+is_far_behind at = nat_lt longest_read_pause (at.moment - at.ticked)
+
+-- After a pause it is asked what has come, to be read at the moment that the clock had before; where that is too far behind the
+-- clock catches up at once.
 abbrev pub woken : Schedule → Situation → Turn × Schedule
 woken s at =
-    if nat_lt longest_read_pause (lateness_of s at) then noted s at (lateness_of s at) None
+    if is_far_behind at then noted s at (lateness_of s at) None
     else (Look, record (asked s at) { mode = Reading (lateness_of s at) at.read most_read })
 
 -- the sockets alone are read
@@ -143,11 +148,11 @@ read_by (Some source) s at late before left =
     if is_stale s at then (Look, asked s at)
     else (turn_of at source, record (taken s at source) { mode = Reading late before (left - 1) })
 
--- what came in a pause is read, lines and datagrams by turns, until nothing is left of it or it was enough; so in a flood of the ones
--- the others are seen too
+-- what came in a pause is read, lines and datagrams by turns, until nothing is left of it, it was enough, or it was stopped again for
+-- too long; so in a flood of the ones the others are seen too
 abbrev pub read_on : Schedule → Situation → ℕ → ℕ → ℕ → Turn × Schedule
 read_on s at late before left =
-    read_by (if nat_lt 0 left then first_ready false (of_sockets at.ready) s.last else None) s at late before left
+    read_by (if nat_lt 0 left && not (is_far_behind at) then first_ready false (of_sockets at.ready) s.last else None) s at late before left
 
 -- the clock catches up, by so many ticks at most, and a round goes on
 abbrev pub catch_up : Schedule → Situation → ℕ → Turn × Schedule

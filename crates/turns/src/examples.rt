@@ -113,11 +113,19 @@ pub fn a_flood_in_a_pause_is_cut_off()
         ∷ having_read 8 (standing 4200 0 (ready false true false)) ∷ []) ≡ Datagram ∷ Note (record { lateness = 3200; read = Some 1 }) ∷ [] }
 {}
 
-/// What came in a pause of more than 150 s isn't read first.
+/// Where the clock is behind by more than 150 s, after one pause or several, what came isn't read first.
 pub fn after_a_long_pause_ticks_come_first()
-    ensures not_too_long { turns_from asleep (wakes_at 151000) ≡ Look ∷ [] }
-    ensures too_long { turns_from asleep (standing 151001 0 (ready false true false) ∷ standing 151001 0 (ready false true false) ∷ [])
-        ≡ Note (record { lateness = 150001; read = None }) ∷ Tick 1000 ∷ [] }
+    ensures not_too_long { turns_from asleep (wakes_at 150000) ≡ Look ∷ [] }
+    ensures too_long { turns_from asleep (wakes_at 150001 ++ wakes_at 150001)
+        ≡ Note (record { lateness = 149001; read = None }) ∷ Tick 1000 ∷ [] }
+    ensures ticked { turns_from asleep (standing 150001 1 nobody ∷ []) ≡ Look ∷ [] }
+    ensures two { turns_from asleep (standing 101000 0 nobody ∷ standing 101000 0 nobody ∷ wakes_at 150000)
+        ≡ Look ∷ Note (record { lateness = 100000; read = Some 0 }) ∷ Look ∷ [] }
+    ensures two_too_long { turns_from asleep (standing 101000 0 nobody ∷ standing 101000 0 nobody ∷ wakes_at 150001 ++ wakes_at 150001)
+        ≡ Look ∷ Note (record { lateness = 100000; read = Some 0 }) ∷ Note (record { lateness = 49001; read = None }) ∷ Tick 1000 ∷ [] }
+    ensures while_it_reads { turns_from asleep (wakes_at 101000 ++ wakes_at 150000 ++ having_read 1 (standing 150001 0 (ready false true false))
+        ∷ having_read 1 (standing 150001 0 (ready false true false)) ∷ [])
+        ≡ Look ∷ Datagram ∷ Note (record { lateness = 100000; read = Some 1 }) ∷ Tick 1000 ∷ [] }
 {}
 
 /// A tick that was refused is due again a ms later; behind a pause so many are tried as the clock is behind.

@@ -1,6 +1,6 @@
 //! The schedule: what comes next, by how things stand and by what came before.
 ghost use Rattle.std.specs.Prelude.{◌≡◌};
-ghost use Rattle.turns.specs.Schedule.{opening, met, asked, slept, aim_of, tried_of, taken, is_refused_now, is_tick_due, is_stale, round_by, round, lateness_of, is_reading, is_paused, noted, woken, of_sockets, read_by, read_on, catch_up, onward, next_met, next_of};
+ghost use Rattle.turns.specs.Schedule.{opening, met, asked, slept, aim_of, tried_of, taken, is_refused_now, is_tick_due, is_stale, round_by, round, lateness_of, is_reading, is_paused, noted, is_far_behind, woken, of_sockets, read_by, read_on, catch_up, onward, next_met, next_of};
 
 use crate::circle::{Ready, Source, first_ready};
 use crate::situation::{Situation, is_over, tick_to, ticks_behind, wait_until};
@@ -9,7 +9,8 @@ use crate::turn::{Pause, Turn, turn_of};
 // Who wakes so late and no later, in ms, wasn't stopped.
 const LONGEST_OVERSLEEP: u64 = 500;
 
-// What came in a longer pause, in ms, isn't read first: three minutes after a transaction its id may be another's (RFC 3435, 3.2.1.2).
+// Where the clock is behind by more, in ms, what came isn't read first: three minutes after a transaction its id may be another's (RFC
+// 3435, 3.2.1.2).
 const LONGEST_READ_PAUSE: u64 = 150_000;
 
 // So much of what came in a pause is read first.
@@ -207,12 +208,19 @@ fn noted(schedule: Schedule, at: Situation, lateness: u64, read: Option<u64>) ->
     (Turn::Note { pause }, next)
 }
 
-// After a pause it is asked what has come; after one that was too long for that the clock catches up.
+// The clock is too far behind for what comes to be read at its moment.
+fn is_far_behind(at: Situation) -> bool
+    ensures { result ≡ is_far_behind at }
+{
+    LONGEST_READ_PAUSE < at.moment.saturating_sub(at.ticked)
+}
+
+// After a pause it is asked what has come; where the clock is too far behind for that it catches up.
 fn woken(schedule: Schedule, at: Situation) -> (Turn, Schedule)
     ensures { result ≡ woken schedule at }
 {
     let lateness = lateness_of(schedule, at);
-    if LONGEST_READ_PAUSE < lateness {
+    if is_far_behind(at) {
         return noted(schedule, at, lateness, None);
     }
     let mode = Mode::Reading {
@@ -276,7 +284,7 @@ fn read_on(
 ) -> (Turn, Schedule)
     ensures { result ≡ read_on schedule at lateness before left }
 {
-    let found = if 0 < left {
+    let found = if 0 < left && !is_far_behind(at) {
         first_ready(false, of_sockets(at.ready), schedule.last)
     } else {
         None
