@@ -5,7 +5,7 @@ use crate::wire::Wire;
 use agent_texts::{AgentConfig, Journal};
 use bad_network::{BadNetwork, Spoiling};
 use call_desk::Switchboard;
-use live_ends::{Live, LiveClock, Outlets, Record, RecordState, SystemFault, bind, open_capture};
+use live_ends::{Live, LiveClock, Outlets, SystemFault, bind, open_capture};
 use mg_bytes::OutOfMemory;
 use std::alloc::Global;
 use std::io::{ErrorKind, Write};
@@ -129,21 +129,15 @@ fn tell_addresses<R: Net + Clock, F: Write + Drop>(
     outlets.offer();
 }
 
-// Whether memory was refused for a record.
-fn is_refused(record: &Record) -> bool {
-    matches!(record.state(), RecordState::OutOfMemory)
-}
-
 // Whether all records were written to their ends. Of one that couldn't be written it was said at once.
 fn records_result<F: Write + Drop>(
     journal: &Journal,
     outlets: &Outlets<F>,
 ) -> Result<(), ServeFault> {
-    if is_refused(&journal.told) || is_refused(&journal.log) || is_refused(&journal.capture) {
+    if journal.told.is_refused() || journal.log.is_refused() || journal.capture.is_refused() {
         return Err(ServeFault::OutOfMemory);
     }
-    let written = outlets.written();
-    if written.output > 0 || written.error > 0 || written.capture > 0 {
+    if outlets.written().faults() > 0 {
         return Err(ServeFault::Write);
     }
     Ok(())

@@ -20,6 +20,12 @@ is_told Off = false
 is_told On = true
 is_told OutOfMemory = false
 
+-- memory was refused for it
+abbrev pub is_refused : RecordState → Bool
+is_refused Off = false
+is_refused On = false
+is_refused OutOfMemory = true
+
 -- Outlets
 
 -- all is written, as it is taken

@@ -3,7 +3,7 @@
 
 ghost use Rattle.std.specs.Prelude.{◌≡◌, codes, true, false, [], ◌∷◌};
 ghost use Rattle.live_ends.specs.Backlog.{nothing_waits, lines_ended, is_kept, offered, offered_all, may_note, noted, ended, taken, closed, kept_of, lines_of_all};
-ghost use Rattle.live_ends.specs.Recording.{state_when, is_told, is_open, faults_of, said, given_up, state_given_up, offer_left};
+ghost use Rattle.live_ends.specs.Recording.{state_when, is_told, is_refused, is_open, faults_of, said, given_up, state_given_up, offer_left};
 ghost use Rattle.live_ends.specs.Written.{written_line};
 ghost use Rattle.live_ends.specs.Looking.{no_visit, has_visits};
 ghost use Rattle.live_ends.specs.declared.record.RecordState.TheVariants.{Off, On, OutOfMemory};
@@ -58,6 +58,9 @@ pub fn a_record_is_on_or_off()
     ensures told { is_told On ≡ true }
     ensures not_told { is_told Off ≡ false }
     ensures refused { is_told OutOfMemory ≡ false }
+    ensures on_isnt_refused { is_refused On ≡ false }
+    ensures off_isnt_refused { is_refused Off ≡ false }
+    ensures is_refused { is_refused OutOfMemory ≡ true }
 {}
 
 /// An outlet that is broken off has one fault. Lines that are said are kept whole, or it is as if they hadn't been.

@@ -5,7 +5,7 @@ ghost use Rattle.live_ends.specs.declared.outlet.OutletState.TheVariants.{Open, 
 ghost use Rattle.live_ends.specs.declared.record.RecordState.TheVariants.{Off};
 ghost use Rattle.live_ends.specs.declared.backlog.TheConstants.{NOTE_ROOM, TEXT_ROOM};
 ghost use Rattle.live_ends.specs.Backlog.{nothing_waits, is_kept, offered, ended, closed};
-ghost use Rattle.live_ends.specs.Recording.{is_open, faults_of, said, Notes, KeepsLog, given_up, state_given_up};
+ghost use Rattle.live_ends.specs.Recording.{is_refused, is_open, faults_of, said, Notes, KeepsLog, given_up, state_given_up};
 
 use crate::backlog::Backlog;
 use crate::record::Record;
@@ -14,6 +14,11 @@ use exchange_log::{Notice, put_notice};
 use std::alloc::{AllocError, Global};
 use std::io::{ErrorKind, Write};
 use system_reasons::reason_of;
+
+// How it stands with an outlet where memory was refused for what is recorded there.
+const REFUSED: OutletState = OutletState::Failed {
+    kind: ErrorKind::OutOfMemory,
+};
 
 // So often something is written in a turn.
 const MOST_WRITES: u16 = 512;
@@ -192,6 +197,35 @@ impl<F: Write + Drop> Outlet<F> {
         if self.is_open() {
             self.state = OutletState::BrokenOff;
             self.backlog.end(last);
+        }
+    }
+
+    /// Where memory was refused for a record, what is written of it ends with this last line, and that is a write fault.
+    pub fn end_refused(&mut self, record: &Record, last: &[u8])
+        ensures not_refused { is_refused record.now.state ≡ false → (self.new.state ≡ self.old.state) × (self.new.backlog ≡ self.old.backlog) }
+        ensures not_open { is_open self.old.state ≡ false → (self.new.state ≡ self.old.state) × (self.new.backlog ≡ self.old.backlog) }
+        ensures fault { is_refused record.now.state ≡ true → is_open self.new.state ≡ false }
+        ensures last { is_refused record.now.state ≡ true → is_open self.old.state ≡ true → length last.now ≤ NOTE_ROOM →
+            length self.old.backlog.waiting ≤ TEXT_ROOM → self.new.backlog ≡ ended self.old.backlog last.now }
+    {
+        if record.is_refused() && self.is_open() {
+            self.state = REFUSED;
+            self.backlog.end(last);
+        }
+    }
+
+    /// Where memory was refused for a log, that is a write fault; a line says so where the log stood, and others may follow.
+    pub fn say_refused(&mut self, log: &Record)
+        ensures not_refused { is_refused log.now.state ≡ false → (self.new.state ≡ self.old.state) × (self.new.backlog ≡ self.old.backlog) }
+        ensures not_open { is_open self.old.state ≡ false → (self.new.state ≡ self.old.state) × (self.new.backlog ≡ self.old.backlog) }
+        ensures fault { is_refused log.now.state ≡ true → is_open self.new.state ≡ false }
+    {
+        if !log.is_refused() || !self.is_open() {
+            return;
+        }
+        self.state = REFUSED;
+        if let Ok(line) = self.fault_line() {
+            self.say(line.as_bytes());
         }
     }
 

@@ -1,7 +1,7 @@
 //! What is put together while a turn goes on, to be kept for an outlet when it is over.
 ghost use Rattle.std.specs.Prelude.{◌≡◌, []};
 ghost use Rattle.live_ends.specs.declared.record.RecordState.TheVariants.{Off, OutOfMemory};
-ghost use Rattle.live_ends.specs.Recording.{state_when, is_told};
+ghost use Rattle.live_ends.specs.Recording.{state_when, is_told, is_refused};
 
 use std::alloc::Global;
 
@@ -53,6 +53,13 @@ impl Record {
         ensures { result ≡ is_told self.now.state }
     {
         matches!(self.state, RecordState::On)
+    }
+
+    /// Whether memory was refused for it.
+    pub fn is_refused(&self) -> bool
+        ensures { result ≡ is_refused self.now.state }
+    {
+        matches!(self.state, RecordState::OutOfMemory)
     }
 
     /// Memory was refused: nothing is told from then on.

@@ -62,8 +62,8 @@ impl Written {
         capture: 0,
     };
 
-    // How many write faults there were.
-    fn faults(self) -> u64
+    /// How many write faults there were.
+    pub fn faults(self) -> u64
         ensures { result ≡ faults_in self }
     {
         self.output

@@ -17,9 +17,12 @@ impl Journal {
         outlets
             .output
             .keep_whole(&mut trace.record, broken_off_line());
+        outlets.output.end_refused(&trace.record, broken_off_line());
         outlets.error.keep_log(&mut self.log.record, time);
+        outlets.error.say_refused(&self.log.record);
         if let Some(capture) = &mut outlets.capture {
             capture.keep_whole(&mut self.capture.record, b"");
+            capture.end_refused(&self.capture.record, b"");
         }
         outlets.offer();
         self.written = outlets.written();

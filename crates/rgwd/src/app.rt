@@ -8,8 +8,8 @@ use crate::words::{Settings, read_words};
 use config_faults::{Flaw, flaw_of, told, told_setup};
 use gateway_core::Gateway;
 use live_ends::{
-    Live, OUT_OF_MEMORY, Outlets, RecordState, SystemFault, hold_standard, open_capture,
-    open_outlets, say_last, words_of,
+    Live, OUT_OF_MEMORY, Outlets, SystemFault, hold_standard, open_capture, open_outlets, say_last,
+    words_of,
 };
 use live_gateway::boxed;
 use live_journal::{Journal, Trace};
@@ -75,11 +75,6 @@ fn tell_start<R: Net + Clock, F: Write + Drop>(
     outlets.offer();
 }
 
-// Whether memory was refused for a record.
-fn is_refused(state: RecordState) -> bool {
-    matches!(state, RecordState::OutOfMemory)
-}
-
 // How the program ends that served: whether all its records were written to their ends. Of one that couldn't be written it was said at
 // once.
 fn served_ending<'w, F: Write + Drop>(
@@ -87,14 +82,13 @@ fn served_ending<'w, F: Write + Drop>(
     trace: &Trace,
     outlets: &Outlets<F>,
 ) -> Ending<'w> {
-    if is_refused(trace.record.state())
-        || is_refused(journal.log.record.state())
-        || is_refused(journal.capture.record.state())
+    if trace.record.is_refused()
+        || journal.log.record.is_refused()
+        || journal.capture.record.is_refused()
     {
         return Ending::OutOfMemory;
     }
-    let written = outlets.written();
-    if written.output > 0 || written.error > 0 || written.capture > 0 {
+    if outlets.written().faults() > 0 {
         return Ending::Write;
     }
     Ending::Served

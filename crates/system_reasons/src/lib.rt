@@ -32,6 +32,9 @@ pub fn reason_of(kind: ErrorKind) -> &'static str {
     if kind == ErrorKind::BrokenPipe {
         return ": nobody reads it any more";
     }
+    if kind == ErrorKind::OutOfMemory {
+        return ": out of memory";
+    }
     ""
 }
 
