@@ -1,6 +1,6 @@
 //! Copies of what is sent.
 ghost use Rattle.std.specs.Prelude.{◌≡◌, ◌++◌, ◌∷◌, [], OnOk, OnErr};
-ghost use Rattle.surroundings.specs.Keeping.{copies_of};
+ghost use Rattle.surroundings.specs.Keeping.{copies_of, moments_of};
 
 use std::alloc::{AllocError, Global};
 use std::net::SocketAddrV4;
@@ -22,6 +22,7 @@ pub fn keep(
     bytes: &[u8],
 ) -> Result<(), AllocError>
     ensures ok { OnOk result (copies_of kept.new.items ≡ copies_of kept.old.items ++ record { to = to; bytes = bytes.now } ∷ []) }
+    ensures moments { OnOk result (moments_of kept.new.items ≡ moments_of kept.old.items ++ moment ∷ []) }
     ensures err { OnErr result (kept.new.items ≡ kept.old.items) }
 {
     let bytes = Vec::from_slice(alloc, bytes)?;

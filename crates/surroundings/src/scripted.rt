@@ -1,5 +1,5 @@
 //! A program's surroundings in memory, by a script.
-ghost use Rattle.std.specs.Prelude.{◌≡◌, ◌≤◌, ◌<◌, ◌++◌, ◌∷◌, [], Some, length, IfSome, OnOk, OnErr};
+ghost use Rattle.std.specs.Prelude.{◌≡◌, ◌≤◌, ◌<◌, ◌++◌, ◌∷◌, [], false, Some, length, IfSome, OnOk, OnErr};
 ghost use Rattle.surroundings.specs.Keeping.{told_by};
 
 use crate::keeping::{SentDatagram, keep};
@@ -86,6 +86,9 @@ impl Scripted {
         ensures own { result.own ≡ own }
         ensures moment { result.moment ≡ 0 }
         ensures coming { result.coming.items ≡ [] }
+        ensures unsent { result.unsent.items ≡ [] }
+        ensures answers { result.answers.items ≡ [] }
+        ensures failing { result.is_failing ≡ false }
     {
         Scripted {
             alloc,
@@ -105,6 +108,11 @@ impl Scripted {
         ensures ok { OnOk result (self.new.coming.items ≡ self.old.coming.items ++ coming ∷ []) }
         ensures err { OnErr result (self.new.coming.items ≡ self.old.coming.items) }
         ensures sent { told_by self.new ≡ told_by self.old }
+        ensures own { self.new.own ≡ self.old.own }
+        ensures moment { self.new.moment ≡ self.old.moment }
+        ensures unsent { self.new.unsent ≡ self.old.unsent }
+        ensures answers { self.new.answers ≡ self.old.answers }
+        ensures failing { self.new.is_failing ≡ self.old.is_failing }
     {
         self.coming.push_back(coming)?;
         Ok(())
