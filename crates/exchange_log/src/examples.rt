@@ -33,6 +33,9 @@ pub fn a_day_has_a_date()
     ensures first { date_of 0 ≡ codes "1970-01-01" }
     ensures month { date_of 30 ≡ codes "1970-01-31" }
     ensures next_month { date_of 31 ≡ codes "1970-02-01" }
+    ensures spring { date_of 90 ≡ codes "1970-04-01" }
+    ensures may { date_of 120 ≡ codes "1970-05-01" }
+    ensures june { date_of 151 ≡ codes "1970-06-01" }
     ensures year { date_of 364 ≡ codes "1970-12-31" }
     ensures next_year { date_of 365 ≡ codes "1971-01-01" }
     ensures no_leap_day { date_of 424 ≡ codes "1971-03-01" }
