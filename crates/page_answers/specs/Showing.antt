@@ -1,10 +1,11 @@
 -- What the page is shown, and the acts that wait for the telephones.
-use Rattle.std.specs.Prelude.{ℕ, Bool, List, map, Option}
+use Rattle.std.specs.Prelude.{◌≡◌, ℕ, Bool, List, [], ◌∷◌, map, replicate, Option}
 use Rattle.page_answers.specs.declared.act.QueuedAct.{QueuedAct}
 use Rattle.page_answers.specs.declared.picture.SignalView.{SignalView}
 use Rattle.page_answers.specs.declared.picture.ConnectionView.{ConnectionView}
 use Rattle.page_answers.specs.declared.picture.LineView.{LineView}
 use Rattle.page_answers.specs.declared.picture.Picture.{Picture}
+use Rattle.page_answers.specs.declared.counts.Counts.{Counts}
 use Rattle.page_answers.specs.Keeping.{RingState}
 
 -- a signal by its name, and the moment of its end, where time ends it
@@ -41,6 +42,18 @@ line_shown l = record {
 -- the lines of a picture
 abbrev pub lines_of : Picture → List LineShown
 lines_of picture = map line_shown picture.lines.items
+
+-- all numbers that are counted, but those that stand in lists
+abbrev pub numbers_of : Counts → List ℕ
+numbers_of c =
+    c.datagrams_in ∷ c.datagrams_out ∷ c.responses ∷ c.unreadable ∷ c.answers_again ∷ c.notifications ∷ c.notifications_again
+    ∷ c.announcements ∷ c.announcements_again ∷ c.given_up ∷ c.refused ∷ c.receive_faults ∷ c.send_faults ∷ c.dropped_lines
+    ∷ c.transactions ∷ []
+
+-- nothing was counted
+abbrev pub IsNothingCounted : Counts → Type 0
+IsNothingCounted counts =
+    (numbers_of counts ≡ replicate 15 0) × (counts.commands.items ≡ []) × (counts.answers.items ≡ []) × (counts.write_faults.items ≡ [])
 
 -- the picture that is shown, the number that its lines have, what happened lately, and the acts that wait, from the oldest
 pub record BoardState : Type 0 where

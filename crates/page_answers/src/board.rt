@@ -3,7 +3,7 @@ ghost use Rattle.std.specs.Prelude.{◌≡◌, ◌≢◌, ◌≤◌, [], length,
 ghost use Rattle.page_answers.specs.Texts.{TellsState};
 ghost use Rattle.page_answers.specs.Telling.{events_text as text_of_events};
 ghost use Rattle.page_answers.specs.Keeping.{next_number, nothing_yet, noted, counted};
-ghost use Rattle.page_answers.specs.Showing.{lines_of};
+ghost use Rattle.page_answers.specs.Showing.{IsNothingCounted, lines_of};
 ghost use Rattle.page_answers.specs.Metrics.{metrics_of};
 ghost use Rattle.page_answers.specs.Outcomes.{Becomes, queued_behind};
 ghost use Rattle.page_answers.specs.declared.board.ActOutcome.TheVariants.{Queued, Unreadable};
@@ -74,6 +74,9 @@ impl Board {
     /// A board that shows no lines yet.
     pub fn new(alloc: Global) -> Board
         ensures lines { lines_of result.picture ≡ [] }
+        ensures clock { result.picture.clock ≡ 0 }
+        ensures first { result.picture.first ≡ 0 }
+        ensures counts { IsNothingCounted result.picture.counts }
         ensures version { result.version ≡ 0 }
         ensures ring { result.ring ≡ nothing_yet }
         ensures acts { result.acts ≡ [] }

@@ -1,5 +1,6 @@
 //! What the gateway is now, as it is shown.
 ghost use Rattle.std.specs.Prelude.{◌≡◌, []};
+ghost use Rattle.page_answers.specs.Showing.{IsNothingCounted};
 ghost use Rattle.page_answers.specs.Totals.{with_line, totals_of};
 
 use crate::counts::Counts;
@@ -70,7 +71,10 @@ impl Totals {
 impl Picture {
     /// A gateway without lines, of which nothing was counted.
     pub fn new(alloc: Global) -> Picture
-        ensures { result.lines.items ≡ [] }
+        ensures lines { result.lines.items ≡ [] }
+        ensures clock { result.clock ≡ 0 }
+        ensures first { result.first ≡ 0 }
+        ensures counts { IsNothingCounted result.counts }
     {
         Picture {
             clock: 0,
