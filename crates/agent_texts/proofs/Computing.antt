@@ -3,7 +3,8 @@ use Rattle.std.specs.Prelude.{⊤}
 use Rattle.mg_bytes.proofs.Computing.{on_examples as byte_examples}
 use Rattle.exchange_log.specs.Escaping.{shown}
 use Rattle.exchange_log.specs.Grouping.{grouped}
+use Rattle.agent_texts.specs.Counts.{calls_text, messages_text, losses_text}
 
 unfoldable pub on_examples : ⊤
-unfolding byte_examples shown grouped
+unfolding byte_examples shown grouped calls_text messages_text losses_text
 on_examples = tt

@@ -1,18 +1,19 @@
 //! Worked examples of the definitions, as theorems: each sentence of a definition has one that a slip in it breaks.
 #![tactic(auto, unfolding(crate::proofs::Computing::on_examples))]
 
-ghost use Rattle.std.specs.Prelude.{◌≡◌, codes, pos, [], ◌∷◌, true, false, Some, None};
+ghost use Rattle.std.specs.Prelude.{◌≡◌, ◌++◌, codes, pos, [], ◌∷◌, true, false, Some, None};
 ghost use Rattle.toml.specs.Data.{string, integer};
 ghost use Rattle.call_routing.specs.declared.phase.Tone.TheVariants as tones;
 ghost use Rattle.call_routing.specs.declared.phase.Phase.TheVariants as phases;
+ghost use Rattle.call_routing.specs.declared.line.Leg.TheVariants as legs;
 ghost use Rattle.agent_texts.specs.declared.config_fault.ValueFault.TheVariants as faults;
 ghost use Rattle.agent_texts.specs.declared.standing.Progress.TheVariants.{Ringing, Answered, Connected};
 ghost use Rattle.agent_texts.specs.declared.standing.Standing.TheVariants.{Rest, Dialling, Busy, Reorder, Called};
-ghost use Rattle.agent_texts.specs.Counts.{greatest_count, one_more, nothing_counted, told};
+ghost use Rattle.agent_texts.specs.Counts.{greatest_count, one_more, nothing_counted, told, counts_text};
 ghost use Rattle.agent_texts.specs.ConfigFaults.{place_by, value_text, fault_text, missing_line, unknown_line, value_line, count_line, name_line, limit_line};
-ghost use Rattle.agent_texts.specs.Standings.{standing_of, with_change};
+ghost use Rattle.agent_texts.specs.Standings.{stands_for, standing_of, with_change};
 ghost use Rattle.agent_texts.specs.Stations.{number_at};
-ghost use Rattle.agent_texts.specs.Example.{rings_other, calls, exchange_with, answered_with};
+ghost use Rattle.agent_texts.specs.Example.{leg_in, rings_other, calls, exchange_with, answered_with, each_counted, station};
 
 /// Numbers are told behind what they are the number of, and a count stays at its greatest value.
 pub fn counts_are_told_in_a_row()
@@ -21,6 +22,14 @@ pub fn counts_are_told_in_a_row()
     ensures more { one_more 4 ≡ 5 }
     ensures most { one_more greatest_count ≡ greatest_count }
     ensures last { one_more 18446744073709551614 ≡ greatest_count }
+{}
+
+/// Each count stands behind its own words, a kind a line.
+pub fn each_count_has_its_words()
+    ensures { counts_text each_counted
+        ≡ codes "calls 1 set up 2 abandoned 3 failed 4 busy 5 wrong number 6\ndatagrams in 7 strange 8 out 9 again 10\n"
+        ++ codes "commands 11 answered 12 given up 13\nnotifications 14 announcements 15 strange 16\n"
+        ++ codes "network lost 17 copied 18 late 19\nfaults memory 20 receive 21 send 22\n" }
 {}
 
 /// A fault is told with its key, what stands there, and what may.
@@ -64,6 +73,14 @@ pub fn a_line_stands_as_its_phase_is()
     ensures no_line { standing_of (exchange_with phases.Dialling) 7 ≡ Rest }
 {}
 
+/// A connection stands for the call that it was made for, once its answer names it.
+pub fn a_connection_stands_for_its_call()
+    ensures own { stands_for (leg_in 3) 3 ≡ true }
+    ensures another { stands_for (leg_in 2) 3 ≡ false }
+    ensures unknown { stands_for (legs.Unknown 3) 3 ≡ false }
+    ensures none { stands_for legs.Absent 3 ≡ false }
+{}
+
 /// A call is counted when it rings, when it is connected, and when it ends before that; and a number that led to none.
 pub fn calls_are_counted_as_they_come()
     ensures rings { (with_change Dialling (calls Ringing) nothing_counted).calls ≡ 1 }
@@ -78,9 +95,18 @@ pub fn calls_are_counted_as_they_come()
     ensures wrong { (with_change Dialling Reorder nothing_counted).wrong_number ≡ 1 }
     ensures dials { with_change Rest Dialling nothing_counted ≡ nothing_counted }
     ensures hears { with_change Called Busy nothing_counted ≡ nothing_counted }
+    ensures dials_again { (with_change (calls Ringing) Dialling nothing_counted).abandoned ≡ 1 }
+    ensures is_called { (with_change (calls Ringing) Called nothing_counted).abandoned ≡ 1 }
+    ensures gives_up { with_change Dialling Rest nothing_counted ≡ nothing_counted }
+    ensures dials_on { with_change Dialling Dialling nothing_counted ≡ nothing_counted }
+    ensures called_first { with_change Dialling Called nothing_counted ≡ nothing_counted }
+    ensures other_tone { with_change Busy Reorder nothing_counted ≡ nothing_counted }
+    ensures busy_later { with_change Reorder Busy nothing_counted ≡ nothing_counted }
+    ensures called_before { with_change Called Rest nothing_counted ≡ nothing_counted }
 {}
 
-/// A place without a station has no number.
+/// A station has the number by which it is dialled; a place without one has none.
 pub fn a_station_has_a_number()
+    ensures second { number_at (station (codes "201") ∷ station (codes "202") ∷ []) 1 ≡ codes "202" }
     ensures none { number_at [] 3 ≡ codes "?" }
 {}

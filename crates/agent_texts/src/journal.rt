@@ -1,5 +1,7 @@
 //! What is told of the conversation: on standard output, in the log, in a capture, and in counts.
-ghost use Rattle.std.specs.Prelude.{◌≡◌, ◌++◌, [], IfOk, OnOk};
+ghost use Rattle.std.specs.Prelude.{◌≡◌, ◌⊎◌, ◌++◌, true, [], IfOk, OnOk};
+ghost use Rattle.live_ends.specs.declared.record.RecordState.TheVariants as states;
+ghost use Rattle.live_ends.specs.Recording.{state_when};
 ghost use Rattle.live_ends.specs.Written.{written_line};
 ghost use Rattle.agent_texts.specs.Counts.{counts_text, nothing_counted};
 
@@ -91,6 +93,10 @@ impl Journal {
     pub fn new(alloc: Global, has_log: bool, has_capture: bool, here: SocketAddrV4) -> Journal
         ensures told { result.told.out.items ≡ [] }
         ensures log { result.log.out.items ≡ [] }
+        ensures tells { result.told.state ≡ state_when true }
+        ensures logs { result.log.state ≡ state_when has_log }
+        ensures captures { (result.capture.state ≡ state_when has_capture) ⊎ (result.capture.state ≡ states.OutOfMemory) }
+        ensures here { result.here ≡ here }
         ensures tally { result.tally ≡ nothing_counted }
         ensures capture_name { result.capture_name.items ≡ [] }
     {
