@@ -2,6 +2,7 @@
 #![tactic(auto, unfolding(crate::proofs::Computing::on_examples))]
 
 ghost use Rattle.std.specs.Prelude.{◌≡◌, codes, map, true, false, [], ◌∷◌, ◌++◌, Some, None};
+ghost use Rattle.std.specs.Global.{Box};
 ghost use Rattle.live_page.specs.Access.{only, is_known_host, is_same_origin, is_json};
 ghost use Rattle.page_answers.specs.declared.board.ActOutcome.TheVariants.{Queued, NoRoom, Unreadable};
 ghost use Rattle.live_page.specs.Asking.{route_of, is_refused, reading_status, refusal_status, refusal_fields, outcome_status};
@@ -9,7 +10,8 @@ ghost use Rattle.live_page.specs.Fields.{kind_of, policy, kind_fields, fields_at
 ghost use Rattle.live_page.specs.declared.fields.Content.TheVariants as contents;
 ghost use Rattle.live_page.specs.Places.{room_from, idlest, place_for};
 ghost use Rattle.live_page.specs.Seating.{held_by, seated};
-ghost use Rattle.live_page.specs.Waiting.{sooner, soonest_from};
+ghost use Rattle.live_page.specs.Waiting.{sooner, soonest_from, is_late, stays_at, next_turn};
+ghost use Rattle.live_page.specs.declared.visitor.Visitor.{Visitor};
 ghost use Rattle.live_ends.specs.declared.readiness.TheConstants.{MOST_VISITORS};
 ghost use Rattle.live_page.specs.Example.{here, at_port, elsewhere, once, this_host, other_host, third_host, mine, theirs, seven, eight, other_eight};
 ghost use Rattle.live_page.specs.declared.asked.Asked.TheVariants.{Strange, Reading, Acting, Forbidden, Unsuited, Missing};
@@ -139,6 +141,29 @@ pub fn the_first_is_waited_for()
     ensures nobody_before { sooner None (Some 20) ≡ Some 20 }
     ensures free { sooner (Some 20) None ≡ Some 20 }
     ensures nobody { soonest_from None (None ∷ None ∷ []) ≡ None }
+{}
+
+/// Whose time is over at this very ms goes, and nobody before.
+pub fn who_is_late_goes()
+    ensures late { (visitor : Box Visitor) → visitor.value.deadline ≡ 15000 → is_late 15000 (Some visitor) ≡ true }
+    ensures not_yet { (visitor : Box Visitor) → visitor.value.deadline ≡ 15000 → is_late 14999 (Some visitor) ≡ false }
+    ensures nobody { is_late 15000 None ≡ false }
+    ensures goes { (visitor : Box Visitor) → visitor.value.deadline ≡ 15000 → stays_at 15000 (Some visitor) ≡ None }
+    ensures stays { (visitor : Box Visitor) → visitor.value.deadline ≡ 15000 → stays_at 14999 (Some visitor) ≡ Some visitor }
+    ensures first { (one other : Box Visitor) → one.value.deadline ≡ 20 → other.value.deadline ≡ 10 →
+        soonest_from None (Some one ∷ None ∷ Some other ∷ []) ≡ Some 10 }
+{}
+
+/// Of those who have more to do the first behind the last has its turn; behind all of them the first, and at last the same again.
+pub fn visitors_have_their_turns()
+    ensures next { (one two three : Box Visitor) → two.value.has_turn ≡ true →
+        next_turn 0 (Some one ∷ Some two ∷ Some three ∷ []) ≡ Some 1 }
+    ensures passed_over { (one two three : Box Visitor) → two.value.has_turn ≡ false → three.value.has_turn ≡ true →
+        next_turn 0 (Some one ∷ Some two ∷ Some three ∷ []) ≡ Some 2 }
+    ensures again { (one two three : Box Visitor) → one.value.has_turn ≡ true →
+        next_turn 2 (Some one ∷ Some two ∷ Some three ∷ []) ≡ Some 0 }
+    ensures itself { (one : Box Visitor) → one.value.has_turn ≡ true → next_turn 1 (None ∷ Some one ∷ None ∷ []) ≡ Some 1 }
+    ensures nobody { (one : Box Visitor) → one.value.has_turn ≡ false → next_turn 0 (None ∷ Some one ∷ []) ≡ None }
 {}
 
 /// What is read says of what kind it is, and what a browser may make of it; what isn't there says nothing.

@@ -179,7 +179,11 @@ impl Site {
 
     /// Those whose time is over go.
     pub fn close_late(&mut self, now: u64)
-        ensures { self.new.places.items ≡ map (stays_at now) self.old.places.items }
+        ensures places { self.new.places.items ≡ map (stays_at now) self.old.places.items }
+        ensures last { self.new.last ≡ self.old.last }
+        ensures accepting { self.new.may_accept ≡ self.old.may_accept }
+        ensures address { self.new.address ≡ self.old.address }
+        ensures listener { self.new.listener ≡ self.old.listener }
     {
         for place in self.places.iter_mut() {
             if is_late(place, now) {
