@@ -1,11 +1,14 @@
 -- The definitions opened, so that worked examples compute.
 use Rattle.std.specs.Prelude.{⊤}
-use Rattle.mg_bytes.proofs.Computing.{on_examples as byte_examples}
+use Rattle.mgcp_text.proofs.Computing.{on_examples as text_examples}
 use Rattle.outbound.proofs.Computing.{on_examples as send_examples}
+use Rattle.call_routing.specs.Line.{sent}
+use Rattle.call_routing.specs.Next.{next_of}
+use Rattle.call_routing.specs.Exchange.{changed, due, sent_to}
 use Rattle.call_desk.specs.Flights.{falls}
 use Rattle.call_desk.specs.Hooks.{hook_among}
 use Rattle.call_desk.specs.Typed.{typed_from}
 
 unfoldable pub on_examples : ⊤
-unfolding byte_examples send_examples falls hook_among typed_from
+unfolding text_examples send_examples sent next_of changed due sent_to falls hook_among typed_from
 on_examples = tt

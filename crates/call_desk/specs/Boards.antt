@@ -1,5 +1,5 @@
 -- What is asked of the gateways of a board, and of the lines of its exchange.
-use Rattle.std.specs.Prelude.{ℕ, Bool, length, Option, Some, None, IsSomeAnd, ◌≡◌}
+use Rattle.std.specs.Prelude.{◌≡◌, ℕ, Bool, length, Option, Some, None, IsSomeAnd}
 use Rattle.std.specs.declared.net.socket_addr.SocketAddrV4.{SocketAddrV4}
 use Rattle.transmission.specs.Packing.{same_address}
 use Rattle.call_desk.specs.declared.gateway.Gateway.{Gateway}
@@ -16,10 +16,11 @@ abbrev pub settling_in : Option Office → ℕ
 settling_in None = 0
 settling_in (Some office) = settling office.worklist.settled.items office.worklist.settles_all (length office.cares.items)
 
--- those lines of the exchange that waited are settled from now on
+-- those lines of the exchange that waited are settled from now on; nothing else of it has changed
 abbrev pub SettlesIn : Option Office → Option Office → Type 0
 SettlesIn None is = is ≡ None
-SettlesIn (Some was) is = IsSomeAnd is (λ office. Settles was.worklist office.worklist)
+SettlesIn (Some was) is =
+    IsSomeAnd is (λ office. Settles was.worklist office.worklist × (office ≡ record was { worklist = office.worklist }))
 
 -- so many lines of the gateway are taken, of those whose notifications came; none where there is no such gateway
 abbrev pub taking_in : Option Gateway → Worklist → ℕ

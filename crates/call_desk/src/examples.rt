@@ -1,16 +1,25 @@
 //! Worked examples of the definitions, as theorems: each sentence of a definition has one that a slip in it breaks.
 #![tactic(auto, unfolding(crate::proofs::Computing::on_examples))]
 
-ghost use Rattle.std.specs.Prelude.{◌≡◌, [], ◌∷◌, true, false, Some, None, codes};
+ghost use Rattle.std.specs.Prelude.{◌≡◌, [], ◌∷◌, length, true, false, Some, None, codes};
 ghost use Rattle.mg_bytes.specs.Items.{items_of};
+ghost use Rattle.mgcp_text.specs.declared.message.Message.TheVariants as messages;
+ghost use Rattle.mgcp_text.specs.Reading.{message, bad_version, bad_body};
 ghost use Rattle.call_routing.specs.Phases.{named_by};
+ghost use Rattle.call_routing.specs.Exchange.{opening, sent_to, told, answered};
+ghost use Rattle.call_desk.specs.declared.gateway.Gateway.{Gateway};
+ghost use Rattle.call_desk.specs.declared.office.Office.{Office};
+ghost use Rattle.call_desk.specs.declared.worklist.Worklist.{Worklist};
 ghost use Rattle.call_desk.specs.declared.care.Duty.TheVariants.{Clear, Audit, Route};
 ghost use Rattle.call_desk.specs.Waiting.{waits, settling, settled_at};
 ghost use Rattle.call_desk.specs.Flights.{end_of_time, most_steps, falls, over_by};
 ghost use Rattle.call_desk.specs.Clock.{first_id, tick_to};
 ghost use Rattle.call_desk.specs.Duties.{new_care, duty_begun, begun, landed, owed, lost, outlived, announced, found, told_of, told_care, fixed_order};
 ghost use Rattle.call_desk.specs.Hooks.{hook_of, hook_among, hook_told, is_off, was_off, told_by_hook, notified};
-ghost use Rattle.call_desk.specs.Responses.{creates, connection_in, created, is_creation};
+ghost use Rattle.call_desk.specs.Responses.{creates, connection_in, created, is_creation, created_by, outcome_by};
+ghost use Rattle.call_desk.specs.Orders.{duty_of, flight_of, was_found_off, cared, ordered};
+ghost use Rattle.call_desk.specs.Turns.{forsaken, heard_by, announced_by};
+ghost use Rattle.call_desk.specs.Boards.{settling_in, taking_in};
 ghost use Rattle.call_desk.specs.Typed.{typed_from, typed_text, typed_in};
 ghost use Rattle.call_desk.specs.Example.{cleared, audited, found_off, param, part, answered_part, issued};
 
@@ -19,6 +28,10 @@ use call_routing::{Asked, Command, Outcome, Phase, Side, Told, Tone};
 
 /// A line is cleared first, then audited, and then the exchange says what it is sent; one command at a time.
 pub fn a_line_is_cleared_audited_and_routed()
+    ensures nothing_told { new_care.has_told ≡ false }
+    ensures nothing_found { new_care.is_found_off ≡ false }
+    ensures not_outlived { new_care.is_outlived ≡ false }
+    ensures at_rest { new_care.shown ≡ Standing.Rest }
     ensures first { duty_begun new_care ≡ Some Clear }
     ensures second { duty_begun cleared ≡ Some Audit }
     ensures third { duty_begun audited ≡ Some Route }
@@ -78,6 +91,55 @@ pub fn orders_beside_the_exchange()
     ensures route { fixed_order Route ≡ None }
 {}
 
+/// What is kept of one line changes, and what is known of it is told; of a line that there isn't nothing is.
+pub fn what_is_kept_of_a_line_changes()
+    ensures one { cared begun (new_care ∷ audited ∷ cleared ∷ []) 1 ≡ new_care ∷ begun audited ∷ cleared ∷ [] }
+    ensures no_line { cared begun (new_care ∷ []) 1 ≡ new_care ∷ [] }
+    ensures duty { duty_of (Some cleared) ≡ Some Audit }
+    ensures no_duty { duty_of None ≡ None }
+    ensures flight { flight_of (Some (begun cleared)) ≡ Some Audit }
+    ensures on_ground { flight_of (Some cleared) ≡ None }
+    ensures no_flight { flight_of None ≡ None }
+    ensures lifted { was_found_off (Some found_off) ≡ true }
+    ensures not_found { was_found_off (Some audited) ≡ false }
+    ensures not_there { was_found_off None ≡ false }
+{}
+
+/// A line is sent what is next: the exchange's command with its parameters as they are once it is sent.
+pub fn a_line_is_sent_what_is_next()
+    ensures clear { (exchange line map : _) → ordered (Some new_care) exchange line map ≡ Some (codes "DLCX", []) }
+    ensures audit { (exchange line map : _) → ordered (Some cleared) exchange line map ≡ Some (codes "AUEP", codes "F: ES\r\n") }
+    ensures route { ordered (Some audited) (opening 2 0) 1 (codes "x") ≡ Some (codes "RQNT", codes "X: 1\r\nR: L/hd(N)\r\n") }
+    ensures nothing_due { ordered (Some audited) (sent_to (opening 2 0) 1) 1 (codes "x") ≡ None }
+    ensures in_flight { (exchange line map : _) → ordered (Some (begun cleared)) exchange line map ≡ None }
+    ensures no_line { (exchange line map : _) → ordered None exchange line map ≡ None }
+{}
+
+/// What happens to a line is a turn of the exchange, or none.
+pub fn what_happens_to_a_line_is_a_turn()
+    ensures none_given_up { (exchange line : _) → forsaken exchange line None ≡ exchange }
+    ensures clearing_given_up { (exchange line : _) → forsaken exchange line (Some Clear) ≡ exchange }
+    ensures audit_given_up { (exchange line : _) → forsaken exchange line (Some Audit) ≡ exchange }
+    ensures given_up { (exchange line : _) → forsaken exchange line (Some Route) ≡ answered exchange line Outcome.GivenUp }
+    ensures nothing_heard { (exchange line : _) → heard_by exchange line None ≡ exchange }
+    ensures heard { (exchange line : _) → heard_by exchange line (Some Told.OffHook) ≡ told exchange line Told.OffHook }
+    ensures restarted { (exchange line : _) → announced_by true exchange line ≡ told exchange line Told.Restarted }
+    ensures disconnected { (exchange line : _) → announced_by false exchange line ≡ exchange }
+{}
+
+/// An exchange settles its own lines; a gateway's lines are taken where there is one.
+pub fn lines_of_an_exchange_and_of_a_gateway()
+    ensures no_exchange { settling_in None ≡ 0 }
+    ensures all { (office : Office) → office.worklist.settles_all ≡ true → settling_in (Some office) ≡ length office.cares.items }
+    ensures some { (office : Office) → office.worklist.settles_all ≡ false
+        → settling_in (Some office) ≡ length office.worklist.settled.items }
+    ensures no_gateway { (notifying : Worklist) → taking_in None notifying ≡ 0 }
+    ensures all_of_gateway { (gateway : Gateway) → (notifying : Worklist) → notifying.settles_all ≡ true
+        → taking_in (Some gateway) notifying ≡ gateway.lines }
+    ensures some_of_gateway { (gateway : Gateway) → (notifying : Worklist) → notifying.settles_all ≡ false
+        → taking_in (Some gateway) notifying ≡ length notifying.settled.items }
+{}
+
 /// An event state tells a hook with its package or without, in any case, and the first that tells it counts.
 pub fn event_states_tell_a_hook()
     ensures off { hook_of (codes "L/hd") ≡ Some true }
@@ -131,6 +193,15 @@ pub fn a_connection_was_created()
     ensures deletion { creates (Some (Command.Delete 1)) ≡ false }
     ensures request { creates (Some (Command.Ask Asked.Rest)) ≡ false }
     ensures none { creates None ≡ false }
+    ensures read { outcome_by 200 (Some (Command.Create 1 true)) (codes "200 7 OK\r\nI: 1F\r\n\r\nv=0\r\n")
+        ≡ Outcome.Created (codes "1F") (codes "v=0\r\n") }
+    ensures unreadable { outcome_by 200 (Some (Command.Create 1 true)) (codes "200") ≡ Outcome.GivenUp }
+    ensures another { (text : _) → outcome_by 200 (Some (Command.Modify 1)) text ≡ Outcome.Answered 200 }
+    ensures refusal { (text : _) → outcome_by 500 (Some (Command.Create 1 true)) text ≡ Outcome.Answered 500 }
+    ensures no_response { (verb id name params body : _) → created_by 200 (message (messages.Command verb id name params body))
+        ≡ Outcome.Answered 200 }
+    ensures bad_version { (id : _) → created_by 200 (bad_version id) ≡ Outcome.GivenUp }
+    ensures bad_body { (id : _) → created_by 200 (bad_body id) ≡ Outcome.GivenUp }
 {}
 
 /// What happens to a line in a call concerns the other end.

@@ -311,7 +311,8 @@ impl Office {
 
     /// Those lines to which something has happened are settled now.
     pub(crate) fn begin_settling(&mut self)
-        ensures { Settles self.old.worklist self.new.worklist }
+        ensures settles { Settles self.old.worklist self.new.worklist }
+        ensures rest { self.new ≡ record self.old { worklist = self.new.worklist } }
     {
         self.worklist.begin();
     }

@@ -159,7 +159,8 @@ impl Switchboard {
     /// The lines to which something has happened are settled now: each is shown (`show`), then each is sent what it is to be sent
     /// (`issue_next`).
     pub fn begin_settling(&mut self)
-        ensures { SettlesIn self.old.office self.new.office }
+        ensures settles { SettlesIn self.old.office self.new.office }
+        ensures rest { self.new ≡ record self.old { office = self.new.office } }
     {
         if let Some(office) = &mut self.office {
             office.begin_settling();
@@ -491,6 +492,7 @@ impl Switchboard {
     pub fn begin_taking(&mut self, place: usize) -> usize
         ensures count { result ≡ taking_in (slice_get self.old.gateways.items place) self.new.notifying }
         ensures settles { Settles self.old.notifying self.new.notifying }
+        ensures rest { self.new ≡ record self.old { notifying = self.new.notifying } }
     {
         self.notifying.begin();
         match self.gateways.get(place) {
