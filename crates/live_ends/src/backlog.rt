@@ -180,6 +180,8 @@ impl Backlog {
     /// Puts a last line behind what waits, where it has no more bytes than `NOTE_ROOM`; nothing is kept from then on.
     pub fn end(&mut self, last: &[u8])
         ensures ended { length last.now ≤ NOTE_ROOM → length self.old.waiting ≤ TEXT_ROOM → self.new ≡ ended self.old last.now }
+        ensures too_long { NOTE_ROOM < length last.now → self.new ≡ record self.old { is_over = true } }
+        ensures too_full { TEXT_ROOM < length self.old.waiting → self.new ≡ record self.old { is_over = true } }
     {
         if last.len() <= NOTE_ROOM && self.waiting().len() <= TEXT_ROOM {
             self.put(last);

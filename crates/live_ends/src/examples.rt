@@ -2,12 +2,13 @@
 #![tactic(auto, unfolding(crate::proofs::Computing::on_examples))]
 
 ghost use Rattle.std.specs.Prelude.{◌≡◌, codes, true, false, [], ◌∷◌};
+ghost use Rattle.std.specs.declared.io.ErrorKind.{ErrorKind};
 ghost use Rattle.live_ends.specs.Backlog.{nothing_waits, lines_ended, is_kept, offered, offered_all, may_note, noted, ended, taken, closed, kept_of, lines_of_all};
 ghost use Rattle.live_ends.specs.Recording.{state_when, is_told, is_refused, is_open, faults_of, said, given_up, state_given_up, offer_left};
 ghost use Rattle.live_ends.specs.Written.{written_line};
 ghost use Rattle.live_ends.specs.Looking.{no_visit, has_visits};
 ghost use Rattle.live_ends.specs.declared.record.RecordState.TheVariants.{Off, On, OutOfMemory};
-ghost use Rattle.live_ends.specs.declared.outlet.OutletState.TheVariants.{Open, BrokenOff};
+ghost use Rattle.live_ends.specs.declared.outlet.OutletState.TheVariants.{Open, BrokenOff, Failed};
 ghost use Rattle.live_ends.specs.Example.{waits, full, over, lost};
 
 /// A text is kept behind what waits, where there is room for both; else nothing of it is, nor of those behind it.
@@ -18,6 +19,7 @@ pub fn texts_are_kept_in_their_order()
     ensures behind { offered 6 (full (codes "ab\n") 1 1) (codes "c\n") ≡ full (codes "ab\n") 2 2 }
     ensures many { offered_all 6 nothing_waits (codes "ab\n" ∷ codes "cdef\ng\n" ∷ codes "c\n" ∷ []) ≡ full (codes "ab\n") 3 3 }
     ensures end { is_kept 6 (over []) (codes "c\n") ≡ false }
+    ensures behind_end { offered 6 (over []) (codes "c\n") ≡ record (over []) { is_full = true; unnoted = 1; dropped = 1 } }
 {}
 
 /// A line ends by LF.
@@ -69,6 +71,7 @@ pub fn an_outlet_is_open_or_has_a_fault()
     ensures broken_off { is_open BrokenOff ≡ false }
     ensures no_fault { faults_of Open ≡ 0 }
     ensures fault { faults_of BrokenOff ≡ 1 }
+    ensures failed { (kind : ErrorKind) → is_open (Failed kind) ≡ false }
     ensures said { said 6 (waits (codes "ab\n")) (codes "cd\n") ≡ waits (codes "ab\ncd\n") }
     ensures no_room { said 5 (waits (codes "ab\n")) (codes "cd\n") ≡ waits (codes "ab\n") }
 {}
@@ -82,6 +85,8 @@ pub fn what_waits_is_offered_for_a_second()
     ensures nothing { given_up (waits []) ≡ waits [] }
     ensures broken_off { state_given_up Open (waits (codes "ab\n")) ≡ BrokenOff }
     ensures open { state_given_up Open (waits []) ≡ Open }
+    ensures failed { (kind : ErrorKind) → state_given_up (Failed kind) (waits []) ≡ Failed kind }
+    ensures failed_and_waits { (kind : ErrorKind) → state_given_up (Failed kind) (waits (codes "ab\n")) ≡ BrokenOff }
 {}
 
 /// What wasn't recorded is told in a line, with the names of where it failed.
@@ -89,6 +94,7 @@ pub fn what_was_not_recorded_is_told()
     ensures nothing { written_line (lost 0 0 0 0) (codes "calls.pcap") ≡ codes "records dropped 0 write faults 0\n" }
     ensures capture { written_line (lost 12 0 0 1) (codes "calls.pcap") ≡ codes "records dropped 12 write faults 1 calls.pcap\n" }
     ensures output { written_line (lost 0 1 0 0) (codes "calls.pcap") ≡ codes "records dropped 0 write faults 1 standard output\n" }
+    ensures error { written_line (lost 0 0 1 0) (codes "calls.pcap") ≡ codes "records dropped 0 write faults 1 standard error\n" }
     ensures all { written_line (lost 0 1 1 1) (codes "a.pcap")
         ≡ codes "records dropped 0 write faults 3 standard output standard error a.pcap\n" }
 {}

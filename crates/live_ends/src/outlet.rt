@@ -1,5 +1,5 @@
 //! An outlet: what is recorded waits there until it is taken.
-ghost use Rattle.std.specs.Prelude.{◌≡◌, ◌≢◌, ◌≤◌, [], true, false, IfOk, length};
+ghost use Rattle.std.specs.Prelude.{◌≡◌, ◌≢◌, ◌≤◌, [], true, false, IfOk, length, string_bytes};
 ghost use Rattle.mg_bytes.specs.Lists.{is_empty};
 ghost use Rattle.live_ends.specs.declared.outlet.OutletState.TheVariants.{Open, BrokenOff};
 ghost use Rattle.live_ends.specs.declared.record.RecordState.TheVariants.{Off};
@@ -80,6 +80,8 @@ impl<F: Write + Drop> Outlet<F> {
         ensures backlog { IfOk result (λ outlet. outlet.backlog ≡ nothing_waits) }
         ensures state { IfOk result (λ outlet. outlet.state ≡ Open) }
         ensures told { IfOk result (λ outlet. outlet.is_told ≡ false) }
+        ensures name { IfOk result (λ outlet. string_bytes outlet.name ≡ name.now) }
+        ensures stream { IfOk result (λ outlet. outlet.stream ≡ stream) }
     {
         Ok(Outlet {
             alloc,

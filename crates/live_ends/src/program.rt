@@ -1,5 +1,5 @@
 //! How a program begins and ends, whichever it is: its words, its outlets, the file of its capture, and what it says at last.
-ghost use Rattle.std.specs.Prelude.{◌≡◌};
+ghost use Rattle.std.specs.Prelude.{◌≡◌, ◌≢◌};
 
 use crate::outlet::Outlet;
 use crate::outlets::Outlets;
@@ -26,7 +26,8 @@ pub enum SystemFault {
 impl SystemFault {
     /// What an error of this kind is.
     pub fn of(kind: ErrorKind) -> SystemFault
-        ensures { kind ≡ ErrorKind.OutOfMemory → result ≡ SystemFault.OutOfMemory }
+        ensures memory { kind ≡ ErrorKind.OutOfMemory → result ≡ SystemFault.OutOfMemory }
+        ensures other { kind ≢ ErrorKind.OutOfMemory → result ≢ SystemFault.OutOfMemory }
     {
         if kind == ErrorKind::OutOfMemory {
             return SystemFault::OutOfMemory;
