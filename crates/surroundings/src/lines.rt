@@ -2,9 +2,11 @@
 ghost use Rattle.std.specs.Prelude.{◌≡◌, ◌↔◌, ◌⊎◌, [], None, IfOk, IsSomeAnd, IsTrue, drop, false};
 ghost use Rattle.std.specs.Net.Addr.{IsLoopbackV4, IsLoopbackV6, MatchIp};
 ghost use Rattle.std.specs.Net.Socket.{socket_ip};
+ghost use Rattle.std.specs.Vec.{vec_capacity};
 ghost use Rattle.mg_bytes.specs.Lines.{cut, TakesLine};
 ghost use Rattle.mg_bytes.specs.Lists.{is_empty};
 ghost use Rattle.surroundings.specs.Requests.{requests_from};
+ghost use Rattle.surroundings.specs.declared.lines.TheConstants.{ROOM};
 ghost use Rattle.surroundings.specs.Typing.{left_of, behind, EndsWith};
 
 use crate::requests::{from_request, is_own};
@@ -96,6 +98,7 @@ impl Lines {
     pub fn new(alloc: Global) -> Result<Lines, AllocError>
         ensures left { IfOk result (λ lines. left_of lines ≡ []) }
         ensures sender { IfOk result (λ lines. lines.sender ≡ None) }
+        ensures room { IfOk result (λ lines. vec_capacity lines.text ≡ ROOM) }
     {
         Ok(Lines {
             sender: None,
