@@ -1,11 +1,11 @@
 //! What is counted of what is sent, as theorems.
 #![tactic(auto, unfolding(crate::proofs::Computing::on_examples))]
 
-ghost use Rattle.std.specs.Prelude.{◌≡◌, ◌-◌, ◌^◌, [], ◌∷◌, slice_index_or};
+ghost use Rattle.std.specs.Prelude.{◌≡◌, ◌-◌, ◌^◌, [], ◌∷◌, map, slice_index_or};
 ghost use Rattle.mgcp_text.specs.declared.message.Verb.TheVariants as verbs;
 ghost use Rattle.plain_machine.specs.declared.label.Whose.TheVariants.{AnswerOf, OwnOf, Nobody};
 ghost use Rattle.plain_machine.specs.declared.label.What.TheVariants as whats;
-ghost use Rattle.sent_counts.specs.Counting.{no_tally, with_sent, with_given_up};
+ghost use Rattle.sent_counts.specs.Counting.{no_tally, place_of, with_sent, with_given_up};
 ghost use Rattle.sent_counts.specs.Example.{said, lost, counted_once};
 
 /// An answer counts with its return code, and one that is given again in both counts; an acknowledgement counts as 000.
@@ -16,6 +16,12 @@ pub fn answers_are_counted_by_code()
     ensures again { (counted_once (whats.Again 200)).again ≡ 1 }
     ensures acknowledged { slice_index_or (counted_once whats.Acknowledgement).answers 0 0 ≡ 1 }
     ensures both { slice_index_or (with_sent no_tally (said (whats.Answer 200) ∷ said (whats.Again 200) ∷ [])).answers 200 0 ≡ 2 }
+{}
+
+/// Each verb has a count of its own, in this order.
+pub fn each_verb_has_its_place()
+    ensures { map place_of (verbs.Epcf ∷ verbs.Rqnt ∷ verbs.Ntfy ∷ verbs.Crcx ∷ verbs.Mdcx ∷ verbs.Dlcx ∷ verbs.Auep ∷ verbs.Aucx ∷ verbs.Rsip
+        ∷ verbs.Other ∷ []) ≡ 0 ∷ 1 ∷ 2 ∷ 3 ∷ 4 ∷ 5 ∷ 6 ∷ 7 ∷ 8 ∷ 9 ∷ [] }
 {}
 
 /// A command of its own counts by its verb at each send, and in both counts from the second on.
