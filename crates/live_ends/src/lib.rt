@@ -4,6 +4,7 @@
 //! Nothing here knows what a datagram says, or what a command does.
 #![tactic(auto)]
 
+mod asking;
 mod backlog;
 mod clock;
 pub mod examples;
@@ -19,6 +20,7 @@ mod standing;
 mod stream;
 mod written;
 
+pub use crate::asking::{AskFault, ask};
 pub use crate::backlog::{Backlog, MOST_KEPT, NOTE_ROOM, TEXT_ROOM, lines_ended};
 pub use crate::clock::{LiveClock, time_of_day};
 pub use crate::live::{Live, STOP_FROM_AFAR, bind};
