@@ -1,5 +1,6 @@
 //! The wire: what datagrams and typed lines come over, and a bad network, where one lies between; and the journal of what goes over it.
-ghost use Rattle.std.specs.Prelude.{◌≡◌, IfOk};
+ghost use Rattle.std.specs.Prelude.{◌≡◌, [], false, IfOk};
+ghost use Rattle.surroundings.specs.Typing.{left_of};
 
 use agent_texts::{Journal, count};
 use bad_network::{BadNetwork, Fate, Packet, Way};
@@ -66,7 +67,9 @@ impl<S: Surroundings + Drop> Wire<S> {
         ensures around { IfOk result (λ wire. wire.around ≡ around) }
         ensures network { IfOk result (λ wire. wire.network ≡ network) }
         ensures journal { IfOk result (λ wire. wire.journal ≡ journal) }
+        ensures lines { IfOk result (λ wire. left_of wire.lines ≡ []) }
         ensures moments { IfOk result (λ wire. (wire.now.clock ≡ 0) × (wire.read ≡ 0) × (wire.end ≡ end)) }
+        ensures quiet { IfOk result (λ wire. (wire.is_behind ≡ false) × (wire.is_offering ≡ false)) }
     {
         let now = Now {
             clock: 0,
