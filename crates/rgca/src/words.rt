@@ -1,6 +1,7 @@
 //! Reads the words of the command line.
-ghost use Rattle.std.specs.Prelude.{◌≡◌, ◌≢◌, IfOk, IfErr};
+ghost use Rattle.std.specs.Prelude.{◌≡◌, ◌≢◌, None, IfOk, IfErr, IfSome};
 ghost use Rattle.std.specs.Net.Grammar.{IsSocketV4Text};
+ghost use Rattle.clap.specs.Matches.{found_of, first_value};
 ghost use Rattle.clap.specs.Values.{kind_of};
 ghost use Rattle.clap.specs.declared.error.kind.ErrorKind.TheVariants as kinds;
 
@@ -137,7 +138,10 @@ pub fn address_behind(
     name: &str,
     word: &'static str,
 ) -> Result<Option<SocketAddrV4>, WordFault>
-    ensures { IfErr result (λ fault. fault ≡ WordFault.BadAddress word.entry) }
+    ensures stands { IfOk result (λ found. IfSome found (λ address.
+        IfSome (first_value (found_of matches.now) name.now) (λ text. IsSocketV4Text text address))) }
+    ensures stands_not { IfOk result (λ found. found ≡ None → first_value (found_of matches.now) name.now ≡ None) }
+    ensures other { IfErr result (λ fault. fault ≡ WordFault.BadAddress word.entry) }
 {
     match matches.get_str(name) {
         Some(text) => match address_of(text, word) {
