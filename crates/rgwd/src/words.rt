@@ -1,5 +1,6 @@
 //! Reads the words of the command line.
-ghost use Rattle.std.specs.Prelude.{◌≡◌, IfOk, IfErr};
+ghost use Rattle.std.specs.Prelude.{◌≡◌, ◌≢◌, ◌⊎◌, IfOk, IfErr, codes};
+ghost use Rattle.std.specs.Net.Grammar.{IsSocketV4Text};
 
 use crate::ending::Ending;
 use crate::help::{LISTEN, PHONES, USAGE, VERSION};
@@ -76,7 +77,8 @@ fn command<'a>(alloc: Global) -> Result<Command<'a>, AllocError> {
 
 /// The address that stands behind a word.
 pub fn address_behind<'w>(word: &'static str, text: &str) -> Result<SocketAddrV4, Ending<'w>>
-    ensures { IfErr result (λ ending. ending ≡ Ending.BadAddress word.entry) }
+    ensures address { IfOk result (λ address. IsSocketV4Text text.now address) }
+    ensures other { IfErr result (λ ending. ending ≡ Ending.BadAddress word.entry) }
 {
     match text.parse::<SocketAddrV4>() {
         Ok(address) => Ok(address),
@@ -88,6 +90,8 @@ pub fn address_behind<'w>(word: &'static str, text: &str) -> Result<SocketAddrV4
 pub fn unless_help<'w>(word: &'w str) -> Result<&'w str, Ending<'w>>
     ensures itself { IfOk result (λ text. text.now ≡ word.now) }
     ensures help { IfErr result (λ ending. ending ≡ Ending.Help) }
+    ensures asks { IfErr result (λ ending. (word.now ≡ codes "--help") ⊎ (word.now ≡ codes "-h")) }
+    ensures asks_not { IfOk result (λ text. (word.now ≢ codes "--help") × (word.now ≢ codes "-h")) }
 {
     if word == "--help" || word == "-h" {
         return Err(Ending::Help);
