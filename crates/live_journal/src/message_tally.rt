@@ -41,6 +41,7 @@ impl MessageTally {
     /// A datagram came.
     pub fn received(&mut self)
         ensures datagrams { self.new.datagrams_in ≡ counted self.old.datagrams_in 1 }
+        ensures handed_out { self.new.datagrams_out ≡ self.old.datagrams_out }
         ensures texts { self.new.texts ≡ self.old.texts }
         ensures sent { self.new.sent ≡ self.old.sent }
     {
@@ -52,6 +53,8 @@ impl MessageTally {
         ensures texts { counts_in self.new.texts ≡ with_texts (counts_in self.old.texts) gateway.now.outcomes }
         ensures sent { tally_in self.new.sent
             ≡ with_given_up (with_sent (tally_in self.old.sent) gateway.now.account.sent) gateway.now.account.given_up }
+        ensures received { self.new.datagrams_in ≡ self.old.datagrams_in }
+        ensures handed_out { self.new.datagrams_out ≡ self.old.datagrams_out }
     {
         self.texts.add(gateway.outcomes());
         self.sent.add(gateway.sent());
@@ -61,6 +64,7 @@ impl MessageTally {
     /// A datagram is sent. The messages in it were counted with the event.
     pub fn handed_out(&mut self)
         ensures datagrams { self.new.datagrams_out ≡ counted self.old.datagrams_out 1 }
+        ensures received { self.new.datagrams_in ≡ self.old.datagrams_in }
         ensures texts { self.new.texts ≡ self.old.texts }
         ensures sent { self.new.sent ≡ self.old.sent }
     {
