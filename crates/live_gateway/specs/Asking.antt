@@ -1,8 +1,12 @@
 -- What lines for the telephones ask for.
-use Rattle.std.specs.Prelude.{◌≡◌, ⊤, Option, Some}
+use Rattle.std.specs.Prelude.{◌≡◌, ⊤, ℕ, Bool, codes, if◌then◌else◌, List, Option, Some, None}
+use Rattle.std.specs.Str.{bytes_eq}
+use Rattle.mg_bytes.specs.Words.{words}
+use Rattle.rgw_scripts.specs.declared.step.ScriptStep.{ScriptStep}
 use Rattle.rgw_scripts.specs.declared.step.ScriptLine.{ScriptLine}
-use Rattle.rgw_scripts.specs.declared.step.ScriptLine.TheVariants.{Whole}
+use Rattle.rgw_scripts.specs.declared.step.ScriptLine.TheVariants.{Empty, From, Whole}
 use Rattle.rgw_scripts.specs.declared.step.ScriptStep.TheVariants as steps
+use Rattle.rgw_scripts.specs.Script.{line_in}
 use Rattle.live_gateway.specs.declared.telephones.TelephoneRequest.{TelephoneRequest}
 use Rattle.live_gateway.specs.declared.telephones.TelephoneRequest.TheVariants.{Act, Show, Counts, Stop, StopFromAfar, Unknown, OutOfMemory}
 
@@ -15,3 +19,29 @@ AsksFor Stop said = ⊤
 AsksFor StopFromAfar said = ⊤
 AsksFor Unknown said = ⊤
 AsksFor OutOfMemory said = ⊤
+
+-- of the steps of a script an act and a question can be asked for
+abbrev pub request_of : ScriptStep → TelephoneRequest
+request_of (steps.Phone line act) = Act line act
+request_of (steps.Show line) = Show line
+request_of (steps.Datagram source bytes) = Unknown
+request_of (steps.Tick by) = Unknown
+request_of (steps.At moment) = Unknown
+request_of (steps.Wait by) = Unknown
+
+abbrev pub request_by : Option ScriptLine → TelephoneRequest
+request_by None = Unknown
+request_by (Some Empty) = Unknown
+request_by (Some (From source)) = Unknown
+request_by (Some (Whole step)) = request_of step
+
+-- who asks for the end is at this machine, or isn't heard
+abbrev pub stop_request : Bool → TelephoneRequest
+stop_request is_near = if is_near then Stop else StopFromAfar
+
+-- what a line asks for: `counts`, `stop`, or what a script says by it
+unfoldable pub request_in : Bool → List ℕ → TelephoneRequest
+request_in is_near line =
+    if bytes_eq line (codes "counts") then Counts
+    else if bytes_eq line (codes "stop") then stop_request is_near
+    else request_by (line_in (words line))

@@ -1,7 +1,9 @@
 -- What was handed to an exchange: to the sockets, or to the bad network before them.
-use Rattle.std.specs.Prelude.{ℕ, List, Option, Some, None}
+use Rattle.std.specs.Prelude.{ℕ, Bool, true, false, List, Option, Some, None}
 use Rattle.std.specs.Global.{Box}
 use Rattle.bad_network.specs.Waiting.{first_due}
+use Rattle.gateway_core.specs.Wire.{counted}
+use Rattle.live_journal.specs.declared.reporting.Faults.{Faults}
 use Rattle.surroundings.specs.Sending.{Sent}
 use Rattle.live_gateway.specs.declared.spoilt_way.SpoiltWay.{SpoiltWay}
 use Rattle.live_gateway.specs.Offering.{offered_by}
@@ -15,3 +17,8 @@ handed_by (Some way) sent = offered_by way.value
 abbrev pub next_due : Option (Box SpoiltWay) → Option ℕ
 next_due None = None
 next_due (Some way) = first_due way.value.network.waiting.items
+
+-- an input was refused, or taken
+abbrev pub with_refused : Bool → Faults → Faults
+with_refused true faults = record faults { refused = counted faults.refused 1 }
+with_refused false faults = faults

@@ -1,7 +1,7 @@
 //! What goes between the gateway and others: over sockets, behind a bad network where one is asked for; and its journal.
 ghost use Rattle.std.specs.Prelude.{◌≡◌, ◌≤◌, ◌∷◌, [], length, List, Option, IfSome};
 ghost use Rattle.surroundings.specs.Sending.{Sent, Grows};
-ghost use Rattle.live_gateway.specs.Exchanging.{handed_by, next_due};
+ghost use Rattle.live_gateway.specs.Exchanging.{handed_by, next_due, with_refused};
 
 use crate::spoilt_way::SpoiltWay;
 use crate::visitors::Visitors;
@@ -69,6 +69,7 @@ impl<S: Surroundings + Drop> Exchange<S> {
     pub fn begin(&mut self, ticked: u64)
         ensures network { self.new.network ≡ self.old.network }
         ensures around { self.new.around ≡ self.old.around }
+        ensures clock { self.new.now.clock ≡ ticked }
     {
         self.now = Now {
             clock: ticked,
@@ -80,6 +81,7 @@ impl<S: Surroundings + Drop> Exchange<S> {
     pub fn count_refused(&mut self, is_refused: bool)
         ensures network { self.new.network ≡ self.old.network }
         ensures around { self.new.around ≡ self.old.around }
+        ensures faults { self.new.faults ≡ with_refused is_refused self.old.faults }
     {
         if is_refused {
             count(&mut self.faults.refused);

@@ -7,6 +7,7 @@
 mod answering;
 mod boxing;
 mod desk;
+pub mod examples;
 mod exchange;
 mod recorder;
 mod spoilt_way;

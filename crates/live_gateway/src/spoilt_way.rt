@@ -1,8 +1,10 @@
 //! A bad network before the sockets.
-ghost use Rattle.std.specs.Prelude.{◌≡◌, ◌∷◌, [], None, Some};
-ghost use Rattle.bad_network.specs.Waiting.{first_due};
+ghost use Rattle.std.specs.Prelude.{◌≡◌, ◌∷◌, [], None, Some, IfOk, OnOk, OnErr};
+ghost use Rattle.bad_network.specs.declared.packet.Way.TheVariants.{In, Out};
+ghost use Rattle.bad_network.specs.Drawing.{after_draws};
+ghost use Rattle.bad_network.specs.Waiting.{first_due, put_all, taken, IsPutInPart};
 ghost use Rattle.surroundings.specs.Sending.{Grows};
-ghost use Rattle.live_gateway.specs.Offering.{offered_by};
+ghost use Rattle.live_gateway.specs.Offering.{offered_by, next_fate, next_copies};
 
 use bad_network::{BadNetwork, Fate, Packet, Way};
 use mg_bytes::OutOfMemory;
@@ -51,7 +53,8 @@ impl SpoiltWay {
 
     /// The next packet that the network hands out by this moment, in ms, if there is one.
     pub fn take_due(&mut self, now: u64) -> Option<Packet>
-        ensures { offered_by self.new ≡ offered_by self.old }
+        ensures offered { offered_by self.new ≡ offered_by self.old }
+        ensures taken { (result, self.new.network.waiting.items) ≡ taken now self.old.network.waiting.items }
     {
         self.network.take_due(now)
     }
@@ -63,14 +66,22 @@ impl SpoiltWay {
         bytes: &[u8],
         now: u64,
     ) -> Result<Fate, OutOfMemory>
-        ensures { offered_by self.new ≡ offered_by self.old }
+        ensures offered { offered_by self.new ≡ offered_by self.old }
+        ensures fate { IfOk result (λ fate. fate ≡ next_fate self.old.network) }
+        ensures ok { OnOk result (self.new.network.waiting.items
+            ≡ put_all (next_copies self.old.network In source bytes.now now) self.old.network.waiting.items) }
+        ensures err { OnErr result (IsPutInPart (next_copies self.old.network In source bytes.now now)
+            self.old.network.waiting.items self.new.network.waiting.items) }
+        ensures spoiling { self.new.network.spoiling ≡ self.old.network.spoiling }
+        ensures draws { self.new.network.generator ≡ after_draws self.old.network.generator }
     {
         self.network.offer(Way::In, source, bytes, now)
     }
 
     // A datagram is offered on the way out.
     fn note(&mut self, to: SocketAddrV4, bytes: &[u8], now: u64)
-        ensures { Grows (offered_by self.old) (record { to = to; bytes = bytes.now } ∷ []) (offered_by self.new) }
+        ensures offered { Grows (offered_by self.old) (record { to = to; bytes = bytes.now } ∷ []) (offered_by self.new) }
+        ensures network { self.new.network ≡ self.old.network }
     {
         let alloc = self.alloc;
         let Some(offered) = &mut self.offered else {
@@ -89,7 +100,14 @@ impl SpoiltWay {
         bytes: &[u8],
         now: u64,
     ) -> Result<Fate, OutOfMemory>
-        ensures { Grows (offered_by self.old) (record { to = to; bytes = bytes.now } ∷ []) (offered_by self.new) }
+        ensures offered { Grows (offered_by self.old) (record { to = to; bytes = bytes.now } ∷ []) (offered_by self.new) }
+        ensures fate { IfOk result (λ fate. fate ≡ next_fate self.old.network) }
+        ensures ok { OnOk result (self.new.network.waiting.items
+            ≡ put_all (next_copies self.old.network Out to bytes.now now) self.old.network.waiting.items) }
+        ensures err { OnErr result (IsPutInPart (next_copies self.old.network Out to bytes.now now)
+            self.old.network.waiting.items self.new.network.waiting.items) }
+        ensures spoiling { self.new.network.spoiling ≡ self.old.network.spoiling }
+        ensures draws { self.new.network.generator ≡ after_draws self.old.network.generator }
     {
         self.note(to, bytes, now);
         self.network.offer(Way::Out, to, bytes, now)

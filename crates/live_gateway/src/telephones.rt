@@ -1,9 +1,10 @@
 //! What the lines ask for that come to the telephones' socket.
-ghost use Rattle.std.specs.Prelude.{◌≡◌, Some};
+ghost use Rattle.std.specs.Prelude.{◌≡◌, ◌⊎◌, Some};
 ghost use Rattle.mg_bytes.specs.Words.{words as words_of};
 ghost use Rattle.rgw_scripts.specs.declared.step.ScriptLine.TheVariants.{Whole};
 ghost use Rattle.rgw_scripts.specs.Script.{line_in};
-ghost use Rattle.live_gateway.specs.Asking.{AsksFor};
+ghost use Rattle.live_gateway.specs.declared.telephones.TelephoneRequest.TheVariants.{OutOfMemory};
+ghost use Rattle.live_gateway.specs.Asking.{AsksFor, request_of, request_by, request_in};
 
 use mg_line::Act;
 use rgw_scripts::{ScriptLine, ScriptStep, line_in};
@@ -30,7 +31,8 @@ pub enum TelephoneRequest {
 
 // What a step asks for.
 fn request_of(step: &ScriptStep) -> TelephoneRequest
-    ensures { AsksFor result (Some (Whole step.now)) }
+    ensures said { AsksFor result (Some (Whole step.now)) }
+    ensures request { result ≡ request_of step.now }
 {
     match step {
         ScriptStep::Phone { line, act } => TelephoneRequest::Act {
@@ -44,7 +46,8 @@ fn request_of(step: &ScriptStep) -> TelephoneRequest
 
 // What a line asks for of a telephone.
 fn telephone_request(alloc: Global, line: &[u8]) -> TelephoneRequest
-    ensures { AsksFor result (line_in (words_of line.now)) }
+    ensures said { AsksFor result (line_in (words_of line.now)) }
+    ensures request { (result ≡ request_by (line_in (words_of line.now))) ⊎ (result ≡ OutOfMemory) }
 {
     let Ok(said) = line_in(alloc, line) else {
         return TelephoneRequest::OutOfMemory;
@@ -56,8 +59,10 @@ fn telephone_request(alloc: Global, line: &[u8]) -> TelephoneRequest
 }
 
 /// What a line asks for, which came from this machine or from another one.
+#[tactic(auto, unfolding(crate::specs::Asking::request_in))]
 pub fn request_in(alloc: Global, line: &[u8], is_from_loopback: bool) -> TelephoneRequest
-    ensures { AsksFor result (line_in (words_of line.now)) }
+    ensures said { AsksFor result (line_in (words_of line.now)) }
+    ensures request { (result ≡ request_in is_from_loopback line.now) ⊎ (result ≡ OutOfMemory) }
 {
     if line == b"counts".as_slice() {
         TelephoneRequest::Counts
