@@ -23,9 +23,14 @@ pub fn counts_are_told_in_a_row()
     ensures datagrams { (tally : MessageTally) → datagrams_text (record tally { datagrams_in = 3; datagrams_out = 12 }) ≡ codes "datagrams in 3 out 12" }
     ensures texts { (tally : MessageTally) → texts_text (record tally { texts = record tally.texts { responses = 3; others = 4 } })
         ≡ codes "\nresponses 3 no message 4" }
-    ensures others { (tally : MessageTally) → others_text (record tally { sent = record tally.sent {
-            again = 1; commands = 11 ∷ 12 ∷ 2 ∷ 13 ∷ 14 ∷ 15 ∷ 16 ∷ 17 ∷ 4 ∷ 18 ∷ [];
-            commands_again = 21 ∷ 22 ∷ 3 ∷ 23 ∷ 24 ∷ 25 ∷ 26 ∷ 27 ∷ 5 ∷ 28 ∷ []; given_up = 6 } }) 7 (record { refused = 8; receive = 9; send = 10 })
+    ensures others { (tally : MessageTally) → others_text (record tally {
+      sent = record tally.sent {
+        again = 1;
+        commands = 11 ∷ 12 ∷ 2 ∷ 13 ∷ 14 ∷ 15 ∷ 16 ∷ 17 ∷ 4 ∷ 18 ∷ [];
+        commands_again = 21 ∷ 22 ∷ 3 ∷ 23 ∷ 24 ∷ 25 ∷ 26 ∷ 27 ∷ 5 ∷ 28 ∷ [];
+        given_up = 6;
+      };
+    }) 7 (record { refused = 8; receive = 9; send = 10 })
         ≡ codes " repeated 1\nnotifications 2 repeated 3\nannouncements 4 repeated 5 given up 6\nlost events 7 refused 8\nfaults receive 9 send 10" }
     ensures code { answer_text 200 5 ≡ codes " 200 5" }
     ensures acknowledgement { answer_text 0 1 ≡ codes " 000 1" }
