@@ -29,7 +29,6 @@ use std::mem::swap;
 
 /// A residential gateway. A contract sees its setup, what it keeps of the plain machine, and what is told of the last event: what
 /// its texts were, what was sent, and what was given up; `Stands` says which lists of events it stands for.
-#[derive(Drop)]
 pub struct Gateway {
     alloc: Global,
     setup: Setup,
@@ -42,6 +41,27 @@ pub struct Gateway {
     // What the last event that it took sent, and what was given up at it; and the same of the event under way.
     account: Account,
     account_under_way: Account,
+}
+
+// Written out: a derived drop, and those of all its parts, are proved anew by each crate that lets one go.
+impl Drop for Gateway {
+    fn drop(self) {
+        let Gateway {
+            alloc: _,
+            setup,
+            state,
+            outcomes,
+            under_way,
+            account,
+            account_under_way,
+        } = self;
+        drop(setup);
+        drop(state);
+        drop(outcomes);
+        drop(under_way);
+        drop(account);
+        drop(account_under_way);
+    }
 }
 
 impl Model for Gateway {
