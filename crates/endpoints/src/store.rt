@@ -26,7 +26,6 @@ use timers::DueItem;
 ///
 /// What an event changes is saved at its first touch, and put back where the event fails, which takes no memory. The room
 /// for that outlives the event.
-#[derive(Drop)]
 pub struct Store {
     endpoints: Timed,
     saved: Saves,
@@ -34,6 +33,22 @@ pub struct Store {
     touched: Vec<bool>,
     // The post of the gateway itself, where the event changed it.
     own_saved: Option<Post>,
+}
+
+// Written out: a derived drop, and those of all its parts, are proved anew by each crate that lets one go.
+impl Drop for Store {
+    fn drop(self) {
+        let Store {
+            endpoints,
+            saved,
+            touched,
+            own_saved,
+        } = self;
+        drop(endpoints);
+        drop(saved);
+        drop(touched);
+        drop(own_saved);
+    }
 }
 
 impl Model for Store {
