@@ -31,11 +31,23 @@ use std::net::SocketAddrV4;
 /// answered or given up; and it takes the commands of the gateway, each once (RFC 3435, 3.5).
 ///
 /// A contract sees who it is, and what it keeps of the plain agent; `AgentStands` says which lists of events it stands for.
-#[derive(Drop)]
 pub struct Agent {
     alloc: Global,
     setup: AgentSetup,
     state: State,
+}
+
+// Written out: a derived drop, and those of all its parts, are proved anew by each crate that lets one go.
+impl Drop for Agent {
+    fn drop(self) {
+        let Agent {
+            alloc: _,
+            setup,
+            state,
+        } = self;
+        drop(setup);
+        drop(state);
+    }
 }
 
 impl Model for Agent {
