@@ -20,7 +20,6 @@ use std::net::SocketAddrV4;
 use transmission::same_address;
 
 /// The gateways, the lines of all of them, and where calls are routed the exchange.
-#[derive(Drop)]
 pub struct Switchboard {
     alloc: Global,
     gateways: Vec<Gateway>,
@@ -28,6 +27,23 @@ pub struct Switchboard {
     office: Option<Office>,
     // The lines of the gateway that was heard last whose notifications came.
     notifying: Worklist,
+}
+
+// Written out: a derived drop, and those of all its parts, are proved anew by each crate that lets one go.
+impl Drop for Switchboard {
+    fn drop(self) {
+        let Switchboard {
+            alloc: _,
+            gateways,
+            stations,
+            office,
+            notifying,
+        } = self;
+        drop(gateways);
+        drop(stations);
+        drop(office);
+        drop(notifying);
+    }
 }
 
 // Puts a line behind the others.
