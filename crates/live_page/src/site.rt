@@ -15,7 +15,6 @@ use std::net::{Ipv4Addr, Net, SocketAddr, SocketAddrV4};
 use std::random::RandomSource;
 
 /// The socket at which visitors come, and those that are there.
-#[derive(Drop)]
 pub struct Site {
     alloc: Global,
     listener: TcpListener,
@@ -26,6 +25,22 @@ pub struct Site {
     may_accept: bool,
     // The place whose turn was last.
     last: usize,
+}
+
+// Written out: a derived drop, and those of all its parts, are proved anew by each crate that lets one go.
+impl Drop for Site {
+    fn drop(self) {
+        let Site {
+            alloc: _,
+            listener,
+            address: _,
+            places,
+            may_accept: _,
+            last: _,
+        } = self;
+        drop(listener);
+        drop(places);
+    }
 }
 
 // The address of a visitor. The site's socket hears none of another kind than its own.
