@@ -11,7 +11,6 @@ use page_answers::{Board, Kind};
 use std::net::{Ipv4Addr, SocketAddrV4};
 
 /// The journal of a gateway. What is large stands in boxes.
-#[derive(Drop)]
 pub struct Journal {
     pub tally: Box<MessageTally>,
     pub log: Box<Log>,
@@ -20,6 +19,23 @@ pub struct Journal {
     pub board: Option<Box<Board>>,
     /// What became of what was recorded.
     pub written: Written,
+}
+
+// Written out: a derived drop, and those of all its parts, are proved anew by each crate that lets one go.
+impl Drop for Journal {
+    fn drop(self) {
+        let Journal {
+            tally,
+            log,
+            capture,
+            board,
+            written: _,
+        } = self;
+        drop(tally);
+        drop(log);
+        drop(capture);
+        drop(board);
+    }
 }
 
 impl Journal {
