@@ -25,7 +25,6 @@ use surroundings::{Lines, Surroundings};
 use turns::{Ready, Schedule, Situation, Turn};
 
 /// A gateway that runs, all that it stands on, and what is kept of it.
-#[derive(Drop)]
 pub struct Desk<S, T> {
     alloc: Global,
     pub play: Box<LivePlay<T>>,
@@ -36,6 +35,24 @@ pub struct Desk<S, T> {
     schedule: Schedule,
     // The moment at which nothing comes any more.
     end: Option<u64>,
+}
+
+// Written out: a derived drop, and those of all its parts, are proved anew by each crate that lets one go.
+impl<S: Drop, T: Drop> Drop for Desk<S, T> {
+    fn drop(self) {
+        let Desk {
+            alloc: _,
+            play,
+            exchange,
+            lines,
+            is_of_page: _,
+            schedule: _,
+            end: _,
+        } = self;
+        drop(play);
+        drop(exchange);
+        drop(lines);
+    }
 }
 
 // The earlier of two moments.

@@ -16,7 +16,6 @@ use surroundings::{Fault, Lines, Surroundings};
 use traces::Mark;
 
 /// The way between a gateway and others, and what is kept of what went over it.
-#[derive(Drop)]
 pub struct Exchange<S> {
     pub around: S,
     // What spoils what goes over it, where that is asked for.
@@ -29,6 +28,24 @@ pub struct Exchange<S> {
     pub faults: Faults,
     /// Whether something that was recorded waits to be taken.
     pub is_offering: bool,
+}
+
+// Written out: a derived drop, and those of all its parts, are proved anew by each crate that lets one go.
+impl<S: Drop> Drop for Exchange<S> {
+    fn drop(self) {
+        let Exchange {
+            around,
+            network: way,
+            journal,
+            now: _,
+            read: _,
+            faults: _,
+            is_offering: _,
+        } = self;
+        drop(around);
+        drop(way);
+        drop(journal);
+    }
 }
 
 // Puts as much as there is room for at the front of the room: how much that is.

@@ -28,7 +28,6 @@ use std::net::SocketAddrV4;
 use traces::{Mark, Script, put_mark};
 
 /// A gateway that runs, and its trace.
-#[derive(Drop)]
 pub struct LivePlay<T> {
     alloc: Global,
     pub gateway: Box<Gateway>,
@@ -38,6 +37,24 @@ pub struct LivePlay<T> {
     // What is answered to who asked last, or did something that was refused.
     printed: Vec<u8>,
     pub teller: T,
+}
+
+// Written out: a derived drop, and those of all its parts, are proved anew by each crate that lets one go.
+impl<T: Drop> Drop for LivePlay<T> {
+    fn drop(self) {
+        let LivePlay {
+            alloc: _,
+            gateway,
+            script: _,
+            text,
+            printed,
+            teller,
+        } = self;
+        drop(gateway);
+        drop(text);
+        drop(printed);
+        drop(teller);
+    }
 }
 
 // The gateway takes an event, or refuses it.
