@@ -18,13 +18,13 @@ use indexmap::IndexMap;
 use mg_bytes::{OutOfMemory, Sequence, Text};
 use std::alloc::Global;
 use std::marker::Model;
+use std::mem;
 
 /// The transactions that an end remembers (RFC 3435, 3.5.1). A contract sees the firsts and confirmations that are kept,
 /// in the order in which they came, and those of them that `undo` leaves.
 ///
 /// For each command that arrives the end asks `look`. Where that is new, it executes the command, and calls `keep` with what
 /// a readable K names and with its answer, or `confirm` and then `first`. Nothing else is kept.
-#[derive(Drop)]
 pub struct History {
     // What is kept, behind what is gone and not cut off yet.
     entries: Vec<Entry>,
@@ -38,6 +38,23 @@ pub struct History {
     reached: Option<u64>,
     // The moment of the last purge.
     purged: u64,
+}
+
+// Written out: a derived drop, and those of all its parts, are proved anew by each crate that lets one go.
+impl Drop for History {
+    fn drop(self) {
+        let History {
+            entries,
+            gone: _,
+            settled: _,
+            spots,
+            firsts: _,
+            reached: _,
+            purged: _,
+        } = self;
+        mem::drop(entries);
+        mem::drop(spots);
+    }
 }
 
 impl Model for History {
