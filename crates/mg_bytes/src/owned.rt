@@ -8,9 +8,16 @@ use std::marker::Model;
 pub type OutOfMemory = AllocError;
 
 /// Bytes that are owned. A contract sees their list.
-#[derive(Drop)]
 pub struct Text {
     bytes: Vec<u8>,
+}
+
+// Written out: a derived drop, and those of all its parts, are proved anew by each crate that lets one go.
+impl Drop for Text {
+    fn drop(self) {
+        let Self { bytes } = self;
+        drop(bytes);
+    }
 }
 
 impl Model for Text {
@@ -40,6 +47,7 @@ impl Text {
     pub fn into_bytes(self) -> Vec<u8>
         ensures { result.items ≡ self }
     {
-        self.bytes
+        let Text { bytes } = self;
+        bytes
     }
 }

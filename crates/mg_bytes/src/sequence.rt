@@ -6,9 +6,16 @@ use std::alloc::Global;
 use std::marker::Model;
 
 /// Values in their order. A contract sees their list.
-#[derive(Drop)]
 pub struct Sequence<T> {
     items: Vec<T>,
+}
+
+// Written out: a derived drop, and those of all its parts, are proved anew by each crate that lets one go.
+impl<T: Drop> Drop for Sequence<T> {
+    fn drop(self) {
+        let Self { items } = self;
+        drop(items);
+    }
 }
 
 impl<T> Model for Sequence<T> {
@@ -65,7 +72,7 @@ impl<T: Drop> Sequence<T> {
         ensures ok { OnOk result (self.new ≡ self.old ++ more) }
         ensures err { OnErr result (self.new ≡ self.old) }
     {
-        let mut more = more.items;
+        let Sequence { items: mut more } = more;
         self.items.append(&mut more)?;
         Ok(())
     }
