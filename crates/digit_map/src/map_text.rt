@@ -12,10 +12,17 @@ use std::marker::Model;
 const MOST_BYTES: usize = 2048;
 
 /// A digit map, as its text without blanks. A contract sees that text.
-#[derive(Drop)]
 pub struct MapText {
     alloc: Global,
     bytes: Vec<u8>,
+}
+
+// Written out: a derived drop, and those of all its parts, are proved anew by each crate that lets one go.
+impl Drop for MapText {
+    fn drop(self) {
+        let MapText { alloc: _, bytes } = self;
+        drop(bytes);
+    }
 }
 
 impl Model for MapText {
