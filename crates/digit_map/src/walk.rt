@@ -141,7 +141,7 @@ fn walk_string(string: &[u8], letters: &[Letter], row: &mut [bool]) -> Walk
 
 /// How far the letters have come by the words of a map. This walks through the map once.
 #[tactic(auto, unfolding(crate::specs::Verdict::verdict_of, crate::specs::Words::is_word, crate::specs::Words::is_begun))]
-pub(crate) fn verdict_of(map: &[u8], letters: &[Letter]) -> Verdict
+pub fn verdict_of(map: &[u8], letters: &[Letter]) -> Verdict
     requires { length letters.now ≤ 65 }
     ensures { result ≡ verdict_of map.now letters.now }
 {
@@ -164,7 +164,7 @@ pub(crate) fn verdict_of(map: &[u8], letters: &[Letter]) -> Verdict
 
 /// Whether the letters are a word of a map. This walks through the map once at most.
 #[tactic(auto, unfolding(crate::specs::Words::is_word))]
-pub(crate) fn is_word(map: &[u8], letters: &[Letter]) -> bool
+pub fn is_word(map: &[u8], letters: &[Letter]) -> bool
     requires { length letters.now ≤ 65 }
     ensures { result ≡ is_word map.now letters.now }
 {

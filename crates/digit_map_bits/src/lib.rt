@@ -1,5 +1,5 @@
-//! A matcher of digit maps that keeps a bit for each place of its map (RFC 3435, 2.1.5): what a letter costs doesn't grow
-//! with the letters before it.
+//! Matchers of digit maps (RFC 3435, 2.1.5): one keeps a bit for each place of its map, so that what a letter costs doesn't grow
+//! with the letters before it; another walks its map anew for each letter.
 //!
 //! What its calls promise stands in `digit_map`, at `Matcher`, and speaks of the words of the map alone. `specs/` says
 //! what is kept. It is nothing that a caller has to believe: of that the contracts say that letters lead from one state
@@ -12,6 +12,8 @@ mod dialling;
 mod draft;
 pub mod laws;
 mod plan;
+mod slow;
 
 pub use crate::compiled::Compiled;
 pub use crate::dialling::Dialling;
+pub use crate::slow::SlowMap;

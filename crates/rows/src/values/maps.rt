@@ -9,10 +9,10 @@ ghost use Rattle.std.specs.Prelude.{◌≤◌, length};
 ghost use Rattle.digit_map.specs.Verdict.{most_letters};
 
 use digit_map::{
-    MOST_LETTERS, MapChange, MapFault, MapText, Matcher, SlowMap, Verdict, is_in_range, is_range,
+    MOST_LETTERS, MapChange, MapFault, MapText, Matcher, Verdict, is_in_range, is_range,
     read_change, read_map,
 };
-use digit_map_bits::{Compiled, Dialling};
+use digit_map_bits::{Compiled, Dialling, SlowMap};
 use mg_bytes::{CodeFault, Letter, OutOfMemory, letter_of};
 use scenario_files::{Row, bytes_of, refused, yes_or_no};
 use std::alloc::Global;

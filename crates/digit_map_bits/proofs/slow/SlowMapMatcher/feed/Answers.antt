@@ -2,7 +2,7 @@ use Rattle.std.proofs.Common.{List, [], ◌∷◌, ◌++◌, ap, ◌∙◌}
 use Rattle.mg_bytes.specs.declared.letter.Letter.{Letter}
 use Rattle.digit_map.specs.Verdict.{Matching}
 use Rattle.digit_map.proofs.VerdictLaws.{verdict_from}
-use Rattle.digit_map.proofs.slow.SlowMapMatcher.feed.Goals as goal
+use Rattle.digit_map_bits.proofs.slow.SlowMapMatcher.feed.Goals as goal
 
 pub returns-clause-verdict : goal.returns-clause-verdict
 returns-clause-verdict c = λ map letters after.

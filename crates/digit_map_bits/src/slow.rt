@@ -1,11 +1,8 @@
 //! A matcher that keeps its letters and walks the map anew for each.
 ghost use Rattle.std.specs.Prelude.{◌≡◌, ◌≤◌, length};
 
-use crate::map_text::MapText;
-use crate::matcher::{MOST_LETTERS, Matcher};
-use crate::verdict::Verdict;
-use crate::walk::{is_word, verdict_of};
 use arrayvec::ArrayVec;
+use digit_map::{MOST_LETTERS, MapText, Matcher, Verdict, is_word, verdict_of};
 use mg_bytes::{Letter, OutOfMemory};
 use std::alloc::Global;
 use std::marker::Model;
@@ -72,7 +69,7 @@ impl SlowMap {
     }
 
     // Whether its letters and a T behind them are a word.
-    #[tactic(auto, unfolding(crate::specs::Verdict::is_critical))]
+    #[tactic(auto, unfolding(digit_map::specs::Verdict::is_critical))]
     fn is_critical(&self) -> bool
         ensures { result ≡ is_critical self.now.map self.now.letters }
     {
