@@ -1,4 +1,2 @@
 pub mod Telling
-pub mod Effects
 pub mod News
-pub mod Undoing
