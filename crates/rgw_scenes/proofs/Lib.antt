@@ -1,1 +1,3 @@
 mod SceneLemmas
+pub mod FlawLemmas
+pub mod Computing

@@ -5,7 +5,6 @@ use crate::replaying::{REPLAY, replay_trace};
 use crate::starting::{Begun, Start};
 use crate::telling::{TELL, tell_line};
 use crate::words::{Settings, read_words};
-use config_faults::{Flaw, flaw_of, told, told_setup};
 use gateway_core::Gateway;
 use live_ends::{
     Live, OUT_OF_MEMORY, Outlets, SystemFault, hold_standard, open_capture, open_outlets, say_last,
@@ -13,7 +12,7 @@ use live_ends::{
 };
 use live_gateway::boxed;
 use live_journal::{Journal, Trace};
-use rgw_scenes::gateway_from;
+use rgw_scenes::{Flaw, flaw_of, gateway_from, told, told_setup};
 use rgw_scripts::{PlayFault, read_limited};
 use std::alloc::{AllocError, Global};
 use std::fs::File;

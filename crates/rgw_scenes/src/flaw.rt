@@ -3,7 +3,7 @@ ghost use Rattle.std.specs.Prelude.{◌≡◌, IfOk, option_map, is_some, bytes_
 ghost use Rattle.toml.specs.Data.{get_member};
 ghost use Rattle.toml.specs.View.{table_view};
 ghost use Rattle.plain_machine.specs.ConfigFault.{config_key_name};
-ghost use Rattle.config_faults.specs.Flaws.{is_key, other_key, missing_key, known_flaw, unread_flaw, address_flaw, value_flaw, flaw_in, text_flaw, flaw_of};
+ghost use Rattle.rgw_scenes.specs.Flaws.{is_key, other_key, missing_key, known_flaw, unread_flaw, address_flaw, value_flaw, flaw_in, text_flaw, flaw_of};
 
 use gateway_core::key_at_fault;
 use mg_bytes::OutOfMemory;

@@ -5,8 +5,8 @@ ghost use Rattle.plain_machine.specs.declared.config.ConfigKey.TheVariants as ke
 ghost use Rattle.plain_machine.specs.Setup.{are_lines, is_wait, is_media_base, key_at_fault};
 ghost use Rattle.rgw_scripts.specs.Configuration.{config_in};
 ghost use Rattle.rgw_scripts.specs.Play.{largest_input};
-ghost use Rattle.config_faults.specs.Bounds.{bounds_of, within};
-ghost use Rattle.config_faults.specs.Flaws.{address_flaw, flaw_of};
+ghost use Rattle.rgw_scenes.specs.Bounds.{bounds_of, within};
+ghost use Rattle.rgw_scenes.specs.Flaws.{address_flaw, flaw_of};
 
 /// A text without a flaw is a configuration that sets a gateway up; and each such text has none, unless it is too long, or its
 /// connections would receive at 0.0.0.0.

@@ -12,8 +12,8 @@ use Rattle.plain_machine.specs.ConfigFault.{config_key_name}
 use Rattle.plain_machine.specs.Setup.{key_at_fault}
 use Rattle.rgw_scripts.specs.Configuration.{config_of, unread_key}
 use Rattle.rgw_scripts.specs.Play.{largest_input}
-use Rattle.config_faults.specs.declared.flaw.Flaw.{Flaw}
-use Rattle.config_faults.specs.declared.flaw.Flaw.TheVariants as flaws
+use Rattle.rgw_scenes.specs.declared.flaw.Flaw.{Flaw}
+use Rattle.rgw_scenes.specs.declared.flaw.Flaw.TheVariants as flaws
 
 abbrev pub is_called : List ℕ → ConfigKey → Bool
 is_called name key = bytes_eq name (config_key_name key)

@@ -1,7 +1,7 @@
 use Rattle.std.proofs.Common.{◌≡◌}
 use Rattle.toml.specs.View.{members_view}
-use Rattle.config_faults.specs.Flaws.{other_key}
-use Rattle.config_faults.proofs.flaw.other_key.Given as goal
+use Rattle.rgw_scenes.specs.Flaws.{other_key}
+use Rattle.rgw_scenes.proofs.flaw.other_key.Given as goal
 
 abbrev pub invariant-loop-name : goal.invariant-loop-name
 invariant-loop-name l =

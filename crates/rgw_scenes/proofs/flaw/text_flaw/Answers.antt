@@ -1,9 +1,9 @@
 use Rattle.std.proofs.Common.{ap, sym, ◌∙◌, ◌≡◌}
 use Rattle.toml.specs.Parse.{parse_document}
 use Rattle.toml.specs.View.{table_view}
-use Rattle.config_faults.specs.Flaws.{flaw_in, text_flaw}
-use Rattle.config_faults.proofs.FlawLemmas.{text-other, text-document}
-use Rattle.config_faults.proofs.flaw.text_flaw.Goals as goal
+use Rattle.rgw_scenes.specs.Flaws.{flaw_in, text_flaw}
+use Rattle.rgw_scenes.proofs.FlawLemmas.{text-other, text-document}
+use Rattle.rgw_scenes.proofs.flaw.text_flaw.Goals as goal
 
 pub returns-in_default : goal.returns-in_default
 returns-in_default c = sym (text-other c.args.text.now c.in_default.ensures.cases.0)

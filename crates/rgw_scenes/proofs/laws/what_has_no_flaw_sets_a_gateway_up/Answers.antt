@@ -1,5 +1,5 @@
-use Rattle.config_faults.proofs.FlawLemmas.{read, right, taken}
-use Rattle.config_faults.proofs.laws.what_has_no_flaw_sets_a_gateway_up.Goals as goal
+use Rattle.rgw_scenes.proofs.FlawLemmas.{read, right, taken}
+use Rattle.rgw_scenes.proofs.laws.what_has_no_flaw_sets_a_gateway_up.Goals as goal
 
 pub returns-clause-read : goal.returns-clause-read
 returns-clause-read c = read

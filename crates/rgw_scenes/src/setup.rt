@@ -1,6 +1,6 @@
 //! What a gateway of a right configuration will be.
 ghost use Rattle.std.specs.Prelude.{◌≡◌, ◌≤◌};
-ghost use Rattle.config_faults.specs.Ports.{ports_of};
+ghost use Rattle.rgw_scenes.specs.Ports.{ports_of};
 
 use crate::pieces::put;
 use endpoint_names::{Pattern, Route, write_name};

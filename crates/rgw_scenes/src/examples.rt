@@ -6,9 +6,9 @@ ghost use Rattle.toml.specs.Data.{string, integer, no_members, member};
 ghost use Rattle.plain_machine.specs.declared.config.ConfigKey.TheVariants as keys;
 ghost use Rattle.plain_machine.specs.Example.{example};
 ghost use Rattle.rgw_scripts.specs.Example.{settings_with, local, host_at, with_lines, with_media};
-ghost use Rattle.config_faults.specs.declared.flaw.Flaw.TheVariants as flaws;
-ghost use Rattle.config_faults.specs.Flaws.{flaw_in};
-ghost use Rattle.config_faults.specs.Ports.{ports_of};
+ghost use Rattle.rgw_scenes.specs.declared.flaw.Flaw.TheVariants as flaws;
+ghost use Rattle.rgw_scenes.specs.Flaws.{flaw_in};
+ghost use Rattle.rgw_scenes.specs.Ports.{ports_of};
 
 /// An unknown key comes first, then a missing one, then a value of another kind, then the others in their order, and 0.0.0.0 last.
 pub fn flaws_have_an_order()

@@ -3,7 +3,7 @@ use Rattle.std.specs.Prelude.{ℕ, nat_le, Bool, true, ◌&&◌, Option, Some, N
 use Rattle.plain_machine.specs.declared.config.ConfigKey.{ConfigKey}
 use Rattle.plain_machine.specs.declared.config.ConfigKey.TheVariants.{Domain, Lines, Names, Agent, RestartWait, DisconnectedWait, MediaAddress, MediaBase}
 use Rattle.plain_machine.specs.Setup.{most_lines, shortest_wait, longest_wait, lowest_media_base, highest_media_base}
-use Rattle.config_faults.specs.declared.bounds.Bounds.{Bounds as Told}
+use Rattle.rgw_scenes.specs.declared.bounds.Bounds.{Bounds as Told}
 
 abbrev pub from_to : ℕ → ℕ → Told
 from_to least most = record { least = least; most = most }

@@ -1,6 +1,6 @@
 //! The bounds of numbers, as they are told.
 ghost use Rattle.std.specs.Prelude.{◌≡◌};
-ghost use Rattle.config_faults.specs.Bounds.{bounds_of};
+ghost use Rattle.rgw_scenes.specs.Bounds.{bounds_of};
 
 use plain_machine::{
     ConfigKey, HIGHEST_MEDIA_BASE, LONGEST_WAIT, LOWEST_MEDIA_BASE, MOST_LINES, SHORTEST_WAIT,

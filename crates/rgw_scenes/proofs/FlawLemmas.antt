@@ -14,9 +14,9 @@ use Rattle.plain_machine.specs.declared.config.ConfigKey.{ConfigKey}
 use Rattle.plain_machine.specs.Setup.{key_at_fault}
 use Rattle.rgw_scripts.specs.Configuration.{config_in, config_of}
 use Rattle.rgw_scripts.specs.Play.{largest_input}
-use Rattle.config_faults.specs.declared.flaw.Flaw.{Flaw}
-use Rattle.config_faults.specs.declared.flaw.Flaw.TheVariants as flaws
-use Rattle.config_faults.specs.Flaws.{unread_flaw, address_flaw, value_by, flaw_by, flaw_in, document_flaw, text_flaw, flaw_of}
+use Rattle.rgw_scenes.specs.declared.flaw.Flaw.{Flaw}
+use Rattle.rgw_scenes.specs.declared.flaw.Flaw.TheVariants as flaws
+use Rattle.rgw_scenes.specs.Flaws.{unread_flaw, address_flaw, value_by, flaw_by, flaw_in, document_flaw, text_flaw, flaw_of}
 
 not_utf8 : (text : List ℕ) → is_utf8 text ≡ false → text_flaw text ≡ Some flaws.NoUtf8
 unfolding text_flaw

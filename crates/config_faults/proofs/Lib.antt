@@ -1,2 +1,0 @@
-pub mod FlawLemmas
-pub mod Computing
