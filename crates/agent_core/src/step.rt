@@ -33,7 +33,7 @@ pub enum Step<'a> {
 }
 
 /// Why a step is refused.
-#[derive(Clone, Copy, Debug, PartialEq, Eq)]
+#[derive(Clone, Copy, PartialEq, Eq)]
 pub enum StepRefusal {
     /// Memory was refused, now or in an earlier call: the world is spent.
     OutOfMemory = 1,
@@ -118,7 +118,7 @@ pub(crate) fn of_issue(fault: IssueFault) -> StepRefusal
 }
 
 /// Where a run of a world stopped: the steps before `place` stand, unless the world is spent.
-#[derive(Clone, Copy, Debug)]
+#[derive(Clone, Copy)]
 pub struct WorldStopped {
     pub place: usize,
     pub refusal: StepRefusal,

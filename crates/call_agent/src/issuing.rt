@@ -19,7 +19,7 @@ pub struct Issued {
 }
 
 /// Why a command isn't issued.
-#[derive(Clone, Copy, Debug, PartialEq, Eq)]
+#[derive(Clone, Copy, PartialEq, Eq)]
 pub enum IssueFault {
     /// Memory was refused.
     OutOfMemory = 1,

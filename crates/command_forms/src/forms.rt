@@ -10,7 +10,7 @@ use mg_bytes::Identifier;
 use mgcp_text::Bytes;
 
 /// The lines that a command is for.
-#[derive(Clone, Copy, Debug, PartialEq, Eq)]
+#[derive(Clone, Copy, PartialEq, Eq)]
 pub enum Target {
     /// The line with this number, from 1.
     One(u16),
@@ -35,7 +35,7 @@ impl Target {
 }
 
 /// The lines that an audit is for. No audit is for any one line.
-#[derive(Clone, Copy, Debug, PartialEq, Eq)]
+#[derive(Clone, Copy, PartialEq, Eq)]
 pub enum AuditTarget {
     /// The line with this number, from 1.
     One(u16),

@@ -8,7 +8,7 @@ use mg_bytes::{CodeFault, OutOfMemory, ReturnCode, Text, put_decimal};
 use std::alloc::Global;
 
 /// What of a command is at fault.
-#[derive(Clone, Copy, Debug)]
+#[derive(Clone, Copy)]
 pub enum FaultyPart {
     /// The verb.
     Verb,
@@ -25,7 +25,7 @@ pub enum FaultyPart {
 }
 
 /// Why a command is refused.
-#[derive(Clone, Copy, Debug)]
+#[derive(Clone, Copy)]
 pub struct Refused {
     /// The return code (RFC 3435, 2.4).
     pub code: u16,
@@ -34,7 +34,7 @@ pub struct Refused {
 }
 
 /// Why the judging of a command stops.
-#[derive(Clone, Copy, Debug)]
+#[derive(Clone, Copy)]
 pub enum Stop {
     /// Memory was refused.
     OutOfMemory,

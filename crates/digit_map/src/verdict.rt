@@ -1,7 +1,7 @@
 //! How far dialled letters have come.
 
 /// How far dialled letters have come by the words of a digit map (RFC 3435, 2.1.5).
-#[derive(Clone, Copy, Debug, PartialEq, Eq)]
+#[derive(Clone, Copy, PartialEq, Eq)]
 pub enum Verdict {
     /// They are a word, even if longer words begin with them.
     Perfect,

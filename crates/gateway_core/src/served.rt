@@ -1,7 +1,7 @@
 //! What came of serving a wire.
 
 /// What came of serving a wire. A count stays at its greatest value, 18,446,744,073,709,551,615.
-#[derive(Clone, Copy, Debug, PartialEq, Eq)]
+#[derive(Clone, Copy, PartialEq, Eq)]
 pub struct Served {
     /// The turns, the one at which the end came among them.
     pub turns: u64,

@@ -23,7 +23,7 @@ pub enum Input {
 }
 
 /// The wire failed to give or to take, and has counted that.
-#[derive(Clone, Copy, Debug, PartialEq, Eq)]
+#[derive(Clone, Copy, PartialEq, Eq)]
 pub struct WireFault;
 
 /// What gives inputs and takes datagrams, and counts how often it fails to.

@@ -5,7 +5,7 @@ use crate::owned::OutOfMemory;
 use crate::return_code::ReturnCode;
 
 /// Why there is no value: memory was refused, or there is a fault, which is answered with a return code.
-#[derive(Clone, Copy, Debug)]
+#[derive(Clone, Copy)]
 pub enum CodeFault {
     /// Memory was refused.
     OutOfMemory,

@@ -2,7 +2,7 @@
 ghost use Rattle.std.specs.Prelude.{◌≡◌};
 
 /// A return code of this gateway's profile (RFC 3435, 2.4): those that it sends, and 521, which it reads.
-#[derive(Clone, Copy, Debug)]
+#[derive(Clone, Copy)]
 pub enum ReturnCode {
     /// The final response that asked for it has come.
     ResponseAcknowledgement = 0,

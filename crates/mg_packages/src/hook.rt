@@ -1,7 +1,7 @@
 //! The hook of a telephone.
 
 /// Whether the handset lies on its hook.
-#[derive(Clone, Copy, Debug, PartialEq, Eq)]
+#[derive(Clone, Copy, PartialEq, Eq)]
 pub enum Hook {
     OnHook,
     OffHook,

@@ -7,7 +7,7 @@ use crate::package::Package;
 use mg_bytes::ReturnCode;
 
 /// A signal of the packages, in the order of the table: those of L before those of G.
-#[derive(Clone, Copy, Debug, PartialEq, Eq)]
+#[derive(Clone, Copy, PartialEq, Eq)]
 pub enum Signal {
     /// `L/dl`
     DialTone,

@@ -5,7 +5,7 @@ ghost use Rattle.timers.specs.Order.{place_of, signal_count, kind_number, kind_c
 use mg_packages::Signal;
 
 /// What can fall due on a line, in the order in which it happens where several are due at one moment.
-#[derive(Clone, Copy, Debug, PartialEq, Eq)]
+#[derive(Clone, Copy, PartialEq, Eq)]
 pub enum LineDue {
     /// Timer T ends (RFC 3435, 2.1.5): the event D/T.
     DigitTimer,
@@ -15,7 +15,7 @@ pub enum LineDue {
 
 /// What can fall due, in the order in which it happens where several kinds are due on one line at one moment (this
 /// gateway's profile).
-#[derive(Clone, Copy, Debug, PartialEq, Eq)]
+#[derive(Clone, Copy, PartialEq, Eq)]
 pub enum DueKind {
     /// Of a line: timer T ends, or a signal does.
     OfLine(LineDue),
