@@ -88,6 +88,12 @@ fn note_for(read: &Result<Message<'_>, TextFault>, is_repeat: bool) -> Option<No
     }
 }
 
+// The same of a text that wasn't read yet.
+fn note_of(alloc: Global, text: &[u8], is_repeat: bool) -> Option<Note> {
+    let read = read_message(alloc, text);
+    note_for(&read, is_repeat)
+}
+
 impl Journal {
     /// A journal with a log and a capture where they are asked for; the socket for gateways is here.
     pub fn new(alloc: Global, has_log: bool, has_capture: bool, here: SocketAddrV4) -> Journal
@@ -239,8 +245,7 @@ impl Journal {
 
     // Puts a text that came or is sent into the log.
     fn log_text(&mut self, stamp: Stamp, way: Way, is_repeat: bool, text: &[u8]) {
-        let read = read_message(self.alloc, text);
-        if let Some(note) = note_for(&read, is_repeat) {
+        if let Some(note) = note_of(self.alloc, text, is_repeat) {
             self.note(stamp, note);
             return;
         }
