@@ -1,8 +1,8 @@
 -- How entries follow one another.
-use Rattle.std.proofs.Common.{◌≡◌, inl, inr, ℕ, ◌+◌, ◌<◌, ◌≤◌, length, take, get_or, Bool, true, false, List, [], ◌∷◌, ◌++◌, map, Option, Some, None, refl, sym, ◌∙◌, ap, subst, append_assoc, append-nil}
+use Rattle.std.proofs.Common.{◌≡◌, inl, inr, ℕ, ◌+◌, ◌<◌, ◌≤◌, length, take, get_or, Bool, true, false, List, [], ◌∷◌, ◌++◌, map, Option, Some, None, refl, sym, ◌∙◌, ap, subst, append_assoc, append-nil, arith}
 use Rattle.std.specs.Prelude.{IfSome, ⊤}
 use Rattle.std.specs.List.{flat_map}
-use Rattle.std.proofs.lemmas.List.{map-append, take_more}
+use Rattle.std.proofs.lemmas.List.{map-append, take_more, length-append, length-take-le}
 use Rattle.std.proofs.lemmas.Bool.{le-leb}
 use Rattle.std.proofs.lemmas.Grind.{flat_map-append}
 use Rattle.mg_bytes.specs.Words.{words}
@@ -29,8 +29,8 @@ use Rattle.traces.specs.declared.telling.Mark.{Mark}
 use Rattle.rgw_scripts.specs.Printing.{printed_line, refusal_line, shown_line}
 use Rattle.traces.specs.Replaying.{move_in}
 use Rattle.traces.specs.Telling.{told, told_mark, told_text}
-use Rattle.traces.specs.Writing.{Entry, Input, typed, clock_text, at_clock, showed, became, Says, IsPlay, taken_after, sent_at, sent_in, input_text, after_input, entry_text, after_entry, written, script_after}
-use Rattle.live_play.specs.Running.{Live, live, sent_of, Ran, AreMarks, HandsOut, IsAnswer, TellsRefusal}
+use Rattle.traces.specs.Writing.{Entry, Input, typed, clock_text, at_clock, showed, became, Says, IsPlay, taken_after, sent_at, sent_in, input_text, after_input, datagrams_in, entry_text, after_entry, written, script_after}
+use Rattle.live_play.specs.Running.{Live, live, sent_of, Ran, AreInPlace, AreMarks, HandsOut, Takes, Refuses, Asked, IsAnswer, TellsRefusal}
 use Rattle.traces.proofs.ShowLemmas.{both_not}
 
 -- ---- what is told
@@ -66,44 +66,62 @@ if_told (Some y) (Some z) xs s t u g is same = same ∙ is
 
 -- ---- marks
 
-marks_send_nothing : (marks : List Entry) → AreMarks marks → sent_in marks ≡ []
-marks_send_nothing [] are = refl
-marks_send_nothing (showed input move shown ∷ marks) are = absurd are
-marks_send_nothing (became mark place ∷ marks) are = marks_send_nothing marks are
+marks_send_nothing : (after last : ℕ) (marks : List Entry) → AreMarks after last marks → sent_in marks ≡ []
+marks_send_nothing after last [] are = refl
+marks_send_nothing after last (showed input move shown ∷ marks) are = absurd are
+marks_send_nothing after last (became mark place ∷ marks) are = marks_send_nothing place last marks are.2
 
-marks_take_nothing : (setup : Setup) (before : List GatewayEvent) (marks : List Entry) → AreMarks marks → taken_after setup before marks ≡ before
-marks_take_nothing setup before [] are = refl
-marks_take_nothing setup before (showed input move shown ∷ marks) are = absurd are
-marks_take_nothing setup before (became mark place ∷ marks) are = marks_take_nothing setup before marks are
+marks_take_nothing : (setup : Setup) (before : List GatewayEvent) (after last : ℕ) (marks : List Entry) → AreMarks after last marks
+    → taken_after setup before marks ≡ before
+marks_take_nothing setup before after last [] are = refl
+marks_take_nothing setup before after last (showed input move shown ∷ marks) are = absurd are
+marks_take_nothing setup before after last (became mark place ∷ marks) are = marks_take_nothing setup before place last marks are.2
 
-marks_are_play : (setup : Setup) (before : List GatewayEvent) (marks : List Entry) → AreMarks marks → IsPlay setup before marks
-marks_are_play setup before [] are = tt
-marks_are_play setup before (showed input move shown ∷ marks) are = absurd are
-marks_are_play setup before (became mark place ∷ marks) are = marks_are_play setup before marks are
+marks_are_play : (setup : Setup) (before : List GatewayEvent) (after last : ℕ) (marks : List Entry) → AreMarks after last marks → IsPlay setup before marks
+marks_are_play setup before after last [] are = tt
+marks_are_play setup before after last (showed input move shown ∷ marks) are = absurd are
+marks_are_play setup before after last (became mark place ∷ marks) are = marks_are_play setup before place last marks are.2
 
-marks_pass_no_time : (script : Script) (marks : List Entry) → AreMarks marks → script_after script marks ≡ script
+marks_in_place : (after last : ℕ) (marks : List Entry) → AreMarks after last marks → AreInPlace after last marks
+marks_in_place after last [] are = tt
+marks_in_place after last (showed input move shown ∷ marks) are = absurd are
+marks_in_place after last (became mark place ∷ marks) are = (are.0, are.1, marks_in_place place last marks are.2)
+
+marks_pass_no_time : (script : Script) (after last : ℕ) (marks : List Entry) → AreMarks after last marks → script_after script marks ≡ script
 unfolding script_after
-marks_pass_no_time script [] are = refl
-marks_pass_no_time script (showed input move shown ∷ marks) are = absurd are
-marks_pass_no_time script (became mark place ∷ marks) are = marks_pass_no_time script marks are
+marks_pass_no_time script after last [] are = refl
+marks_pass_no_time script after last (showed input move shown ∷ marks) are = absurd are
+marks_pass_no_time script after last (became mark place ∷ marks) are = marks_pass_no_time script place last marks are.2
 
-written_marks : (script : Script) (marks more : List Entry) → AreMarks marks → written script (marks ++ more) ≡ written script marks ++ written script more
+written_marks : (script : Script) (after last : ℕ) (marks more : List Entry) → AreMarks after last marks
+    → written script (marks ++ more) ≡ written script marks ++ written script more
 unfolding written
-written_marks script [] more are = refl
-written_marks script (showed input move shown ∷ marks) more are = absurd are
-written_marks script (became mark place ∷ marks) more are =
-    ap (λ (l : List ℕ). told_mark mark place ++ l) (written_marks script marks more are) ∙ sym (append_assoc (told_mark mark place) (written script marks) (written script more))
+written_marks script after last [] more are = refl
+written_marks script after last (showed input move shown ∷ marks) more are = absurd are
+written_marks script after last (became mark place ∷ marks) more are =
+    ap (λ (l : List ℕ). told_mark mark place ++ l) (written_marks script place last marks more are.2)
+    ∙ sym (append_assoc (told_mark mark place) (written script marks) (written script more))
 
-more_marks : (marks more : List Entry) → AreMarks marks → AreMarks more → AreMarks (marks ++ more)
-more_marks [] more are they = they
-more_marks (showed input move shown ∷ marks) more are they = absurd are
-more_marks (became mark place ∷ marks) more are they = more_marks marks more are they
+marks_behind : (after before last : ℕ) (marks : List Entry) → after ≤ before → AreMarks before last marks → AreMarks after last marks
+marks_behind after before last [] no are = tt
+marks_behind after before last (showed input move shown ∷ marks) no are = absurd are
+marks_behind after before last (became mark place ∷ marks) no are =
+    let behind : before < place = are.0 in
+    (omega (arith, no, behind), are.1, are.2)
+
+more_marks : (after mid last : ℕ) (marks more : List Entry) → after ≤ mid → mid ≤ last → AreMarks after mid marks → AreMarks mid last more
+    → AreMarks after last (marks ++ more)
+more_marks after mid last [] more low high are they = marks_behind after mid last more low they
+more_marks after mid last (showed input move shown ∷ marks) more low high are they = absurd are
+more_marks after mid last (became mark place ∷ marks) more low high are they =
+    let within : place ≤ mid = are.1 in
+    (are.0, omega (arith, within, high), more_marks place mid last marks more within high are.2 they)
 
 -- ---- datagrams that are handed out
 
-pub hands_nothing : (was : Live) → HandsOut was [] [] was
+pub hands_nothing : (was : Live) (before : ℕ) → HandsOut was before [] [] was
 unfolding written
-hands_nothing was = record {
+hands_nothing was before = record {
   are = tt;
   gateway = refl;
   handed = grows_nothing was.handed;
@@ -111,29 +129,36 @@ hands_nothing was = record {
   script = refl;
 }
 
-hands_on : (was mid is : Live) (some more : List OutDatagram) (marks others : List Entry) → HandsOut was some marks mid → HandsOut mid more others is
-    → HandsOut was (some ++ more) (marks ++ others) is
-hands_on was mid is some more marks others a b = record {
-  are = more_marks marks others a.are b.are;
+pub hands_on : (was mid is : Live) (before : ℕ) (some more : List OutDatagram) (marks others : List Entry) → HandsOut was before some marks mid
+    → HandsOut mid (before + length some) more others is → HandsOut was before (some ++ more) (marks ++ others) is
+hands_on was mid is before some more marks others a b = record {
+  are = subst (λ (n : ℕ). AreMarks before n (marks ++ others)) all
+      (more_marks before (before + length some) (before + length some + length more) marks others (omega arith) (omega arith) a.are b.are);
   gateway = b.gateway ∙ a.gateway;
   handed = rw (map-append sent_of some more) (grows_on was.handed mid.handed is.handed (map sent_of some) (map sent_of more) a.handed b.handed);
-  told = rw (written_marks was.script marks others a.are)
+  told = rw (written_marks was.script before (before + length some) marks others a.are)
       (grows_on was.told mid.told is.told (written was.script marks) (written was.script others) a.told
       (subst (λ (s : Script). Grows mid.told (written s others) is.told) a.script b.told));
   script = b.script ∙ a.script;
-}
+} where
+  all : before + length some + length more ≡ before + length (some ++ more)
+  all = rw (length-append some more) (omega arith)
 
 pub one_more : (was mid is : Live) (datagrams : List OutDatagram) (place : ℕ) (d : OutDatagram) → place < length datagrams
-    → (marks : List Entry) × HandsOut was (take place datagrams) marks mid
-    → (marks : List Entry) × HandsOut mid (get_or datagrams place d ∷ []) marks is
-    → (marks : List Entry) × HandsOut was (take (place + 1) datagrams) marks is
+    → (marks : List Entry) × HandsOut was 0 (take place datagrams) marks mid
+    → (marks : List Entry) × HandsOut mid place (get_or datagrams place d ∷ []) marks is
+    → (marks : List Entry) × HandsOut was 0 (take (place + 1) datagrams) marks is
 one_more was mid is datagrams place d inside a b =
-    (a.0 ++ b.0, rw (take_more datagrams place d inside) (hands_on was mid is (take place datagrams) (get_or datagrams place d ∷ []) a.0 b.0 a.1 b.1))
+    let so_far : length (take place datagrams) ≡ place = length-take-le place datagrams (omega arith) in
+    let here : place ≡ 0 + length (take place datagrams) = rw so_far (omega arith) in
+    let behind : HandsOut mid (0 + length (take place datagrams)) (get_or datagrams place d ∷ []) b.0 is =
+    subst (λ (n : ℕ). HandsOut mid n (get_or datagrams place d ∷ []) b.0 is) here b.1 in
+    (a.0 ++ b.0, rw (take_more datagrams place d inside) (hands_on was mid is 0 (take place datagrams) (get_or datagrams place d ∷ []) a.0 b.0 a.1 behind))
 
-pub hands_one : (was is : Live) (datagram : OutDatagram) → is.gateway ≡ was.gateway → Grows was.handed (sent_of datagram ∷ []) is.handed → is.told ≡ was.told
-    → is.script ≡ was.script → HandsOut was (datagram ∷ []) [] is
+pub hands_one : (was is : Live) (before : ℕ) (datagram : OutDatagram) → is.gateway ≡ was.gateway → Grows was.handed (sent_of datagram ∷ []) is.handed → is.told ≡ was.told
+    → is.script ≡ was.script → HandsOut was before (datagram ∷ []) [] is
 unfolding written
-hands_one was is datagram gateway handed told script = record {
+hands_one was is before datagram gateway handed told script = record {
   are = tt;
   gateway = gateway;
   handed = handed;
@@ -141,28 +166,41 @@ hands_one was is datagram gateway handed told script = record {
   script = script;
 }
 
-pub hands_marked : (was is : Live) (datagram : OutDatagram) (mark : Mark) (place : ℕ) → is.gateway ≡ was.gateway → Grows was.handed (sent_of datagram ∷ []) is.handed
-    → Grows was.told (told_mark mark place) is.told → is.script ≡ was.script → HandsOut was (datagram ∷ []) (became mark place ∷ []) is
+pub hands_marked : (was is : Live) (before : ℕ) (datagram : OutDatagram) (mark : Mark) (place : ℕ) → place ≡ before + 1 → is.gateway ≡ was.gateway
+    → Grows was.handed (sent_of datagram ∷ []) is.handed → Grows was.told (told_mark mark place) is.told → is.script ≡ was.script
+    → HandsOut was before (datagram ∷ []) (became mark place ∷ []) is
 unfolding written
-hands_marked was is datagram mark place gateway handed told script = record {
-  are = tt;
+hands_marked was is before datagram mark place here gateway handed told script = record {
+  are = (below, within, tt);
   gateway = gateway;
   handed = handed;
   told = rw (append-nil (told_mark mark place)) told;
   script = script;
-}
+} where
+  below : before < place
+  below = omega arith
+
+  within : place ≤ before + 1
+  within = omega arith
 
 -- so it is in a loop over datagrams
-pub none_handed : (was : Live) → (marks : List Entry) × HandsOut was [] marks was
-none_handed was = ([], hands_nothing was)
+pub none_handed : (was : Live) → (marks : List Entry) × HandsOut was 0 [] marks was
+none_handed was = ([], hands_nothing was 0)
 
-pub one_handed : (was is : Live) (datagram : OutDatagram) → is.gateway ≡ was.gateway → Grows was.handed (sent_of datagram ∷ []) is.handed → is.told ≡ was.told
-    → is.script ≡ was.script → (marks : List Entry) × HandsOut was (datagram ∷ []) marks is
-one_handed was is datagram gateway handed told script = ([], hands_one was is datagram gateway handed told script)
+pub one_handed : (was is : Live) (datagram : OutDatagram) (place : ℕ) → is.gateway ≡ was.gateway → Grows was.handed (sent_of datagram ∷ []) is.handed → is.told ≡ was.told
+    → is.script ≡ was.script → (before : ℕ) → place ≡ before + 1 → (marks : List Entry) × HandsOut was before (datagram ∷ []) marks is
+one_handed was is datagram place gateway handed told script before here = ([], hands_one was is before datagram gateway handed told script)
 
-pub one_marked : (was is : Live) (datagram : OutDatagram) (mark : Mark) (place : ℕ) → is.gateway ≡ was.gateway → Grows was.handed (sent_of datagram ∷ []) is.handed
-    → Grows was.told (told_mark mark place) is.told → is.script ≡ was.script → (marks : List Entry) × HandsOut was (datagram ∷ []) marks is
-one_marked was is datagram mark place gateway handed told script = (became mark place ∷ [], hands_marked was is datagram mark place gateway handed told script)
+pub one_marked : (was is : Live) (before : ℕ) (datagram : OutDatagram) (mark : Mark) (place : ℕ) → place ≡ before + 1 → is.gateway ≡ was.gateway
+    → Grows was.handed (sent_of datagram ∷ []) is.handed → Grows was.told (told_mark mark place) is.told → is.script ≡ was.script
+    → (marks : List Entry) × HandsOut was before (datagram ∷ []) marks is
+one_marked was is before datagram mark place here gateway handed told script =
+    (became mark place ∷ [], hands_marked was is before datagram mark place here gateway handed told script)
+
+all_marked : (was is : Live) (datagrams : List OutDatagram) (marks : List Entry) → HandsOut was 0 datagrams marks is → AreMarks 0 (length datagrams) marks
+all_marked was is datagrams marks hands = subst (λ (n : ℕ). AreMarks 0 n marks) all hands.are where
+  all : 0 + length datagrams ≡ length datagrams
+  all = omega arith
 
 -- ---- entries
 
@@ -175,6 +213,7 @@ ran_nothing was is took handed told script = record {
   handed = subst (λ (o : Option (List Sent)). Grows was.handed [] o) (sym handed) (grows_nothing was.handed);
   told = subst (λ (o : Option (List ℕ)). Grows was.told [] o) (sym told) (grows_nothing was.told);
   script = if_some is.told script;
+  marks = tt;
 } where
   if_some : (o : Option (List ℕ)) → is.script ≡ was.script → IfSome o (λ text. is.script ≡ was.script)
   if_some None same = tt
@@ -196,24 +235,25 @@ pub ran_sent : (was mid is : Live) (input : Input) (event : GatewayEvent) (outpu
     → ((before : List GatewayEvent) → Stands was.gateway before → Ends (plain was.gateway.setup before) event None)
     → mid.handed ≡ was.handed → Grows was.told (input_text was.script input (sends outputs)) mid.told
     → IfSome mid.told (λ text. mid.script ≡ after_input was.script input (sends outputs))
-    → HandsOut mid outputs marks is → Ran was (showed input (give event) (sends outputs) ∷ marks) is
+    → HandsOut mid 0 outputs marks is → Ran was (showed input (give event) (sends outputs) ∷ marks) is
 unfolding written script_after
 ran_sent was mid is input event outputs marks says took ends kept told script hands = record {
   setup = ap (λ (g : GatewayState). g.setup) hands.gateway ∙ took.setup;
   stands = λ before s. subst (λ (g : GatewayState). Stands g (taken_after was.gateway.setup before (showed input (give event) (sends outputs) ∷ marks))) (sym hands.gateway)
       (subst (Stands mid.gateway) (sym (taken_here before s)) (took.stands before s));
-  play = λ before s. (says, shown_here before s, marks_are_play was.gateway.setup (move_went was.gateway.setup before (give event)).taken marks hands.are);
+  play = λ before s. (says, shown_here before s, marks_are_play was.gateway.setup (move_went was.gateway.setup before (give event)).taken 0 (0 + length outputs) marks hands.are);
   handed = rw (all_sent) (subst (λ (o : Option (List Sent)). Grows o (map sent_of outputs) is.handed) kept hands.handed);
   told = then_told was.told mid.told is.told (input_text was.script input (sends outputs)) (after_input was.script input (sends outputs)) mid.script marks told script hands.told;
-  script = rw (marks_pass_no_time (after_input was.script input (sends outputs)) marks hands.are)
+  script = rw (marks_pass_no_time (after_input was.script input (sends outputs)) 0 (0 + length outputs) marks hands.are)
       (if_told mid.told is.told (written mid.script marks) (after_input was.script input (sends outputs)) mid.script is.script hands.told script hands.script);
+  marks = marks_in_place 0 (length outputs) marks (all_marked mid is outputs marks hands);
 } where
   all_sent : sent_in (showed input (give event) (sends outputs) ∷ marks) ≡ outputs
-  all_sent = ap (λ (l : List OutDatagram). outputs ++ l) (marks_send_nothing marks hands.are) ∙ append-nil outputs
+  all_sent = ap (λ (l : List OutDatagram). outputs ++ l) (marks_send_nothing 0 (0 + length outputs) marks hands.are) ∙ append-nil outputs
 
   taken_here : (before : List GatewayEvent) → Stands was.gateway before
       → taken_after was.gateway.setup before (showed input (give event) (sends outputs) ∷ marks) ≡ before ++ event ∷ []
-  taken_here before s = marks_take_nothing was.gateway.setup (move_went was.gateway.setup before (give event)).taken marks hands.are
+  taken_here before s = marks_take_nothing was.gateway.setup (move_went was.gateway.setup before (give event)).taken 0 (0 + length outputs) marks hands.are
       ∙ ap (λ (w : Went). w.taken) (event_taken was.gateway.setup before event (ends before s))
 
   shown_here : (before : List GatewayEvent) → Stands was.gateway before → (move_went was.gateway.setup before (give event)).shown ≡ sends outputs ∷ []
@@ -236,6 +276,7 @@ ran_answered was is input move shown says setup stands went none handed told scr
   handed = rw (none) (subst (λ (o : Option (List Sent)). Grows was.handed [] o) (sym handed) (grows_nothing was.handed));
   told = rw (append-nil (input_text was.script input shown)) told;
   script = script;
+  marks = tt;
 }
 
 -- ---- runs one after the other
@@ -262,6 +303,19 @@ play_more setup before [] b p q = q
 play_more setup before (showed input move shown ∷ a) b p q = (p.0, p.1, play_more setup (move_went setup before move).taken a b p.2 q)
 play_more setup before (became mark place ∷ a) b p q = play_more setup before a b p q
 
+in_place_anew : (after last : ℕ) (entries : List Entry) → AreInPlace 0 0 entries → AreInPlace after last entries
+in_place_anew after last [] are = tt
+in_place_anew after last (showed input move shown ∷ entries) are = are
+in_place_anew after last (became mark place ∷ entries) are =
+    let low : 0 < place = are.0 in
+    let high : place ≤ 0 = are.1 in
+    absurd (omega (arith, low, high))
+
+in_place_more : (after last : ℕ) (a b : List Entry) → AreInPlace after last a → AreInPlace 0 0 b → AreInPlace after last (a ++ b)
+in_place_more after last [] b p q = in_place_anew after last b q
+in_place_more after last (showed input move shown ∷ a) b p q = in_place_more 0 (length (datagrams_in shown)) a b p q
+in_place_more after last (became mark place ∷ a) b p q = (p.0, p.1, in_place_more place last a b p.2 q)
+
 pub ran_on : (was mid is : Live) (a b : List Entry) → Ran was a mid → Ran mid b is → Ran was (a ++ b) is
 ran_on was mid is a b p q = record {
   setup = q.setup ∙ p.setup;
@@ -273,6 +327,7 @@ ran_on was mid is a b p q = record {
       (grows_on was.handed mid.handed is.handed (map sent_of (sent_in a)) (map sent_of (sent_in b)) p.handed q.handed);
   told = rw (written_more was.script a b) (then_told was.told mid.told is.told (written was.script a) (script_after was.script a) mid.script b p.told p.script q.told);
   script = rw (script_more was.script a b) (by_told mid.told is.told p.script q.script q.told);
+  marks = in_place_more 0 0 a b p.marks q.marks;
 } where
   by_told : (m o : Option (List ℕ)) → IfSome m (λ text. mid.script ≡ script_after was.script a) → IfSome o (λ text. is.script ≡ script_after mid.script b)
       → Grows m (written mid.script b) o → IfSome o (λ text. is.script ≡ script_after (script_after was.script a) b)
@@ -309,38 +364,53 @@ pub goes_on_quietly : (was is : Live) → Took was.gateway [] is.gateway [] [] �
     → (entries : List Entry) × Ran was entries is
 goes_on_quietly was is took handed told script = ([], ran_nothing was is took handed told script)
 
-pub goes_on_so : (was mid is : Live) (stepped : GatewayState) (input : Input) (event : GatewayEvent) (outputs sent : List OutDatagram) → Says input (give event)
+pub takes_so : (was mid is : Live) (stepped : GatewayState) (input : Input) (event : GatewayEvent) (outputs sent : List OutDatagram) → Says input (give event)
     → Took was.gateway (event ∷ []) stepped [] outputs → mid.gateway ≡ stepped → sent ≡ outputs
     → ((before : List GatewayEvent) → Stands was.gateway before → Ends (plain was.gateway.setup before) event None)
     → mid.handed ≡ was.handed → Grows was.told (input_text was.script input (sends sent)) mid.told
     → IfSome mid.told (λ text. mid.script ≡ after_input was.script input (sends sent))
-    → (marks : List Entry) × HandsOut mid sent marks is → (entries : List Entry) × Ran was entries is
-goes_on_so was mid is stepped input event outputs sent says took gateway same ends kept told script hands =
+    → (marks : List Entry) × HandsOut mid 0 sent marks is → Takes was input event is
+takes_so was mid is stepped input event outputs sent says took gateway same ends kept told script hands =
     let took_so : Took was.gateway (event ∷ []) mid.gateway [] sent =
     subst (λ (g : GatewayState). Took was.gateway (event ∷ []) g [] sent) (sym gateway)
     (subst (λ (l : List OutDatagram). Took was.gateway (event ∷ []) stepped [] l) (sym same) took) in
-    (showed input (give event) (sends sent) ∷ hands.0, ran_sent was mid is input event sent hands.0 says took_so ends kept told script hands.1)
+    record {
+      outputs = sent;
+      marks = hands.0;
+      took = subst (λ (g : GatewayState). Took was.gateway (event ∷ []) g [] sent) (sym hands.1.gateway) took_so;
+      are = all_marked mid is sent hands.0 hands.1;
+      ran = ran_sent was mid is input event sent hands.0 says took_so ends kept told script hands.1;
+    }
+
+pub goes_on_by : (was is : Live) (input : Input) (event : GatewayEvent) → Takes was input event is → (entries : List Entry) × Ran was entries is
+goes_on_by was is input event t = (showed input (give event) (sends t.outputs) ∷ t.marks, t.ran)
 
 -- an act that was refused, and not for want of memory
-pub goes_on_refused : (was is : Live) (line : List ℕ) (event : GatewayEvent) (refusal : Refusal) → Says (typed line) (give event) → (refusal ≡ OutOfMemory → ⊥)
+ran_refused : (was is : Live) (line : List ℕ) (event : GatewayEvent) (refusal : Refusal) → Says (typed line) (give event) → (refusal ≡ OutOfMemory → ⊥)
     → Took was.gateway [] is.gateway [] []
     → ((before : List GatewayEvent) → Stands was.gateway before → Ends (plain was.gateway.setup before) event (Some refusal))
     → is.handed ≡ was.handed → Grows was.told (clock_text was.script ++ printed_line line ++ told_text (printed_line (refusal_line refusal))) is.told
-    → IfSome is.told (λ text. is.script ≡ at_clock was.script) → (entries : List Entry) × Ran was entries is
+    → IfSome is.told (λ text. is.script ≡ at_clock was.script) → Ran was (showed (typed line) (give event) (refuses refusal) ∷ []) is
 unfolding told
-goes_on_refused was is line event refusal says other took ends kept told script = (
-  showed (typed line) (give event) (refuses refusal) ∷ [],
-  ran_answered was is (typed line) (give event) (refuses refusal) says took.setup
-      (λ before s. rw (append-nil before) at (took.stands before s))
-      (λ before s. event_refused was.gateway.setup before event refusal other (ends before s)) refl kept told script,
-)
+ran_refused was is line event refusal says other took ends kept told script =
+    ran_answered was is (typed line) (give event) (refuses refusal) says took.setup
+    (λ before s. rw (append-nil before) at (took.stands before s))
+    (λ before s. event_refused was.gateway.setup before event refusal other (ends before s)) refl kept told script
 
 -- and one of which it isn't said here why, or that it was told
-pub goes_on_told : (was is : Live) (line : List ℕ) (event : GatewayEvent) (refusal : Refusal) → Says (typed line) (give event) → Took was.gateway [] is.gateway [] []
+pub refuses_so : (was is : Live) (line : List ℕ) (event : GatewayEvent) (refusal answer : Refusal) (text : List ℕ) → Says (typed line) (give event)
+    → Took was.gateway [] is.gateway [] []
     → ((before : List GatewayEvent) → Stands was.gateway before → Ends (plain was.gateway.setup before) event (Some refusal))
-    → is.handed ≡ was.handed → TellsRefusal line refusal was.told was.script is.told is.script → (entries : List Entry) × Ran was entries is
-goes_on_told was is line event refusal says took ends kept (inl quiet) = goes_on_quietly was is took kept quiet.0 quiet.1
-goes_on_told was is line event refusal says took ends kept (inr r) = goes_on_refused was is line event refusal says r.0 took ends kept r.1 r.2
+    → is.handed ≡ was.handed → TellsRefusal line refusal answer text was.told was.script is.told is.script → Refuses was line event answer text is
+refuses_so was is line event refusal answer text says took ends kept (inl quiet) = inl (quiet.0, ran_nothing was is took kept quiet.1 quiet.2)
+refuses_so was is line event refusal answer text says took ends kept (inr r) =
+    subst (λ (x : Refusal). Refuses was line event x text is) (sym r.0)
+    (inr (r.1, ran_refused was is line event refusal says r.1 took ends kept r.2 r.3, r.4))
+
+pub goes_on_refused : (was is : Live) (line : List ℕ) (event : GatewayEvent) (refusal : Refusal) (text : List ℕ) → Refuses was line event refusal text is
+    → (entries : List Entry) × Ran was entries is
+goes_on_refused was is line event refusal text (inl quiet) = ([], quiet.1)
+goes_on_refused was is line event refusal text (inr r) = (showed (typed line) (give event) (refuses refusal) ∷ [], r.1)
 
 -- ---- lines that say an act or a question
 
@@ -386,17 +456,21 @@ answer_told None text is = ap told_text is
 answer_told (Some status) text is = ap told_text is
 
 -- a question
-pub goes_on_answered : (was is : Live) (line : List ℕ) (number : ℕ) (text : List ℕ) → line_in (words line) ≡ Some (Whole (Show number)) → IsAnswer was.gateway number text
+pub answers_so : (was is : Live) (line : List ℕ) (number : ℕ) (text : List ℕ) → line_in (words line) ≡ Some (Whole (Show number)) → IsAnswer was.gateway number text
     → is.gateway ≡ was.gateway → is.handed ≡ was.handed → Grows was.told (clock_text was.script ++ printed_line line ++ told_text text) is.told
-    → IfSome is.told (λ t. is.script ≡ at_clock was.script) → (entries : List Entry) × Ran was entries is
-goes_on_answered was is line number text says a gateway handed grew script = (
-  showed (typed line) (ask number) (answer_of a.status) ∷ [],
-  ran_answered was is (typed line) (ask number) (answer_of a.status) (says_ask line number says) (ap (λ (g : GatewayState). g.setup) gateway)
+    → IfSome is.told (λ t. is.script ≡ at_clock was.script) → Asked was line number text is
+answers_so was is line number text says a gateway handed grew script = record {
+  answer = a;
+  gateway = gateway;
+  ran = ran_answered was is (typed line) (ask number) (answer_of a.status) (says_ask line number says) (ap (λ (g : GatewayState). g.setup) gateway)
       (λ before s. subst (λ (g : GatewayState). Stands g before) (sym gateway) s)
       (λ before s. asked_went was.gateway.setup before number (answer_of a.status) (a.shows before s))
       (sends_nothing (typed line) (ask number) a.status) handed
-      (subst (λ (t : List ℕ). Grows was.told (clock_text was.script ++ printed_line line ++ t) is.told) (answer_told a.status text a.text) grew) script,
-)
+      (subst (λ (t : List ℕ). Grows was.told (clock_text was.script ++ printed_line line ++ t) is.told) (answer_told a.status text a.text) grew) script;
+}
+
+pub goes_on_answered : (was is : Live) (line : List ℕ) (number : ℕ) (text : List ℕ) → Asked was line number text is → (entries : List Entry) × Ran was entries is
+goes_on_answered was is line number text a = (showed (typed line) (ask number) (answer_of a.answer.status) ∷ [], a.ran)
 
 -- ---- runs in a loop
 
@@ -426,6 +500,7 @@ written_off was is gateway script handed told = (
     handed = subst (λ (o : Option (List Sent)). Grows was.handed [] o) (sym handed) (grows_nothing was.handed);
     told = told;
     script = any_text is.told;
+    marks = tt;
   },
 ) where
   any_text : (o : Option (List ℕ)) → IfSome o (λ text. is.script ≡ was.script)

@@ -1,18 +1,18 @@
 -- How a gateway runs live.
-use Rattle.std.specs.Prelude.{◌≡◌, ⊤, ◌⊎◌, ℕ, List, [], ◌∷◌, ◌++◌, map, Option, Some, None, IfSome}
+use Rattle.std.specs.Prelude.{◌≡◌, ⊤, ◌⊎◌, ℕ, ◌+◌, ◌<◌, ◌≤◌, List, [], ◌∷◌, ◌++◌, length, map, Option, Some, None, IfSome}
 use Rattle.surroundings.specs.Sending.{Sent, Grows}
 use Rattle.transmission.specs.declared.output.OutDatagram.{OutDatagram}
 use Rattle.plain_machine.specs.Event.{GatewayEvent}
 use Rattle.gateway_core.specs.GatewayState.{GatewayState}
-use Rattle.gateway_core.specs.Stands.{Stands}
+use Rattle.gateway_core.specs.Stands.{Stands, Took}
 use Rattle.plain_machine.specs.declared.refusal.Refusal.{Refusal}
 use Rattle.plain_machine.specs.declared.refusal.Refusal.TheVariants.{OutOfMemory}
-use Rattle.rgw_scripts.specs.Moves.{line_shown, printed, told as answer_of}
+use Rattle.rgw_scripts.specs.Moves.{give, ask, sends, refuses, line_shown, printed, told as answer_of}
 use Rattle.rgw_scripts.specs.Printing.{printed_line, refusal_line}
 use Rattle.rgw_scripts.specs.Status.{LineStatus}
 use Rattle.traces.specs.declared.script.Script.{Script}
 use Rattle.traces.specs.Telling.{told_text}
-use Rattle.traces.specs.Writing.{Entry, showed, became, IsPlay, taken_after, sent_in, written, script_after, clock_text, at_clock}
+use Rattle.traces.specs.Writing.{Entry, Input, typed, showed, became, datagrams_in, IsPlay, taken_after, sent_in, written, script_after, clock_text, at_clock}
 
 -- the gateway, the moments that its trace has come to, all that this was told, and all that was handed out
 pub record Live : Type 0 where
@@ -28,6 +28,13 @@ live gateway script told handed = record { gateway = gateway; script = script; t
 abbrev pub sent_of : OutDatagram → Sent
 sent_of datagram = record { to = datagram.to; bytes = datagram.bytes }
 
+-- Behind what was shown it is said what became of its datagrams: of each at most once, in their order; and of no other ones. Said was it
+-- of those up to the first place, and the last place is that of the last datagram.
+abbrev pub AreInPlace : ℕ → ℕ → List Entry → Type 0
+AreInPlace after last [] = ⊤
+AreInPlace after last (showed input move shown ∷ entries) = AreInPlace 0 (length (datagrams_in shown)) entries
+AreInPlace after last (became mark place ∷ entries) = (after < place) × (place ≤ last) × AreInPlace place last entries
+
 -- It went on by these entries: they are a play of its gateway, what was handed out is what they sent, and its trace was told their
 -- text.
 pub record Ran (was : Live) (entries : List Entry) (is : Live) : Type 0 where
@@ -38,16 +45,17 @@ pub record Ran (was : Live) (entries : List Entry) (is : Live) : Type 0 where
   pub handed : Grows was.handed (map sent_of (sent_in entries)) is.handed
   pub told : Grows was.told (written was.script entries) is.told
   pub script : IfSome is.told (λ text. is.script ≡ script_after was.script entries)
+  pub marks : AreInPlace 0 0 entries
 
--- these entries say what became of datagrams, and nothing else
-abbrev pub AreMarks : List Entry → Type 0
-AreMarks [] = ⊤
-AreMarks (showed input move shown ∷ entries) = ⊥
-AreMarks (became mark place ∷ entries) = AreMarks entries
+-- these entries say what became of datagrams, and nothing else: of each at most once, in their order
+abbrev pub AreMarks : ℕ → ℕ → List Entry → Type 0
+AreMarks after last [] = ⊤
+AreMarks after last (showed input move shown ∷ entries) = ⊥
+AreMarks after last (became mark place ∷ entries) = (after < place) × (place ≤ last) × AreMarks place last entries
 
--- datagrams were handed out, and this became of them
-pub record HandsOut (was : Live) (datagrams : List OutDatagram) (marks : List Entry) (is : Live) : Type 0 where
-  pub are : AreMarks marks
+-- behind so many others, datagrams were handed out, and this became of them
+pub record HandsOut (was : Live) (before : ℕ) (datagrams : List OutDatagram) (marks : List Entry) (is : Live) : Type 0 where
+  pub are : AreMarks before (before + length datagrams) marks
   pub gateway : is.gateway ≡ was.gateway
   pub handed : Grows was.handed (map sent_of datagrams) is.handed
   pub told : Grows was.told (written was.script marks) is.told
@@ -59,10 +67,35 @@ pub record IsAnswer (g : GatewayState) (line : ℕ) (answered : List ℕ) : Type
   pub shows : (before : List GatewayEvent) → Stands g before → line_shown g.setup before line ≡ answer_of status
   pub text : answered ≡ printed (answer_of status)
 
--- a trace was told of an act that was refused, and not for want of memory; or of nothing
-abbrev pub TellsRefusal : List ℕ → Refusal → Option (List ℕ) → Script → Option (List ℕ) → Script → Type 0
-TellsRefusal line refusal were was are is =
-    ((are ≡ were) × (is ≡ was))
+-- It took an event that came in so: its entry was told, all that was sent at it was handed out, and behind the entry stands what became
+-- of that, and nothing else.
+pub record Takes (was : Live) (input : Input) (event : GatewayEvent) (is : Live) : Type 0 where
+  pub outputs : List OutDatagram
+  pub marks : List Entry
+  pub took : Took was.gateway (event ∷ []) is.gateway [] outputs
+  pub are : AreMarks 0 (length outputs) marks
+  pub ran : Ran was (showed input (give event) (sends outputs) ∷ marks) is
+
+-- An act that a line said was refused: that is an entry, and why is printed; or nothing was told, where memory was refused, for the act
+-- or for saying why it can't be done.
+abbrev pub Refuses : Live → List ℕ → GatewayEvent → Refusal → List ℕ → Live → Type 0
+Refuses was line event refusal text is =
+    ((refusal ≡ OutOfMemory) × Ran was [] is)
     ⊎ ((refusal ≡ OutOfMemory → ⊥)
+    × Ran was (showed (typed line) (give event) (refuses refusal) ∷ []) is
+    × (text ≡ printed_line (refusal_line refusal)))
+
+-- What a line is was asked, as a line said: what is printed is an entry.
+pub record Asked (was : Live) (line : List ℕ) (number : ℕ) (text : List ℕ) (is : Live) : Type 0 where
+  pub answer : IsAnswer was.gateway number text
+  pub gateway : is.gateway ≡ was.gateway
+  pub ran : Ran was (showed (typed line) (ask number) (answer_of answer.status) ∷ []) is
+
+-- the answer to an act that was refused: why, told and printed; or want of memory, and a trace was told of nothing
+abbrev pub TellsRefusal : List ℕ → Refusal → Refusal → List ℕ → Option (List ℕ) → Script → Option (List ℕ) → Script → Type 0
+TellsRefusal line refusal answer text were was are is =
+    ((answer ≡ OutOfMemory) × (are ≡ were) × (is ≡ was))
+    ⊎ ((answer ≡ refusal) × (refusal ≡ OutOfMemory → ⊥)
     × Grows were (clock_text was ++ printed_line line ++ told_text (printed_line (refusal_line refusal))) are
-    × IfSome are (λ text. is ≡ at_clock was))
+    × IfSome are (λ text. is ≡ at_clock was)
+    × (text ≡ printed_line (refusal_line refusal)))

@@ -1,10 +1,10 @@
 //! The play.
-ghost use Rattle.std.specs.Prelude.{◌≡◌, ◌≤◌, ◌++◌, ◌∷◌, [], List, Option, Some, None, IfSome, IfOk, OnOk, OnErr, ℕ};
+ghost use Rattle.std.specs.Prelude.{◌≡◌, ◌+◌, ◌≤◌, ◌++◌, ◌∷◌, [], List, Option, Some, None, IfSome, IfOk, IfErr, OnOk, OnErr, ℕ};
 ghost use Rattle.std.specs.Result.{result_err};
 ghost use Rattle.surroundings.specs.Sending.{Sent, Grows};
 ghost use Rattle.mg_bytes.specs.Words.{words};
 ghost use Rattle.plain_machine.specs.declared.refusal.Refusal.TheVariants.{NoSuchLine};
-ghost use Rattle.plain_machine.specs.Event.{GatewayEvent, event_of};
+ghost use Rattle.plain_machine.specs.Event.{GatewayEvent, event_of, datagram, phone, tick};
 ghost use Rattle.plain_machine.specs.Lists.{plain};
 ghost use Rattle.plain_machine.specs.Refusing.{Ends};
 ghost use Rattle.gateway_core.specs.Stands.{Stands, Took};
@@ -14,8 +14,8 @@ ghost use Rattle.rgw_scripts.specs.Moves.{sends};
 ghost use Rattle.rgw_scripts.specs.Printing.{printed_line, refusal_line};
 ghost use Rattle.rgw_scripts.specs.Script.{line_in};
 ghost use Rattle.traces.specs.Telling.{told_mark, told_text};
-ghost use Rattle.traces.specs.Writing.{Entry, arrived, typed, tick_text, after_tick, input_text, at_clock, clock_text, opening_script};
-ghost use Rattle.live_play.specs.Running.{live, Ran, HandsOut, IsAnswer, TellsRefusal};
+ghost use Rattle.traces.specs.Writing.{Entry, arrived, typed, passed, tick_text, after_tick, input_text, at_clock, clock_text, opening_script};
+ghost use Rattle.live_play.specs.Running.{live, Ran, HandsOut, Takes, Refuses, Asked, IsAnswer, TellsRefusal};
 
 use crate::ends::{Outlet, Teller};
 use gateway_core::{Event, Gateway, OutDatagram, Outputs, Refusal};
@@ -201,6 +201,7 @@ impl<T: Teller + Drop> LivePlay<T> {
         ensures told { Grows (T.told self.old.teller) (clock_text self.old.script ++ printed_line line.now ++ told_text self.old.printed.items) (T.told self.new.teller) }
         ensures script { IfSome (T.told self.new.teller) (λ text. self.new.script ≡ at_clock self.old.script) }
         ensures gateway { self.new.gateway ≡ self.old.gateway }
+        ensures printed { self.new.printed ≡ self.old.printed }
     {
         if self.teller.is_telling() {
             self.text.clear();
@@ -225,11 +226,11 @@ impl<T: Teller + Drop> LivePlay<T> {
         }
     }
 
-    // A datagram is handed out.
+    // The datagram at this place is handed out.
     #[tactic(auto, using(crate::proofs::RunLemmas::one_handed))]
     fn hand<O: Outlet>(&mut self, out: &mut O, datagram: &OutDatagram, place: u64)
-        ensures { (marks : List Entry) × HandsOut
-            (live self.old.gateway.value self.old.script (T.told self.old.teller) (O.handed out.old)) (datagram.now ∷ []) marks
+        ensures { (before : ℕ) → place ≡ before + 1 → (marks : List Entry) × HandsOut
+            (live self.old.gateway.value self.old.script (T.told self.old.teller) (O.handed out.old)) before (datagram.now ∷ []) marks
             (live self.new.gateway.value self.new.script (T.told self.new.teller) (O.handed out.new)) }
     {
         if let Some(mark) = out.hand(datagram.to, datagram.bytes.as_bytes()) {
@@ -241,7 +242,7 @@ impl<T: Teller + Drop> LivePlay<T> {
     #[tactic(auto, using(crate::proofs::RunLemmas::none_handed, crate::proofs::RunLemmas::one_more))]
     fn hand_all<O: Outlet>(&mut self, out: &mut O, datagrams: &[OutDatagram])
         ensures { (marks : List Entry) × HandsOut
-            (live self.old.gateway.value self.old.script (T.told self.old.teller) (O.handed out.old)) datagrams.now marks
+            (live self.old.gateway.value self.old.script (T.told self.old.teller) (O.handed out.old)) 0 datagrams.now marks
             (live self.new.gateway.value self.new.script (T.told self.new.teller) (O.handed out.new)) }
     {
         let mut place: u64 = 0;
@@ -254,7 +255,7 @@ impl<T: Teller + Drop> LivePlay<T> {
     // The gateway took an event, at which it sends these datagrams: they are handed out in their order.
     fn hand_out<O: Outlet>(&mut self, out: &mut O, datagrams: &[OutDatagram])
         ensures { (marks : List Entry) × HandsOut
-            (live self.old.gateway.value self.old.script (T.told self.old.teller) (O.handed out.old)) datagrams.now marks
+            (live self.old.gateway.value self.old.script (T.told self.old.teller) (O.handed out.old)) 0 datagrams.now marks
             (live self.new.gateway.value self.new.script (T.told self.new.teller) (O.handed out.new)) }
     {
         out.turned(&self.gateway);
@@ -262,11 +263,19 @@ impl<T: Teller + Drop> LivePlay<T> {
     }
 
     /// The clock goes to this moment, in ms: what the gateway sends at it is handed out. A refused tick changes nothing.
-    #[tactic(auto, using(crate::proofs::RunLemmas::goes_on_quietly))]
+    #[tactic(auto, using(crate::proofs::RunLemmas::goes_on_quietly, crate::proofs::RunLemmas::ran_nothing))]
     pub fn tick<O: Outlet>(&mut self, out: &mut O, moment: u64) -> Result<(), Refusal>
-        ensures { (entries : List Entry) × Ran
+        ensures ran { (entries : List Entry) × Ran
             (live self.old.gateway.value self.old.script (T.told self.old.teller) (O.handed out.old)) entries
             (live self.new.gateway.value self.new.script (T.told self.new.teller) (O.handed out.new)) }
+        ensures taken { OnOk result (Takes
+            (live self.old.gateway.value self.old.script (T.told self.old.teller) (O.handed out.old)) (passed moment) (tick moment)
+            (live self.new.gateway.value self.new.script (T.told self.new.teller) (O.handed out.new))) }
+        ensures refused { OnErr result (Ran
+            (live self.old.gateway.value self.old.script (T.told self.old.teller) (O.handed out.old)) []
+            (live self.new.gateway.value self.new.script (T.told self.new.teller) (O.handed out.new))) }
+        ensures ends { (before : List GatewayEvent) → Stands self.old.gateway.value before →
+            Ends (plain self.old.gateway.value.setup before) (tick moment) (result_err result) }
     {
         match take(&mut self.gateway, Event::Tick { moment }) {
             Ok(outputs) => {
@@ -280,16 +289,24 @@ impl<T: Teller + Drop> LivePlay<T> {
     }
 
     /// A datagram came from there: what the gateway sends at it is handed out. Where memory is refused for it nothing is changed.
-    #[tactic(auto, using(crate::proofs::RunLemmas::goes_on_quietly))]
+    #[tactic(auto, using(crate::proofs::RunLemmas::goes_on_quietly, crate::proofs::RunLemmas::ran_nothing))]
     pub fn datagram<O: Outlet>(
         &mut self,
         out: &mut O,
         source: SocketAddrV4,
         bytes: &[u8],
     ) -> Result<(), Refusal>
-        ensures { (entries : List Entry) × Ran
+        ensures ran { (entries : List Entry) × Ran
             (live self.old.gateway.value self.old.script (T.told self.old.teller) (O.handed out.old)) entries
             (live self.new.gateway.value self.new.script (T.told self.new.teller) (O.handed out.new)) }
+        ensures taken { OnOk result (Takes
+            (live self.old.gateway.value self.old.script (T.told self.old.teller) (O.handed out.old)) (arrived source bytes.now) (datagram source bytes.now)
+            (live self.new.gateway.value self.new.script (T.told self.new.teller) (O.handed out.new))) }
+        ensures refused { OnErr result (Ran
+            (live self.old.gateway.value self.old.script (T.told self.old.teller) (O.handed out.old)) []
+            (live self.new.gateway.value self.new.script (T.told self.new.teller) (O.handed out.new))) }
+        ensures ends { (before : List GatewayEvent) → Stands self.old.gateway.value before →
+            Ends (plain self.old.gateway.value.setup before) (datagram source bytes.now) (result_err result) }
     {
         match take(&mut self.gateway, Event::Datagram { source, bytes }) {
             Ok(outputs) => {
@@ -307,6 +324,7 @@ impl<T: Teller + Drop> LivePlay<T> {
         ensures ok { OnOk result (Grows (T.told self.old.teller)
             (clock_text self.old.script ++ printed_line line.now ++ told_text (printed_line (refusal_line refusal))) (T.told self.new.teller)) }
         ensures ok_script { OnOk result (IfSome (T.told self.new.teller) (λ text. self.new.script ≡ at_clock self.old.script)) }
+        ensures ok_printed { OnOk result (self.new.printed.items ≡ printed_line (refusal_line refusal)) }
         ensures err { OnErr result (T.told self.new.teller ≡ T.told self.old.teller) }
         ensures err_script { OnErr result (self.new.script ≡ self.old.script) }
         ensures gateway { self.new.gateway ≡ self.old.gateway }
@@ -319,7 +337,7 @@ impl<T: Teller + Drop> LivePlay<T> {
 
     // The same, but that nothing is told where the refusal is want of memory.
     fn refuse(&mut self, line: &[u8], refusal: Refusal) -> Refusal
-        ensures told { TellsRefusal line.now refusal (T.told self.old.teller) self.old.script (T.told self.new.teller) self.new.script }
+        ensures told { TellsRefusal line.now refusal result self.new.printed.items (T.told self.old.teller) self.old.script (T.told self.new.teller) self.new.script }
         ensures gateway { self.new.gateway ≡ self.old.gateway }
     {
         if refusal == Refusal::OutOfMemory {
@@ -341,9 +359,15 @@ impl<T: Teller + Drop> LivePlay<T> {
         act: Act,
     ) -> Result<(), Refusal>
         requires { line_in (words text.now) ≡ Some (Whole (Phone line act)) }
-        ensures { (entries : List Entry) × Ran
+        ensures ran { (entries : List Entry) × Ran
             (live self.old.gateway.value self.old.script (T.told self.old.teller) (O.handed out.old)) entries
             (live self.new.gateway.value self.new.script (T.told self.new.teller) (O.handed out.new)) }
+        ensures taken { OnOk result (Takes
+            (live self.old.gateway.value self.old.script (T.told self.old.teller) (O.handed out.old)) (typed text.now) (phone line act)
+            (live self.new.gateway.value self.new.script (T.told self.new.teller) (O.handed out.new))) }
+        ensures refused { IfErr result (λ refusal. Refuses
+            (live self.old.gateway.value self.old.script (T.told self.old.teller) (O.handed out.old)) text.now (phone line act) refusal self.new.printed.items
+            (live self.new.gateway.value self.new.script (T.told self.new.teller) (O.handed out.new))) }
     {
         match take(&mut self.gateway, Event::Phone { line, act }) {
             Ok(outputs) => {
@@ -372,9 +396,12 @@ impl<T: Teller + Drop> LivePlay<T> {
     /// What a line is is asked, as a line of text said: the answer is `printed`.
     pub fn ask(&mut self, text: &[u8], line: u16) -> Result<(), OutOfMemory>
         requires { line_in (words text.now) ≡ Some (Whole (Show line)) }
-        ensures { (handed : Option (List Sent)) → (entries : List Entry) × Ran
+        ensures ran { (handed : Option (List Sent)) → (entries : List Entry) × Ran
             (live self.old.gateway.value self.old.script (T.told self.old.teller) handed) entries
             (live self.new.gateway.value self.new.script (T.told self.new.teller) handed) }
+        ensures answered { (handed : Option (List Sent)) → OnOk result (Asked
+            (live self.old.gateway.value self.old.script (T.told self.old.teller) handed) text.now line self.new.printed.items
+            (live self.new.gateway.value self.new.script (T.told self.new.teller) handed)) }
     {
         put_answer(self.alloc, &self.gateway, line, &mut self.printed)?;
         self.tell_answered(text);

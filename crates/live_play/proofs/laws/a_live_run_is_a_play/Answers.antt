@@ -15,3 +15,6 @@ returns-clause-told c = told_known
 
 pub returns-clause-script : goal.returns-clause-script
 returns-clause-script c = script_known
+
+pub returns-clause-marks : goal.returns-clause-marks
+returns-clause-marks c = λ was is entries r. r.marks

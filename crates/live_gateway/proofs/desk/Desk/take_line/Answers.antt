@@ -5,4 +5,4 @@ pub returns-in-Show : goal.returns-in-Show
 returns-in-Show g c =
     rw (c.answer.ensures.sent, c.deref_mut-in-Show-3.ensures.value)
     (rw (c.deref_mut-in-Show.ensures.value) at
-    (c.ask-asked.ensures (handed_by c.args.self.now.exchange.value.network (g.S.Surroundings.sent c.args.self.now.exchange.value.around))))
+    (c.ask-asked.ensures.ran (handed_by c.args.self.now.exchange.value.network (g.S.Surroundings.sent c.args.self.now.exchange.value.around))))

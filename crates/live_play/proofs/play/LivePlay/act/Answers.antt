@@ -2,17 +2,29 @@ use Rattle.std.proofs.Common.{refl, ap}
 use Rattle.plain_machine.specs.Event.{phone}
 use Rattle.traces.specs.Writing.{typed}
 use Rattle.live_play.specs.Running.{live}
-use Rattle.live_play.proofs.RunLemmas.{goes_on_so, goes_on_told, says_act}
+use Rattle.live_play.proofs.RunLemmas.{takes_so, goes_on_by, refuses_so, goes_on_refused, says_act}
 use Rattle.live_play.proofs.play.LivePlay.act.Goals as goal
 
-pub returns-in-Ok : goal.returns-in-Ok
-returns-in-Ok g c =
-    goes_on_so _
+pub returns-in-Ok-clause-taken : goal.returns-in-Ok-clause-taken
+returns-in-Ok-clause-taken g c =
+    takes_so _
     (live c.tell_act.new.self.gateway.value c.tell_act.new.self.script (g.T.Teller.told c.tell_act.new.self.teller) (g.O.Outlet.handed c.args.out.now)) _ c.take.new.gateway.value
     (typed c.args.text.now) (phone c.args.line c.args.act) _ c.as_slice-sent.result.now (says_act c.args.text.now c.args.line c.args.act c.requires) c.in-Ok.ensures.ok (ap (λ gateway. gateway.value) c.tell_act.ensures.gateway) c.as_slice-sent.ensures c.in-Ok.ensures.ends refl
     c.tell_act.ensures.told c.tell_act.ensures.script c.hand_out.ensures
 
-pub returns-in-Err : goal.returns-in-Err
-returns-in-Err g c =
-    goes_on_told _ _ c.args.text.now (phone c.args.line c.args.act) c.in-Err.refusal (says_act c.args.text.now c.args.line c.args.act c.requires)
+pub returns-in-Ok-clause-ran : goal.returns-in-Ok-clause-ran
+returns-in-Ok-clause-ran g c = goes_on_by _ _ (typed c.args.text.now) (phone c.args.line c.args.act) (
+    takes_so _
+    (live c.tell_act.new.self.gateway.value c.tell_act.new.self.script (g.T.Teller.told c.tell_act.new.self.teller) (g.O.Outlet.handed c.args.out.now)) _ c.take.new.gateway.value
+    (typed c.args.text.now) (phone c.args.line c.args.act) _ c.as_slice-sent.result.now (says_act c.args.text.now c.args.line c.args.act c.requires) c.in-Ok.ensures.ok (ap (λ gateway. gateway.value) c.tell_act.ensures.gateway) c.as_slice-sent.ensures c.in-Ok.ensures.ends refl
+    c.tell_act.ensures.told c.tell_act.ensures.script c.hand_out.ensures)
+
+pub returns-in-Err-clause-refused : goal.returns-in-Err-clause-refused
+returns-in-Err-clause-refused g c =
+    refuses_so _ _ c.args.text.now (phone c.args.line c.args.act) c.in-Err.refusal c.refuse.result c.refuse.new.self.printed.items (says_act c.args.text.now c.args.line c.args.act c.requires)
     (rw (ap (λ gateway. gateway.value) c.refuse.ensures.gateway) c.in-Err.ensures.err) c.in-Err.ensures.ends refl c.refuse.ensures.told
+
+pub returns-in-Err-clause-ran : goal.returns-in-Err-clause-ran
+returns-in-Err-clause-ran g c = goes_on_refused _ _ c.args.text.now (phone c.args.line c.args.act) c.refuse.result c.refuse.new.self.printed.items (
+    refuses_so _ _ c.args.text.now (phone c.args.line c.args.act) c.in-Err.refusal c.refuse.result c.refuse.new.self.printed.items (says_act c.args.text.now c.args.line c.args.act c.requires)
+    (rw (ap (λ gateway. gateway.value) c.refuse.ensures.gateway) c.in-Err.ensures.err) c.in-Err.ensures.ends refl c.refuse.ensures.told)

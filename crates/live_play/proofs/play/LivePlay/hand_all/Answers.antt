@@ -1,5 +1,15 @@
-use Rattle.live_play.proofs.RunLemmas.{one_more}
+use Rattle.std.proofs.Common.{refl, arith}
+use Rattle.live_play.proofs.RunLemmas.{none_handed, one_more}
 use Rattle.live_play.proofs.play.LivePlay.hand_all.Goals as goal
 
+pub loop-datagram-init : goal.loop-datagram-init
+loop-datagram-init g c = (refl, none_handed _)
+
 pub loop-datagram-preserved : goal.loop-datagram-preserved
-loop-datagram-preserved g c = one_more _ _ _ _ _ _ c.loop-datagram-test.true c.loop-datagram.invariant (rw (c.datagram-item.is) at c.hand.ensures)
+loop-datagram-preserved g c =
+    let here = c.loop-datagram.invariant.0 in
+    let inside = c.loop-datagram-test.true in
+    let next = c.saturating_add-place.ensures in (
+      omega (arith, here, inside, next, c.args.datagrams.ok),
+      one_more _ _ _ _ _ _ inside c.loop-datagram.invariant.1 (rw (c.datagram-item.is) at (c.hand.ensures _ (omega (arith, here, inside, next, c.args.datagrams.ok)))),
+    )

@@ -1,10 +1,11 @@
-use Rattle.std.proofs.Common.{List, take}
+use Rattle.std.proofs.Common.{◌≡◌, List, take}
 use Rattle.traces.specs.Writing.{Entry}
 use Rattle.live_play.specs.Running.{live, HandsOut}
 use Rattle.live_play.proofs.play.LivePlay.hand_all.Given as goal
 
 abbrev pub invariant-loop-datagram : goal.invariant-loop-datagram
 invariant-loop-datagram g l =
-    (marks : List Entry) × HandsOut
-    (live l.fn.self.gateway.value l.fn.self.script (g.T.Teller.told l.fn.self.teller) (g.O.Outlet.handed l.fn.out)) (take l.datagram-index l.datagrams) marks
-    (live l.self.gateway.value l.self.script (g.T.Teller.told l.self.teller) (g.O.Outlet.handed l.out))
+    (l.place ≡ l.datagram-index)
+    × ((marks : List Entry) × HandsOut
+    (live l.fn.self.gateway.value l.fn.self.script (g.T.Teller.told l.fn.self.teller) (g.O.Outlet.handed l.fn.out)) 0 (take l.datagram-index l.datagrams) marks
+    (live l.self.gateway.value l.self.script (g.T.Teller.told l.self.teller) (g.O.Outlet.handed l.out)))
