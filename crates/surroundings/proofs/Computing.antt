@@ -1,8 +1,10 @@
 -- The definitions opened, so that worked examples compute.
 use Rattle.std.specs.Prelude.{⊤}
 use Rattle.mg_bytes.proofs.Computing.{on_examples as byte_examples}
+use Rattle.std.specs.Net.Addr.{ipv4_bits}
 use Rattle.surroundings.specs.Requests.{requests_from}
+use Rattle.surroundings.specs.Speaking.{network_of, networks_from, admitted_in}
 
 unfoldable pub on_examples : ⊤
-unfolding byte_examples requests_from
+unfolding byte_examples requests_from ipv4_bits network_of networks_from admitted_in
 on_examples = tt

@@ -1,6 +1,8 @@
 -- The addresses of the worked examples.
-use Rattle.std.specs.Prelude.{ℕ, List, [], ◌∷◌}
+use Rattle.std.specs.Prelude.{ℕ, Bool, List, [], ◌∷◌, Option, option_map}
+use Rattle.std.specs.declared.net.ipv4_addr.Ipv4Addr.{Ipv4Addr}
 use Rattle.std.specs.declared.net.socket_addr.SocketAddrV4.{SocketAddrV4}
+use Rattle.surroundings.specs.Speaking.{admitted_in, may_speak}
 
 abbrev pub socket_at : List ℕ → ℕ → SocketAddrV4
 socket_at octets port = record { ip = record { octets = octets }; port = port }
@@ -14,3 +16,11 @@ there = 192 ∷ 168 ∷ 1 ∷ 5 ∷ []
 
 abbrev pub everywhere : List ℕ
 everywhere = 0 ∷ 0 ∷ 0 ∷ 0 ∷ []
+
+-- a.b.c.d
+abbrev pub host_at : ℕ → ℕ → ℕ → ℕ → Ipv4Addr
+host_at a b c d = record { octets = a ∷ b ∷ c ∷ d ∷ [] }
+
+-- whether who has this address may speak, as a word says it, if it says anything
+abbrev pub admits : List ℕ → Ipv4Addr → Option Bool
+admits word host = option_map (λ admitted. may_speak admitted host) (admitted_in word)

@@ -2,4 +2,5 @@ pub mod Sending
 pub mod Keeping
 pub mod Requests
 pub mod Typing
+pub mod Speaking
 pub mod Example

@@ -28,7 +28,7 @@ tells_messages word =
 abbrev pub tells_losses : List ℕ → Bool
 tells_losses word =
     bytes_eq word (codes "lost") || bytes_eq word (codes "faults") || bytes_eq word (codes "network")
-    || bytes_eq word (codes "records") || bytes_eq word (codes "calls")
+    || bytes_eq word (codes "strangers") || bytes_eq word (codes "records") || bytes_eq word (codes "calls")
 
 -- a line of an answer begins with this word
 abbrev pub is_answer_word : List ℕ → Bool

@@ -24,6 +24,7 @@ pub fn answers_of_a_gateway_are_known()
     ensures announcements { is_answer (codes "announcements 1 repeated 0") ≡ true }
     ensures lost { is_answer (codes "lost events 0 refused 0") ≡ true }
     ensures faults { is_answer (codes "faults receive 0 send 0") ≡ true }
+    ensures strangers { is_answer (codes "strangers 0 lost commands 0") ≡ true }
     ensures records { is_answer (codes "records dropped 0 write faults 0") ≡ true }
 {}
 

@@ -8,10 +8,13 @@ mod keeping;
 mod lines;
 mod requests;
 mod scripted;
+mod speaking;
+pub mod speaking_examples;
 mod surroundings;
 
 pub use crate::keeping::{SentDatagram, keep};
 pub use crate::lines::Lines;
 pub use crate::requests::is_own;
 pub use crate::scripted::{Answer, Coming, Happening, Scripted};
+pub use crate::speaking::{Network, Speakers};
 pub use crate::surroundings::{Fault, Surroundings, Told};

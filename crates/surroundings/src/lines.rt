@@ -37,6 +37,16 @@ fn is_loopback(sender: Option<SocketAddr>) -> bool
     }
 }
 
+// Whether somebody is at another address.
+fn is_afar(sender: Option<SocketAddr>) -> bool
+    ensures { IsTrue result ↔ IsSomeAnd sender (λ s. MatchIp (socket_ip s) IsLoopbackV4 IsLoopbackV6 → ⊥) }
+{
+    match sender {
+        Some(sender) => !sender.ip().is_loopback(),
+        None => false,
+    }
+}
+
 // The first line of a text.
 #[tactic(auto, using(crate::proofs::TypingLemmas::takes_first))]
 fn first_line(text: &[u8]) -> Option<&[u8]>
@@ -134,6 +144,13 @@ impl Lines {
         ensures { IsTrue result ↔ IsSomeAnd self.now.sender (λ s. MatchIp (socket_ip s) IsLoopbackV4 IsLoopbackV6) }
     {
         is_loopback(self.sender)
+    }
+
+    /// Whether the line came from an address outside of the loopback, and so maybe from another machine; one of nobody's didn't.
+    pub fn is_from_afar(&self) -> bool
+        ensures { IsTrue result ↔ IsSomeAnd self.now.sender (λ s. MatchIp (socket_ip s) IsLoopbackV4 IsLoopbackV6 → ⊥) }
+    {
+        is_afar(self.sender)
     }
 
     /// Whether no line is left.

@@ -39,6 +39,7 @@ fn tells_losses(word: &[u8]) -> bool
     word == b"lost".as_slice()
         || word == b"faults".as_slice()
         || word == b"network".as_slice()
+        || word == b"strangers".as_slice()
         || word == b"records".as_slice()
         || word == b"calls".as_slice()
 }

@@ -1,0 +1,13 @@
+-- How many addresses a network has.
+use Rattle.std.proofs.Common.{ℕ, ◌-◌, ◌^◌, ◌<◌, ◌≤◌, arith}
+use Rattle.std.proofs.Math.Pow.{pow-lt, pow_mono}
+use Rattle.std.proofs.lemmas.Nat.{pow_pos}
+
+pub size_fits : (bits : ℕ) → 2 ^ (32 - bits) < 2 ^ 64
+size_fits bits = pow-lt (omega arith)
+
+pub size_is_some : (bits : ℕ) → 1 ≤ 2 ^ (32 - bits)
+size_is_some bits = pow_pos (32 - bits)
+
+pub size_is_few : (bits : ℕ) → 2 ^ (32 - bits) ≤ 2 ^ 32
+size_is_few bits = pow_mono (omega arith)

@@ -1,0 +1,50 @@
+//! Worked examples of who may speak, as theorems.
+#![tactic(auto, unfolding(crate::proofs::Computing::on_examples))]
+
+ghost use Rattle.std.specs.Prelude.{◌≡◌, codes, true, false, Some, None};
+ghost use Rattle.surroundings.specs.Example.{host_at, admits};
+ghost use Rattle.surroundings.specs.Speaking.{nobody, anybody, with_host, may_speak, admitted_in};
+
+/// An address admits who has it, and a network who has one of its addresses, from the first to the last.
+pub fn networks_have_a_first_and_a_last()
+    ensures itself { admits (codes "10.0.0.7") (host_at 10 0 0 7) ≡ Some true }
+    ensures below { admits (codes "10.0.0.7") (host_at 10 0 0 6) ≡ Some false }
+    ensures above { admits (codes "10.0.0.7") (host_at 10 0 0 8) ≡ Some false }
+    ensures whole { admits (codes "10.0.0.7/32") (host_at 10 0 0 6) ≡ Some false }
+    ensures first { admits (codes "10.1.0.0/16") (host_at 10 1 0 0) ≡ Some true }
+    ensures last { admits (codes "10.1.0.0/16") (host_at 10 1 255 255) ≡ Some true }
+    ensures before { admits (codes "10.1.0.0/16") (host_at 10 0 255 255) ≡ Some false }
+    ensures behind { admits (codes "10.1.0.0/16") (host_at 10 2 0 0) ≡ Some false }
+    ensures within_a_byte { admits (codes "192.168.1.5/30") (host_at 192 168 1 4) ≡ Some true }
+    ensures past_it { admits (codes "192.168.1.5/30") (host_at 192 168 1 8) ≡ Some false }
+    // The bits behind those that count don't matter.
+    ensures other_bits { admits (codes "10.0.0.7/8") (host_at 10 200 0 1) ≡ Some true }
+    ensures all { admits (codes "10.0.0.7/0") (host_at 255 255 255 255) ≡ Some true }
+{}
+
+/// Any of several networks admits; `any` admits all, and nobody is admitted who isn't named.
+pub fn one_of_several_admits()
+    ensures second { admits (codes "10.0.0.7, 10.1.0.0/16") (host_at 10 1 2 3) ≡ Some true }
+    ensures first { admits (codes "10.0.0.7,10.1.0.0/16") (host_at 10 0 0 7) ≡ Some true }
+    ensures neither { admits (codes "10.0.0.7,10.1.0.0/16") (host_at 10 0 0 8) ≡ Some false }
+    ensures any { admits (codes "any") (host_at 10 0 0 8) ≡ Some true }
+    ensures anybody { may_speak anybody (host_at 10 0 0 8) ≡ true }
+    ensures nobody { may_speak nobody (host_at 10 0 0 8) ≡ false }
+    ensures named { may_speak (with_host (with_host nobody (host_at 10 0 0 7)) (host_at 10 0 0 9)) (host_at 10 0 0 9) ≡ true }
+    ensures still { may_speak (with_host (with_host nobody (host_at 10 0 0 7)) (host_at 10 0 0 9)) (host_at 10 0 0 7) ≡ true }
+    ensures not_named { may_speak (with_host nobody (host_at 10 0 0 7)) (host_at 10 0 0 9) ≡ false }
+{}
+
+/// Anything else says nothing of who may speak.
+pub fn other_words_admit_nobody()
+    ensures empty { admitted_in (codes "") ≡ None }
+    ensures no_second { admitted_in (codes "10.0.0.7,") ≡ None }
+    ensures too_many_bits { admitted_in (codes "10.0.0.7/33") ≡ None }
+    ensures no_bits { admitted_in (codes "10.0.0.7/") ≡ None }
+    ensures no_address { admitted_in (codes "/8") ≡ None }
+    ensures a_name { admitted_in (codes "ca.example.net") ≡ None }
+    ensures a_port { admitted_in (codes "10.0.0.7:2727") ≡ None }
+    ensures in_brackets { admitted_in (codes "[10.0.0.7]") ≡ None }
+    ensures other_case { admitted_in (codes "Any") ≡ None }
+    ensures any_among_others { admitted_in (codes "any,10.0.0.7") ≡ None }
+{}
