@@ -137,6 +137,13 @@ impl Table {
         Ok(())
     }
 
+    /// Its hosts, in the order in which they were added.
+    pub fn hosts(&self) -> &[Host]
+        ensures { result.now ≡ self.now }
+    {
+        self.hosts.as_slice()
+    }
+
     /// The addresses of the host with this name (RFC 3435, 2.1.4), in any case; `None` where the table has none.
     pub fn route_to(&self, name: &[u8]) -> Option<Route<Ipv4Addr>>
         ensures { result ≡ route_to self.now name.now }
