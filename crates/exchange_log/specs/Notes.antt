@@ -1,9 +1,12 @@
 -- What is noted beside messages, and of the program itself (this gateway's profile).
-use Rattle.std.specs.Prelude.{ℕ, codes, decimal, List, [], ◌++◌, Option, Some, None}
+use Rattle.std.specs.Prelude.{ℕ, ◌==◌, codes, decimal, if◌then◌else◌, List, [], ◌++◌, Option, Some, None}
+use Rattle.std.specs.Net.Addr.{ipv4_octets}
+use Rattle.std.specs.Net.Text.{ipv4_text}
 use Rattle.mg_bytes.specs.declared.return_code.ReturnCode.{ReturnCode}
 use Rattle.mg_bytes.specs.ReturnCode.{words_of, code_with}
+use Rattle.exchange_log.specs.Grouping.{number_shown}
 use Rattle.exchange_log.specs.declared.note.Note.{Note}
-use Rattle.exchange_log.specs.declared.note.Note.TheVariants.{AnsweredAgain, Unanswered, SentAgain, Refused, Unreadable, TooLong, Unsent, OutOfMemory, Lost, Late, Copied}
+use Rattle.exchange_log.specs.declared.note.Note.TheVariants.{AnsweredAgain, Unanswered, SentAgain, Refused, Unreadable, TooLong, Unsent, OutOfMemory, Lost, Late, Copied, Stranger, Unheard, NoRoom}
 use Rattle.exchange_log.specs.declared.note.Notice.{Notice}
 use Rattle.exchange_log.specs.declared.note.Notice.TheVariants.{Dropped}
 
@@ -11,6 +14,10 @@ use Rattle.exchange_log.specs.declared.note.Notice.TheVariants.{Dropped}
 abbrev pub words_from : Option ReturnCode → List ℕ
 words_from None = []
 words_from (Some code) = codes " " ++ words_of code
+
+-- how many strangers aren't told of, where there are any
+abbrev pub untold_text : ℕ → List ℕ
+untold_text untold = if untold == 0 then [] else codes ", as " ++ decimal untold ++ codes " before it"
 
 -- what a note says
 unfoldable pub note_text : Note → List ℕ
@@ -27,6 +34,9 @@ note_text Lost = codes "lost on its way"
 note_text (Late ms) = codes "late by " ++ decimal ms ++ codes " ms"
 note_text (Copied first second) =
     codes "copied, late by " ++ decimal first ++ codes " and " ++ decimal second ++ codes " ms"
+note_text (Stranger untold) = codes "a stranger's, not heard" ++ untold_text untold
+note_text (Unheard host) = codes "no answer is heard from there, but with --agents " ++ ipv4_text (ipv4_octets host)
+note_text (NoRoom young) = codes "lost: " ++ number_shown young ++ codes " commands are young"
 
 -- what a notice says: lines of the log weren't kept, since what was written before them wasn't taken
 unfoldable pub notice_text : Notice → List ℕ

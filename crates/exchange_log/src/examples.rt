@@ -150,6 +150,11 @@ pub fn notes_say_what_happened()
     ensures lost { note_text notes.Lost ≡ codes "lost on its way" }
     ensures late { note_text (notes.Late 1200) ≡ codes "late by 1200 ms" }
     ensures copied { note_text (notes.Copied 0 1200) ≡ codes "copied, late by 0 and 1200 ms" }
+    ensures stranger { note_text (notes.Stranger 0) ≡ codes "a stranger's, not heard" }
+    ensures strangers { note_text (notes.Stranger 16) ≡ codes "a stranger's, not heard, as 16 before it" }
+    ensures unheard { note_text (notes.Unheard (stamp_at 0).peer.ip)
+        ≡ codes "no answer is heard from there, but with --agents 10.0.0.7" }
+    ensures no_room { note_text (notes.NoRoom 4096) ≡ codes "lost: 4,096 commands are young" }
 {}
 
 /// What is noted of the program itself, of each kind.

@@ -1,11 +1,16 @@
 //! What is noted beside messages.
-ghost use Rattle.std.specs.Prelude.{◌≡◌, ◌++◌, codes, decimal, OnOk};
+ghost use Rattle.std.specs.Prelude.{◌≡◌, ◌++◌, codes, decimal, string_bytes, IfOk, OnOk};
+ghost use Rattle.std.specs.Net.Addr.{ipv4_octets};
+ghost use Rattle.std.specs.Net.Text.{ipv4_text};
 ghost use Rattle.mg_bytes.specs.ReturnCode.{code_with};
-ghost use Rattle.exchange_log.specs.Notes.{words_from, note_text, notice_text};
+ghost use Rattle.exchange_log.specs.Grouping.{number_shown};
+ghost use Rattle.exchange_log.specs.Notes.{words_from, untold_text, note_text, notice_text};
 
+use crate::grouping::put_number;
 use mg_bytes::{OutOfMemory, ReturnCode, put_decimal};
 use mgcp_text::TransactionId;
 use std::alloc::Global;
+use std::net::Ipv4Addr;
 
 /// What is noted of what came or went.
 #[derive(Clone, Copy)]
@@ -32,6 +37,12 @@ pub enum Note {
     Copied { first: u64, second: u64 },
     /// Memory was refused, and nothing was done.
     OutOfMemory,
+    /// What came isn't heard, since who sent it may not speak; of so many others that came before it isn't told.
+    Stranger { untold: u64 },
+    /// What is sent goes to who may not speak, at this address: no answer will be heard.
+    Unheard { host: Ipv4Addr },
+    /// A command is lost: so many others are young, and no more are remembered.
+    NoRoom { young: u64 },
 }
 
 /// What is noted of the program itself.
@@ -102,6 +113,54 @@ fn put_both(
     Ok(())
 }
 
+// How many strangers aren't told of, where there are any.
+fn put_untold(alloc: Global, out: &mut Vec<u8>, untold: u64) -> Result<(), OutOfMemory>
+    ensures { OnOk result (out.new.items ≡ out.old.items ++ untold_text untold) }
+{
+    if untold == 0 {
+        return Ok(());
+    }
+    put_around(alloc, out, b", as ", untold, b" before it")
+}
+
+// What came of a stranger's isn't heard.
+fn put_stranger(alloc: Global, out: &mut Vec<u8>, untold: u64) -> Result<(), OutOfMemory>
+    ensures { OnOk result (out.new.items ≡ out.old.items ++ (codes "a stranger's, not heard" ++ untold_text untold)) }
+{
+    out.extend_from_slice(b"a stranger's, not heard")?;
+    put_untold(alloc, out, untold)
+}
+
+// An address as text.
+fn host_text(alloc: Global, host: Ipv4Addr) -> Result<String, OutOfMemory>
+    ensures { IfOk result (λ text. string_bytes text ≡ ipv4_text (ipv4_octets host)) }
+{
+    let mut text = String::new(alloc);
+    write!(text, "{host}")?;
+    Ok(text)
+}
+
+// What is sent goes to who isn't heard, and by which word that would be.
+fn put_unheard(alloc: Global, out: &mut Vec<u8>, host: Ipv4Addr) -> Result<(), OutOfMemory>
+    ensures { OnOk result (out.new.items
+        ≡ out.old.items ++ (codes "no answer is heard from there, but with --agents " ++ ipv4_text (ipv4_octets host))) }
+{
+    let host = host_text(alloc, host)?;
+    out.extend_from_slice(b"no answer is heard from there, but with --agents ")?;
+    out.extend_from_slice(host.as_bytes())?;
+    Ok(())
+}
+
+// A command is lost, since so many are remembered.
+fn put_no_room(alloc: Global, out: &mut Vec<u8>, young: u64) -> Result<(), OutOfMemory>
+    ensures { OnOk result (out.new.items ≡ out.old.items ++ (codes "lost: " ++ number_shown young ++ codes " commands are young")) }
+{
+    out.extend_from_slice(b"lost: ")?;
+    put_number(alloc, out, young)?;
+    out.extend_from_slice(b" commands are young")?;
+    Ok(())
+}
+
 // The number that an id is.
 fn number_of(id: TransactionId) -> u64
     ensures { result ≡ id }
@@ -156,6 +215,9 @@ pub(crate) fn put_note_text(alloc: Global, out: &mut Vec<u8>, note: Note) -> Res
             )
         }
         Note::OutOfMemory => out.extend_from_slice(b"out of memory, nothing was done"),
+        Note::Stranger { untold } => put_stranger(alloc, out, untold),
+        Note::Unheard { host } => put_unheard(alloc, out, host),
+        Note::NoRoom { young } => put_no_room(alloc, out, young),
     }
 }
 
