@@ -2,7 +2,7 @@
 ghost use Rattle.std.specs.Prelude.{◌≡◌, ◌∷◌, [], List, map, option_map, ◌<◌, ◌≤◌, ◌^◌, Some, IfOk, IfErr, OnOk, OnErr};
 ghost use Rattle.history.specs.Memory.{most_firsts};
 ghost use Rattle.plain_machine.specs.Setup.{IsSetUp, firsts, setup_from, setup_of};
-ghost use Rattle.plain_machine.specs.Machine.{opening};
+ghost use Rattle.plain_machine.specs.Machine.{opening, serves};
 ghost use Rattle.plain_machine.specs.Event.{GatewayEvent, event_of};
 ghost use Rattle.gateway_core.specs.State.{machine_in};
 
@@ -156,6 +156,13 @@ impl Gateway {
         ensures { result ≡ self.now.setup.names.lines }
     {
         self.setup.names.lines
+    }
+
+    /// Whether it serves: its announcement was answered (RFC 3435, 4.4.6).
+    pub fn serves(&self) -> bool
+        ensures { (events : List GatewayEvent) → Stands self.now events → result ≡ serves (plain self.now.setup events).endpoints }
+    {
+        self.state.store.serves()
     }
 
     /// The hook state of a line, from 1 to the number of lines.
