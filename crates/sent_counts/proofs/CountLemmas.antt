@@ -1,5 +1,5 @@
 -- Counts are sums.
-use Rattle.std.proofs.Common.{inl, inr, ◌≡◌, ◌≢◌, ◌⊎◌, ℕ, ◌+◌, ◌<◌, Bool, true, false, cond, List, [], ◌∷◌, ◌++◌, length, length-set, length-append, get_or, map, refl, sym, ◌∙◌, ap, arith}
+use Rattle.std.proofs.Common.{inl, inr, ◌≡◌, ◌≢◌, ◌⊎◌, ℕ, ◌+◌, ◌<◌, Bool, true, false, cond, List, [], ◌∷◌, ◌++◌, length, length-set, get_or, map, refl, sym, ◌∙◌, ap, arith}
 use Rattle.std.specs.Prelude.{◌==◌, slice_set}
 use Rattle.std.specs.List.{fold, count_by}
 use Rattle.std.proofs.lemmas.Bool.Decides.{eqb_tells}
@@ -18,7 +18,7 @@ use Rattle.plain_machine.specs.Lists.{sent_from}
 use Rattle.plain_machine.specs.Machine.{Machine}
 use Rattle.plain_machine.specs.Happening.{effect}
 use Rattle.gateway_core.specs.Wire.{counted}
-use Rattle.sent_counts.specs.Counting.{Tally, one_more_at, place_of, with_what, with_message, with_sent, with_given_up, tally_after, given_up_from, has_verb_at, is_command_at, has_again_at, is_sent_again_at, has_code, is_answer_with, is_again, is_given_again}
+use Rattle.sent_counts.specs.Counting.{Tally, one_more_at, place_of, with_what, with_message, with_sent, is_of_gateway, is_of_line, with_own_given_up, with_line_given_up, with_one_given_up, with_given_up, tally_after, given_up_from, has_verb_at, is_command_at, has_again_at, is_sent_again_at, has_code, is_answer_with, is_again, is_given_again}
 
 counted_on : (n a b : ℕ) → counted (counted n a) b ≡ counted n (a + b)
 counted_on n a b = omega arith
@@ -119,12 +119,31 @@ given_sum t sent = sums (λ t. t.again) (λ t. 1) is_again 0 (λ t w. refl) (λ 
 -- ---- a list of events
 
 -- what is given up counts apart from what is sent
+own_apart : (t : Tally) (w : What) → with_what (with_own_given_up t) w ≡ with_own_given_up (with_what t w)
+own_apart t (Answer code) = refl
+own_apart t (Again code) = refl
+own_apart t (Command verb) = refl
+own_apart t (Resent verb send) = refl
+own_apart t Acknowledgement = refl
+
+line_apart : (t : Tally) (w : What) → with_what (with_line_given_up t) w ≡ with_line_given_up (with_what t w)
+line_apart t (Answer code) = refl
+line_apart t (Again code) = refl
+line_apart t (Command verb) = refl
+line_apart t (Resent verb send) = refl
+line_apart t Acknowledgement = refl
+
+one_apart : (t : Tally) (g : GivenUpCommand) (w : What) → with_what (with_one_given_up t g) w ≡ with_one_given_up (with_what t w) g
+one_apart t g w = by_test (eqb_tells g.line 0) where
+  by_test : (((g.line == 0) ≡ true) × (g.line ≡ 0)) ⊎ (((g.line == 0) ≡ false) × (g.line ≢ 0))
+      → with_what (with_one_given_up t g) w ≡ with_one_given_up (with_what t w) g
+  by_test (inl own) = rw own.0 (own_apart t w)
+  by_test (inr other) = rw other.0 (line_apart t w)
+
 what_apart : (t : Tally) (given_up : List GivenUpCommand) (w : What) → with_what (with_given_up t given_up) w ≡ with_given_up (with_what t w) given_up
-what_apart t given_up (Answer code) = refl
-what_apart t given_up (Again code) = refl
-what_apart t given_up (Command verb) = refl
-what_apart t given_up (Resent verb send) = refl
-what_apart t given_up Acknowledgement = refl
+what_apart t [] w = refl
+what_apart t (g ∷ given_up) w =
+    what_apart (with_one_given_up t g) given_up w ∙ ap (λ (x : Tally). with_given_up x given_up) (one_apart t g w)
 
 sent_apart : (t : Tally) (given_up : List GivenUpCommand) (sent : List SentMessage) → with_sent (with_given_up t given_up) sent ≡ with_given_up (with_sent t sent) given_up
 sent_apart t given_up [] = refl
@@ -132,17 +151,48 @@ sent_apart t given_up (one ∷ sent) =
     ap (λ (x : Tally). with_sent x sent) (what_apart t given_up one.label.what) ∙ sent_apart (with_message t one) given_up sent
 
 given_up_both : (t : Tally) (some more : List GivenUpCommand) → with_given_up (with_given_up t some) more ≡ with_given_up t (some ++ more)
-given_up_both t some more =
-    ap (λ (n : ℕ). let x : Tally = record t { given_up = n } in x)
-    (counted_on t.given_up (length some) (length more) ∙ ap (counted t.given_up) (sym (length-append some more)))
+given_up_both t some more = sym (fold-append with_one_given_up t some more)
 
-nothing_given_up : (t : Tally) → t ≡ with_given_up t []
-nothing_given_up t = ap (λ (n : ℕ). let x : Tally = record t { given_up = n } in x) (counted_none t.given_up)
+-- ---- whose they are
+
+own_more : (t : Tally) (g : GivenUpCommand) → (with_one_given_up t g).given_up_by_gateway ≡ counted t.given_up_by_gateway (cond (is_of_gateway g) 1 0)
+own_more t g = by_test (eqb_tells g.line 0) where
+  by_test : (((g.line == 0) ≡ true) × (g.line ≡ 0)) ⊎ (((g.line == 0) ≡ false) × (g.line ≢ 0))
+      → (with_one_given_up t g).given_up_by_gateway ≡ counted t.given_up_by_gateway (cond (is_of_gateway g) 1 0)
+  by_test (inl own) = rw own.0 refl
+  by_test (inr other) = rw other.0 (counted_none t.given_up_by_gateway)
+
+line_more : (t : Tally) (g : GivenUpCommand) → (with_one_given_up t g).given_up_by_lines ≡ counted t.given_up_by_lines (cond (is_of_line g) 1 0)
+line_more t g = by_test (eqb_tells g.line 0) where
+  by_test : (((g.line == 0) ≡ true) × (g.line ≡ 0)) ⊎ (((g.line == 0) ≡ false) × (g.line ≢ 0))
+      → (with_one_given_up t g).given_up_by_lines ≡ counted t.given_up_by_lines (cond (is_of_line g) 1 0)
+  by_test (inl own) = rw own.0 (counted_none t.given_up_by_lines)
+  by_test (inr other) = rw other.0 refl
+
+pub own_sum : (t : Tally) (given_up : List GivenUpCommand)
+    → (with_given_up t given_up).given_up_by_gateway ≡ counted t.given_up_by_gateway (count_by is_of_gateway given_up)
+own_sum t [] = counted_none t.given_up_by_gateway
+own_sum t (g ∷ given_up) =
+    own_sum (with_one_given_up t g) given_up
+    ∙ ap (λ n. counted n (count_by is_of_gateway given_up)) (own_more t g)
+    ∙ counted_on t.given_up_by_gateway (cond (is_of_gateway g) 1 0) (count_by is_of_gateway given_up)
+    ∙ ap (λ n. counted t.given_up_by_gateway n) (sym (sum_by-cons (λ (x : GivenUpCommand). cond (is_of_gateway x) 1 0) g given_up))
+
+pub line_sum : (t : Tally) (given_up : List GivenUpCommand)
+    → (with_given_up t given_up).given_up_by_lines ≡ counted t.given_up_by_lines (count_by is_of_line given_up)
+line_sum t [] = counted_none t.given_up_by_lines
+line_sum t (g ∷ given_up) =
+    line_sum (with_one_given_up t g) given_up
+    ∙ ap (λ n. counted n (count_by is_of_line given_up)) (line_more t g)
+    ∙ counted_on t.given_up_by_lines (cond (is_of_line g) 1 0) (count_by is_of_line given_up)
+    ∙ ap (λ n. counted t.given_up_by_lines n) (sym (sum_by-cons (λ (x : GivenUpCommand). cond (is_of_line x) 1 0) g given_up))
+
+-- ---- events one after the other
 
 pub list_counts : (setup : Setup) (m : Machine) (t : Tally) (events : List GatewayEvent)
     → tally_after setup m t events ≡ with_given_up (with_sent t (labels_of (sent_from setup m events))) (given_up_from setup m events)
 unfolding tally_after sent_from given_up_from
-list_counts setup m t [] = nothing_given_up t
+list_counts setup m t [] = refl
 list_counts setup m t (event ∷ events) =
     let one : List SentMessage = labels_of (effect setup m event).sent in
     let lost : List GivenUpCommand = given_up_with setup m event in

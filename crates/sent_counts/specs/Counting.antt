@@ -1,5 +1,5 @@
 -- What is counted of what a gateway sends and gives up. A count stays at its greatest value.
-use Rattle.std.specs.Prelude.{ℕ, Bool, true, false, ◌==◌, List, [], ◌∷◌, ◌++◌, length, replicate, slice_set, slice_index_or}
+use Rattle.std.specs.Prelude.{ℕ, Bool, true, false, not, ◌==◌, if◌then◌else◌, List, [], ◌∷◌, ◌++◌, replicate, slice_set, slice_index_or}
 use Rattle.std.specs.List.{fold}
 use Rattle.mgcp_text.specs.declared.message.Verb.{Verb}
 use Rattle.mgcp_text.specs.declared.message.Verb.TheVariants.{Epcf, Rqnt, Ntfy, Crcx, Mdcx, Dlcx, Auep, Aucx, Rsip, Other}
@@ -17,13 +17,14 @@ use Rattle.gateway_core.specs.Wire.{counted}
 use Rattle.sent_counts.specs.declared.sent_counts.SentCounts.{SentCounts}
 
 -- sends of its own commands by verb, and of these the ones that were sent before; responses by return code, and of these the
--- answers that were given before; commands that were given up
+-- answers that were given before; commands that were given up, of the gateway itself and of its lines
 pub record Tally : Type 0 where
   pub commands : List ℕ
   pub commands_again : List ℕ
   pub answers : List ℕ
   pub again : ℕ
-  pub given_up : ℕ
+  pub given_up_by_gateway : ℕ
+  pub given_up_by_lines : ℕ
 
 abbrev pub tally_in : SentCounts → Tally
 tally_in counts = record {
@@ -31,7 +32,8 @@ tally_in counts = record {
   commands_again = counts.commands_again;
   answers = counts.answers.items;
   again = counts.again;
-  given_up = counts.given_up;
+  given_up_by_gateway = counts.given_up_by_gateway;
+  given_up_by_lines = counts.given_up_by_lines;
 }
 
 abbrev pub no_tally : Tally
@@ -40,7 +42,8 @@ no_tally = record {
   commands_again = replicate 10 0;
   answers = replicate 1000 0;
   again = 0;
-  given_up = 0;
+  given_up_by_gateway = 0;
+  given_up_by_lines = 0;
 }
 
 -- one more at this place, if it is one
@@ -82,9 +85,31 @@ with_message tally message = with_what tally message.label.what
 abbrev pub with_sent : Tally → List SentMessage → Tally
 with_sent tally sent = fold with_message tally sent
 
+-- the command is the gateway's own: its line is 0
+abbrev pub is_of_gateway : GivenUpCommand → Bool
+is_of_gateway given_up = given_up.line == 0
+
+abbrev pub is_of_line : GivenUpCommand → Bool
+is_of_line given_up = not (is_of_gateway given_up)
+
+abbrev pub with_own_given_up : Tally → Tally
+with_own_given_up tally = record tally { given_up_by_gateway = counted tally.given_up_by_gateway 1 }
+
+abbrev pub with_line_given_up : Tally → Tally
+with_line_given_up tally = record tally { given_up_by_lines = counted tally.given_up_by_lines 1 }
+
+-- a command was given up
+abbrev pub with_one_given_up : Tally → GivenUpCommand → Tally
+with_one_given_up tally given_up =
+    if is_of_gateway given_up then with_own_given_up tally else with_line_given_up tally
+
 -- these were given up
 abbrev pub with_given_up : Tally → List GivenUpCommand → Tally
-with_given_up tally given_up = record tally { given_up = counted tally.given_up (length given_up) }
+with_given_up tally given_up = fold with_one_given_up tally given_up
+
+-- how many were, whosever they are
+abbrev pub all_given_up : Tally → ℕ
+all_given_up tally = counted tally.given_up_by_gateway tally.given_up_by_lines
 
 -- events came, one after the other
 unfoldable pub tally_after : Setup → Machine → Tally → List GatewayEvent → Tally

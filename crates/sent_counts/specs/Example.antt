@@ -1,6 +1,6 @@
 -- What is counted in the worked examples.
 use Rattle.std.specs.Prelude.{[], ◌∷◌}
-use Rattle.mgcp_text.specs.declared.message.Verb.TheVariants.{Ntfy}
+use Rattle.mgcp_text.specs.declared.message.Verb.TheVariants.{Ntfy, Rsip}
 use Rattle.plain_machine.specs.declared.given_up.GivenUpCommand.{GivenUpCommand}
 use Rattle.plain_machine.specs.declared.label.SentMessage.{SentMessage}
 use Rattle.plain_machine.specs.declared.label.What.{What}
@@ -19,3 +19,7 @@ counted_once what = with_sent no_tally (said what ∷ [])
 -- a notification of line 1 that was given up
 abbrev pub lost : GivenUpCommand
 lost = record { line = 1; id = 10000000; verb = Ntfy; moment = 24500 }
+
+-- an announcement of the gateway itself that was
+abbrev pub announcement : GivenUpCommand
+announcement = record { line = 0; id = 1; verb = Rsip; moment = 24500 }

@@ -5,8 +5,8 @@ ghost use Rattle.std.specs.Prelude.{◌≡◌, ◌-◌, ◌^◌, [], ◌∷◌, 
 ghost use Rattle.mgcp_text.specs.declared.message.Verb.TheVariants as verbs;
 ghost use Rattle.plain_machine.specs.declared.label.Whose.TheVariants.{AnswerOf, OwnOf, Nobody};
 ghost use Rattle.plain_machine.specs.declared.label.What.TheVariants as whats;
-ghost use Rattle.sent_counts.specs.Counting.{no_tally, place_of, with_sent, with_given_up};
-ghost use Rattle.sent_counts.specs.Example.{said, lost, counted_once};
+ghost use Rattle.sent_counts.specs.Counting.{no_tally, place_of, with_sent, with_given_up, all_given_up};
+ghost use Rattle.sent_counts.specs.Example.{said, lost, announcement, counted_once};
 
 /// An answer counts with its return code, and one that is given again in both counts; an acknowledgement counts as 000.
 pub fn answers_are_counted_by_code()
@@ -32,8 +32,12 @@ pub fn own_commands_are_counted_by_verb()
     ensures again { (counted_once (whats.Resent verbs.Rsip 2)).commands_again ≡ 0 ∷ 0 ∷ 0 ∷ 0 ∷ 0 ∷ 0 ∷ 0 ∷ 0 ∷ 1 ∷ 0 ∷ [] }
 {}
 
-/// What is given up is counted, and a count stays at its greatest value.
+/// What is given up is counted by whose it was, and a count stays at its greatest value.
 pub fn what_is_given_up_is_counted()
-    ensures two { (with_given_up no_tally (lost ∷ lost ∷ [])).given_up ≡ 2 }
-    ensures most { (with_given_up (record no_tally { given_up = 2 ^ 64 - 1 }) (lost ∷ [])).given_up ≡ 2 ^ 64 - 1 }
+    ensures two { (with_given_up no_tally (lost ∷ lost ∷ [])).given_up_by_lines ≡ 2 }
+    ensures of_lines { (with_given_up no_tally (lost ∷ lost ∷ [])).given_up_by_gateway ≡ 0 }
+    ensures of_the_gateway { (with_given_up no_tally (lost ∷ announcement ∷ [])).given_up_by_gateway ≡ 1 }
+    ensures not_of_lines { (with_given_up no_tally (announcement ∷ [])).given_up_by_lines ≡ 0 }
+    ensures all { all_given_up (with_given_up no_tally (lost ∷ announcement ∷ lost ∷ [])) ≡ 3 }
+    ensures most { (with_given_up (record no_tally { given_up_by_lines = 2 ^ 64 - 1 }) (lost ∷ [])).given_up_by_lines ≡ 2 ^ 64 - 1 }
 {}

@@ -8,7 +8,7 @@ ghost use Rattle.plain_machine.specs.Labelling.{labels_of};
 ghost use Rattle.plain_machine.specs.Lists.{sent_from};
 ghost use Rattle.plain_machine.specs.Machine.{Machine};
 ghost use Rattle.gateway_core.specs.Wire.{counted};
-ghost use Rattle.sent_counts.specs.Counting.{Tally, with_sent, with_given_up, tally_after, given_up_from, is_command_at, is_sent_again_at, is_answer_with, is_given_again};
+ghost use Rattle.sent_counts.specs.Counting.{Tally, with_sent, with_given_up, tally_after, given_up_from, is_command_at, is_sent_again_at, is_answer_with, is_given_again, is_of_gateway, is_of_line};
 
 /// Each count is the sum of what it was and of the messages that it is the count of, up to 18,446,744,073,709,551,615.
 pub fn counts_are_sums()
@@ -23,8 +23,11 @@ pub fn counts_are_sums()
         ≡ counted (slice_index_or tally.answers code 0) (count_by (is_answer_with code) sent) }
     ensures again { (tally : Tally) (sent : List SentMessage) →
         (with_sent tally sent).again ≡ counted tally.again (count_by is_given_again sent) }
-    ensures given_up { (tally : Tally) (given_up : List GivenUpCommand) →
-        (with_given_up tally given_up).given_up ≡ counted tally.given_up (length given_up) }
+    ensures given_up_by_gateway { (tally : Tally) (given_up : List GivenUpCommand) →
+        (with_given_up tally given_up).given_up_by_gateway
+        ≡ counted tally.given_up_by_gateway (count_by is_of_gateway given_up) }
+    ensures given_up_by_lines { (tally : Tally) (given_up : List GivenUpCommand) →
+        (with_given_up tally given_up).given_up_by_lines ≡ counted tally.given_up_by_lines (count_by is_of_line given_up) }
 {}
 
 /// The counts after a list of events are those of all that its events sent, and of all that was given up at them.

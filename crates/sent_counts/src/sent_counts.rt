@@ -1,7 +1,7 @@
 //! Counts what is sent and given up. A count stays at its greatest value, 18,446,744,073,709,551,615.
 ghost use Rattle.std.specs.Prelude.{◌≡◌, ◌<◌, IfOk};
 ghost use Rattle.gateway_core.specs.Wire.{counted};
-ghost use Rattle.sent_counts.specs.Counting.{tally_in, no_tally, place_of, with_answer, with_what, with_sent, with_given_up};
+ghost use Rattle.sent_counts.specs.Counting.{tally_in, no_tally, place_of, with_answer, with_what, with_sent, with_one_given_up, with_given_up, all_given_up};
 
 use gateway_core::{GivenUpCommand, SentMessage, What};
 use mgcp_text::Verb;
@@ -21,8 +21,9 @@ pub struct SentCounts {
     pub answers: Vec<u64>,
     /// Of these, the answers that were sent before.
     pub again: u64,
-    /// Commands of its own that were given up.
-    pub given_up: u64,
+    /// Commands of its own that were given up: those of the gateway itself, and those of its lines.
+    pub given_up_by_gateway: u64,
+    pub given_up_by_lines: u64,
 }
 
 // One more.
@@ -61,7 +62,8 @@ impl SentCounts {
             commands_again: [0; 10],
             answers: vec![in alloc; 0; RETURN_CODES]?,
             again: 0,
-            given_up: 0,
+            given_up_by_gateway: 0,
+            given_up_by_lines: 0,
         })
     }
 
@@ -102,10 +104,31 @@ impl SentCounts {
         }
     }
 
+    // A command was given up.
+    fn give_up_one(&mut self, given_up: GivenUpCommand)
+        ensures { tally_in self.new ≡ with_one_given_up (tally_in self.old) given_up }
+    {
+        if given_up.line == 0 {
+            count(&mut self.given_up_by_gateway);
+        } else {
+            count(&mut self.given_up_by_lines);
+        }
+    }
+
     /// These commands were given up.
     pub fn give_up(&mut self, given_up: &[GivenUpCommand])
         ensures { tally_in self.new ≡ with_given_up (tally_in self.old) given_up.now }
     {
-        self.given_up = self.given_up.saturating_add(given_up.len() as u64);
+        for command in given_up {
+            self.give_up_one(*command);
+        }
+    }
+
+    /// How many commands of its own were given up, whosever they were.
+    pub fn given_up(&self) -> u64
+        ensures { result ≡ all_given_up (tally_in self.now) }
+    {
+        self.given_up_by_gateway
+            .saturating_add(self.given_up_by_lines)
     }
 }

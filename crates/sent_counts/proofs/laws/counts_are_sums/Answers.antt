@@ -1,4 +1,4 @@
-use Rattle.sent_counts.proofs.CountLemmas.{commands_sum, again_sum, answers_sum, given_sum}
+use Rattle.sent_counts.proofs.CountLemmas.{commands_sum, again_sum, answers_sum, given_sum, own_sum, line_sum}
 use Rattle.sent_counts.proofs.laws.counts_are_sums.Goals as goal
 
 pub returns-clause-commands : goal.returns-clause-commands
@@ -12,3 +12,9 @@ returns-clause-answers c = answers_sum
 
 pub returns-clause-again : goal.returns-clause-again
 returns-clause-again c = given_sum
+
+pub returns-clause-given_up_by_gateway : goal.returns-clause-given_up_by_gateway
+returns-clause-given_up_by_gateway c = own_sum
+
+pub returns-clause-given_up_by_lines : goal.returns-clause-given_up_by_lines
+returns-clause-given_up_by_lines c = line_sum
