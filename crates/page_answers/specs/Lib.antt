@@ -5,6 +5,7 @@ pub mod Metrics
 pub mod Samples
 pub mod Acting
 pub mod Showing
+pub mod Health
 pub mod Outcomes
 pub mod Texts
 pub mod Telling

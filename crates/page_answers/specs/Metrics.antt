@@ -1,5 +1,5 @@
 -- Prometheus' text format, version 0.0.4: what is told of a metric, and each of its samples.
-use Rattle.std.specs.Prelude.{ℕ, ◌==◌, nat_lt, codes, decimal, if◌then◌else◌, List, [], ◌∷◌, ◌++◌, length}
+use Rattle.std.specs.Prelude.{ℕ, Bool, true, false, ◌==◌, nat_lt, codes, decimal, if◌then◌else◌, List, [], ◌∷◌, ◌++◌, length, slice_index}
 use Rattle.std.specs.List.{flat_map}
 use Rattle.page_answers.specs.declared.counts.VerbCount.{VerbCount}
 use Rattle.page_answers.specs.declared.counts.CodeCount.{CodeCount}
@@ -105,13 +105,25 @@ abbrev pub traffic_text : Counts → List ℕ
 traffic_text counts =
     datagrams_text counts ++ commands_head ++ verb_samples counts.commands.items ++ answers_head ++ code_samples counts.answers.items
 
--- what the gateway sent of its own
 unfoldable pub own_counters : Counts → List ℕ
 own_counters counts =
     singles
     (counter (codes "rgw_notifications_total") (codes "Notifications that were sent.") counts.notifications
-    ∷ counter (codes "rgw_announcements_total") (codes "Announcements that were sent.") counts.announcements
-    ∷ counter (codes "rgw_given_up_total") (codes "Commands of its own that nobody answered.") counts.given_up ∷ [])
+    ∷ counter (codes "rgw_announcements_total") (codes "Announcements that were sent.") counts.announcements ∷ [])
+
+-- what nobody answered, by whose it is
+unfoldable pub given_up_text : Counts → List ℕ
+given_up_text counts =
+    family (codes "rgw_given_up_total") (codes "counter") (codes "Commands of its own that nobody answered, by whose they are.")
+    (codes "owner") ((codes "gateway", counts.given_up_by_gateway) ∷ (codes "line", counts.given_up_by_lines) ∷ [])
+
+-- which address of several is sent to
+unfoldable pub sends_text : Counts → List ℕ
+sends_text counts =
+    family (codes "rgw_sends_total") (codes "counter")
+    (codes "Sends of commands of its own, by which of its agent's addresses they go to.") (codes "place")
+    ((codes "1", slice_index counts.sends 0) ∷ (codes "2", slice_index counts.sends 1) ∷ (codes "3", slice_index counts.sends 2)
+    ∷ (codes "4", slice_index counts.sends 3) ∷ (codes "other", slice_index counts.sends 4) ∷ [])
 
 unfoldable pub repeats_text : Counts → List ℕ
 repeats_text counts =
@@ -119,13 +131,20 @@ repeats_text counts =
     ((codes "answer", counts.answers_again) ∷ (codes "notification", counts.notifications_again)
     ∷ (codes "announcement", counts.announcements_again) ∷ [])
 
+-- what the gateway sent of its own
+abbrev pub sent_text : Counts → List ℕ
+sent_text counts = own_counters counts ++ given_up_text counts ++ sends_text counts ++ repeats_text counts
+
 -- what came and led to nothing
 unfoldable pub useless_counters : Counts → List ℕ
 useless_counters counts =
     singles
     (counter (codes "rgw_responses_total") (codes "Responses that came.") counts.responses
     ∷ counter (codes "rgw_unreadable_total") (codes "Texts that came and are no message.") counts.unreadable
-    ∷ counter (codes "rgw_refused_total") (codes "Inputs that the gateway refused.") counts.refused ∷ [])
+    ∷ counter (codes "rgw_refused_total") (codes "Inputs that the gateway refused.") counts.refused
+    ∷ counter (codes "rgw_strangers_total") (codes "Datagrams of who may not speak.") counts.strangers
+    ∷ counter (codes "rgw_lost_commands_total") (codes "Commands that found no room among those that are remembered.")
+    counts.lost_commands ∷ [])
 
 unfoldable pub faults_text : Counts → List ℕ
 faults_text counts =
@@ -143,11 +162,17 @@ write_faults_head = family_head (codes "rgw_write_faults_total") (codes "counter
 abbrev pub records_text : Counts → List ℕ
 records_text counts = dropped_text counts ++ write_faults_head ++ file_samples counts.write_faults.items
 
--- what there is now: so many lines, what these have together, and so many transactions
-unfoldable pub gauges_text : ℕ → Totals → ℕ → List ℕ
-gauges_text lines totals transactions =
+-- 1 if it is so
+abbrev pub number_if : Bool → ℕ
+number_if true = 1
+number_if false = 0
+
+-- what there is now: so many lines, what these have together, so many transactions, and whether the gateway serves
+unfoldable pub gauges_text : ℕ → Totals → ℕ → Bool → List ℕ
+gauges_text lines totals transactions is_serving =
     singles
     (counter (codes "rgw_lost_events_total") (codes "Events that found no room on their line.") totals.lost
+    ∷ gauge (codes "rgw_serving") (codes "Whether the gateway serves: its announcement was answered.") (number_if is_serving)
     ∷ gauge (codes "rgw_lines") (codes "Lines of the gateway.") lines
     ∷ gauge (codes "rgw_lines_off_hook") (codes "Lines that are off hook.") totals.off_hook
     ∷ gauge (codes "rgw_connections") (codes "Connections of all lines.") totals.connections
@@ -156,6 +181,6 @@ gauges_text lines totals transactions =
 -- all metrics
 abbrev pub metrics_of : Picture → List ℕ
 metrics_of picture =
-    traffic_text picture.counts ++ own_counters picture.counts ++ repeats_text picture.counts
-    ++ useless_counters picture.counts ++ faults_text picture.counts ++ records_text picture.counts
-    ++ gauges_text (length picture.lines.items) (totals_of picture.lines.items) picture.counts.transactions
+    traffic_text picture.counts ++ sent_text picture.counts ++ useless_counters picture.counts
+    ++ faults_text picture.counts ++ records_text picture.counts
+    ++ gauges_text (length picture.lines.items) (totals_of picture.lines.items) picture.counts.transactions picture.is_serving

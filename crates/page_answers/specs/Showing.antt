@@ -5,6 +5,7 @@ use Rattle.page_answers.specs.declared.picture.SignalView.{SignalView}
 use Rattle.page_answers.specs.declared.picture.ConnectionView.{ConnectionView}
 use Rattle.page_answers.specs.declared.picture.LineView.{LineView}
 use Rattle.page_answers.specs.declared.picture.Picture.{Picture}
+use Rattle.page_answers.specs.declared.counts.TheConstants.{PLACES}
 use Rattle.page_answers.specs.declared.counts.Counts.{Counts}
 use Rattle.page_answers.specs.Keeping.{RingState}
 
@@ -47,13 +48,14 @@ lines_of picture = map line_shown picture.lines.items
 abbrev pub numbers_of : Counts → List ℕ
 numbers_of c =
     c.datagrams_in ∷ c.datagrams_out ∷ c.responses ∷ c.unreadable ∷ c.answers_again ∷ c.notifications ∷ c.notifications_again
-    ∷ c.announcements ∷ c.announcements_again ∷ c.given_up ∷ c.refused ∷ c.receive_faults ∷ c.send_faults ∷ c.dropped_lines
-    ∷ c.transactions ∷ []
+    ∷ c.announcements ∷ c.announcements_again ∷ c.given_up_by_gateway ∷ c.given_up_by_lines ∷ c.refused ∷ c.strangers ∷ c.lost_commands
+    ∷ c.receive_faults ∷ c.send_faults ∷ c.dropped_lines ∷ c.transactions ∷ []
 
 -- nothing was counted
 abbrev pub IsNothingCounted : Counts → Type 0
 IsNothingCounted counts =
-    (numbers_of counts ≡ replicate 15 0) × (counts.commands.items ≡ []) × (counts.answers.items ≡ []) × (counts.write_faults.items ≡ [])
+    (numbers_of counts ≡ replicate 18 0) × (counts.sends ≡ replicate PLACES 0) × (counts.commands.items ≡ []) × (counts.answers.items ≡ [])
+    × (counts.write_faults.items ≡ [])
 
 -- the picture that is shown, the number that its lines have, what happened lately, and the acts that wait, from the oldest
 pub record BoardState : Type 0 where

@@ -12,6 +12,7 @@ use Rattle.page_answers.specs.declared.picture.SignalView.{SignalView}
 use Rattle.page_answers.specs.declared.picture.ConnectionView.{ConnectionView}
 use Rattle.page_answers.specs.declared.picture.LineView.{LineView}
 use Rattle.page_answers.specs.declared.picture.Picture.{Picture}
+use Rattle.page_answers.specs.Keeping.{sum_within}
 use Rattle.page_answers.specs.Metrics.{code_text}
 use Rattle.page_answers.specs.Totals.{totals_of}
 use Rattle.page_answers.specs.Verbs.{verb_word}
@@ -74,12 +75,16 @@ with_code members count = put_number (utf8_lossy (code_text count.code)) count.n
 abbrev pub with_number : Members → Bor (List ℕ) × ℕ → Members
 with_number members named = put_number named.0.now named.1 members
 
+-- how many commands of its own nobody answered, whosever they were
+abbrev pub given_up_in : Counts → ℕ
+given_up_in counts = sum_within counts.given_up_by_gateway counts.given_up_by_lines
+
 -- what was counted as one number each
 abbrev pub put_counted : Counts → Members → Members
 put_counted counts members =
     put_number (codes "transactions") counts.transactions (put_number (codes "send_faults") counts.send_faults
     (put_number (codes "receive_faults") counts.receive_faults (put_number (codes "refused") counts.refused
-    (put_number (codes "given_up") counts.given_up (put_number (codes "announcements_again") counts.announcements_again
+    (put_number (codes "given_up") (given_up_in counts) (put_number (codes "announcements_again") counts.announcements_again
     (put_number (codes "announcements") counts.announcements (put_number (codes "notifications_again") counts.notifications_again
     (put_number (codes "notifications") counts.notifications (put_number (codes "answers_again") counts.answers_again
     (put_number (codes "unreadable") counts.unreadable (put_number (codes "responses") counts.responses

@@ -1,9 +1,10 @@
 //! The board: what the page is shown, and what it asks to be done.
-ghost use Rattle.std.specs.Prelude.{◌≡◌, ◌≢◌, ◌≤◌, [], length, drop, IfOk, OnOk, OnErr, slice_get, string_bytes};
+ghost use Rattle.std.specs.Prelude.{◌≡◌, ◌≢◌, ◌≤◌, [], false, length, drop, IfOk, OnOk, OnErr, slice_get, string_bytes};
 ghost use Rattle.page_answers.specs.Texts.{TellsState};
 ghost use Rattle.page_answers.specs.Telling.{events_text as text_of_events};
 ghost use Rattle.page_answers.specs.Keeping.{next_number, nothing_yet, noted, counted};
 ghost use Rattle.page_answers.specs.Showing.{IsNothingCounted, lines_of};
+ghost use Rattle.page_answers.specs.Health.{is_alive};
 ghost use Rattle.page_answers.specs.Metrics.{metrics_of};
 ghost use Rattle.page_answers.specs.Outcomes.{Becomes, queued_behind};
 ghost use Rattle.page_answers.specs.declared.board.ActOutcome.TheVariants.{Queued, Unreadable};
@@ -22,6 +23,9 @@ use std::net::SocketAddrV4;
 
 /// So many acts wait at most.
 pub const MOST_ACTS: usize = 32;
+
+// The clock may be behind the machine's by so much, in ms, where the loop has turned within the last second.
+const LONGEST_BEHIND: u64 = 1000;
 
 /// What becomes of what a body asks for.
 #[derive(Clone, Copy)]
@@ -75,6 +79,8 @@ impl Board {
     pub fn new(alloc: Global) -> Board
         ensures lines { lines_of result.picture ≡ [] }
         ensures clock { result.picture.clock ≡ 0 }
+        ensures behind { result.picture.behind ≡ 0 }
+        ensures serving { result.picture.is_serving ≡ false }
         ensures first { result.picture.first ≡ 0 }
         ensures counts { IsNothingCounted result.picture.counts }
         ensures version { result.version ≡ 0 }
@@ -125,6 +131,20 @@ impl Board {
         ensures left { self.new ≡ record self.old { acts = drop 1 self.old.acts } }
     {
         self.acts.pop_front()
+    }
+
+    /// Whether the loop has turned within the last second, as far as the clock that is shown tells.
+    pub fn is_alive(&self) -> bool
+        ensures { result ≡ is_alive self.now.picture.behind }
+    {
+        self.picture.behind <= LONGEST_BEHIND
+    }
+
+    /// Whether the gateway serves (RFC 3435, 4.4.6).
+    pub fn is_serving(&self) -> bool
+        ensures { result ≡ self.now.picture.is_serving }
+    {
+        self.picture.is_serving
     }
 
     /// What the gateway is, as JSON.

@@ -24,6 +24,9 @@ pub struct FileCount {
     pub number: u64,
 }
 
+/// So many places sends are counted by: those of an agent's addresses, and one for all others.
+pub const PLACES: usize = 5;
+
 /// What was counted since the start, and how much is held now.
 #[derive(Drop)]
 pub struct Counts {
@@ -43,10 +46,17 @@ pub struct Counts {
     pub notifications_again: u64,
     pub announcements: u64,
     pub announcements_again: u64,
-    /// Commands of its own that nobody answered.
-    pub given_up: u64,
+    /// Commands of its own that nobody answered: those of the gateway itself, and those of its lines.
+    pub given_up_by_gateway: u64,
+    pub given_up_by_lines: u64,
+    /// Sends of commands of its own, by the place of their receiver among the addresses of its agent; the last are those to others.
+    pub sends: [u64; PLACES],
     /// Inputs that the gateway refused.
     pub refused: u64,
+    /// Datagrams of who may not speak.
+    pub strangers: u64,
+    /// Commands that found no room among those that are remembered.
+    pub lost_commands: u64,
     pub receive_faults: u64,
     pub send_faults: u64,
     /// Lines of the log that found no room.

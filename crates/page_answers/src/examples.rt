@@ -11,7 +11,8 @@ ghost use Rattle.page_answers.specs.Texts.{put_shown, state_data};
 ghost use Rattle.page_answers.specs.Telling.{kind_word, event_data, told_after, next_after, has_more, first_number, events_text};
 ghost use Rattle.page_answers.specs.declared.ring.Kind.TheVariants.{Received, Sent, Act, Told};
 ghost use Rattle.page_answers.specs.Verbs.{verb_word};
-ghost use Rattle.page_answers.specs.Metrics.{escaped, labelled_sample, code_text, single};
+ghost use Rattle.page_answers.specs.Metrics.{escaped, labelled_sample, code_text, single, number_if};
+ghost use Rattle.page_answers.specs.Health.{is_alive};
 ghost use Rattle.page_answers.specs.declared.act.PhoneAct.TheVariants.{Off, On, Flash, Key};
 
 /// The oldest gives way where no more are kept.
@@ -72,6 +73,15 @@ pub fn samples_are_lines()
     ensures quote { escaped (codes "a\"b") ≡ codes "a\\\"b" }
     ensures backslash { escaped (codes "a\\b") ≡ codes "a\\\\b" }
     ensures line_end { escaped (codes "a\nb") ≡ codes "a\\nb" }
+{}
+
+/// A gateway is well whose clock is behind by a second at most; whether it serves is told by a number.
+pub fn who_is_behind_isnt_well()
+    ensures just { is_alive 1000 ≡ true }
+    ensures behind { is_alive 1001 ≡ false }
+    ensures at_once { is_alive 0 ≡ true }
+    ensures serving { number_if true ≡ 1 }
+    ensures not_serving { number_if false ≡ 0 }
 {}
 
 /// Verbs have their places.

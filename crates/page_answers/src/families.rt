@@ -48,8 +48,15 @@ pub(crate) const ANNOUNCEMENTS: Metric = Metric {
 pub(crate) const GIVEN_UP: Metric = Metric {
     name: b"rgw_given_up_total",
     kind: b"counter",
-    help: b"Commands of its own that nobody answered.",
-    label: b"",
+    help: b"Commands of its own that nobody answered, by whose they are.",
+    label: b"owner",
+};
+
+pub(crate) const SENDS: Metric = Metric {
+    name: b"rgw_sends_total",
+    kind: b"counter",
+    help: b"Sends of commands of its own, by which of its agent's addresses they go to.",
+    label: b"place",
 };
 
 pub(crate) const REPEATS: Metric = Metric {
@@ -80,6 +87,20 @@ pub(crate) const REFUSED: Metric = Metric {
     label: b"",
 };
 
+pub(crate) const STRANGERS: Metric = Metric {
+    name: b"rgw_strangers_total",
+    kind: b"counter",
+    help: b"Datagrams of who may not speak.",
+    label: b"",
+};
+
+pub(crate) const LOST_COMMANDS: Metric = Metric {
+    name: b"rgw_lost_commands_total",
+    kind: b"counter",
+    help: b"Commands that found no room among those that are remembered.",
+    label: b"",
+};
+
 pub(crate) const FAULTS: Metric = Metric {
     name: b"rgw_faults_total",
     kind: b"counter",
@@ -105,6 +126,13 @@ pub(crate) const LOST_EVENTS: Metric = Metric {
     name: b"rgw_lost_events_total",
     kind: b"counter",
     help: b"Events that found no room on their line.",
+    label: b"",
+};
+
+pub(crate) const SERVING: Metric = Metric {
+    name: b"rgw_serving",
+    kind: b"gauge",
+    help: b"Whether the gateway serves: its announcement was answered.",
     label: b"",
 };
 

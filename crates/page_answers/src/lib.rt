@@ -21,7 +21,7 @@ mod telling;
 pub use crate::act::{PhoneAct, QueuedAct};
 pub use crate::acting::read_act;
 pub use crate::board::{ActOutcome, Board, MOST_ACTS};
-pub use crate::counts::{CodeCount, Counts, FileCount, VerbCount};
+pub use crate::counts::{CodeCount, Counts, FileCount, PLACES, VerbCount};
 pub use crate::metrics::metrics_text;
 pub use crate::picture::{ConnectionView, LineView, Picture, SignalView};
 pub use crate::ring::{Happening, Kind, Ring};

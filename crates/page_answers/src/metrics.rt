@@ -1,14 +1,14 @@
 //! What was counted, in Prometheus' text format.
 ghost use Rattle.std.specs.Prelude.{◌≡◌, ◌++◌, OnOk, IfOk};
 ghost use Rattle.std.specs.List.{flat_map};
-ghost use Rattle.page_answers.specs.Metrics.{escaped_byte, escaped, help_line, type_line, family_head, plain_sample, label_begun, label_ended, labelled_sample, code_text, verb_sample, verb_samples, code_sample, code_samples, file_sample, file_samples, single, datagrams_text, commands_head, answers_head, traffic_text, own_counters, repeats_text, useless_counters, faults_text, dropped_text, write_faults_head, records_text, gauges_text, metrics_of};
+ghost use Rattle.page_answers.specs.Metrics.{escaped_byte, escaped, help_line, type_line, family_head, plain_sample, label_begun, label_ended, labelled_sample, code_text, verb_sample, verb_samples, code_sample, code_samples, file_sample, file_samples, single, datagrams_text, commands_head, answers_head, traffic_text, own_counters, given_up_text, sends_text, sent_text, repeats_text, useless_counters, faults_text, dropped_text, write_faults_head, records_text, number_if, gauges_text, metrics_of};
 ghost use Rattle.page_answers.specs.Samples.{single_of, family_of};
 
-use crate::counts::{CodeCount, Counts, FileCount, VerbCount, verb_word};
+use crate::counts::{CodeCount, Counts, FileCount, PLACES, VerbCount, verb_word};
 use crate::families::{
     ANNOUNCEMENTS, ANSWERS, COMMANDS, CONNECTIONS, DATAGRAMS, DROPPED_LINES, FAULTS, GIVEN_UP,
-    LINES, LINES_OFF_HOOK, LOST_EVENTS, Metric, NOTIFICATIONS, REFUSED, REPEATS, RESPONSES,
-    TRANSACTIONS, UNREADABLE, WRITE_FAULTS,
+    LINES, LINES_OFF_HOOK, LOST_COMMANDS, LOST_EVENTS, Metric, NOTIFICATIONS, REFUSED, REPEATS,
+    RESPONSES, SENDS, SERVING, STRANGERS, TRANSACTIONS, UNREADABLE, WRITE_FAULTS,
 };
 use crate::picture::{Picture, Totals};
 use mg_bytes::{OutOfMemory, put_decimal};
@@ -265,9 +265,43 @@ fn put_own_counters(alloc: Global, out: &mut Vec<u8>, counts: &Counts) -> Result
     let singles = [
         (NOTIFICATIONS, counts.notifications),
         (ANNOUNCEMENTS, counts.announcements),
-        (GIVEN_UP, counts.given_up),
     ];
     put_singles(alloc, out, &singles)
+}
+
+#[tactic(auto, unfolding(crate::specs::Metrics::given_up_text))]
+fn put_given_up(alloc: Global, out: &mut Vec<u8>, counts: &Counts) -> Result<(), OutOfMemory>
+    ensures { OnOk result (out.new.items ≡ out.old.items ++ given_up_text counts.now) }
+{
+    let owners: [(&[u8], u64); 2] = [
+        (b"gateway", counts.given_up_by_gateway),
+        (b"line", counts.given_up_by_lines),
+    ];
+    put_family(alloc, out, GIVEN_UP, &owners)
+}
+
+#[tactic(auto, unfolding(crate::specs::Metrics::sends_text))]
+fn put_sends(alloc: Global, out: &mut Vec<u8>, counts: &Counts) -> Result<(), OutOfMemory>
+    ensures { OnOk result (out.new.items ≡ out.old.items ++ sends_text counts.now) }
+{
+    let places: [(&[u8], u64); PLACES] = [
+        (b"1", counts.sends[0]),
+        (b"2", counts.sends[1]),
+        (b"3", counts.sends[2]),
+        (b"4", counts.sends[3]),
+        (b"other", counts.sends[4]),
+    ];
+    put_family(alloc, out, SENDS, &places)
+}
+
+// What the gateway sent of its own.
+fn put_sent(alloc: Global, out: &mut Vec<u8>, counts: &Counts) -> Result<(), OutOfMemory>
+    ensures { OnOk result (out.new.items ≡ out.old.items ++ sent_text counts.now) }
+{
+    put_own_counters(alloc, out, counts)?;
+    put_given_up(alloc, out, counts)?;
+    put_sends(alloc, out, counts)?;
+    put_repeats(alloc, out, counts)
 }
 
 #[tactic(auto, unfolding(crate::specs::Metrics::repeats_text))]
@@ -294,6 +328,8 @@ fn put_useless_counters(
         (RESPONSES, counts.responses),
         (UNREADABLE, counts.unreadable),
         (REFUSED, counts.refused),
+        (STRANGERS, counts.strangers),
+        (LOST_COMMANDS, counts.lost_commands),
     ];
     put_singles(alloc, out, &singles)
 }
@@ -332,6 +368,13 @@ fn put_records(alloc: Global, out: &mut Vec<u8>, counts: &Counts) -> Result<(), 
     put_files(alloc, out, counts.write_faults.as_slice())
 }
 
+// 1 if it is so.
+fn number_if(is_so: bool) -> u64
+    ensures { result ≡ number_if is_so }
+{
+    if is_so { 1 } else { 0 }
+}
+
 #[tactic(auto, unfolding(crate::specs::Metrics::gauges_text))]
 fn put_gauges(
     alloc: Global,
@@ -339,11 +382,13 @@ fn put_gauges(
     lines: u64,
     totals: Totals,
     transactions: u64,
+    is_serving: bool,
 ) -> Result<(), OutOfMemory>
-    ensures { OnOk result (out.new.items ≡ out.old.items ++ gauges_text lines totals transactions) }
+    ensures { OnOk result (out.new.items ≡ out.old.items ++ gauges_text lines totals transactions is_serving) }
 {
     let singles = [
         (LOST_EVENTS, totals.lost),
+        (SERVING, number_if(is_serving)),
         (LINES, lines),
         (LINES_OFF_HOOK, totals.off_hook),
         (CONNECTIONS, totals.connections),
@@ -358,8 +403,7 @@ pub fn metrics_text(alloc: Global, picture: &Picture) -> Result<Vec<u8>, OutOfMe
 {
     let mut out = Vec::new(alloc);
     put_traffic(alloc, &mut out, &picture.counts)?;
-    put_own_counters(alloc, &mut out, &picture.counts)?;
-    put_repeats(alloc, &mut out, &picture.counts)?;
+    put_sent(alloc, &mut out, &picture.counts)?;
     put_useless_counters(alloc, &mut out, &picture.counts)?;
     put_faults(alloc, &mut out, &picture.counts)?;
     put_records(alloc, &mut out, &picture.counts)?;
@@ -370,6 +414,7 @@ pub fn metrics_text(alloc: Global, picture: &Picture) -> Result<Vec<u8>, OutOfMe
         lines,
         picture.totals(),
         picture.counts.transactions,
+        picture.is_serving,
     )?;
     Ok(out)
 }

@@ -1,9 +1,9 @@
 //! What the gateway is now, as it is shown.
-ghost use Rattle.std.specs.Prelude.{◌≡◌, []};
+ghost use Rattle.std.specs.Prelude.{◌≡◌, [], false};
 ghost use Rattle.page_answers.specs.Showing.{IsNothingCounted};
 ghost use Rattle.page_answers.specs.Totals.{with_line, totals_of};
 
-use crate::counts::Counts;
+use crate::counts::{Counts, PLACES};
 use std::alloc::Global;
 
 /// A signal that is heard at a telephone.
@@ -33,11 +33,13 @@ pub struct LineView {
     pub lost: u64,
 }
 
-/// What is shown of a gateway: its clock in ms, the number with which its ids began (RFC 3435, 3.2.1.2), its lines from the first,
-/// and what was counted.
+/// What is shown of a gateway: its clock in ms, and by how much that is behind the machine's; whether it serves (RFC 3435, 4.4.6); the
+/// number with which its ids began (RFC 3435, 3.2.1.2), its lines from the first, and what was counted.
 #[derive(Drop)]
 pub struct Picture {
     pub clock: u64,
+    pub behind: u64,
+    pub is_serving: bool,
     pub first: u32,
     pub lines: Vec<LineView>,
     pub counts: Counts,
@@ -73,11 +75,15 @@ impl Picture {
     pub fn new(alloc: Global) -> Picture
         ensures lines { result.lines.items ≡ [] }
         ensures clock { result.clock ≡ 0 }
+        ensures behind { result.behind ≡ 0 }
+        ensures serving { result.is_serving ≡ false }
         ensures first { result.first ≡ 0 }
         ensures counts { IsNothingCounted result.counts }
     {
         Picture {
             clock: 0,
+            behind: 0,
+            is_serving: false,
             first: 0,
             lines: Vec::new(alloc),
             counts: Counts {
@@ -92,8 +98,12 @@ impl Picture {
                 notifications_again: 0,
                 announcements: 0,
                 announcements_again: 0,
-                given_up: 0,
+                given_up_by_gateway: 0,
+                given_up_by_lines: 0,
+                sends: [0; PLACES],
                 refused: 0,
+                strangers: 0,
+                lost_commands: 0,
                 receive_faults: 0,
                 send_faults: 0,
                 dropped_lines: 0,

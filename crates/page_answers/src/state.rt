@@ -2,7 +2,7 @@
 ghost use Rattle.std.specs.Prelude.{◌≡◌, map, fold, IfOk, OnOk, string_bytes};
 ghost use Rattle.serde_json.specs.Data.{array};
 ghost use Rattle.serde_json.specs.View.{view, members_view, items_of};
-ghost use Rattle.page_answers.specs.Texts.{state_data, TellsState, end_data, signal_data, connection_data, hook_word, line_data, lines_data, with_verb, with_code, put_counted, counts_data};
+ghost use Rattle.page_answers.specs.Texts.{state_data, TellsState, end_data, signal_data, connection_data, hook_word, line_data, lines_data, with_verb, with_code, given_up_in, put_counted, counts_data};
 ghost use Rattle.page_answers.specs.Totals.{totals_of};
 
 use crate::counts::{CodeCount, Counts, VerbCount, verb_word};
@@ -126,6 +126,15 @@ fn put_answers(
     Ok(())
 }
 
+// How many commands of its own nobody answered.
+fn given_up_in(counts: &Counts) -> u64
+    ensures { result ≡ given_up_in counts.now }
+{
+    counts
+        .given_up_by_gateway
+        .saturating_add(counts.given_up_by_lines)
+}
+
 // What was counted as one number each.
 fn put_counted(
     alloc: Global,
@@ -144,7 +153,7 @@ fn put_counted(
         ("notifications_again", counts.notifications_again),
         ("announcements", counts.announcements),
         ("announcements_again", counts.announcements_again),
-        ("given_up", counts.given_up),
+        ("given_up", given_up_in(counts)),
         ("refused", counts.refused),
         ("receive_faults", counts.receive_faults),
         ("send_faults", counts.send_faults),
