@@ -7,6 +7,7 @@ use Rattle.std.proofs.lemmas.Bool.{le-leb}
 use Rattle.std.proofs.lemmas.Grind.{flat_map-append}
 use Rattle.mg_bytes.specs.Words.{words}
 use Rattle.mg_line.specs.declared.phone.Act.{Act}
+use Rattle.std.specs.declared.net.socket_addr.SocketAddrV4.{SocketAddrV4}
 use Rattle.surroundings.specs.Sending.{Sent, Grows}
 use Rattle.transmission.specs.declared.output.OutDatagram.{OutDatagram}
 use Rattle.plain_machine.specs.declared.setup.Setup.{Setup}
@@ -29,8 +30,8 @@ use Rattle.traces.specs.declared.telling.Mark.{Mark}
 use Rattle.rgw_scripts.specs.Printing.{printed_line, refusal_line, shown_line}
 use Rattle.traces.specs.Replaying.{move_in}
 use Rattle.traces.specs.Telling.{told, told_mark, told_text}
-use Rattle.traces.specs.Writing.{Entry, Input, typed, clock_text, at_clock, showed, became, Says, IsPlay, taken_after, sent_at, sent_in, input_text, after_input, datagrams_in, entry_text, after_entry, written, script_after}
-use Rattle.live_play.specs.Running.{Live, live, sent_of, Ran, AreInPlace, AreMarks, HandsOut, Takes, Refuses, Asked, IsAnswer, TellsRefusal}
+use Rattle.traces.specs.Writing.{Entry, Input, arrived, typed, passed, clock_text, at_clock, showed, became, Says, IsPlay, taken_after, sent_at, sent_in, input_text, after_input, datagrams_in, entry_text, after_entry, written, script_after}
+use Rattle.live_play.specs.Running.{Live, live, sent_of, Ran, IsFrom, AreFrom, HeardFrom, AreInPlace, AreMarks, HandsOut, Takes, Refuses, Asked, IsAnswer, TellsRefusal}
 use Rattle.traces.proofs.ShowLemmas.{both_not}
 
 -- ---- what is told
@@ -358,11 +359,34 @@ script_known was is entries text r told = from (rw told at r.script) where
   from : IfSome (Some text) (λ (t : List ℕ). is.script ≡ script_after was.script entries) → is.script ≡ script_after was.script entries
   from same = same
 
+-- ---- from whom datagrams came
+
+pub from_both : (speaks : SocketAddrV4 → Type 0) (a b : List Entry) → AreFrom speaks a → AreFrom speaks b → AreFrom speaks (a ++ b)
+from_both speaks [] b p q = q
+from_both speaks (showed input move shown ∷ a) b p q = (p.0, from_both speaks a b p.1 q)
+from_both speaks (became mark place ∷ a) b p q = from_both speaks a b p q
+
+marks_are_from : (speaks : SocketAddrV4 → Type 0) (after last : ℕ) (marks : List Entry) → AreMarks after last marks → AreFrom speaks marks
+marks_are_from speaks after last [] are = tt
+marks_are_from speaks after last (showed input move shown ∷ marks) are = absurd are
+marks_are_from speaks after last (became mark place ∷ marks) are = marks_are_from speaks place last marks are.2
+
+one_from : (some more : SocketAddrV4 → Type 0) → ((source : SocketAddrV4) → some source → more source) → (input : Input) → IsFrom some input → IsFrom more input
+one_from some more goes (arrived source bytes) is = goes source is
+one_from some more goes (typed line) is = tt
+one_from some more goes (passed moment) is = tt
+
+pub from_more : (some more : SocketAddrV4 → Type 0) → ((source : SocketAddrV4) → some source → more source) → (entries : List Entry) → AreFrom some entries
+    → AreFrom more entries
+from_more some more goes [] are = tt
+from_more some more goes (showed input move shown ∷ entries) are = (one_from some more goes input are.0, from_more some more goes entries are.1)
+from_more some more goes (became mark place ∷ entries) are = from_more some more goes entries are
+
 -- ---- one event or question
 
-pub goes_on_quietly : (was is : Live) → Took was.gateway [] is.gateway [] [] → is.handed ≡ was.handed → is.told ≡ was.told → is.script ≡ was.script
-    → (entries : List Entry) × Ran was entries is
-goes_on_quietly was is took handed told script = ([], ran_nothing was is took handed told script)
+pub goes_on_quietly : (speaks : SocketAddrV4 → Type 0) (was is : Live) → Took was.gateway [] is.gateway [] [] → is.handed ≡ was.handed → is.told ≡ was.told
+    → is.script ≡ was.script → HeardFrom speaks was is
+goes_on_quietly speaks was is took handed told script = record { entries = []; ran = ran_nothing was is took handed told script; from = tt }
 
 pub takes_so : (was mid is : Live) (stepped : GatewayState) (input : Input) (event : GatewayEvent) (outputs sent : List OutDatagram) → Says input (give event)
     → Took was.gateway (event ∷ []) stepped [] outputs → mid.gateway ≡ stepped → sent ≡ outputs
@@ -382,8 +406,13 @@ takes_so was mid is stepped input event outputs sent says took gateway same ends
       ran = ran_sent was mid is input event sent hands.0 says took_so ends kept told script hands.1;
     }
 
-pub goes_on_by : (was is : Live) (input : Input) (event : GatewayEvent) → Takes was input event is → (entries : List Entry) × Ran was entries is
-goes_on_by was is input event t = (showed input (give event) (sends t.outputs) ∷ t.marks, t.ran)
+pub goes_on_by : (speaks : SocketAddrV4 → Type 0) (was is : Live) (input : Input) (event : GatewayEvent) → IsFrom speaks input → Takes was input event is
+    → HeardFrom speaks was is
+goes_on_by speaks was is input event from t = record {
+  entries = showed input (give event) (sends t.outputs) ∷ t.marks;
+  ran = t.ran;
+  from = (from, marks_are_from speaks 0 (length t.outputs) t.marks t.are);
+}
 
 -- an act that was refused, and not for want of memory
 ran_refused : (was is : Live) (line : List ℕ) (event : GatewayEvent) (refusal : Refusal) → Says (typed line) (give event) → (refusal ≡ OutOfMemory → ⊥)
@@ -407,10 +436,11 @@ refuses_so was is line event refusal answer text says took ends kept (inr r) =
     subst (λ (x : Refusal). Refuses was line event x text is) (sym r.0)
     (inr (r.1, ran_refused was is line event refusal says r.1 took ends kept r.2 r.3, r.4))
 
-pub goes_on_refused : (was is : Live) (line : List ℕ) (event : GatewayEvent) (refusal : Refusal) (text : List ℕ) → Refuses was line event refusal text is
-    → (entries : List Entry) × Ran was entries is
-goes_on_refused was is line event refusal text (inl quiet) = ([], quiet.1)
-goes_on_refused was is line event refusal text (inr r) = (showed (typed line) (give event) (refuses refusal) ∷ [], r.1)
+pub goes_on_refused : (speaks : SocketAddrV4 → Type 0) (was is : Live) (line : List ℕ) (event : GatewayEvent) (refusal : Refusal) (text : List ℕ)
+    → Refuses was line event refusal text is → HeardFrom speaks was is
+goes_on_refused speaks was is line event refusal text (inl quiet) = record { entries = []; ran = quiet.1; from = tt }
+goes_on_refused speaks was is line event refusal text (inr r) =
+    record { entries = showed (typed line) (give event) (refuses refusal) ∷ []; ran = r.1; from = (tt, tt) }
 
 -- ---- lines that say an act or a question
 
@@ -469,31 +499,42 @@ answers_so was is line number text says a gateway handed grew script = record {
       (subst (λ (t : List ℕ). Grows was.told (clock_text was.script ++ printed_line line ++ t) is.told) (answer_told a.status text a.text) grew) script;
 }
 
-pub goes_on_answered : (was is : Live) (line : List ℕ) (number : ℕ) (text : List ℕ) → Asked was line number text is → (entries : List Entry) × Ran was entries is
-goes_on_answered was is line number text a = (showed (typed line) (ask number) (answer_of a.answer.status) ∷ [], a.ran)
+pub goes_on_answered : (speaks : SocketAddrV4 → Type 0) (was is : Live) (line : List ℕ) (number : ℕ) (text : List ℕ) → Asked was line number text is
+    → HeardFrom speaks was is
+goes_on_answered speaks was is line number text a =
+    record { entries = showed (typed line) (ask number) (answer_of a.answer.status) ∷ []; ran = a.ran; from = (tt, tt) }
 
 -- ---- runs in a loop
 
 same_gateway : (g h : GatewayState) → h ≡ g → Took g [] h [] []
 same_gateway g h same = subst (λ (x : GatewayState). Took g [] x [] []) (sym same) (took_none g g [] [] refl refl refl refl (λ m is. is))
 
-pub stays : (was : Live) → (entries : List Entry) × Ran was entries was
-stays was = goes_on_quietly was was (same_gateway was.gateway was.gateway refl) refl refl refl
+pub stays : (speaks : SocketAddrV4 → Type 0) (was : Live) → HeardFrom speaks was was
+stays speaks was = goes_on_quietly speaks was was (same_gateway was.gateway was.gateway refl) refl refl refl
 
-pub stays_so : (was is : Live) → is ≡ was → (entries : List Entry) × Ran was entries is
-stays_so was is same = subst (λ (x : Live). (entries : List Entry) × Ran was entries x) (sym same) (stays was)
+pub stays_so : (speaks : SocketAddrV4 → Type 0) (was is : Live) → is ≡ was → HeardFrom speaks was is
+stays_so speaks was is same = subst (λ (x : Live). HeardFrom speaks was x) (sym same) (stays speaks was)
 
-pub goes_on_then : (was mid is : Live) → (entries : List Entry) × Ran was entries mid → (entries : List Entry) × Ran mid entries is
-    → (entries : List Entry) × Ran was entries is
-goes_on_then was mid is a b = (a.0 ++ b.0, ran_on was mid is a.0 b.0 a.1 b.1)
+pub goes_on_then : (speaks : SocketAddrV4 → Type 0) (was mid is : Live) → HeardFrom speaks was mid → HeardFrom speaks mid is → HeardFrom speaks was is
+goes_on_then speaks was mid is a b = record {
+  entries = a.entries ++ b.entries;
+  ran = ran_on was mid is a.entries b.entries a.ran b.ran;
+  from = from_both speaks a.entries b.entries a.from b.from;
+}
+
+-- who heard some has heard some of more
+pub heard_more : (some more : SocketAddrV4 → Type 0) (was is : Live) → ((source : SocketAddrV4) → some source → more source) → HeardFrom some was is
+    → HeardFrom more was is
+heard_more some more was is goes heard =
+    record { entries = heard.entries; ran = heard.ran; from = from_more some more goes heard.entries heard.from }
 
 -- what a trace is told may be broken off where it is written
-pub written_off : (was is : Live) → is.gateway ≡ was.gateway → is.script ≡ was.script → is.handed ≡ was.handed → Grows was.told [] is.told
-    → (entries : List Entry) × Ran was entries is
+pub written_off : (speaks : SocketAddrV4 → Type 0) (was is : Live) → is.gateway ≡ was.gateway → is.script ≡ was.script → is.handed ≡ was.handed
+    → Grows was.told [] is.told → HeardFrom speaks was is
 unfolding written script_after
-written_off was is gateway script handed told = (
-  [],
-  record {
+written_off speaks was is gateway script handed told = record {
+  entries = [];
+  ran = record {
     setup = ap (λ (g : GatewayState). g.setup) gateway;
     stands = λ before s. subst (λ (g : GatewayState). Stands g before) (sym gateway) s;
     play = λ before s. tt;
@@ -501,8 +542,9 @@ written_off was is gateway script handed told = (
     told = told;
     script = any_text is.told;
     marks = tt;
-  },
-) where
+  };
+  from = tt;
+} where
   any_text : (o : Option (List ℕ)) → IfSome o (λ text. is.script ≡ was.script)
   any_text None = tt
   any_text (Some text) = script

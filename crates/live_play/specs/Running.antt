@@ -1,5 +1,6 @@
 -- How a gateway runs live.
 use Rattle.std.specs.Prelude.{◌≡◌, ⊤, ◌⊎◌, ℕ, ◌+◌, ◌<◌, ◌≤◌, List, [], ◌∷◌, ◌++◌, length, map, Option, Some, None, IfSome}
+use Rattle.std.specs.declared.net.socket_addr.SocketAddrV4.{SocketAddrV4}
 use Rattle.surroundings.specs.Sending.{Sent, Grows}
 use Rattle.transmission.specs.declared.output.OutDatagram.{OutDatagram}
 use Rattle.plain_machine.specs.Event.{GatewayEvent}
@@ -12,7 +13,7 @@ use Rattle.rgw_scripts.specs.Printing.{printed_line, refusal_line}
 use Rattle.rgw_scripts.specs.Status.{LineStatus}
 use Rattle.traces.specs.declared.script.Script.{Script}
 use Rattle.traces.specs.Telling.{told_text}
-use Rattle.traces.specs.Writing.{Entry, Input, typed, showed, became, datagrams_in, IsPlay, taken_after, sent_in, written, script_after, clock_text, at_clock}
+use Rattle.traces.specs.Writing.{Entry, Input, arrived, typed, passed, showed, became, datagrams_in, IsPlay, taken_after, sent_in, written, script_after, clock_text, at_clock}
 
 -- the gateway, the moments that its trace has come to, all that this was told, and all that was handed out
 pub record Live : Type 0 where
@@ -46,6 +47,24 @@ pub record Ran (was : Live) (entries : List Entry) (is : Live) : Type 0 where
   pub told : Grows was.told (written was.script entries) is.told
   pub script : IfSome is.told (λ text. is.script ≡ script_after was.script entries)
   pub marks : AreInPlace 0 0 entries
+
+-- what came in is no datagram, or one whose source is so
+abbrev pub IsFrom : (SocketAddrV4 → Type 0) → Input → Type 0
+IsFrom speaks (arrived source bytes) = speaks source
+IsFrom speaks (typed line) = ⊤
+IsFrom speaks (passed moment) = ⊤
+
+-- each datagram that came at these entries has such a source
+abbrev pub AreFrom : (SocketAddrV4 → Type 0) → List Entry → Type 0
+AreFrom speaks [] = ⊤
+AreFrom speaks (showed input move shown ∷ entries) = IsFrom speaks input × AreFrom speaks entries
+AreFrom speaks (became mark place ∷ entries) = AreFrom speaks entries
+
+-- it went on by entries, and heard such sources alone
+pub record HeardFrom (speaks : SocketAddrV4 → Type 0) (was is : Live) : Type 0 where
+  pub entries : List Entry
+  pub ran : Ran was entries is
+  pub from : AreFrom speaks entries
 
 -- these entries say what became of datagrams, and nothing else: of each at most once, in their order
 abbrev pub AreMarks : ℕ → ℕ → List Entry → Type 0

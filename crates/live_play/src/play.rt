@@ -15,7 +15,7 @@ ghost use Rattle.rgw_scripts.specs.Printing.{printed_line, refusal_line};
 ghost use Rattle.rgw_scripts.specs.Script.{line_in};
 ghost use Rattle.traces.specs.Telling.{told_mark, told_text};
 ghost use Rattle.traces.specs.Writing.{Entry, arrived, typed, passed, tick_text, after_tick, input_text, at_clock, clock_text, opening_script};
-ghost use Rattle.live_play.specs.Running.{live, Ran, HandsOut, Takes, Refuses, Asked, IsAnswer, TellsRefusal};
+ghost use Rattle.live_play.specs.Running.{live, Ran, HeardFrom, HandsOut, Takes, Refuses, Asked, IsAnswer, TellsRefusal};
 
 use crate::ends::{Outlet, Teller};
 use gateway_core::{Event, Gateway, OutDatagram, Outputs, Refusal};
@@ -265,8 +265,8 @@ impl<T: Teller + Drop> LivePlay<T> {
     /// The clock goes to this moment, in ms: what the gateway sends at it is handed out. A refused tick changes nothing.
     #[tactic(auto, using(crate::proofs::RunLemmas::goes_on_quietly, crate::proofs::RunLemmas::ran_nothing))]
     pub fn tick<O: Outlet>(&mut self, out: &mut O, moment: u64) -> Result<(), Refusal>
-        ensures ran { (entries : List Entry) × Ran
-            (live self.old.gateway.value self.old.script (T.told self.old.teller) (O.handed out.old)) entries
+        ensures ran { HeardFrom (λ nobody. ⊥)
+            (live self.old.gateway.value self.old.script (T.told self.old.teller) (O.handed out.old))
             (live self.new.gateway.value self.new.script (T.told self.new.teller) (O.handed out.new)) }
         ensures taken { OnOk result (Takes
             (live self.old.gateway.value self.old.script (T.told self.old.teller) (O.handed out.old)) (passed moment) (tick moment)
@@ -296,8 +296,8 @@ impl<T: Teller + Drop> LivePlay<T> {
         source: SocketAddrV4,
         bytes: &[u8],
     ) -> Result<(), Refusal>
-        ensures ran { (entries : List Entry) × Ran
-            (live self.old.gateway.value self.old.script (T.told self.old.teller) (O.handed out.old)) entries
+        ensures ran { HeardFrom (λ sender. sender ≡ source)
+            (live self.old.gateway.value self.old.script (T.told self.old.teller) (O.handed out.old))
             (live self.new.gateway.value self.new.script (T.told self.new.teller) (O.handed out.new)) }
         ensures taken { OnOk result (Takes
             (live self.old.gateway.value self.old.script (T.told self.old.teller) (O.handed out.old)) (arrived source bytes.now) (datagram source bytes.now)
@@ -359,8 +359,8 @@ impl<T: Teller + Drop> LivePlay<T> {
         act: Act,
     ) -> Result<(), Refusal>
         requires { line_in (words text.now) ≡ Some (Whole (Phone line act)) }
-        ensures ran { (entries : List Entry) × Ran
-            (live self.old.gateway.value self.old.script (T.told self.old.teller) (O.handed out.old)) entries
+        ensures ran { HeardFrom (λ nobody. ⊥)
+            (live self.old.gateway.value self.old.script (T.told self.old.teller) (O.handed out.old))
             (live self.new.gateway.value self.new.script (T.told self.new.teller) (O.handed out.new)) }
         ensures taken { OnOk result (Takes
             (live self.old.gateway.value self.old.script (T.told self.old.teller) (O.handed out.old)) (typed text.now) (phone line act)
@@ -396,8 +396,8 @@ impl<T: Teller + Drop> LivePlay<T> {
     /// What a line is is asked, as a line of text said: the answer is `printed`.
     pub fn ask(&mut self, text: &[u8], line: u16) -> Result<(), OutOfMemory>
         requires { line_in (words text.now) ≡ Some (Whole (Show line)) }
-        ensures ran { (handed : Option (List Sent)) → (entries : List Entry) × Ran
-            (live self.old.gateway.value self.old.script (T.told self.old.teller) handed) entries
+        ensures ran { (handed : Option (List Sent)) → HeardFrom (λ nobody. ⊥)
+            (live self.old.gateway.value self.old.script (T.told self.old.teller) handed)
             (live self.new.gateway.value self.new.script (T.told self.new.teller) handed) }
         ensures answered { (handed : Option (List Sent)) → OnOk result (Asked
             (live self.old.gateway.value self.old.script (T.told self.old.teller) handed) text.now line self.new.printed.items

@@ -1,4 +1,5 @@
 use Rattle.std.proofs.Common.{refl, ap}
+use Rattle.std.specs.declared.net.socket_addr.SocketAddrV4.{SocketAddrV4}
 use Rattle.plain_machine.specs.Event.{phone}
 use Rattle.traces.specs.Writing.{typed}
 use Rattle.live_play.specs.Running.{live}
@@ -13,7 +14,7 @@ returns-in-Ok-clause-taken g c =
     c.tell_act.ensures.told c.tell_act.ensures.script c.hand_out.ensures
 
 pub returns-in-Ok-clause-ran : goal.returns-in-Ok-clause-ran
-returns-in-Ok-clause-ran g c = goes_on_by _ _ (typed c.args.text.now) (phone c.args.line c.args.act) (
+returns-in-Ok-clause-ran g c = goes_on_by (λ (nobody : SocketAddrV4). ⊥) _ _ (typed c.args.text.now) (phone c.args.line c.args.act) tt (
     takes_so _
     (live c.tell_act.new.self.gateway.value c.tell_act.new.self.script (g.T.Teller.told c.tell_act.new.self.teller) (g.O.Outlet.handed c.args.out.now)) _ c.take.new.gateway.value
     (typed c.args.text.now) (phone c.args.line c.args.act) _ c.as_slice-sent.result.now (says_act c.args.text.now c.args.line c.args.act c.requires) c.in-Ok.ensures.ok (ap (λ gateway. gateway.value) c.tell_act.ensures.gateway) c.as_slice-sent.ensures c.in-Ok.ensures.ends refl
@@ -25,6 +26,6 @@ returns-in-Err-clause-refused g c =
     (rw (ap (λ gateway. gateway.value) c.refuse.ensures.gateway) c.in-Err.ensures.err) c.in-Err.ensures.ends refl c.refuse.ensures.told
 
 pub returns-in-Err-clause-ran : goal.returns-in-Err-clause-ran
-returns-in-Err-clause-ran g c = goes_on_refused _ _ c.args.text.now (phone c.args.line c.args.act) c.refuse.result c.refuse.new.self.printed.items (
+returns-in-Err-clause-ran g c = goes_on_refused (λ (nobody : SocketAddrV4). ⊥) _ _ c.args.text.now (phone c.args.line c.args.act) c.refuse.result c.refuse.new.self.printed.items (
     refuses_so _ _ c.args.text.now (phone c.args.line c.args.act) c.in-Err.refusal c.refuse.result c.refuse.new.self.printed.items (says_act c.args.text.now c.args.line c.args.act c.requires)
     (rw (ap (λ gateway. gateway.value) c.refuse.ensures.gateway) c.in-Err.ensures.err) c.in-Err.ensures.ends refl c.refuse.ensures.told)

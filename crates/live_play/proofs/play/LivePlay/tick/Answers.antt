@@ -1,4 +1,5 @@
 use Rattle.std.proofs.Common.{refl, ap}
+use Rattle.std.specs.declared.net.socket_addr.SocketAddrV4.{SocketAddrV4}
 use Rattle.plain_machine.specs.Event.{tick}
 use Rattle.traces.specs.Writing.{passed}
 use Rattle.live_play.specs.Running.{live}
@@ -13,7 +14,7 @@ returns-in-Ok-clause-taken g c =
     c.tell_tick.ensures.told c.tell_tick.ensures.script c.hand_out.ensures
 
 pub returns-in-Ok-clause-ran : goal.returns-in-Ok-clause-ran
-returns-in-Ok-clause-ran g c = goes_on_by _ _ (passed c.args.moment) (tick c.args.moment) (
+returns-in-Ok-clause-ran g c = goes_on_by (λ (nobody : SocketAddrV4). ⊥) _ _ (passed c.args.moment) (tick c.args.moment) tt (
     takes_so _
     (live c.tell_tick.new.self.gateway.value c.tell_tick.new.self.script (g.T.Teller.told c.tell_tick.new.self.teller) (g.O.Outlet.handed c.args.out.now)) _ c.take.new.gateway.value
     (passed c.args.moment) (tick c.args.moment) _ c.as_slice-sent.result.now refl c.in-Ok.ensures.ok (ap (λ gateway. gateway.value) c.tell_tick.ensures.gateway) c.as_slice-sent.ensures c.in-Ok.ensures.ends refl
