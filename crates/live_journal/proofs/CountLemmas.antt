@@ -11,12 +11,14 @@ use Rattle.plain_machine.specs.declared.setup.Setup.{Setup}
 use Rattle.plain_machine.specs.Event.{GatewayEvent}
 use Rattle.plain_machine.specs.Machine.{Machine}
 use Rattle.plain_machine.specs.Happening.{effect}
+use Rattle.gateway_core.specs.declared.outcome.Reply.{Reply}
+use Rattle.gateway_core.specs.declared.outcome.Reply.TheVariants.{First, Again, Silence, NoRoom}
 use Rattle.gateway_core.specs.declared.outcome.TextOutcome.{TextOutcome}
 use Rattle.gateway_core.specs.declared.outcome.TextOutcome.TheVariants.{NoMessage, Command, Response}
 use Rattle.gateway_core.specs.Outcomes.{outcomes_of}
 use Rattle.gateway_core.specs.Wire.{counted}
 use Rattle.sent_counts.specs.Counting.{one_more_at, place_of}
-use Rattle.live_journal.specs.Counting.{Counts, with_command, with_text, with_texts, counts_after, outcomes_from, is_command_at, is_response, is_other}
+use Rattle.live_journal.specs.Counting.{Counts, with_command, with_reply, with_text, with_texts, counts_after, outcomes_from, is_command_at, is_response, is_other, is_lost}
 
 counted_on : (n a b : ℕ) → counted (counted n a) b ≡ counted n (a + b)
 counted_on n a b = omega arith
@@ -47,30 +49,64 @@ at_place numbers at place inside = by_test (eqb_tells at place) where
   by_test (inr other) = rw other.0
       (get_or-set_other numbers at place (counted (get_or numbers at 0) 1) 0 (λ same. other.1 (sym same)) ∙ counted_none (get_or numbers place 0))
 
+-- what a command gets changes one count alone
+keeps_commands : (c : Counts) (r : Reply) → (with_reply c r).commands ≡ c.commands
+keeps_commands c (First code fault) = refl
+keeps_commands c (Again code) = refl
+keeps_commands c Silence = refl
+keeps_commands c NoRoom = refl
+
+keeps_responses : (c : Counts) (r : Reply) → (with_reply c r).responses ≡ c.responses
+keeps_responses c (First code fault) = refl
+keeps_responses c (Again code) = refl
+keeps_responses c Silence = refl
+keeps_responses c NoRoom = refl
+
+keeps_others : (c : Counts) (r : Reply) → (with_reply c r).others ≡ c.others
+keeps_others c (First code fault) = refl
+keeps_others c (Again code) = refl
+keeps_others c Silence = refl
+keeps_others c NoRoom = refl
+
+keeps_lost : (c : Counts) (v : Option Verb) → (with_command c v).lost ≡ c.lost
+keeps_lost c None = refl
+keeps_lost c (Some verb) = refl
+
 command_size : (c : Counts) (o : TextOutcome) → length (with_text c o).commands ≡ length c.commands
 command_size c NoMessage = refl
 command_size c (Response is_acknowledged) = refl
-command_size c (Command None id reply) = refl
-command_size c (Command (Some verb) id reply) = length-set c.commands (place_of verb) _
+command_size c (Command None id reply) = ap (λ (l : List ℕ). length l) (keeps_commands (with_command c None) reply)
+command_size c (Command (Some verb) id reply) =
+    ap (λ (l : List ℕ). length l) (keeps_commands (with_command c (Some verb)) reply) ∙ length-set c.commands (place_of verb) _
 
 command_more : (place : ℕ) (c : Counts) (o : TextOutcome) → place < length c.commands
     → get_or (with_text c o).commands place 0 ≡ counted (get_or c.commands place 0) (cond (is_command_at place o) 1 0)
 command_more place c NoMessage inside = counted_none _
 command_more place c (Response is_acknowledged) inside = counted_none _
-command_more place c (Command None id reply) inside = counted_none _
-command_more place c (Command (Some verb) id reply) inside = at_place c.commands (place_of verb) place inside
+command_more place c (Command None id reply) inside =
+    ap (λ (l : List ℕ). get_or l place 0) (keeps_commands (with_command c None) reply) ∙ counted_none _
+command_more place c (Command (Some verb) id reply) inside =
+    ap (λ (l : List ℕ). get_or l place 0) (keeps_commands (with_command c (Some verb)) reply) ∙ at_place c.commands (place_of verb) place inside
 
 response_more : (c : Counts) (o : TextOutcome) → (with_text c o).responses ≡ counted c.responses (cond (is_response o) 1 0)
 response_more c NoMessage = counted_none _
 response_more c (Response is_acknowledged) = refl
-response_more c (Command None id reply) = counted_none _
-response_more c (Command (Some verb) id reply) = counted_none _
+response_more c (Command None id reply) = keeps_responses (with_command c None) reply ∙ counted_none _
+response_more c (Command (Some verb) id reply) = keeps_responses (with_command c (Some verb)) reply ∙ counted_none _
 
 other_more : (c : Counts) (o : TextOutcome) → (with_text c o).others ≡ counted c.others (cond (is_other o) 1 0)
 other_more c NoMessage = refl
 other_more c (Response is_acknowledged) = counted_none _
-other_more c (Command None id reply) = refl
-other_more c (Command (Some verb) id reply) = counted_none _
+other_more c (Command None id reply) = keeps_others (with_command c None) reply
+other_more c (Command (Some verb) id reply) = keeps_others (with_command c (Some verb)) reply ∙ counted_none _
+
+lost_more : (c : Counts) (o : TextOutcome) → (with_text c o).lost ≡ counted c.lost (cond (is_lost o) 1 0)
+lost_more c NoMessage = counted_none _
+lost_more c (Response is_acknowledged) = counted_none _
+lost_more c (Command verb id (First code fault)) = keeps_lost c verb ∙ counted_none _
+lost_more c (Command verb id (Again code)) = keeps_lost c verb ∙ counted_none _
+lost_more c (Command verb id Silence) = keeps_lost c verb ∙ counted_none _
+lost_more c (Command verb id NoRoom) = ap (λ n. counted n 1) (keeps_lost c verb)
 
 -- ---- all of them
 
@@ -83,6 +119,9 @@ responses_sum c outcomes = sums (λ c. c.responses) (λ c. 1) is_response 0 (λ 
 
 pub others_sum : (c : Counts) (outcomes : List TextOutcome) → (with_texts c outcomes).others ≡ counted c.others (count_by is_other outcomes)
 others_sum c outcomes = sums (λ c. c.others) (λ c. 1) is_other 0 (λ c o. refl) (λ c o inside. other_more c o) c outcomes (omega arith)
+
+pub lost_sum : (c : Counts) (outcomes : List TextOutcome) → (with_texts c outcomes).lost ≡ counted c.lost (count_by is_lost outcomes)
+lost_sum c outcomes = sums (λ c. c.lost) (λ c. 1) is_lost 0 (λ c o. refl) (λ c o inside. lost_more c o) c outcomes (omega arith)
 
 pub list_counts : (setup : Setup) (m : Machine) (counts : Counts) (events : List GatewayEvent) → counts_after setup m counts events ≡ with_texts counts (outcomes_from setup m events)
 unfolding counts_after outcomes_from

@@ -1,5 +1,5 @@
 -- What is put into a record, by whether it is told all.
-use Rattle.std.proofs.Common.{inl, inr, ◌≡◌, ℕ, true, false, List, [], ◌++◌}
+use Rattle.std.proofs.Common.{inl, inr, ◌≡◌, ℕ, true, false, List, [], ◌++◌, refl, sym, append-nil}
 use Rattle.live_ends.specs.declared.record.RecordState.{RecordState}
 use Rattle.live_ends.specs.declared.record.RecordState.TheVariants.{Off, On, OutOfMemory}
 use Rattle.live_ends.specs.Recording.{is_told}
@@ -19,3 +19,9 @@ pub refuses : (was : RecordState) (were text are : List ℕ) (state : RecordStat
 refuses Off were text are state told refused none = absurd cc
 refuses On were text are state told refused none = inr (refused, none)
 refuses OutOfMemory were text are state told refused none = absurd cc
+
+-- nothing is put
+pub puts_none : (state : RecordState) (were : List ℕ) → Puts state were [] state were
+puts_none Off were = (refl, refl)
+puts_none On were = inl (refl, sym (append-nil were))
+puts_none OutOfMemory were = (refl, refl)

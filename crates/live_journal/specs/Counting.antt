@@ -6,6 +6,8 @@ use Rattle.plain_machine.specs.declared.setup.Setup.{Setup}
 use Rattle.plain_machine.specs.Event.{GatewayEvent}
 use Rattle.plain_machine.specs.Machine.{Machine}
 use Rattle.plain_machine.specs.Happening.{effect}
+use Rattle.gateway_core.specs.declared.outcome.Reply.{Reply}
+use Rattle.gateway_core.specs.declared.outcome.Reply.TheVariants.{First, Again, Silence, NoRoom}
 use Rattle.gateway_core.specs.declared.outcome.TextOutcome.{TextOutcome}
 use Rattle.gateway_core.specs.declared.outcome.TextOutcome.TheVariants.{NoMessage, Command, Response}
 use Rattle.gateway_core.specs.Outcomes.{outcomes_of}
@@ -13,27 +15,35 @@ use Rattle.gateway_core.specs.Wire.{counted}
 use Rattle.sent_counts.specs.Counting.{one_more_at, place_of}
 use Rattle.live_journal.specs.declared.text_counts.TextCounts.{TextCounts}
 
--- commands by verb, responses, and texts that are no message that can be read
+-- commands by verb, responses, texts that are no message that can be read, and commands that found no room
 pub record Counts : Type 0 where
   pub commands : List ℕ
   pub responses : ℕ
   pub others : ℕ
+  pub lost : ℕ
 
 abbrev pub counts_in : TextCounts → Counts
-counts_in counts = record { commands = counts.commands; responses = counts.responses; others = counts.others }
+counts_in counts = record { commands = counts.commands; responses = counts.responses; others = counts.others; lost = counts.lost }
 
 abbrev pub no_counts : Counts
-no_counts = record { commands = replicate 10 0; responses = 0; others = 0 }
+no_counts = record { commands = replicate 10 0; responses = 0; others = 0; lost = 0 }
 
 -- a command with this verb came, or one that can't be read
 abbrev pub with_command : Counts → Option Verb → Counts
 with_command counts None = record counts { others = counted counts.others 1 }
 with_command counts (Some verb) = record counts { commands = one_more_at counts.commands (place_of verb) }
 
+-- a command got this: one that found no room is lost
+abbrev pub with_reply : Counts → Reply → Counts
+with_reply counts (First code fault) = counts
+with_reply counts (Again code) = counts
+with_reply counts Silence = counts
+with_reply counts NoRoom = record counts { lost = counted counts.lost 1 }
+
 -- a text came that was this
 abbrev pub with_text : Counts → TextOutcome → Counts
 with_text counts NoMessage = record counts { others = counted counts.others 1 }
-with_text counts (Command verb id reply) = with_command counts verb
+with_text counts (Command verb id reply) = with_reply (with_command counts verb) reply
 with_text counts (Response is_acknowledged) = record counts { responses = counted counts.responses 1 }
 
 -- texts came that were these
@@ -77,3 +87,15 @@ abbrev pub is_other : TextOutcome → Bool
 is_other NoMessage = true
 is_other (Command verb id reply) = is_unread verb
 is_other (Response is_acknowledged) = false
+
+abbrev pub is_loss : Reply → Bool
+is_loss (First code fault) = false
+is_loss (Again code) = false
+is_loss Silence = false
+is_loss NoRoom = true
+
+-- a command that found no room among those that are remembered
+abbrev pub is_lost : TextOutcome → Bool
+is_lost NoMessage = false
+is_lost (Command verb id reply) = is_loss reply
+is_lost (Response is_acknowledged) = false

@@ -5,6 +5,7 @@ use Rattle.command_forms.specs.Explaining.{explanation_of}
 use Rattle.exchange_log.specs.declared.note.Note.TheVariants as notes
 use Rattle.exchange_log.specs.declared.stamp.Stamp.{Stamp}
 use Rattle.exchange_log.specs.Lines.{note_line, refused_line}
+use Rattle.history.specs.Memory.{most_firsts}
 use Rattle.gateway_core.specs.declared.outcome.Reply.{Reply}
 use Rattle.gateway_core.specs.declared.outcome.Reply.TheVariants.{First, Again, Silence, NoRoom}
 use Rattle.gateway_core.specs.declared.outcome.TextOutcome.{TextOutcome}
@@ -29,10 +30,10 @@ abbrev pub reply_text : Stamp → ℕ → Reply → List ℕ
 reply_text stamp id (First code fault) = if nat_le least_refusal code then refused_text stamp id code fault else []
 reply_text stamp id (Again code) = []
 reply_text stamp id Silence = note_line stamp (notes.Unanswered id)
-reply_text stamp id NoRoom = []
+reply_text stamp id NoRoom = note_line stamp (notes.NoRoom most_firsts)
 
 -- A command that is refused is told of where it is new, and a repeat where it isn't answered, since its answer was confirmed
--- (RFC 3435, 3.5.1).
+-- (RFC 3435, 3.5.1). So is one that is lost, since as many as are remembered are young.
 unfoldable pub reason_text : Stamp → TextOutcome → List ℕ
 reason_text stamp NoMessage = []
 reason_text stamp (Command verb id reply) = reply_text stamp id reply

@@ -10,7 +10,7 @@ use Rattle.plain_machine.specs.declared.setup.Setup.{Setup}
 use Rattle.live_ends.specs.Backlog.{sum_within}
 use Rattle.live_ends.specs.Written.{written_line}
 use Rattle.page_answers.specs.Metrics.{code_text}
-use Rattle.sent_counts.specs.Counting.{place_of}
+use Rattle.sent_counts.specs.Counting.{place_of, tally_in, all_given_up}
 use Rattle.live_journal.specs.declared.journal.Journal.{Journal}
 use Rattle.live_journal.specs.declared.message_tally.MessageTally.{MessageTally}
 use Rattle.live_journal.specs.declared.reporting.Faults.{Faults}
@@ -59,9 +59,10 @@ others_text tally lost faults =
     told_all ((codes " repeated ", tally.sent.again) ∷ (codes "\nnotifications ", slice_index tally.sent.commands (place_of Ntfy))
     ∷ (codes " repeated ", slice_index tally.sent.commands_again (place_of Ntfy))
     ∷ (codes "\nannouncements ", slice_index tally.sent.commands (place_of Rsip))
-    ∷ (codes " repeated ", slice_index tally.sent.commands_again (place_of Rsip)) ∷ (codes " given up ", tally.sent.given_up)
+    ∷ (codes " repeated ", slice_index tally.sent.commands_again (place_of Rsip)) ∷ (codes " given up ", all_given_up (tally_in tally.sent))
     ∷ (codes "\nlost events ", lost) ∷ (codes " refused ", faults.refused)
-    ∷ (codes "\nfaults receive ", faults.receive) ∷ (codes " send ", faults.send) ∷ [])
+    ∷ (codes "\nfaults receive ", faults.receive) ∷ (codes " send ", faults.send)
+    ∷ (codes "\nstrangers ", tally.strangers) ∷ (codes " lost commands ", tally.texts.lost) ∷ [])
 
 -- how many events of so many lines, from the first on, were lost
 unfoldable pub lost_of_lines : Machine → ℕ → ℕ

@@ -7,6 +7,7 @@ use crate::log::Log;
 use command_forms::{FaultyPart, Refused, explain};
 use exchange_log::{Note, Stamp, put_note, put_refused};
 use gateway_core::{Gateway, Reply, TextOutcome};
+use history::MOST_FIRSTS;
 use mg_bytes::OutOfMemory;
 use mgcp_text::TransactionId;
 use std::alloc::Global;
@@ -16,6 +17,11 @@ const LEAST_REFUSAL: u16 = 400;
 
 // A command that comes before the gateway serves is refused for that, whatever it asks for (RFC 3435, 2.4).
 const NOT_READY: u16 = 405;
+
+// A new command is lost where so many are remembered (this gateway's profile).
+const NO_ROOM: Note = Note::NoRoom {
+    young: MOST_FIRSTS as u64,
+};
 
 // Notes why a command was refused with this code: by what of it is at fault, or by the code alone.
 fn put_refusal(
@@ -55,7 +61,8 @@ fn put_reason(
             put_refusal(alloc, out, stamp, *id, *code, *fault)
         }
         Reply::Silence => put_note(alloc, out, stamp, Note::Unanswered(*id)),
-        Reply::First { .. } | Reply::Again { .. } | Reply::NoRoom => Ok(()),
+        Reply::NoRoom => put_note(alloc, out, stamp, NO_ROOM),
+        Reply::First { .. } | Reply::Again { .. } => Ok(()),
     }
 }
 
@@ -75,8 +82,8 @@ fn put_reasons(
 }
 
 impl Log {
-    /// The gateway took the datagram that came last, and what it sent at it was handed out: why commands of it were refused is told, if any
-    /// was, and which repeats aren't answered.
+    /// The gateway took the datagram that came last, and what it sent at it was handed out: why commands of it were refused or lost is
+    /// told, if any was, and which repeats aren't answered.
     pub fn explain(&mut self, gateway: &Gateway) {
         if !self.record.is_on() {
             return;

@@ -1,4 +1,7 @@
 //! What is kept of what goes between a gateway and others: its counts and its records.
+ghost use Rattle.std.specs.Prelude.{◌≡◌};
+ghost use Rattle.gateway_core.specs.Wire.{counted};
+
 use crate::capture::Capture;
 use crate::log::Log;
 use crate::message_tally::MessageTally;
@@ -63,6 +66,14 @@ impl Journal {
         self.log.receive(now, source, bytes, late);
         self.capture.pass(now.time, Way::Came, source, bytes);
         self.show(now.clock, Kind::Received, Some(source), bytes);
+    }
+
+    /// A datagram came from who may not speak: it is counted, and noted at most once a second.
+    pub fn stranger(&mut self, now: Now, source: SocketAddrV4)
+        ensures counted { self.new.tally.value.strangers ≡ counted self.old.tally.value.strangers 1 }
+    {
+        self.tally.stranger();
+        self.log.stranger(now, source);
     }
 
     /// The gateway took an event, of which `outcomes`, `sent` and `given_up` of it tell: all that is counted. What it sends is handed out

@@ -5,7 +5,7 @@ ghost use Rattle.plain_machine.specs.Event.{GatewayEvent};
 ghost use Rattle.plain_machine.specs.Machine.{Machine};
 ghost use Rattle.gateway_core.specs.declared.outcome.TextOutcome.{TextOutcome};
 ghost use Rattle.gateway_core.specs.Wire.{counted};
-ghost use Rattle.live_journal.specs.Counting.{Counts, with_texts, counts_after, outcomes_from, is_command_at, is_response, is_other};
+ghost use Rattle.live_journal.specs.Counting.{Counts, with_texts, counts_after, outcomes_from, is_command_at, is_response, is_other, is_lost};
 
 /// Each count is the sum of what it was and of the texts that it is the count of, up to 18,446,744,073,709,551,615.
 pub fn counts_are_sums()
@@ -16,6 +16,8 @@ pub fn counts_are_sums()
         (with_texts counts outcomes).responses ≡ counted counts.responses (count_by is_response outcomes) }
     ensures others { (counts : Counts) (outcomes : List TextOutcome) →
         (with_texts counts outcomes).others ≡ counted counts.others (count_by is_other outcomes) }
+    ensures lost { (counts : Counts) (outcomes : List TextOutcome) →
+        (with_texts counts outcomes).lost ≡ counted counts.lost (count_by is_lost outcomes) }
 {}
 
 /// The counts after a list of events are those of all that the texts of its events were, each to the gateway before it.

@@ -1,4 +1,5 @@
 //! The log, for people, on standard error: a line a message, and a line for what is to be noted beside it.
+use crate::strangers::Quiet;
 use exchange_log::{Note, Stamp, Way, put_given_up, put_message, put_note};
 use gateway_core::{Gateway, GivenUpCommand, Label, SentMessage, TextOutcome, What, Whose};
 use live_ends::{Now, Record};
@@ -46,6 +47,8 @@ pub struct Log {
     pub(crate) arrival: Option<Arrival>,
     /// When a datagram was sent last, in microseconds since 1970.
     pub(crate) sent: u64,
+    /// When a stranger is told of next.
+    pub(crate) quiet: Quiet,
 }
 
 impl Log {
@@ -64,6 +67,7 @@ impl Log {
             },
             arrival: None,
             sent: 0,
+            quiet: Quiet::NONE,
         })
     }
 

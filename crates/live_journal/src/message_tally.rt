@@ -2,8 +2,10 @@
 ghost use Rattle.std.specs.Prelude.{◌≡◌, IfOk};
 ghost use Rattle.gateway_core.specs.Wire.{counted};
 ghost use Rattle.live_journal.specs.Counting.{counts_in, no_counts, with_texts};
+ghost use Rattle.live_journal.specs.Places.{with_sends};
 ghost use Rattle.sent_counts.specs.Counting.{tally_in, no_tally, with_sent, with_given_up};
 
+use crate::place_counts::PlaceCounts;
 use crate::text_counts::{TextCounts, count};
 use gateway_core::Gateway;
 use sent_counts::SentCounts;
@@ -16,10 +18,14 @@ pub struct MessageTally {
     pub datagrams_in: u64,
     /// Datagrams that were sent.
     pub datagrams_out: u64,
+    /// Datagrams that came from who may not speak, and weren't heard.
+    pub strangers: u64,
     /// The texts that came, by what they were.
     pub texts: TextCounts,
     /// The messages that were sent, by their labels, and what was given up.
     pub sent: SentCounts,
+    /// Sends of commands of its own, by which of its agent's addresses they went to.
+    pub places: PlaceCounts,
 }
 
 impl MessageTally {
@@ -27,14 +33,17 @@ impl MessageTally {
     pub fn new(alloc: Global) -> Result<MessageTally, AllocError>
         ensures received { IfOk result (λ tally. tally.datagrams_in ≡ 0) }
         ensures handed_out { IfOk result (λ tally. tally.datagrams_out ≡ 0) }
+        ensures strangers { IfOk result (λ tally. tally.strangers ≡ 0) }
         ensures texts { IfOk result (λ tally. counts_in tally.texts ≡ no_counts) }
         ensures sent { IfOk result (λ tally. tally_in tally.sent ≡ no_tally) }
     {
         Ok(MessageTally {
             datagrams_in: 0,
             datagrams_out: 0,
+            strangers: 0,
             texts: TextCounts::new(),
             sent: SentCounts::new(alloc)?,
+            places: PlaceCounts::new(),
         })
     }
 
@@ -42,10 +51,22 @@ impl MessageTally {
     pub fn received(&mut self)
         ensures datagrams { self.new.datagrams_in ≡ counted self.old.datagrams_in 1 }
         ensures handed_out { self.new.datagrams_out ≡ self.old.datagrams_out }
+        ensures strangers { self.new.strangers ≡ self.old.strangers }
         ensures texts { self.new.texts ≡ self.old.texts }
         ensures sent { self.new.sent ≡ self.old.sent }
     {
         count(&mut self.datagrams_in);
+    }
+
+    /// A datagram came from who may not speak.
+    pub fn stranger(&mut self)
+        ensures strangers { self.new.strangers ≡ counted self.old.strangers 1 }
+        ensures received { self.new.datagrams_in ≡ self.old.datagrams_in }
+        ensures handed_out { self.new.datagrams_out ≡ self.old.datagrams_out }
+        ensures texts { self.new.texts ≡ self.old.texts }
+        ensures sent { self.new.sent ≡ self.old.sent }
+    {
+        count(&mut self.strangers);
     }
 
     /// The gateway took an event: what its texts were, and what it sent and gave up at it.
@@ -53,18 +74,24 @@ impl MessageTally {
         ensures texts { counts_in self.new.texts ≡ with_texts (counts_in self.old.texts) gateway.now.outcomes }
         ensures sent { tally_in self.new.sent
             ≡ with_given_up (with_sent (tally_in self.old.sent) gateway.now.account.sent) gateway.now.account.given_up }
+        ensures places { self.new.places.sends
+            ≡ with_sends gateway.now.setup.agent.route self.old.places.sends gateway.now.account.sent }
         ensures received { self.new.datagrams_in ≡ self.old.datagrams_in }
         ensures handed_out { self.new.datagrams_out ≡ self.old.datagrams_out }
+        ensures strangers { self.new.strangers ≡ self.old.strangers }
     {
         self.texts.add(gateway.outcomes());
         self.sent.add(gateway.sent());
         self.sent.give_up(gateway.given_up());
+        self.places
+            .add(&gateway.setup().agent.route, gateway.sent());
     }
 
     /// A datagram is sent. The messages in it were counted with the event.
     pub fn handed_out(&mut self)
         ensures datagrams { self.new.datagrams_out ≡ counted self.old.datagrams_out 1 }
         ensures received { self.new.datagrams_in ≡ self.old.datagrams_in }
+        ensures strangers { self.new.strangers ≡ self.old.strangers }
         ensures texts { self.new.texts ≡ self.old.texts }
         ensures sent { self.new.sent ≡ self.old.sent }
     {

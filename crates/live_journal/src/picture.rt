@@ -121,22 +121,29 @@ fn put_counts(
     counts.notifications_again = tally.sent.commands_again[place_of(Verb::Ntfy)];
     counts.announcements = tally.sent.commands[place_of(Verb::Rsip)];
     counts.announcements_again = tally.sent.commands_again[place_of(Verb::Rsip)];
-    counts.given_up = tally.sent.given_up;
+    counts.given_up_by_gateway = tally.sent.given_up_by_gateway;
+    counts.given_up_by_lines = tally.sent.given_up_by_lines;
+    counts.sends = tally.places.sends;
     counts.refused = faults.refused;
+    counts.strangers = tally.strangers;
+    counts.lost_commands = tally.texts.lost;
     counts.receive_faults = faults.receive;
     counts.send_faults = faults.send;
     Ok(())
 }
 
-/// The gateway as it is now.
+/// The gateway as it is now, where its clock is so far behind the machine's, in ms.
 pub fn picture_of(
     alloc: Global,
     gateway: &Gateway,
     journal: &Journal,
     faults: Faults,
+    behind: u64,
 ) -> Result<Picture, AllocError> {
     let mut picture = Picture::new(alloc);
     picture.clock = gateway.now();
+    picture.behind = behind;
+    picture.is_serving = gateway.serves();
     picture.first = gateway.setup().first;
     for before in 0..gateway.lines() {
         picture.lines.push(line_view(alloc, gateway, before + 1)?)?;

@@ -171,11 +171,13 @@ fn put_others(
         (" repeated ", tally.sent.commands_again[notifications]),
         ("\nannouncements ", tally.sent.commands[announcements]),
         (" repeated ", tally.sent.commands_again[announcements]),
-        (" given up ", tally.sent.given_up),
+        (" given up ", tally.sent.given_up()),
         ("\nlost events ", lost),
         (" refused ", faults.refused),
         ("\nfaults receive ", faults.receive),
         (" send ", faults.send),
+        ("\nstrangers ", tally.strangers),
+        (" lost commands ", tally.texts.lost),
     ];
     put_numbers(alloc, text, &numbers)
 }

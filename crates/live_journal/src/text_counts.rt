@@ -1,9 +1,9 @@
 //! Counts the texts that come, by what they were. A count stays at its greatest value.
 ghost use Rattle.std.specs.Prelude.{◌≡◌};
 ghost use Rattle.gateway_core.specs.Wire.{counted};
-ghost use Rattle.live_journal.specs.Counting.{counts_in, no_counts, with_command, with_text, with_texts};
+ghost use Rattle.live_journal.specs.Counting.{counts_in, no_counts, with_command, with_reply, with_text, with_texts};
 
-use gateway_core::TextOutcome;
+use gateway_core::{Reply, TextOutcome};
 use mgcp_text::Verb;
 use sent_counts::place_of;
 
@@ -16,6 +16,8 @@ pub struct TextCounts {
     pub responses: u64,
     /// Texts that came and are no message that can be read.
     pub others: u64,
+    /// Commands that found no room among those that are remembered.
+    pub lost: u64,
 }
 
 /// One more. A count stays at its greatest value.
@@ -34,6 +36,7 @@ impl TextCounts {
             commands: [0; 10],
             responses: 0,
             others: 0,
+            lost: 0,
         }
     }
 
@@ -46,12 +49,24 @@ impl TextCounts {
         }
     }
 
+    fn add_reply(&mut self, reply: Reply)
+        ensures { counts_in self.new ≡ with_reply (counts_in self.old) reply }
+    {
+        match reply {
+            Reply::NoRoom => count(&mut self.lost),
+            Reply::First { .. } | Reply::Again { .. } | Reply::Silence => {}
+        }
+    }
+
     fn add_text(&mut self, outcome: TextOutcome)
         ensures { counts_in self.new ≡ with_text (counts_in self.old) outcome }
     {
         match outcome {
             TextOutcome::NoMessage => count(&mut self.others),
-            TextOutcome::Command { verb, .. } => self.add_command(verb),
+            TextOutcome::Command { verb, reply, .. } => {
+                self.add_command(verb);
+                self.add_reply(reply);
+            }
             TextOutcome::Response { .. } => count(&mut self.responses),
         }
     }

@@ -1,4 +1,4 @@
-use Rattle.live_journal.proofs.CountLemmas.{commands_sum, responses_sum, others_sum}
+use Rattle.live_journal.proofs.CountLemmas.{commands_sum, responses_sum, others_sum, lost_sum}
 use Rattle.live_journal.proofs.laws.counts_are_sums.Goals as goal
 
 pub returns-clause-commands : goal.returns-clause-commands
@@ -9,3 +9,6 @@ returns-clause-responses c = responses_sum
 
 pub returns-clause-others : goal.returns-clause-others
 returns-clause-others c = others_sum
+
+pub returns-clause-lost : goal.returns-clause-lost
+returns-clause-lost c = lost_sum
