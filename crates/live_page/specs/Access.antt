@@ -39,9 +39,13 @@ abbrev pub is_at : SocketAddrV4 → Option SocketAddrV4 → Bool
 is_at site None = false
 is_at site (Some place) = is_same_place site place
 
+-- a socket at 0.0.0.0 is at each address of its machine, and at none that it can tell
+abbrev pub is_anywhere : SocketAddrV4 → Bool
+is_anywhere site = bytes_eq (ipv4_octets site.ip) (0 ∷ 0 ∷ 0 ∷ 0 ∷ [])
+
 -- the host means the very address and port that the page listens at
 abbrev pub is_known_host : SocketAddrV4 → List ℕ → Bool
-is_known_host site host = is_at site (place_of host)
+is_known_host site host = if is_anywhere site then false else is_at site (place_of host)
 
 -- the origin is that of the pages at this host (RFC 6454, 6.2)
 abbrev pub is_origin_at : List ℕ → List ℕ → Bool

@@ -10,10 +10,12 @@ use Rattle.mg_bytes.specs.Numbers.{decimal_of}
 use Rattle.page_answers.specs.declared.board.ActOutcome.{ActOutcome}
 use Rattle.page_answers.specs.declared.board.ActOutcome.TheVariants.{Queued, NoRoom, Unreadable}
 use Rattle.live_page.specs.declared.route.Route.{Route}
-use Rattle.live_page.specs.declared.route.Route.TheVariants.{Page, Style, Script, State, Metrics, Events, Phone, Nothing}
+use Rattle.live_page.specs.declared.route.Route.TheVariants.{Page, Style, Script, State, Metrics, Health, Ready, Events, Phone, Nothing}
 use Rattle.live_page.specs.declared.asked.Asked.{Asked}
 use Rattle.live_page.specs.declared.asked.Asked.TheVariants.{Strange, Reading, Acting, Forbidden, Unsuited, Missing}
 use Rattle.live_page.specs.Access.{only, is_known_host, is_same_origin, is_json}
+use Rattle.live_page.specs.Health.{well_status}
+use Rattle.live_page.specs.Naming.{is_named}
 
 -- since which event is asked: `after=N`, or all
 abbrev pub after_of : Option (List ℕ) → Option ℕ
@@ -32,6 +34,8 @@ route_of path query =
     else if bytes_eq path (codes "/page.js") then Script
     else if bytes_eq path (codes "/state") then State
     else if bytes_eq path (codes "/metrics") then Metrics
+    else if bytes_eq path (codes "/healthz") then Health
+    else if bytes_eq path (codes "/readyz") then Ready
     else if bytes_eq path (codes "/phone") then Phone
     else if bytes_eq path (codes "/events") then events_route (after_of query)
     else Nothing
@@ -69,12 +73,39 @@ asked_at site head Style = reading_by head.method Style
 asked_at site head Script = reading_by head.method Script
 asked_at site head State = reading_by head.method State
 asked_at site head Metrics = reading_by head.method Metrics
+asked_at site head Health = reading_by head.method Health
+asked_at site head Ready = reading_by head.method Ready
 asked_at site head (Events after) = reading_by head.method (Events after)
 
+abbrev pub has_name : List (List ℕ) → Option (List ℕ) → Bool
+has_name names None = false
+has_name names (Some host) = is_named names host
+
+-- the request is for a further name: its target is a path alone
+abbrev pub is_by_name : List (List ℕ) → Parts → Bool
+is_by_name names head = not (is_some (uri_authority head.uri)) && has_name names (field head (codes "host"))
+
+-- under such a name it is read whether the gateway is well, and what was counted; nothing else is, and nothing is done
+abbrev pub asked_by_name : Parts → Route → Asked
+asked_by_name head Metrics = reading_by head.method Metrics
+asked_by_name head Health = reading_by head.method Health
+asked_by_name head Ready = reading_by head.method Ready
+asked_by_name head Nothing = Strange
+asked_by_name head Phone = Strange
+asked_by_name head Page = Strange
+asked_by_name head Style = Strange
+asked_by_name head Script = Strange
+asked_by_name head State = Strange
+asked_by_name head (Events after) = Strange
+
+abbrev pub asked_as : SocketAddrV4 → List (List ℕ) → Parts → Route → Asked
+asked_as site names head route =
+    if is_at_home site head then asked_at site head route
+    else if is_by_name names head then asked_by_name head route else Strange
+
 -- a request for another host is told nothing; who reads gets it; who acts has to be a page of this site
-abbrev pub asked_of : SocketAddrV4 → Parts → Asked
-asked_of site head =
-    if is_at_home site head then asked_at site head (route_of (uri_path head.uri) (uri_query head.uri)) else Strange
+abbrev pub asked_of : SocketAddrV4 → List (List ℕ) → Parts → Asked
+asked_of site names head = asked_as site names head (route_of (uri_path head.uri) (uri_query head.uri))
 
 -- the status of what gets nothing (RFC 9110, 15.5)
 abbrev pub refusal_status : Asked → ℕ
@@ -107,16 +138,19 @@ refusal_fields Missing = []
 refusal_fields (Reading route) = []
 refusal_fields Acting = []
 
--- the status of what stands there, and of what doesn't (RFC 9110, 15.3.1 and 15.5.5)
-abbrev pub reading_status : Route → ℕ
-reading_status Phone = 404
-reading_status Nothing = 404
-reading_status Page = 200
-reading_status Style = 200
-reading_status Script = 200
-reading_status State = 200
-reading_status Metrics = 200
-reading_status (Events after) = 200
+-- the status of what stands there, and of what doesn't (RFC 9110, 15.3.1 and 15.5.5), where the loop turns and the gateway serves, or
+-- doesn't
+abbrev pub reading_status : Bool → Bool → Route → ℕ
+reading_status is_alive is_serving Phone = 404
+reading_status is_alive is_serving Nothing = 404
+reading_status is_alive is_serving Page = 200
+reading_status is_alive is_serving Style = 200
+reading_status is_alive is_serving Script = 200
+reading_status is_alive is_serving State = 200
+reading_status is_alive is_serving Metrics = 200
+reading_status is_alive is_serving Health = well_status is_alive
+reading_status is_alive is_serving Ready = well_status is_serving
+reading_status is_alive is_serving (Events after) = 200
 
 -- the status of an act that a page of this site asked for (RFC 9110, 15.3.3, 15.6.4 and 15.5.1)
 abbrev pub outcome_status : ActOutcome → ℕ

@@ -15,6 +15,10 @@ here = at_port 8080
 abbrev pub elsewhere : SocketAddrV4
 elsewhere = record { ip = record { octets = 192 ∷ 168 ∷ 1 ∷ 5 ∷ [] }; port = 8080 }
 
+-- 0.0.0.0:8080
+abbrev pub anywhere : SocketAddrV4
+anywhere = record { ip = record { octets = 0 ∷ 0 ∷ 0 ∷ 0 ∷ [] }; port = 8080 }
+
 -- a field that stands there once
 abbrev pub once : List ℕ → Option (List ℕ)
 once text = Some text

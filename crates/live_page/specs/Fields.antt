@@ -4,7 +4,7 @@ use Rattle.http1.specs.Fields.{Header}
 use Rattle.live_page.specs.declared.fields.Content.{Content}
 use Rattle.live_page.specs.declared.fields.Content.TheVariants as contents
 use Rattle.live_page.specs.declared.route.Route.{Route}
-use Rattle.live_page.specs.declared.route.Route.TheVariants.{Page, Style, Script, State, Metrics, Events, Phone, Nothing}
+use Rattle.live_page.specs.declared.route.Route.TheVariants.{Page, Style, Script, State, Metrics, Health, Ready, Events, Phone, Nothing}
 
 -- the kind of content (RFC 9110, 8.3; RFC 8259, 11; Prometheus' text format, version 0.0.4)
 abbrev pub kind_of : Content → List ℕ
@@ -13,6 +13,7 @@ kind_of contents.Style = codes "text/css; charset=utf-8"
 kind_of contents.Script = codes "text/javascript; charset=utf-8"
 kind_of contents.Json = codes "application/json"
 kind_of contents.Metrics = codes "text/plain; version=0.0.4; charset=utf-8"
+kind_of contents.Plain = codes "text/plain; charset=utf-8"
 
 -- the page may use its own style, script and questions, and stands in no other's frame (Content Security Policy, 3)
 unfoldable pub policy : List ℕ
@@ -42,6 +43,8 @@ fields_at Style = kind_fields contents.Style
 fields_at Script = kind_fields contents.Script
 fields_at State = kind_fields contents.Json
 fields_at Metrics = kind_fields contents.Metrics
+fields_at Health = kind_fields contents.Plain
+fields_at Ready = kind_fields contents.Plain
 fields_at (Events after) = kind_fields contents.Json
 fields_at Phone = []
 fields_at Nothing = []

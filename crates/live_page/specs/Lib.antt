@@ -1,4 +1,6 @@
 pub mod Access
+pub mod Naming
+pub mod Health
 pub mod Asking
 pub mod Fields
 pub mod Serving

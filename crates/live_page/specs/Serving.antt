@@ -11,8 +11,10 @@ use Rattle.page_answers.specs.Showing.{BoardState}
 use Rattle.page_answers.specs.Metrics.{metrics_of}
 use Rattle.page_answers.specs.Texts.{TellsState}
 use Rattle.page_answers.specs.Telling.{events_text}
+use Rattle.page_answers.specs.Health.{is_alive}
+use Rattle.live_page.specs.Health.{alive_text, ready_text}
 use Rattle.live_page.specs.declared.route.Route.{Route}
-use Rattle.live_page.specs.declared.route.Route.TheVariants.{Page, Style, Script, State, Metrics, Events, Phone, Nothing}
+use Rattle.live_page.specs.declared.route.Route.TheVariants.{Page, Style, Script, State, Metrics, Health, Ready, Events, Phone, Nothing}
 use Rattle.live_page.specs.declared.asked.Asked.{Asked}
 use Rattle.live_page.specs.declared.asked.Asked.TheVariants.{Reading, Acting}
 use Rattle.live_page.specs.Fields.{fields_at}
@@ -25,19 +27,23 @@ file_at Style = Some STYLE.now
 file_at Script = Some SCRIPT.now
 file_at State = None
 file_at Metrics = None
+file_at Health = None
+file_at Ready = None
 file_at (Events after) = None
 file_at Phone = None
 file_at Nothing = None
 
 -- what stands at a route is a file, or is told as the board has it
 pub record Reads (board : BoardState) (route : Route) (response : Response) : Type 0 where
-  pub status : response.status ≡ reading_status route
+  pub status : response.status ≡ reading_status (is_alive board.picture.behind) board.picture.is_serving route
   pub fields : fields_of response ≡ fields_at route
   pub file : (text : List ℕ) → file_at route ≡ Some text → response.body.items ≡ text
   pub state : route ≡ State → TellsState board.picture board.version response.body.items
   pub events : (after : ℕ) → route ≡ Events after
       → response.body.items ≡ events_text board.ring after board.version board.picture.clock
   pub metrics : route ≡ Metrics → response.body.items ≡ metrics_of board.picture
+  pub health : route ≡ Health → response.body.items ≡ alive_text (is_alive board.picture.behind)
+  pub ready : route ≡ Ready → response.body.items ≡ ready_text board.picture.is_serving
 
 -- an act becomes what its body asks for, and the status alone says what became of it
 pub record Acts (old : BoardState) (body : List ℕ) (response : Response) (new : BoardState) (outcome : ActOutcome) : Type 0 where

@@ -3,7 +3,7 @@ ghost use Rattle.std.specs.Prelude.{◌≡◌, option_map, option_copied};
 ghost use Rattle.mg_bytes.specs.Bytes.{colon};
 ghost use Rattle.mg_bytes.specs.Words.{split_once as split_at_first};
 ghost use Rattle.live_page.specs.Access.{address_named as address_of_name, sides_of as sides_of_host, place_of as place_of_host};
-ghost use Rattle.live_page.specs.Access.{is_same_place as is_same, is_known_host as is_known, is_origin_at as is_origin, is_same_origin as is_same_site, is_json as is_json_kind};
+ghost use Rattle.live_page.specs.Access.{is_anywhere as is_nowhere, is_same_place as is_same, is_known_host as is_known, is_origin_at as is_origin, is_same_origin as is_same_site, is_json as is_json_kind};
 
 use mg_bytes::{ipv4_address, port_number, split_once};
 use std::net::{Ipv4Addr, SocketAddrV4};
@@ -41,6 +41,13 @@ fn place_of(host: &[u8]) -> Option<SocketAddrV4>
     Some(SocketAddrV4::new(address_named(name)?, port))
 }
 
+// Whether a socket is at each address of its machine, and so at none that it can tell.
+fn is_anywhere(site: SocketAddrV4) -> bool
+    ensures { result ≡ is_nowhere site }
+{
+    site.ip().octets().as_slice() == [0u8, 0, 0, 0].as_slice()
+}
+
 fn is_same_place(site: SocketAddrV4, place: SocketAddrV4) -> bool
     ensures { result ≡ is_same site place }
 {
@@ -50,10 +57,13 @@ fn is_same_place(site: SocketAddrV4, place: SocketAddrV4) -> bool
 }
 
 /// Whether a host means the very address and port that the page listens at (RFC 9110, 7.2). A name other than `localhost`
-/// means none, so that no name of another's can be led here.
+/// means none, so that no name of another's can be led here; nor does any where the page is at each address of its machine.
 pub fn is_known_host(site: SocketAddrV4, host: &[u8]) -> bool
     ensures { result ≡ is_known site host.now }
 {
+    if is_anywhere(site) {
+        return false;
+    }
     match place_of(host) {
         Some(place) => is_same_place(site, place),
         None => false,

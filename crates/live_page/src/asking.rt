@@ -4,10 +4,12 @@ ghost use Rattle.http.specs.HeaderMap.{get_all};
 ghost use Rattle.http.specs.Request.{head_of};
 ghost use Rattle.live_page.specs.Access.{only};
 ghost use Rattle.http.specs.Uri.{uri_path, uri_query};
-ghost use Rattle.live_page.specs.Asking.{route_of as route_at, is_at_home as is_home, may_change as may_write, reading_by as read_by, acting_by as act_by, asked_at as asked_there, asked_of as asked_in};
+ghost use Rattle.live_page.specs.Asking.{route_of as route_at, is_at_home as is_home, may_change as may_write, reading_by as read_by, acting_by as act_by, asked_at as asked_there, is_by_name as is_under_name, asked_by_name as named_asks, asked_of as asked_in};
+ghost use Rattle.live_page.specs.Naming.{names_of};
 
 use crate::access::{is_json, is_known_host, is_same_origin};
 use crate::asked::Asked;
+use crate::host_names::HostNames;
 use crate::route::{Route, route_of};
 use bytes::Bytes;
 use http::{HeaderMap, HeaderName, Request, header};
@@ -82,7 +84,38 @@ fn asked_at(site: SocketAddrV4, request: &Request<Bytes>, route: Route) -> Asked
         | Route::Script
         | Route::State
         | Route::Metrics
+        | Route::Health
+        | Route::Ready
         | Route::Events { .. } => reading_by(method, route),
+    }
+}
+
+// Whether a request is for a further name.
+fn is_by_name(names: &HostNames, request: &Request<Bytes>) -> bool
+    ensures { result ≡ is_under_name (names_of names.now) (head_of request.now) }
+{
+    if request.uri().authority().is_some() {
+        return false;
+    }
+    match only_value(request.headers(), header::HOST) {
+        Some(host) => names.has(host),
+        None => false,
+    }
+}
+
+fn asked_by_name(request: &Request<Bytes>, route: Route) -> Asked
+    ensures { result ≡ named_asks (head_of request.now) route }
+{
+    let method = request.method().as_str().as_bytes();
+    match route {
+        Route::Metrics | Route::Health | Route::Ready => reading_by(method, route),
+        Route::Nothing
+        | Route::Phone
+        | Route::Page
+        | Route::Style
+        | Route::Script
+        | Route::State
+        | Route::Events { .. } => Asked::Strange,
     }
 }
 
@@ -98,12 +131,14 @@ fn route_in(request: &Request<Bytes>) -> Route
     }
 }
 
-/// What a request to the page at this address asks for, and whether it gets it.
-pub(crate) fn asked_of(site: SocketAddrV4, request: &Request<Bytes>) -> Asked
-    ensures { result ≡ asked_in site (head_of request.now) }
+/// What a request to the page at this address, or under one of these further names, asks for, and whether it gets it.
+pub(crate) fn asked_of(site: SocketAddrV4, names: &HostNames, request: &Request<Bytes>) -> Asked
+    ensures { result ≡ asked_in site (names_of names.now) (head_of request.now) }
 {
     if is_at_home(site, request) {
         asked_at(site, request, route_in(request))
+    } else if is_by_name(names, request) {
+        asked_by_name(request, route_in(request))
     } else {
         Asked::Strange
     }

@@ -5,11 +5,14 @@ ghost use Rattle.page_answers.specs.declared.board.ActOutcome.{ActOutcome as Out
 ghost use Rattle.live_page.specs.Asking.{outcome_status, method_for, refusal_status, refusal_fields};
 ghost use Rattle.live_page.specs.Fields.{kind_fields};
 ghost use Rattle.live_page.specs.declared.fields.Content.TheVariants as contents;
+ghost use Rattle.live_page.specs.Health.{well_status, alive_text, ready_text};
 ghost use Rattle.live_page.specs.Serving.{Reads, Acts};
 
 use crate::asked::Asked;
 use crate::asking::asked_of;
 use crate::fields::{Content, put_body, put_kind};
+use crate::health::{alive_text, ready_text, well_status};
+use crate::host_names::HostNames;
 use crate::route::Route;
 use bytes::Bytes;
 use http::{HeaderValue, Request, StatusCode, header};
@@ -19,10 +22,11 @@ use page_files::{PAGE, SCRIPT, STYLE};
 use std::alloc::AllocError;
 use std::net::SocketAddrV4;
 
-/// The desk of the page at an address, which answers by a board for a turn.
+/// The desk of the page at an address, and under further names, which answers by a board for a turn.
 #[derive(Drop)]
 pub struct Desk<'a> {
     site: SocketAddrV4,
+    names: &'a HostNames,
     board: &'a mut Board,
 }
 
@@ -60,6 +64,26 @@ fn put_metrics(response: &mut Response, text: Vec<u8>) -> Result<(), AllocError>
     }
 }
 
+// Puts whether the loop turns.
+fn put_health(response: &mut Response, is_alive: bool) -> Result<(), AllocError>
+    ensures status { OnOk result (response.new.status ≡ well_status is_alive) }
+    ensures fields { OnOk result (fields_of response.new ≡ fields_of response.old ++ kind_fields contents.Plain) }
+    ensures body { OnOk result (response.new.body.items ≡ response.old.body.items ++ alive_text is_alive) }
+{
+    response.status = well_status(is_alive);
+    put_static(response, Content::Plain, alive_text(is_alive))
+}
+
+// Puts whether the gateway serves.
+fn put_readiness(response: &mut Response, is_serving: bool) -> Result<(), AllocError>
+    ensures status { OnOk result (response.new.status ≡ well_status is_serving) }
+    ensures fields { OnOk result (fields_of response.new ≡ fields_of response.old ++ kind_fields contents.Plain) }
+    ensures body { OnOk result (response.new.body.items ≡ response.old.body.items ++ ready_text is_serving) }
+{
+    response.status = well_status(is_serving);
+    put_static(response, Content::Plain, ready_text(is_serving))
+}
+
 // How an act that a page of this site asks for is answered.
 fn act_status(outcome: ActOutcome) -> StatusCode
     ensures { result ≡ outcome_status outcome }
@@ -82,6 +106,8 @@ fn read(board: &Board, route: Route, response: &mut Response) -> Result<(), Allo
         Route::Script => put_static(response, Content::Script, SCRIPT),
         Route::State => put_json(response, board.state()?),
         Route::Metrics => put_metrics(response, board.metrics()?),
+        Route::Health => put_health(response, board.is_alive()),
+        Route::Ready => put_readiness(response, board.is_serving()),
         Route::Events { after } => put_json(response, board.events(after)?),
         Route::Phone | Route::Nothing => {
             response.status = StatusCode::NOT_FOUND;
@@ -141,13 +167,14 @@ fn put_refusal(response: &mut Response, asked: Asked) -> Result<(), AllocError>
 }
 
 impl<'a> Desk<'a> {
-    /// The desk of the page at this address, over this board.
-    pub fn new(site: SocketAddrV4, board: &'a mut Board) -> Desk<'a>
+    /// The desk of the page at this address, and under these names, over this board.
+    pub fn new(site: SocketAddrV4, names: &'a HostNames, board: &'a mut Board) -> Desk<'a>
         ensures site { result.site ≡ site }
+        ensures names { result.names.now ≡ names.now }
         ensures board { result.board.now ≡ board.old }
         ensures same_reference { result.board.ghost_name ≡ board.entry.ghost_name }
     {
-        Desk { site, board }
+        Desk { site, names, board }
     }
 }
 
@@ -161,7 +188,7 @@ impl Service for Desk<'_> {
         request: &Request<Bytes>,
         response: &mut Response,
     ) -> Result<(), AllocError> {
-        match asked_of(self.site, request) {
+        match asked_of(self.site, self.names, request) {
             Asked::Reading { route } => read(self.board, route, response),
             Asked::Acting => act(self.board, request.body().as_slice(), response),
             refused => put_refusal(response, refused),

@@ -8,14 +8,16 @@ ghost use Rattle.page_answers.specs.declared.board.ActOutcome.TheVariants.{Queue
 ghost use Rattle.live_page.specs.Asking.{route_of, is_refused, reading_status, refusal_status, refusal_fields, outcome_status};
 ghost use Rattle.live_page.specs.Fields.{kind_of, policy, kind_fields, fields_at};
 ghost use Rattle.live_page.specs.declared.fields.Content.TheVariants as contents;
+ghost use Rattle.live_page.specs.Naming.{names_in, is_named};
+ghost use Rattle.live_page.specs.Health.{alive_text, ready_text};
 ghost use Rattle.live_page.specs.Places.{room_from, idlest, place_for};
 ghost use Rattle.live_page.specs.Seating.{held_by, seated};
 ghost use Rattle.live_page.specs.Waiting.{sooner, soonest_from, is_late, stays_at, next_turn};
 ghost use Rattle.live_page.specs.declared.visitor.Visitor.{Visitor};
 ghost use Rattle.live_ends.specs.declared.readiness.TheConstants.{MOST_VISITORS};
-ghost use Rattle.live_page.specs.Example.{here, at_port, elsewhere, once, this_host, other_host, third_host, mine, theirs, seven, eight, other_eight};
+ghost use Rattle.live_page.specs.Example.{here, at_port, elsewhere, anywhere, once, this_host, other_host, third_host, mine, theirs, seven, eight, other_eight};
 ghost use Rattle.live_page.specs.declared.asked.Asked.TheVariants.{Strange, Reading, Acting, Forbidden, Unsuited, Missing};
-ghost use Rattle.live_page.specs.declared.route.Route.TheVariants.{Page, Style, Script, State, Metrics, Events, Phone, Nothing};
+ghost use Rattle.live_page.specs.declared.route.Route.TheVariants.{Page, Style, Script, State, Metrics, Health, Ready, Events, Phone, Nothing};
 
 /// A host is known by the address and the port that the page listens at, and on the loopback by the name localhost.
 pub fn a_host_is_known_by_its_address()
@@ -31,6 +33,8 @@ pub fn a_host_is_known_by_its_address()
     ensures nothing { is_known_host here [] ≡ false }
     ensures another { is_known_host elsewhere (codes "192.168.1.5:8080") ≡ true }
     ensures not_its_loopback { is_known_host elsewhere (codes "localhost:8080") ≡ false }
+    ensures everywhere { is_known_host anywhere (codes "0.0.0.0:8080") ≡ false }
+    ensures everywhere_by_name { is_known_host anywhere (codes "localhost:8080") ≡ false }
 {}
 
 /// Where no port stands it is 80.
@@ -81,6 +85,8 @@ pub fn paths_lead_somewhere()
     ensures script { route_of (codes "/page.js") None ≡ Script }
     ensures state { route_of (codes "/state") None ≡ State }
     ensures metrics { route_of (codes "/metrics") None ≡ Metrics }
+    ensures health { route_of (codes "/healthz") None ≡ Health }
+    ensures ready { route_of (codes "/readyz") None ≡ Ready }
     ensures phone { route_of (codes "/phone") None ≡ Phone }
     ensures all { route_of (codes "/events") None ≡ Events 0 }
     ensures some { route_of (codes "/events") (Some (codes "after=12")) ≡ Events 12 }
@@ -91,10 +97,35 @@ pub fn paths_lead_somewhere()
     ensures nothing { route_of [] None ≡ Nothing }
 {}
 
+/// Further names are of letters, digits, `-` and `.`, in any case, and any port is theirs.
+pub fn further_names_are_known()
+    ensures two { names_in (codes "rgw, 10.0.0.5") ≡ Some (codes "rgw" ∷ codes "10.0.0.5" ∷ []) }
+    ensures hyphen { names_in (codes "rgw-0.rgw") ≡ Some (codes "rgw-0.rgw" ∷ []) }
+    ensures empty { names_in (codes "") ≡ None }
+    ensures no_second { names_in (codes "rgw,") ≡ None }
+    ensures with_a_port { names_in (codes "rgw:8080") ≡ None }
+    ensures other_byte { names_in (codes "rgw_0") ≡ None }
+    ensures known { is_named (codes "a" ∷ codes "rgw" ∷ []) (codes "RGW:80") ≡ true }
+    ensures portless { is_named (codes "rgw" ∷ []) (codes "rgw") ≡ true }
+    ensures other { is_named (codes "rgw" ∷ []) (codes "rgw.example:80") ≡ false }
+    ensures none { is_named [] (codes "rgw") ≡ false }
+{}
+
+/// Whether it is well is told in a line.
+pub fn wellness_is_told_in_a_line()
+    ensures alive { alive_text true ≡ codes "ok\n" }
+    ensures behind { alive_text false ≡ codes "the clock is behind\n" }
+    ensures ready { ready_text true ≡ codes "ready\n" }
+    ensures not_ready { ready_text false ≡ codes "no agent has answered yet\n" }
+{}
+
 /// What is read, refused and done has its status, and who asks by the wrong method is told the right one.
 pub fn answers_have_their_status()
-    ensures read { map reading_status (Page ∷ Style ∷ Script ∷ State ∷ Metrics ∷ Events 5 ∷ []) ≡ 200 ∷ 200 ∷ 200 ∷ 200 ∷ 200 ∷ 200 ∷ [] }
-    ensures not_there { map reading_status (Phone ∷ Nothing ∷ []) ≡ 404 ∷ 404 ∷ [] }
+    ensures read { map (reading_status false false) (Page ∷ Style ∷ Script ∷ State ∷ Metrics ∷ Events 5 ∷ []) ≡ 200 ∷ 200 ∷ 200 ∷ 200 ∷ 200 ∷ 200 ∷ [] }
+    ensures not_there { map (reading_status true true) (Phone ∷ Nothing ∷ []) ≡ 404 ∷ 404 ∷ [] }
+    ensures well { map (reading_status true true) (Health ∷ Ready ∷ []) ≡ 200 ∷ 200 ∷ [] }
+    ensures not_serving { map (reading_status true false) (Health ∷ Ready ∷ []) ≡ 200 ∷ 503 ∷ [] }
+    ensures behind { map (reading_status false true) (Health ∷ Ready ∷ []) ≡ 503 ∷ 200 ∷ [] }
     ensures refused { map refusal_status (Strange ∷ Forbidden ∷ Unsuited true ∷ Missing ∷ []) ≡ 421 ∷ 403 ∷ 405 ∷ 404 ∷ [] }
     ensures refusals { map is_refused (Strange ∷ Forbidden ∷ Unsuited true ∷ Missing ∷ []) ≡ true ∷ true ∷ true ∷ true ∷ [] }
     ensures others { map is_refused (Reading Page ∷ Acting ∷ []) ≡ false ∷ false ∷ [] }
@@ -178,6 +209,8 @@ pub fn what_is_read_says_its_kind()
     ensures state { fields_at State ≡ kind_fields contents.Json }
     ensures events { fields_at (Events 5) ≡ kind_fields contents.Json }
     ensures metrics { fields_at Metrics ≡ kind_fields contents.Metrics }
+    ensures wellness { map fields_at (Health ∷ Ready ∷ []) ≡ kind_fields contents.Plain ∷ kind_fields contents.Plain ∷ [] }
+    ensures plain { kind_of contents.Plain ≡ codes "text/plain; charset=utf-8" }
     ensures files { map fields_at (Page ∷ Style ∷ Script ∷ [])
         ≡ kind_fields contents.Page ∷ kind_fields contents.Style ∷ kind_fields contents.Script ∷ [] }
     ensures none { map fields_at (Phone ∷ Nothing ∷ []) ≡ [] ∷ [] ∷ [] }

@@ -16,6 +16,7 @@ pub(crate) enum Content {
     Script,
     Json,
     Metrics,
+    Plain,
 }
 
 // The kind of content, as its field says it (RFC 9110, 8.3).
@@ -28,6 +29,7 @@ fn kind_of(content: Content) -> HeaderValue
         Content::Script => HeaderValue::from_static("text/javascript; charset=utf-8"),
         Content::Json => HeaderValue::from_static("application/json"),
         Content::Metrics => HeaderValue::from_static("text/plain; version=0.0.4; charset=utf-8"),
+        Content::Plain => HeaderValue::from_static("text/plain; charset=utf-8"),
     }
 }
 

@@ -17,6 +17,10 @@ pub enum Route {
     State,
     /// What was counted, as Prometheus reads it.
     Metrics,
+    /// Whether the loop turns.
+    Health,
+    /// Whether the gateway serves.
+    Ready,
     /// What happened after this number, as JSON.
     Events { after: u64 },
     /// Something is done at a telephone.
@@ -52,6 +56,10 @@ pub(crate) fn route_of(path: &[u8], query: Option<&[u8]>) -> Route
         Route::State
     } else if path == b"/metrics".as_slice() {
         Route::Metrics
+    } else if path == b"/healthz".as_slice() {
+        Route::Health
+    } else if path == b"/readyz".as_slice() {
+        Route::Ready
     } else if path == b"/phone".as_slice() {
         Route::Phone
     } else if path == b"/events".as_slice() {

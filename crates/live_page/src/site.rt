@@ -3,6 +3,7 @@ ghost use Rattle.std.specs.Prelude.{◌≡◌, ◌||◌, None, is_some, map};
 ghost use Rattle.live_page.specs.Waiting.{deadline_of, sooner, soonest_from, is_late, stays_at, has_more, is_behind, turn_from, next_turn};
 
 use crate::desk::Desk;
+use crate::host_names::HostNames;
 use crate::places::{Seat, place_for};
 use crate::visitor::Visitor;
 use live_ends::{MOST_VISITORS, Readiness};
@@ -20,6 +21,8 @@ pub struct Site {
     listener: TcpListener,
     // The address of its socket, where that is known.
     address: Option<SocketAddrV4>,
+    // The further names under which it may be asked whether the gateway is well, and what was counted.
+    names: HostNames,
     places: Vec<Option<Box<Visitor>>>,
     // Whether somebody may have come.
     may_accept: bool,
@@ -34,11 +37,13 @@ impl Drop for Site {
             alloc: _,
             listener,
             address: _,
+            names,
             places,
             may_accept: _,
             last: _,
         } = self;
         drop(listener);
+        drop(names);
         drop(places);
     }
 }
@@ -126,11 +131,12 @@ fn turn_behind(places: &[Option<Box<Visitor>>], last: Option<usize>) -> Option<u
 }
 
 impl Site {
-    /// A site at this address, whose sockets are watched from now on.
+    /// A site at this address, and under these further names, whose sockets are watched from now on.
     pub fn open<R: Net>(
         rt: &R,
         alloc: Global,
         address: SocketAddrV4,
+        names: HostNames,
         ready: &Readiness,
     ) -> io::Result<Site> {
         let mut places = Vec::with_capacity(alloc, MOST_VISITORS)?;
@@ -147,6 +153,7 @@ impl Site {
             alloc,
             listener,
             address,
+            names,
             places,
             may_accept: true,
             last: 0,
@@ -274,7 +281,7 @@ impl Site {
             return;
         };
         self.last = place;
-        let mut desk = Desk::new(address, board);
+        let mut desk = Desk::new(address, &self.names, board);
         let stays = match self.places.get_mut(place) {
             Some(Some(visitor)) => visitor.turn(&mut desk, now),
             _ => true,
