@@ -1,5 +1,5 @@
 -- What lines for the telephones ask for.
-use Rattle.std.specs.Prelude.{◌≡◌, ⊤, ℕ, Bool, codes, if◌then◌else◌, List, Option, Some, None}
+use Rattle.std.specs.Prelude.{◌≡◌, ⊤, ℕ, Bool, true, false, codes, if◌then◌else◌, List, Option, Some, None}
 use Rattle.std.specs.Str.{bytes_eq}
 use Rattle.mg_bytes.specs.Words.{words}
 use Rattle.rgw_scripts.specs.declared.step.ScriptStep.{ScriptStep}
@@ -7,8 +7,10 @@ use Rattle.rgw_scripts.specs.declared.step.ScriptLine.{ScriptLine}
 use Rattle.rgw_scripts.specs.declared.step.ScriptLine.TheVariants.{Empty, From, Whole}
 use Rattle.rgw_scripts.specs.declared.step.ScriptStep.TheVariants as steps
 use Rattle.rgw_scripts.specs.Script.{line_in}
+use Rattle.live_gateway.specs.declared.telephones.Typist.{Typist}
+use Rattle.live_gateway.specs.declared.telephones.Typist.TheVariants.{Here, Elsewhere, Stranger}
 use Rattle.live_gateway.specs.declared.telephones.TelephoneRequest.{TelephoneRequest}
-use Rattle.live_gateway.specs.declared.telephones.TelephoneRequest.TheVariants.{Act, Show, Counts, Stop, StopFromAfar, Unknown, OutOfMemory}
+use Rattle.live_gateway.specs.declared.telephones.TelephoneRequest.TheVariants.{Act, Show, Counts, Stop, StopFromAfar, Refused, Unknown, OutOfMemory}
 
 -- an act and a question are what a script says by the line
 abbrev pub AsksFor : TelephoneRequest → Option ScriptLine → Type 0
@@ -17,6 +19,7 @@ AsksFor (Show line) said = said ≡ Some (Whole (steps.Show line))
 AsksFor Counts said = ⊤
 AsksFor Stop said = ⊤
 AsksFor StopFromAfar said = ⊤
+AsksFor Refused said = ⊤
 AsksFor Unknown said = ⊤
 AsksFor OutOfMemory said = ⊤
 
@@ -40,8 +43,14 @@ abbrev pub stop_request : Bool → TelephoneRequest
 stop_request is_near = if is_near then Stop else StopFromAfar
 
 -- what a line asks for: `counts`, `stop`, or what a script says by it
-unfoldable pub request_in : Bool → List ℕ → TelephoneRequest
-request_in is_near line =
+unfoldable pub line_request : Bool → List ℕ → TelephoneRequest
+line_request is_near line =
     if bytes_eq line (codes "counts") then Counts
     else if bytes_eq line (codes "stop") then stop_request is_near
     else request_by (line_in (words line))
+
+-- what a line asks for by who typed it: anything, anything but the end, or nothing at all
+abbrev pub request_in : Typist → List ℕ → TelephoneRequest
+request_in Here line = line_request true line
+request_in Elsewhere line = line_request false line
+request_in Stranger line = Refused

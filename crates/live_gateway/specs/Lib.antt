@@ -1,4 +1,6 @@
 pub mod Offering
 pub mod Exchanging
 pub mod Asking
+pub mod Admitting
 pub mod Desk
+pub mod Example

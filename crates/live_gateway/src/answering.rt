@@ -13,6 +13,10 @@ pub const DONE: &[u8] = b"done\n";
 /// The answer to a line that says nothing that can be done.
 pub const UNKNOWN: &[u8] = b"? phone LINE off|on|flash|KEY, show LINE, counts, or stop\n";
 
+/// The answer to whatever comes from another machine, where the telephones aren't open to that.
+pub const PHONES_FROM_AFAR: &[u8] =
+    b"! the telephones are for a loopback address alone, 127.0.0.0/8, but with --phones-open\n";
+
 /// The answer where memory is refused for any other.
 pub const OUT_OF_MEMORY: &[u8] = b"! 1 OutOfMemory\n";
 
@@ -56,12 +60,18 @@ pub(crate) fn take_act(alloc: Global, journal: &mut Journal, lines: &mut Lines) 
     true
 }
 
-/// The page is shown the gateway as it is now.
-pub(crate) fn show(alloc: Global, gateway: &Gateway, journal: &mut Journal, faults: Faults) {
+/// The page is shown the gateway as it is now, where its clock is so far behind the machine's, in ms.
+pub(crate) fn show(
+    alloc: Global,
+    gateway: &Gateway,
+    journal: &mut Journal,
+    faults: Faults,
+    behind: u64,
+) {
     if journal.board.is_none() {
         return;
     }
-    let Ok(picture) = picture_of(alloc, gateway, journal, faults) else {
+    let Ok(picture) = picture_of(alloc, gateway, journal, faults, behind) else {
         return;
     };
     if let Some(board) = &mut journal.board {

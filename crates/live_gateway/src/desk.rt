@@ -1,19 +1,21 @@
 //! The loop: it asks what comes next, and does that.
-#![tactic(auto, using(live_play::proofs::RunLemmas::stays_so))]
+#![tactic(auto, using(crate::proofs::DeskLemmas::stays_so))]
 
-ghost use Rattle.std.specs.Prelude.{◌≡◌, [], List, IfOk};
+ghost use Rattle.std.specs.Prelude.{◌≡◌, Bool, List, IfOk};
 ghost use Rattle.plain_machine.specs.Event.{GatewayEvent};
 ghost use Rattle.plain_machine.specs.Lists.{plain};
 ghost use Rattle.gateway_core.specs.Stands.{Stands};
-ghost use Rattle.traces.specs.Writing.{Entry};
-ghost use Rattle.live_play.specs.Running.{Ran};
 ghost use Rattle.live_journal.specs.Reporting.{counts_text};
-ghost use Rattle.live_gateway.specs.Desk.{at_desk};
+ghost use Rattle.live_gateway.specs.Admitting.{typist_of};
+ghost use Rattle.live_gateway.specs.Desk.{at_desk, GoesOn};
 
-use crate::answering::{DONE, OUT_OF_MEMORY, UNKNOWN, act_answer, question_answer, show, take_act};
+use crate::admission::Admission;
+use crate::answering::{
+    DONE, OUT_OF_MEMORY, PHONES_FROM_AFAR, UNKNOWN, act_answer, question_answer, show, take_act,
+};
 use crate::exchange::Exchange;
 use crate::recorder::Recorder;
-use crate::telephones::{TelephoneRequest, request_in};
+use crate::telephones::{TelephoneRequest, Typist, request_in, typist_of};
 use crate::visitors::Visitors;
 use exchange_log::Note;
 use gateway_core::{DATAGRAM_ROOM, Refusal};
@@ -21,6 +23,7 @@ use live_ends::STOP_FROM_AFAR;
 use live_journal::report;
 use live_play::{LivePlay, Teller};
 use std::alloc::{AllocError, Global};
+use std::net::SocketAddrV4;
 use surroundings::{Lines, Surroundings};
 use turns::{Ready, Schedule, Situation, Turn};
 
@@ -30,6 +33,8 @@ pub struct Desk<S, T> {
     pub play: Box<LivePlay<T>>,
     pub exchange: Box<Exchange<S>>,
     pub lines: Box<Lines>,
+    // Who may speak to it, and who may type.
+    admission: Admission,
     // Whether the line that is left is the page's.
     is_of_page: bool,
     schedule: Schedule,
@@ -45,6 +50,7 @@ impl<S: Drop, T: Drop> Drop for Desk<S, T> {
             play,
             exchange,
             lines,
+            admission: admitted,
             is_of_page: _,
             schedule: _,
             end: _,
@@ -52,6 +58,7 @@ impl<S: Drop, T: Drop> Drop for Desk<S, T> {
         drop(play);
         drop(exchange);
         drop(lines);
+        drop(admitted);
     }
 }
 
@@ -65,17 +72,19 @@ fn earlier(one: Option<u64>, other: Option<u64>) -> Option<u64> {
 }
 
 impl<S: Surroundings + Drop, T: Teller + Drop> Desk<S, T> {
-    /// A gateway over this exchange, which ends at a moment of its clock, in ms, if one is given.
+    /// A gateway over this exchange, to which these are admitted, and which ends at a moment of its clock, in ms, if one is given.
     pub fn new(
         alloc: Global,
         play: Box<LivePlay<T>>,
         exchange: Box<Exchange<S>>,
         lines: Box<Lines>,
+        admission: Admission,
         end: Option<u64>,
     ) -> Desk<S, T>
         ensures play { result.play ≡ play }
         ensures exchange { result.exchange ≡ exchange }
         ensures lines { result.lines ≡ lines }
+        ensures admission { result.admission ≡ admission }
         ensures end { result.end ≡ end }
     {
         Desk {
@@ -83,6 +92,7 @@ impl<S: Surroundings + Drop, T: Teller + Drop> Desk<S, T> {
             play,
             exchange,
             lines,
+            admission,
             is_of_page: false,
             schedule: Schedule::starting_at(0),
             end,
@@ -114,7 +124,8 @@ impl<S: Surroundings + Drop, T: Teller + Drop> Desk<S, T> {
 
     // How things stand.
     fn situation<V: Visitors<S>>(&mut self, visitors: &Option<Box<V>>) -> Situation
-        ensures { at_desk T.told S.sent self.new ≡ at_desk T.told S.sent self.old }
+        ensures play { at_desk T.told S.sent self.new ≡ at_desk T.told S.sent self.old }
+        ensures admission { self.new.admission ≡ self.old.admission }
     {
         let ticked = self.play.gateway.now();
         let moment = self.exchange.moment(ticked);
@@ -130,46 +141,96 @@ impl<S: Surroundings + Drop, T: Teller + Drop> Desk<S, T> {
 
     // It begins now: what its start took isn't a pause.
     fn begin(&mut self)
-        ensures { at_desk T.told S.sent self.new ≡ at_desk T.told S.sent self.old }
+        ensures play { at_desk T.told S.sent self.new ≡ at_desk T.told S.sent self.old }
+        ensures admission { self.new.admission ≡ self.old.admission }
     {
         let moment = self.exchange.moment(self.play.gateway.now());
         self.schedule = Schedule::starting_at(moment);
     }
 
+    // Of commands that were sent to who may not speak it is noted that no answer is heard.
+    fn note_unheard(&mut self)
+        ensures play { at_desk T.told S.sent self.new ≡ at_desk T.told S.sent self.old }
+        ensures admission { self.new.admission ≡ self.old.admission }
+    {
+        let now = self.exchange.now;
+        let log = &mut self.exchange.journal.log;
+        log.unheard(now, &self.play.gateway, &self.admission.speakers);
+    }
+
+    // The gateway took an input, or refused it.
+    fn note_taken(&mut self, is_taken: bool)
+        ensures play { at_desk T.told S.sent self.new ≡ at_desk T.told S.sent self.old }
+        ensures admission { self.new.admission ≡ self.old.admission }
+    {
+        self.exchange.count_refused(!is_taken);
+        if is_taken {
+            self.note_unheard();
+        }
+    }
+
     // The clock goes on.
+    #[tactic(auto, using(crate::proofs::DeskLemmas::ticks))]
     fn tick(&mut self, moment: u64)
-        ensures { (entries : List Entry) × Ran (at_desk T.told S.sent self.old) entries (at_desk T.told S.sent self.new) }
+        ensures { GoesOn T.told S.sent self.old self.new }
     {
         self.exchange.begin(moment);
         let done = self.play.tick(&mut *self.exchange, moment);
-        self.exchange.count_refused(done.is_err());
+        self.note_taken(done.is_ok());
     }
 
-    // A datagram is taken, if one is there.
+    // Why commands of the datagram that came last were refused is told, where the gateway took it; else that it didn't.
+    fn note_datagram(&mut self, is_taken: bool, source: SocketAddrV4, bytes: &[u8])
+        ensures play { at_desk T.told S.sent self.new ≡ at_desk T.told S.sent self.old }
+        ensures admission { self.new.admission ≡ self.old.admission }
+    {
+        let now = self.exchange.now;
+        let journal = &mut self.exchange.journal;
+        if is_taken {
+            journal.log.explain(&self.play.gateway);
+        } else {
+            journal.untaken(now, source, bytes, Note::OutOfMemory);
+        }
+    }
+
+    // A datagram is taken, if one is there, and who sent it may speak.
+    #[tactic(auto, using(crate::proofs::DeskLemmas::stays_so, crate::proofs::DeskLemmas::hears))]
     fn datagram(&mut self)
-        ensures { (entries : List Entry) × Ran (at_desk T.told S.sent self.old) entries (at_desk T.told S.sent self.new) }
+        ensures { GoesOn T.told S.sent self.old self.new }
     {
         let mut room = [0u8; DATAGRAM_ROOM];
-        let Some((source, len)) = self.exchange.receive(&mut room) else {
+        let speakers = &self.admission.speakers;
+        let Some((source, len)) = self.exchange.receive(speakers, &mut room) else {
             return;
         };
         let done = self
             .play
             .datagram(&mut *self.exchange, source, &room[..len]);
-        self.exchange.count_refused(done.is_err());
-        let now = self.exchange.now;
-        let journal = &mut self.exchange.journal;
-        match done {
-            Ok(()) => journal.log.explain(&self.play.gateway),
-            Err(_) => journal.untaken(now, source, &room[..len], Note::OutOfMemory),
-        }
+        self.note_datagram(done.is_ok(), source, &room[..len]);
+        self.note_taken(done.is_ok());
     }
 
     // This is answered to the line, which is done with.
     fn answer(&mut self, text: &[u8])
-        ensures { (entries : List Entry) × Ran (at_desk T.told S.sent self.old) entries (at_desk T.told S.sent self.new) }
+        ensures { GoesOn T.told S.sent self.old self.new }
     {
         self.lines.answer(&mut self.exchange.around, text);
+    }
+
+    // This is answered to all lines of the datagram, which are done with.
+    fn answer_all(&mut self, text: &[u8])
+        ensures { GoesOn T.told S.sent self.old self.new }
+    {
+        self.lines.answer_all(&mut self.exchange.around, text);
+    }
+
+    // Who typed the line that is answered next.
+    fn typist(&self) -> Typist
+        ensures { (is_here is_afar : Bool) × (result ≡ typist_of is_here is_afar self.now.admission.are_phones_open) }
+    {
+        let is_here = self.lines.is_from_loopback();
+        let is_afar = self.lines.is_from_afar();
+        typist_of(is_here, is_afar, self.admission.are_phones_open)
     }
 
     /// What was counted so far, as text. Its only error is want of memory.
@@ -189,9 +250,10 @@ impl<S: Surroundings + Drop, T: Teller + Drop> Desk<S, T> {
 
     // The act that the line asked for was done, or refused: that is answered.
     fn answer_act(&mut self, done: Result<(), Refusal>)
-        ensures { at_desk T.told S.sent self.new ≡ at_desk T.told S.sent self.old }
+        ensures play { at_desk T.told S.sent self.new ≡ at_desk T.told S.sent self.old }
+        ensures admission { self.new.admission ≡ self.old.admission }
     {
-        self.exchange.count_refused(done.is_err());
+        self.note_taken(done.is_ok());
         let answer = act_answer(done, self.play.printed());
         let clock = self.exchange.now.clock;
         self.exchange.journal.answered(clock, answer);
@@ -200,7 +262,7 @@ impl<S: Surroundings + Drop, T: Teller + Drop> Desk<S, T> {
 
     // What was counted so far is answered.
     fn answer_counts(&mut self)
-        ensures { (entries : List Entry) × Ran (at_desk T.told S.sent self.old) entries (at_desk T.told S.sent self.new) }
+        ensures { GoesOn T.told S.sent self.old self.new }
     {
         match self.counts() {
             Ok(counts) => self.answer(counts.as_slice()),
@@ -209,14 +271,14 @@ impl<S: Surroundings + Drop, T: Teller + Drop> Desk<S, T> {
     }
 
     // What the line asks for that is to be answered next is done.
-    #[tactic(auto, using(live_play::proofs::RunLemmas::stays_so, live_play::proofs::RunLemmas::stays))]
+    #[tactic(auto, using(crate::proofs::DeskLemmas::stays_so, crate::proofs::DeskLemmas::stays, crate::proofs::DeskLemmas::ticks))]
     fn take_line(&mut self)
-        ensures { (entries : List Entry) × Ran (at_desk T.told S.sent self.old) entries (at_desk T.told S.sent self.new) }
+        ensures { GoesOn T.told S.sent self.old self.new }
     {
         let Some(text) = self.lines.line() else {
             return;
         };
-        match request_in(self.alloc, text, self.lines.is_from_loopback()) {
+        match request_in(self.alloc, text, self.typist()) {
             TelephoneRequest::Act { line, act } => {
                 let now = self.exchange.now;
                 self.exchange.journal.act(now, text);
@@ -232,6 +294,7 @@ impl<S: Surroundings + Drop, T: Teller + Drop> Desk<S, T> {
             // Who asks for that is answered when the gateway has ended.
             TelephoneRequest::Stop => self.end = Some(0),
             TelephoneRequest::StopFromAfar => self.answer(STOP_FROM_AFAR),
+            TelephoneRequest::Refused => self.answer_all(PHONES_FROM_AFAR),
             TelephoneRequest::Unknown => self.answer(UNKNOWN),
             TelephoneRequest::OutOfMemory => self.answer(OUT_OF_MEMORY),
         }
@@ -239,7 +302,8 @@ impl<S: Surroundings + Drop, T: Teller + Drop> Desk<S, T> {
 
     // What the page asks for is the next line, where none is left and it is its turn, or nobody typed.
     fn take_from_page(&mut self, is_its_turn: bool)
-        ensures { at_desk T.told S.sent self.new ≡ at_desk T.told S.sent self.old }
+        ensures play { at_desk T.told S.sent self.new ≡ at_desk T.told S.sent self.old }
+        ensures admission { self.new.admission ≡ self.old.admission }
     {
         let is_taken = is_its_turn || !self.exchange.around.told().lines;
         if is_taken && self.lines.is_empty() {
@@ -248,9 +312,9 @@ impl<S: Surroundings + Drop, T: Teller + Drop> Desk<S, T> {
     }
 
     // A line is taken, if one is there. Who types and the page take turns: behind what was typed comes one act of the page's.
-    #[tactic(auto, using(live_play::proofs::RunLemmas::stays_so, live_play::proofs::RunLemmas::goes_on_then))]
+    #[tactic(auto, using(crate::proofs::DeskLemmas::stays_so, crate::proofs::DeskLemmas::goes_on_then))]
     fn command(&mut self)
-        ensures { (entries : List Entry) × Ran (at_desk T.told S.sent self.old) entries (at_desk T.told S.sent self.new) }
+        ensures { GoesOn T.told S.sent self.old self.new }
     {
         let was_page = self.is_of_page;
         self.is_of_page = false;
@@ -261,14 +325,16 @@ impl<S: Surroundings + Drop, T: Teller + Drop> Desk<S, T> {
 
     // A visitor is served, if one is there.
     fn visit<V: Visitors<S>>(&mut self, visitors: &mut Option<Box<V>>, moment: u64)
-        ensures { (entries : List Entry) × Ran (at_desk T.told S.sent self.old) entries (at_desk T.told S.sent self.new) }
+        ensures { GoesOn T.told S.sent self.old self.new }
     {
         let faults = self.exchange.faults;
+        let behind = moment.saturating_sub(self.play.gateway.now());
         show(
             self.alloc,
             &self.play.gateway,
             &mut self.exchange.journal,
             faults,
+            behind,
         );
         self.exchange.serve_visitor(visitors, moment);
         self.take_from_page(false);
@@ -276,7 +342,7 @@ impl<S: Surroundings + Drop, T: Teller + Drop> Desk<S, T> {
 
     // A turn of somebody's, or a wait, where it is now this moment.
     fn do_turn<V: Visitors<S>>(&mut self, turn: Turn, visitors: &mut Option<Box<V>>, moment: u64)
-        ensures { (entries : List Entry) × Ran (at_desk T.told S.sent self.old) entries (at_desk T.told S.sent self.new) }
+        ensures { GoesOn T.told S.sent self.old self.new }
     {
         match turn {
             Turn::Tick { moment } => self.tick(moment),
@@ -295,9 +361,9 @@ impl<S: Surroundings + Drop, T: Teller + Drop> Desk<S, T> {
     }
 
     /// Asks what comes next and does that: whether the end hasn't come.
-    #[tactic(auto, using(live_play::proofs::RunLemmas::stays_so, live_play::proofs::RunLemmas::goes_on_then))]
+    #[tactic(auto, using(crate::proofs::DeskLemmas::stays_so, crate::proofs::DeskLemmas::goes_on_then))]
     pub fn turn<V: Visitors<S>>(&mut self, visitors: &mut Option<Box<V>>) -> bool
-        ensures { (entries : List Entry) × Ran (at_desk T.told S.sent self.old) entries (at_desk T.told S.sent self.new) }
+        ensures { GoesOn T.told S.sent self.old self.new }
     {
         let at = self.situation(visitors);
         let turn = self.schedule.next(at);
@@ -307,9 +373,9 @@ impl<S: Surroundings + Drop, T: Teller + Drop> Desk<S, T> {
     }
 
     /// Writes what was recorded at the turn that is over, as far as it is taken at once.
-    #[tactic(auto, using(live_play::proofs::RunLemmas::written_off))]
+    #[tactic(auto, using(crate::proofs::DeskLemmas::written_off))]
     pub fn write<W: Recorder<T>>(&mut self, recorder: &mut W)
-        ensures { (entries : List Entry) × Ran (at_desk T.told S.sent self.old) entries (at_desk T.told S.sent self.new) }
+        ensures { GoesOn T.told S.sent self.old self.new }
     {
         let time = self.exchange.now.time;
         recorder.write(&mut self.exchange.journal, &mut self.play.teller, time);
@@ -317,13 +383,13 @@ impl<S: Surroundings + Drop, T: Teller + Drop> Desk<S, T> {
     }
 
     /// Runs until the end comes, and writes after each turn what was recorded.
-    #[tactic(auto, using(live_play::proofs::RunLemmas::stays, live_play::proofs::RunLemmas::goes_on_then))]
+    #[tactic(auto, using(crate::proofs::DeskLemmas::stays, crate::proofs::DeskLemmas::goes_on_then))]
     pub fn run<V: Visitors<S>, W: Recorder<T>>(
         &mut self,
         visitors: &mut Option<Box<V>>,
         recorder: &mut W,
     )
-        ensures { (entries : List Entry) × Ran (at_desk T.told S.sent self.old) entries (at_desk T.told S.sent self.new) }
+        ensures { GoesOn T.told S.sent self.old self.new }
     {
         self.begin();
         for _ in 0..u64::MAX {

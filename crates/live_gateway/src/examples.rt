@@ -1,31 +1,57 @@
 //! Worked examples of the definitions, as theorems: each sentence of a definition has one that a slip in it breaks.
 #![tactic(auto, unfolding(crate::proofs::Computing::on_examples))]
 
-ghost use Rattle.std.specs.Prelude.{◌≡◌, codes, true, false, []};
+ghost use Rattle.std.specs.Prelude.{◌≡◌, codes, true, false, [], ◌∷◌};
+ghost use Rattle.endpoint_names.specs.declared.route.Route.TheVariants.{One, Two};
 ghost use Rattle.mg_line.specs.declared.phone.Act.TheVariants.{OffHook};
 ghost use Rattle.live_journal.specs.declared.reporting.Faults.{Faults};
-ghost use Rattle.live_gateway.specs.declared.telephones.TelephoneRequest.TheVariants.{Act, Show, Counts, Stop, StopFromAfar, Unknown};
+ghost use Rattle.surroundings.specs.Speaking.{nobody, may_speak};
+ghost use Rattle.live_gateway.specs.declared.telephones.Typist.TheVariants.{Here, Elsewhere, Stranger};
+ghost use Rattle.live_gateway.specs.declared.telephones.TelephoneRequest.TheVariants.{Act, Show, Counts, Stop, StopFromAfar, Refused, Unknown};
+ghost use Rattle.live_gateway.specs.Admitting.{with_hosts, hosts_of, with_named, typist_of};
 ghost use Rattle.live_gateway.specs.Asking.{request_in};
+ghost use Rattle.live_gateway.specs.Example.{host, at_port};
 ghost use Rattle.live_gateway.specs.Exchanging.{with_refused};
 
 /// A line has one of five words, or asks for nothing that can be done: other steps of a script can't be asked for.
 pub fn lines_ask_for_this()
-    ensures act { request_in false (codes "phone 1 off") ≡ Act 1 OffHook }
-    ensures show { request_in false (codes "show 2") ≡ Show 2 }
-    ensures counts { request_in false (codes "counts") ≡ Counts }
-    ensures stop { request_in true (codes "stop") ≡ Stop }
-    ensures afar { request_in false (codes "stop") ≡ StopFromAfar }
-    ensures longer { request_in true (codes "counts ") ≡ Unknown }
-    ensures tick { request_in true (codes "tick 10") ≡ Unknown }
-    ensures moment { request_in true (codes "at 10") ≡ Unknown }
-    ensures wait { request_in true (codes "wait 10") ≡ Unknown }
-    ensures raw { request_in true (codes "raw 10.0.0.1:2427 30") ≡ Unknown }
-    ensures sender { request_in true (codes "from 10.0.0.1:2427") ≡ Unknown }
-    ensures nothing { request_in true [] ≡ Unknown }
+    ensures act { request_in Elsewhere (codes "phone 1 off") ≡ Act 1 OffHook }
+    ensures show { request_in Elsewhere (codes "show 2") ≡ Show 2 }
+    ensures counts { request_in Elsewhere (codes "counts") ≡ Counts }
+    ensures stop { request_in Here (codes "stop") ≡ Stop }
+    ensures afar { request_in Elsewhere (codes "stop") ≡ StopFromAfar }
+    ensures longer { request_in Here (codes "counts ") ≡ Unknown }
+    ensures tick { request_in Here (codes "tick 10") ≡ Unknown }
+    ensures moment { request_in Here (codes "at 10") ≡ Unknown }
+    ensures wait { request_in Here (codes "wait 10") ≡ Unknown }
+    ensures raw { request_in Here (codes "raw 10.0.0.1:2427 30") ≡ Unknown }
+    ensures sender { request_in Here (codes "from 10.0.0.1:2427") ≡ Unknown }
+    ensures nothing { request_in Here [] ≡ Unknown }
+    ensures stranger { request_in Stranger (codes "counts") ≡ Refused }
 {}
 
 /// Inputs that were refused are counted, and no other ones.
 pub fn refused_inputs_are_counted()
     ensures refused { (faults : Faults) → with_refused true (record faults { refused = 4 }) ≡ record faults { refused = 5 } }
     ensures taken { (faults : Faults) → with_refused false faults ≡ faults }
+{}
+
+/// Each address of a host may speak, and no other; of an agent its port doesn't matter.
+pub fn each_address_of_a_host_may_speak()
+    ensures first { may_speak (with_hosts nobody (host 7 ∷ host 8 ∷ [])) (host 7) ≡ true }
+    ensures second { may_speak (with_hosts nobody (host 7 ∷ host 8 ∷ [])) (host 8) ≡ true }
+    ensures other { may_speak (with_hosts nobody (host 7 ∷ host 8 ∷ [])) (host 9) ≡ false }
+    ensures none { may_speak (with_hosts nobody []) (host 7) ≡ false }
+    ensures named { may_speak (with_named (with_hosts nobody (host 7 ∷ [])) (record { name = []; route = Two (host 8) (host 9) })) (host 9) ≡ true }
+    ensures still { may_speak (with_named (with_hosts nobody (host 7 ∷ [])) (record { name = []; route = One (host 8) })) (host 7) ≡ true }
+    ensures portless { hosts_of (Two (at_port 7 2727) (at_port 8 2728)) ≡ Two (host 7) (host 8) }
+{}
+
+/// Who is at this machine may type anything; who isn't is a stranger, unless the telephones are open; nobody is the page.
+pub fn who_types_is_known_by_the_address()
+    ensures here { typist_of true false false ≡ Here }
+    ensures here_where_open { typist_of true false true ≡ Here }
+    ensures afar { typist_of false true false ≡ Stranger }
+    ensures afar_where_open { typist_of false true true ≡ Elsewhere }
+    ensures page { typist_of false false false ≡ Elsewhere }
 {}

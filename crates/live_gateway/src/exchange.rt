@@ -1,6 +1,7 @@
 //! What goes between the gateway and others: over sockets, behind a bad network where one is asked for; and its journal.
-ghost use Rattle.std.specs.Prelude.{◌≡◌, ◌≤◌, ◌∷◌, [], length, List, Option, IfSome};
+ghost use Rattle.std.specs.Prelude.{◌≡◌, ◌≤◌, ◌∷◌, [], true, length, List, Option, IfSome};
 ghost use Rattle.surroundings.specs.Sending.{Sent, Grows};
+ghost use Rattle.surroundings.specs.Speaking.{admitted_by, may_speak};
 ghost use Rattle.live_gateway.specs.Exchanging.{handed_by, next_due, with_refused};
 
 use crate::spoilt_way::SpoiltWay;
@@ -12,7 +13,7 @@ use live_ends::{NEXT_OFFER, Now};
 use live_journal::{Faults, Journal, count};
 use live_play::Outlet;
 use std::net::SocketAddrV4;
-use surroundings::{Fault, Lines, Surroundings};
+use surroundings::{Fault, Lines, Speakers, Surroundings};
 use traces::Mark;
 
 /// The way between a gateway and others, and what is kept of what went over it.
@@ -192,25 +193,70 @@ impl<S: Surroundings + Drop> Exchange<S> {
         len
     }
 
-    // A datagram that the network hands to the gateway now, if there is one. Those that go out now are sent; one that can't be is lost.
-    fn handed_over(&mut self, room: &mut [u8]) -> Option<(SocketAddrV4, usize)>
+    // Whether who sent a datagram that has come may speak; one of a stranger's is counted, and told of now and then.
+    fn is_heard(&mut self, speakers: &Speakers, source: SocketAddrV4) -> bool
+        ensures heard { result ≡ may_speak (admitted_by speakers.now) source.ip }
+        ensures network { self.new.network ≡ self.old.network }
+        ensures around { self.new.around ≡ self.old.around }
+    {
+        let is_heard = speakers.hears(*source.ip());
+        if !is_heard {
+            self.journal.stranger(self.now, source);
+        }
+        is_heard
+    }
+
+    // A datagram that the network hands to the gateway now, if there is one, from who may speak. Those that go out now are sent; one that
+    // can't be is lost.
+    fn handed_over(&mut self, speakers: &Speakers, room: &mut [u8]) -> Option<(SocketAddrV4, usize)>
         ensures length { length room.new ≡ length room.old }
         ensures within { IfSome result (λ p. p.1 ≤ length room.new) }
+        ensures admitted { IfSome result (λ p. may_speak (admitted_by speakers.now) p.0.ip ≡ true) }
         ensures handed { handed_by self.new.network (S.sent self.new.around) ≡ handed_by self.old.network (S.sent self.old.around) }
     {
         for _ in 0..u16::MAX {
             let packet = self.take_due()?;
-            if packet.way == Way::In {
+            if packet.way == Way::Out {
+                let _ = self.around.send(packet.peer, packet.bytes.as_bytes());
+            } else if self.is_heard(speakers, packet.peer) {
                 return Some((packet.peer, self.hand_in(&packet, room)));
             }
-            let _ = self.around.send(packet.peer, packet.bytes.as_bytes());
         }
         None
     }
 
-    // A datagram that has come goes over the network, which may lose it, or hand over another one.
+    // A datagram has come, and no network is before the socket: whether it is heard.
+    fn come(&mut self, speakers: &Speakers, source: SocketAddrV4, bytes: &[u8]) -> bool
+        ensures heard { result ≡ may_speak (admitted_by speakers.now) source.ip }
+        ensures network { self.new.network ≡ self.old.network }
+        ensures around { self.new.around ≡ self.old.around }
+    {
+        let is_heard = self.is_heard(speakers, source);
+        if is_heard {
+            self.journal.came(self.now, source, bytes, 0);
+        }
+        is_heard
+    }
+
+    // A datagram that has come goes over the network: whether that loses it.
+    fn is_lost(&mut self, source: SocketAddrV4, bytes: &[u8]) -> bool
+        ensures handed { handed_by self.new.network (S.sent self.new.around) ≡ handed_by self.old.network (S.sent self.old.around) }
+    {
+        let now = self.now.clock;
+        match &mut self.network {
+            Some(network) => match network.offer_in(source, bytes, now) {
+                Ok(fate) => matches!(fate, Fate::Lost),
+                Err(_) => true,
+            },
+            None => false,
+        }
+    }
+
+    // A datagram that has come goes over the network, which may lose it, or hand over another one. So does a stranger's: it is dropped
+    // where it comes out.
     fn pass(
         &mut self,
+        speakers: &Speakers,
         source: SocketAddrV4,
         len: usize,
         room: &mut [u8],
@@ -218,22 +264,23 @@ impl<S: Surroundings + Drop> Exchange<S> {
         requires { len ≤ length room.old }
         ensures length { length room.new ≡ length room.old }
         ensures within { IfSome result (λ p. p.1 ≤ length room.new) }
+        ensures admitted { IfSome result (λ p. may_speak (admitted_by speakers.now) p.0.ip ≡ true) }
         ensures handed { handed_by self.new.network (S.sent self.new.around) ≡ handed_by self.old.network (S.sent self.old.around) }
     {
-        let Some(network) = &mut self.network else {
-            self.journal.came(self.now, source, &room[..len], 0);
-            return Some((source, len));
-        };
-        let is_lost = match network.offer_in(source, &room[..len], self.now.clock) {
-            Ok(fate) => matches!(fate, Fate::Lost),
-            Err(_) => true,
-        };
-        if is_lost {
-            self.journal
-                .untaken(self.now, source, &room[..len], Note::Lost);
+        if self.network.is_none() {
+            if self.come(speakers, source, &room[..len]) {
+                return Some((source, len));
+            }
             return None;
         }
-        self.handed_over(room)
+        if self.is_lost(source, &room[..len]) {
+            if speakers.hears(*source.ip()) {
+                self.journal
+                    .untaken(self.now, source, &room[..len], Note::Lost);
+            }
+            return None;
+        }
+        self.handed_over(speakers, room)
     }
 
     // A datagram of the socket, if one has come. One without a port can't be answered, and doesn't count.
@@ -258,17 +305,19 @@ impl<S: Surroundings + Drop> Exchange<S> {
         }
     }
 
-    /// A datagram for the gateway, put at the start of the room, if one has come: from where, and how long it is.
-    pub fn receive(&mut self, room: &mut [u8]) -> Option<(SocketAddrV4, usize)>
+    /// A datagram for the gateway, put at the start of the room, if one has come from one of those who may speak: from where, and how
+    /// long it is. What comes from others is counted, and told of once a second; it does nothing else.
+    pub fn receive(&mut self, speakers: &Speakers, room: &mut [u8]) -> Option<(SocketAddrV4, usize)>
         ensures length { length room.new ≡ length room.old }
         ensures within { IfSome result (λ p. p.1 ≤ length room.new) }
+        ensures admitted { IfSome result (λ p. may_speak (admitted_by speakers.now) p.0.ip ≡ true) }
         ensures handed { handed_by self.new.network (S.sent self.new.around) ≡ handed_by self.old.network (S.sent self.old.around) }
     {
-        if let Some(found) = self.handed_over(room) {
+        if let Some(found) = self.handed_over(speakers, room) {
             return Some(found);
         }
         let (source, len) = self.read_socket(room)?;
-        self.pass(source, len, room)
+        self.pass(speakers, source, len, room)
     }
 
     // Sends a datagram, over the network where there is one: what becomes of it.

@@ -4,16 +4,19 @@
 //! one is asked for; and on visitors of a page, where there is one. What goes over it is told to a journal and to a trace.
 #![tactic(auto)]
 
+mod admission;
 mod answering;
 mod boxing;
 mod desk;
 pub mod examples;
 mod exchange;
+pub mod laws;
 mod recorder;
 mod spoilt_way;
 mod telephones;
 mod visitors;
 
+pub use crate::admission::{Admission, speakers_of};
 pub use crate::boxing::boxed;
 pub use crate::desk::Desk;
 pub use crate::exchange::Exchange;

@@ -4,11 +4,23 @@ ghost use Rattle.mg_bytes.specs.Words.{words as words_of};
 ghost use Rattle.rgw_scripts.specs.declared.step.ScriptLine.TheVariants.{Whole};
 ghost use Rattle.rgw_scripts.specs.Script.{line_in};
 ghost use Rattle.live_gateway.specs.declared.telephones.TelephoneRequest.TheVariants.{OutOfMemory};
-ghost use Rattle.live_gateway.specs.Asking.{AsksFor, request_of, request_by, request_in};
+ghost use Rattle.live_gateway.specs.Admitting.{typist_of};
+ghost use Rattle.live_gateway.specs.Asking.{AsksFor, request_of, request_by, line_request, request_in};
 
 use mg_line::Act;
 use rgw_scripts::{ScriptLine, ScriptStep, line_in};
 use std::alloc::Global;
+
+/// Who types.
+#[derive(Clone, Copy)]
+pub enum Typist {
+    /// Somebody at this machine, who may ask for anything.
+    Here,
+    /// Somebody at another one, to whom the telephones are open, or the page: anything but the end may be asked for.
+    Elsewhere,
+    /// Somebody at another one, to whom they aren't.
+    Stranger,
+}
 
 /// What a line asks for.
 #[derive(Clone, Copy)]
@@ -23,6 +35,8 @@ pub enum TelephoneRequest {
     Stop,
     /// The gateway is to end, as somebody says who may be at another machine: that isn't taken.
     StopFromAfar,
+    /// Something that isn't taken from a stranger, as nothing is.
+    Refused,
     /// The line says nothing that can be done.
     Unknown,
     /// Memory was refused while it was read.
@@ -58,11 +72,11 @@ fn telephone_request(alloc: Global, line: &[u8]) -> TelephoneRequest
     }
 }
 
-/// What a line asks for, which came from this machine or from another one.
-#[tactic(auto, unfolding(crate::specs::Asking::request_in))]
-pub fn request_in(alloc: Global, line: &[u8], is_from_loopback: bool) -> TelephoneRequest
+// What a line asks for, which came from this machine or from another one.
+#[tactic(auto, unfolding(crate::specs::Asking::line_request))]
+fn line_request(alloc: Global, line: &[u8], is_from_loopback: bool) -> TelephoneRequest
     ensures said { AsksFor result (line_in (words_of line.now)) }
-    ensures request { (result ≡ request_in is_from_loopback line.now) ⊎ (result ≡ OutOfMemory) }
+    ensures request { (result ≡ line_request is_from_loopback line.now) ⊎ (result ≡ OutOfMemory) }
 {
     if line == b"counts".as_slice() {
         TelephoneRequest::Counts
@@ -72,5 +86,30 @@ pub fn request_in(alloc: Global, line: &[u8], is_from_loopback: bool) -> Telepho
         TelephoneRequest::StopFromAfar
     } else {
         telephone_request(alloc, line)
+    }
+}
+
+/// Who types, by whether a line came from this machine, or from another, and whether the telephones are open to that.
+pub fn typist_of(is_here: bool, is_afar: bool, are_open: bool) -> Typist
+    ensures { result ≡ typist_of is_here is_afar are_open }
+{
+    if is_here {
+        Typist::Here
+    } else if is_afar && !are_open {
+        Typist::Stranger
+    } else {
+        Typist::Elsewhere
+    }
+}
+
+/// What a line asks for that somebody typed.
+pub fn request_in(alloc: Global, line: &[u8], typist: Typist) -> TelephoneRequest
+    ensures said { AsksFor result (line_in (words_of line.now)) }
+    ensures request { (result ≡ request_in typist line.now) ⊎ (result ≡ OutOfMemory) }
+{
+    match typist {
+        Typist::Here => line_request(alloc, line, true),
+        Typist::Elsewhere => line_request(alloc, line, false),
+        Typist::Stranger => TelephoneRequest::Refused,
     }
 }

@@ -1,0 +1,73 @@
+//! Who may speak to a gateway, and who may type.
+ghost use Rattle.std.specs.Prelude.{◌≡◌, OnOk, IfOk};
+ghost use Rattle.std.specs.List.{fold};
+ghost use Rattle.endpoint_names.specs.Route.{addresses};
+ghost use Rattle.surroundings.specs.Speaking.{admitted_by};
+ghost use Rattle.live_gateway.specs.Admitting.{with_hosts, hosts_of, with_named, known_to};
+
+use endpoint_names::{Host, Route};
+use plain_machine::Setup;
+use std::alloc::{AllocError, Global};
+use std::net::{Ipv4Addr, SocketAddrV4};
+use surroundings::Speakers;
+
+/// Who may speak to a gateway, and whether its telephones are open to other machines.
+#[derive(Drop)]
+pub struct Admission {
+    pub speakers: Speakers,
+    pub are_phones_open: bool,
+}
+
+// Whoever has one of these addresses may speak too.
+fn admit_all(speakers: &mut Speakers, hosts: &[Ipv4Addr]) -> Result<(), AllocError>
+    ensures { OnOk result (admitted_by speakers.new ≡ with_hosts (admitted_by speakers.old) hosts.now) }
+{
+    for host in hosts {
+        speakers.admit(*host)?;
+    }
+    Ok(())
+}
+
+fn admit_route(speakers: &mut Speakers, route: Route<Ipv4Addr>) -> Result<(), AllocError>
+    ensures { OnOk result (admitted_by speakers.new ≡ with_hosts (admitted_by speakers.old) (addresses route)) }
+{
+    match route {
+        Route::One(a) => admit_all(speakers, &[a]),
+        Route::Two(a, b) => admit_all(speakers, &[a, b]),
+        Route::Three(a, b, c) => admit_all(speakers, &[a, b, c]),
+        Route::Four(a, b, c, d) => admit_all(speakers, &[a, b, c, d]),
+    }
+}
+
+// The addresses of a receiver, without its port.
+fn hosts_of(route: &Route<SocketAddrV4>) -> Route<Ipv4Addr>
+    ensures { result ≡ hosts_of route.now }
+{
+    match route {
+        Route::One(a) => Route::One(*a.ip()),
+        Route::Two(a, b) => Route::Two(*a.ip(), *b.ip()),
+        Route::Three(a, b, c) => Route::Three(*a.ip(), *b.ip(), *c.ip()),
+        Route::Four(a, b, c, d) => Route::Four(*a.ip(), *b.ip(), *c.ip(), *d.ip()),
+    }
+}
+
+fn admit_named(speakers: &mut Speakers, hosts: &[Host]) -> Result<(), AllocError>
+    ensures { OnOk result (admitted_by speakers.new ≡ fold with_named (admitted_by speakers.old) hosts.now) }
+{
+    for host in hosts {
+        admit_route(speakers, host.route)?;
+    }
+    Ok(())
+}
+
+/// Those who may speak to a gateway that is set up so, where no word says another: its agent, and all hosts that its configuration
+/// names, from any port. Its only error is want of memory.
+#[tactic(auto, unfolding(crate::specs::Admitting::known_to))]
+pub fn speakers_of(alloc: Global, setup: &Setup) -> Result<Speakers, AllocError>
+    ensures { IfOk result (λ speakers. admitted_by speakers ≡ known_to setup.now) }
+{
+    let mut speakers = Speakers::nobody(alloc);
+    admit_route(&mut speakers, hosts_of(&setup.agent.route))?;
+    admit_named(&mut speakers, setup.names.table.hosts())?;
+    Ok(speakers)
+}
