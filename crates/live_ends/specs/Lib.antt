@@ -1,5 +1,6 @@
 pub mod Backlog
 pub mod Recording
+pub mod Parting
 pub mod Written
 pub mod Looking
 pub mod Example

@@ -1,15 +1,16 @@
 //! Worked examples of the definitions, as theorems: each sentence of a definition has one that a slip in it breaks.
 #![tactic(auto, unfolding(crate::proofs::Computing::on_examples))]
 
-ghost use Rattle.std.specs.Prelude.{◌≡◌, codes, true, false, [], ◌∷◌};
+ghost use Rattle.std.specs.Prelude.{◌≡◌, codes, true, false, [], ◌∷◌, Some, None};
 ghost use Rattle.std.specs.declared.io.ErrorKind.{ErrorKind};
 ghost use Rattle.live_ends.specs.Backlog.{nothing_waits, lines_ended, is_kept, offered, offered_all, may_note, noted, ended, taken, closed, kept_of, lines_of_all};
 ghost use Rattle.live_ends.specs.Recording.{state_when, is_told, is_refused, is_open, faults_of, said, given_up, state_given_up, offer_left};
+ghost use Rattle.live_ends.specs.Parting.{number_behind, numbered, is_old, is_full};
 ghost use Rattle.live_ends.specs.Written.{written_line};
 ghost use Rattle.live_ends.specs.Looking.{no_visit, has_visits};
 ghost use Rattle.live_ends.specs.declared.record.RecordState.TheVariants.{Off, On, OutOfMemory};
 ghost use Rattle.live_ends.specs.declared.outlet.OutletState.TheVariants.{Open, BrokenOff, Failed};
-ghost use Rattle.live_ends.specs.Example.{waits, full, over, lost};
+ghost use Rattle.live_ends.specs.Example.{waits, full, over, lost, calls};
 
 /// A text is kept behind what waits, where there is room for both; else nothing of it is, nor of those behind it.
 pub fn texts_are_kept_in_their_order()
@@ -105,4 +106,24 @@ pub fn a_site_is_told_of_its_sockets()
     ensures somebody { has_visits true (no_visit ∷ []) ≡ true }
     ensures readable { has_visits false (no_visit ∷ record { is_readable = true; is_writable = false } ∷ []) ≡ true }
     ensures writable { has_visits false (record { is_readable = false; is_writable = true } ∷ no_visit ∷ []) ≡ true }
+{}
+
+/// The files of a capture have numbers behind its name, and nothing behind those.
+pub fn files_of_a_capture_have_numbers()
+    ensures seventh { number_behind calls (codes "calls.pcap.7") ≡ Some 7 }
+    ensures twelfth { numbered calls 12 ≡ codes "calls.pcap.12" }
+    ensures itself { number_behind calls (codes "calls.pcap") ≡ None }
+    ensures no_number { number_behind calls (codes "calls.pcap.") ≡ None }
+    ensures no_dot { number_behind calls (codes "calls.pcap7") ≡ None }
+    ensures more { number_behind calls (codes "calls.pcap.7.gz") ≡ None }
+    ensures another { number_behind calls (codes "my-calls.pcap.7") ≡ None }
+{}
+
+/// Of so many files the oldest goes when the next begins; one is full where what comes would make it too long.
+pub fn the_oldest_file_goes()
+    ensures oldest { is_old 3 7 10 ≡ true }
+    ensures kept { is_old 3 8 10 ≡ false }
+    ensures room { is_full 100 60 40 ≡ false }
+    ensures no_room { is_full 100 60 41 ≡ true }
+    ensures alone { is_full 100 0 500 ≡ false }
 {}

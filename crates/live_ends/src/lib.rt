@@ -13,6 +13,7 @@ mod live;
 mod now;
 mod outlet;
 mod outlets;
+mod parting;
 mod program;
 mod readiness;
 mod record;
@@ -27,6 +28,7 @@ pub use crate::live::{Live, STOP_FROM_AFAR, bind};
 pub use crate::now::Now;
 pub use crate::outlet::{Outlet, OutletState};
 pub use crate::outlets::{NEXT_OFFER, Outlets};
+pub use crate::parting::{CaptureFiles, Parting};
 pub use crate::program::{
     OUT_OF_MEMORY, SystemFault, open_capture, open_outlets, put_pieces, say_last, words_of,
 };

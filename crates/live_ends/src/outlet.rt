@@ -137,6 +137,14 @@ impl<F: Write + Drop> Outlet<F> {
         self.backlog.close();
     }
 
+    /// It can't be written, by the system's error of this kind: nothing is recorded any more.
+    pub fn refuse(&mut self, kind: ErrorKind)
+        ensures state { is_open self.new.state ≡ false }
+        ensures backlog { self.new.backlog ≡ closed self.old.backlog }
+    {
+        self.fail(kind);
+    }
+
     /// Keeps whole lines, as they are, where there is room for them: whether there is.
     pub fn say(&mut self, lines: &[u8]) -> bool
         ensures kept { result ≡ is_kept TEXT_ROOM self.old.backlog lines.now }

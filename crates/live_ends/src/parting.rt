@@ -1,0 +1,185 @@
+//! The files of a capture that is parted: `calls.pcap.7`, of which so many are kept.
+ghost use Rattle.std.specs.Prelude.{◌≡◌};
+ghost use Rattle.live_ends.specs.Backlog.{sum_within};
+ghost use Rattle.live_ends.specs.Parting.{number_behind, is_old, is_full};
+
+use crate::outlet::Outlet;
+use crate::program::SystemFault;
+use crate::stream::make_for_owner;
+use mg_bytes::decimal;
+use std::alloc::{AllocError, Global};
+use std::fs::{read_dir, remove_file};
+use std::io;
+use std::io::ErrorKind;
+use std::rt::Files;
+
+/// How a capture is parted.
+#[derive(Clone, Copy)]
+pub struct Parting {
+    /// So many bytes a file has at most, unless one turn puts more.
+    pub size: u64,
+    /// So many files are kept.
+    pub files: u64,
+}
+
+/// The files of a capture that is parted.
+#[derive(Drop)]
+pub struct CaptureFiles {
+    alloc: Global,
+    // What their names begin with.
+    name: String,
+    parting: Parting,
+    // The number of the file that is written, and how many bytes were put into it.
+    number: u64,
+    written: u64,
+}
+
+// The folder of a file, and its name there.
+fn sides_of(file: &str) -> (&str, &str) {
+    match file.rsplit_once('/') {
+        Some(("", name)) => ("/", name),
+        Some((folder, name)) => (folder, name),
+        None => (".", file),
+    }
+}
+
+// The number that a file's name has behind this one, if it has one.
+fn number_behind(name: &[u8], found: &[u8]) -> Option<u64>
+    ensures { result ≡ number_behind name.now found.now }
+{
+    let rest = found.strip_prefix(name)?;
+    decimal(rest.strip_prefix(b".".as_slice())?)
+}
+
+// Whether the file with this number goes, where so many are kept and that one begins.
+fn is_old(files: u64, number: u64, next: u64) -> bool
+    ensures { result ≡ is_old files number next }
+{
+    number.saturating_add(files) <= next
+}
+
+// Whether a file is full that has so many bytes.
+fn is_full(size: u64, written: u64, more: u64) -> bool
+    ensures { result ≡ is_full size written more }
+{
+    written > 0 && written.saturating_add(more) > size
+}
+
+// The numbers of the files of this name.
+fn numbers_of<R: Files + Alloc + Clone + Drop>(
+    rt: &R,
+    alloc: Global,
+    file: &str,
+) -> io::Result<Vec<u64>> {
+    let (folder, name) = sides_of(file);
+    let mut numbers = Vec::new(alloc);
+    for entry in read_dir(rt, folder)? {
+        // A name that is no text is no capture's.
+        let Ok(entry) = entry else {
+            continue;
+        };
+        if let Some(number) = number_behind(name.as_bytes(), entry.file_name().as_bytes()) {
+            numbers.push(number)?;
+        }
+    }
+    Ok(numbers)
+}
+
+// The greatest of numbers; 0 where there is none.
+fn greatest(numbers: &[u64]) -> u64 {
+    numbers
+        .iter()
+        .fold(0, |greatest, number| greatest.max(*number))
+}
+
+impl CaptureFiles {
+    /// The files of this name: what is there already is older than what will be. Its errors are want of memory, and that the folder
+    /// can't be read.
+    pub fn find<R: Files + Alloc + Clone + Drop>(
+        rt: &R,
+        alloc: Global,
+        name: &str,
+        parting: Parting,
+    ) -> Result<CaptureFiles, SystemFault> {
+        let numbers = match numbers_of(rt, alloc, name) {
+            Ok(numbers) => numbers,
+            Err(fault) => return Err(SystemFault::of(fault.kind())),
+        };
+        let Ok(copy) = String::from_str(alloc, name) else {
+            return Err(SystemFault::OutOfMemory);
+        };
+        let files = CaptureFiles {
+            alloc,
+            name: copy,
+            parting,
+            number: greatest(numbers.as_slice()),
+            written: 0,
+        };
+        files.clear(rt, numbers.as_slice());
+        Ok(files)
+    }
+
+    // The name of the file with this number.
+    fn numbered(&self, number: u64) -> Result<String, AllocError> {
+        let name = self.name.as_str();
+        format!(in self.alloc; "{name}.{number}")
+    }
+
+    // Files that are old when the next begins go; one that can't be removed stays.
+    fn clear<R: Files>(&self, rt: &R, numbers: &[u64]) {
+        let next = self.number.saturating_add(1);
+        for number in numbers {
+            if is_old(self.parting.files, *number, next) {
+                self.remove(rt, *number);
+            }
+        }
+    }
+
+    // The file with this number goes, if it is there.
+    fn remove<R: Files>(&self, rt: &R, number: u64) {
+        if let Ok(name) = self.numbered(number) {
+            let _ = remove_file(rt, name.as_str());
+        }
+    }
+
+    /// The name of the file that is written. Its only error is want of memory.
+    pub fn file(&self) -> Result<String, AllocError> {
+        self.numbered(self.number)
+    }
+
+    /// Whether the file that is written is full where so many bytes more come: then they belong into the next.
+    pub fn is_full(&self, more: usize) -> bool
+        ensures { result ≡ is_full self.now.parting.size self.now.written more }
+    {
+        is_full(self.parting.size, self.written, more as u64)
+    }
+
+    /// So many bytes are put into the file that is written.
+    pub fn put(&mut self, more: usize)
+        ensures written { self.new.written ≡ sum_within self.old.written more }
+        ensures number { self.new.number ≡ self.old.number }
+    {
+        self.written = self.written.saturating_add(more as u64);
+    }
+
+    /// The outlet of the next file, which is made for its owner alone; the oldest goes. After an error, of the system's kind, the next file
+    /// has the next number none the less.
+    pub fn next<R: Files>(&mut self, rt: &R) -> Result<Outlet<R::File>, ErrorKind> {
+        self.number = self.number.saturating_add(1);
+        self.written = 0;
+        let Ok(name) = self.file() else {
+            return Err(ErrorKind::OutOfMemory);
+        };
+        let stream = match make_for_owner(rt, name.as_str()) {
+            Ok(stream) => stream,
+            Err(fault) => return Err(fault.kind()),
+        };
+        if self.number >= self.parting.files {
+            self.remove(rt, self.number - self.parting.files);
+        }
+        match Outlet::new(self.alloc, name.as_str(), stream) {
+            Ok(outlet) => Ok(outlet),
+            Err(_) => Err(ErrorKind::OutOfMemory),
+        }
+    }
+}
