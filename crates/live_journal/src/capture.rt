@@ -1,4 +1,8 @@
 //! The capture of a gateway: each datagram that comes or is sent, as tshark and Wireshark read it.
+ghost use Rattle.std.specs.Prelude.{◌≡◌, ◌++◌, true, IfOk};
+ghost use Rattle.exchange_log.specs.File.{file_head};
+ghost use Rattle.live_ends.specs.Recording.{is_told};
+
 use exchange_log::{Packet, Way, put_head, put_packet};
 use live_ends::Record;
 use mg_bytes::{OutOfMemory, Text};
@@ -14,6 +18,16 @@ pub struct Capture {
     /// The name of its file; empty where there is none.
     pub name: Text,
     pub record: Record,
+}
+
+// The head of a file, and these bytes.
+fn headed(alloc: Global, bytes: &[u8]) -> Result<Vec<u8>, OutOfMemory>
+    ensures { IfOk result (λ out. out.items ≡ file_head ++ bytes.now) }
+{
+    let mut out = Vec::new(alloc);
+    put_head(&mut out)?;
+    out.extend_from_slice(bytes)?;
+    Ok(out)
 }
 
 impl Capture {
@@ -35,6 +49,20 @@ impl Capture {
             name: Text::of(Vec::from_slice(alloc, name)?),
             record,
         })
+    }
+
+    /// What is put stands in another file from now on, which begins with a head of its own.
+    pub fn begin_file(&mut self)
+        ensures out { is_told self.new.record.state ≡ true → is_told self.old.record.state ≡ true →
+            self.new.record.out.items ≡ file_head ++ self.old.record.out.items }
+    {
+        if !self.record.is_on() {
+            return;
+        }
+        match headed(self.alloc, self.record.out.as_slice()) {
+            Ok(out) => self.record.out = out,
+            Err(_) => self.record.refuse(),
+        }
     }
 
     /// A datagram goes this way between the gateway and its peer at this moment, in microseconds since 1970.
