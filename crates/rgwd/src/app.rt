@@ -1,14 +1,15 @@
 //! The program: reads its words and its configuration, opens its sockets, and serves.
 use crate::ending::Ending;
 use crate::opening::{Opened, open};
+use crate::recording::Recording;
 use crate::replaying::{REPLAY, replay_trace};
 use crate::starting::{Begun, Start};
 use crate::telling::{TELL, tell_line};
 use crate::words::{Settings, read_words};
 use gateway_core::Gateway;
 use live_ends::{
-    Live, OUT_OF_MEMORY, Outlets, SystemFault, hold_standard, open_capture, open_outlets, say_last,
-    words_of,
+    CaptureFiles, Live, OUT_OF_MEMORY, Outlets, Parting, SystemFault, hold_standard, open_capture,
+    open_outlets, say_last, words_of,
 };
 use live_gateway::boxed;
 use live_journal::{Journal, Trace};
@@ -97,13 +98,14 @@ fn served_ending<'w, F: Write + Drop>(
 fn serve_to_end<'w, R: Files + Net + Clock + RandomSource>(
     rt: &R,
     opened: &mut Opened<'_, R>,
-    outlets: &mut Outlets<R::File>,
+    recording: &mut Recording<'_, R>,
 ) -> Result<Ending<'w>, AllocError> {
-    opened.desk.run(&mut opened.visitors, outlets);
+    opened.desk.run(&mut opened.visitors, recording);
     opened.desk.play.end();
-    opened.desk.write(outlets);
+    opened.desk.write(recording);
     let counts = opened.desk.counts()?;
     let exchange = &opened.desk.exchange;
+    let outlets = &mut *recording.outlets;
     outlets.finish(rt, counts.as_slice(), exchange.now.time);
     Ok(served_ending(&exchange.journal, &opened.desk.play.teller, outlets))
 }
@@ -125,13 +127,13 @@ fn serve_opened<'w, R: Files + Net + Clock + RandomSource>(
     alloc: Global,
     begun: Begun,
     opened: &mut Opened<'_, R>,
-    outlets: &mut Outlets<R::File>,
+    recording: &mut Recording<'_, R>,
 ) -> Result<Ending<'w>, Ending<'w>> {
-    tell_start(alloc, outlets, opened, begun);
+    tell_start(alloc, &mut *recording.outlets, opened, begun);
     if wait_first(rt, &mut opened.desk.exchange.around, begun).is_err() {
         return Err(Ending::Clock);
     }
-    let ending = serve_to_end(rt, opened, outlets);
+    let ending = serve_to_end(rt, opened, recording);
     opened.desk.answer_stop();
     Ok(ending?)
 }
@@ -164,8 +166,61 @@ fn gateway_of(alloc: Global, text: &[u8], start: &Start) -> Result<Box<Gateway>,
     }
 }
 
+// The capture's file can't be made, for this reason.
+fn unwritable<'w>(settings: &Settings<'w>, fault: SystemFault) -> Ending<'w> {
+    match fault {
+        SystemFault::OutOfMemory => Ending::OutOfMemory,
+        SystemFault::Refused { reason } => {
+            let file = settings.capture.unwrap_or("");
+            Ending::Unwritable { file, reason }
+        }
+    }
+}
+
+// The first file of a capture that is parted, whose outlet that is, and what is known of the others.
+fn open_parted<'w, R: Files + Alloc + Clone + Drop>(
+    rt: &R,
+    alloc: Global,
+    settings: &Settings<'w>,
+    name: &str,
+    parting: Parting,
+    outlets: &mut Outlets<R::File>,
+) -> Result<CaptureFiles, Ending<'w>> {
+    let mut files = match CaptureFiles::find(rt, alloc, name, parting) {
+        Ok(files) => files,
+        Err(fault) => return Err(unwritable(settings, fault)),
+    };
+    match files.next(rt) {
+        Ok(outlet) => {
+            outlets.capture = Some(outlet);
+            Ok(files)
+        }
+        Err(kind) => Err(unwritable(settings, SystemFault::of(kind))),
+    }
+}
+
+// The file of a capture, if one is asked for, and the others, where it is parted.
+fn open_files<'w, R: Files + Alloc + Clone + Drop>(
+    rt: &R,
+    alloc: Global,
+    settings: &Settings<'w>,
+    outlets: &mut Outlets<R::File>,
+) -> Result<Option<CaptureFiles>, Ending<'w>> {
+    if let (Some(name), Some(parting)) = (settings.capture, settings.parting) {
+        let files = open_parted(rt, alloc, settings, name, parting, outlets)?;
+        return Ok(Some(files));
+    }
+    match open_capture(rt, alloc, settings.capture) {
+        Ok(capture) => {
+            outlets.capture = capture;
+            Ok(None)
+        }
+        Err(fault) => Err(unwritable(settings, fault)),
+    }
+}
+
 // Opens what the settings ask for, the file for a capture once all sockets are had, and serves.
-fn serve_with<'w, R: Files + Net + Clock + RandomSource>(
+fn serve_with<'w, R: Files + Net + Clock + RandomSource + Alloc + Clone + Drop>(
     rt: &R,
     alloc: Global,
     settings: &Settings<'w>,
@@ -176,19 +231,13 @@ fn serve_with<'w, R: Files + Net + Clock + RandomSource>(
 ) -> Result<Ending<'w>, Ending<'w>> {
     let begun = start.begun(gateway.setup().names.domain.as_bytes());
     let mut opened = open(rt, alloc, settings, config, gateway)?;
-    outlets.capture = match open_capture(rt, alloc, settings.capture) {
-        Ok(capture) => capture,
-        Err(SystemFault::OutOfMemory) => return Err(Ending::OutOfMemory),
-        Err(SystemFault::Refused { reason }) => {
-            let file = settings.capture.unwrap_or("");
-            return Err(Ending::Unwritable { file, reason });
-        }
-    };
-    serve_opened(rt, alloc, begun, &mut opened, outlets)
+    let files = open_files(rt, alloc, settings, outlets)?;
+    let mut recording = Recording { rt, outlets, files };
+    serve_opened(rt, alloc, begun, &mut opened, &mut recording)
 }
 
 // Serves with a gateway of the configuration in this text, which has no flaw; or says what it will be.
-fn serve_config<'w, R: Files + Net + Clock + RandomSource>(
+fn serve_config<'w, R: Files + Net + Clock + RandomSource + Alloc + Clone + Drop>(
     rt: &R,
     alloc: Global,
     settings: &Settings<'w>,
@@ -221,7 +270,7 @@ fn tell_flaw<'w, F: Write + Drop>(
 }
 
 // Does what the settings ask.
-fn perform<'w, R: Files + Net + Clock + RandomSource>(
+fn perform<'w, R: Files + Net + Clock + RandomSource + Alloc + Clone + Drop>(
     rt: &R,
     alloc: Global,
     settings: &Settings<'w>,
@@ -244,7 +293,7 @@ fn words_behind<'w>(first: &str, words: &'w [String]) -> Option<&'w [String]> {
 }
 
 // How the program with these words ends.
-fn ending_by<'w, R: AllocGlobal + Files + Net + Clock + RandomSource>(
+fn ending_by<'w, R: AllocGlobal + Files + Net + Clock + RandomSource + Clone + Drop>(
     rt: &R,
     words: &'w [String],
     outlets: &mut Outlets<R::File>,
@@ -294,7 +343,7 @@ fn tell<R: AllocGlobal + Files + Clock>(
 }
 
 // Runs the program with these outlets, and gives its exit status.
-fn run_with<R: AllocGlobal + Env + Files + Net + Clock + RandomSource>(
+fn run_with<R: AllocGlobal + Env + Files + Net + Clock + RandomSource + Clone + Drop>(
     rt: &R,
     outlets: &mut Outlets<R::File>,
 ) -> u8 {
@@ -309,7 +358,7 @@ fn run_with<R: AllocGlobal + Env + Files + Net + Clock + RandomSource>(
 }
 
 /// Runs the program, and gives its exit status.
-pub fn run<R: AllocGlobal + Env + Files + Net + Clock + RandomSource>(rt: &R) -> u8
+pub fn run<R: AllocGlobal + Env + Files + Net + Clock + RandomSource + Clone + Drop>(rt: &R) -> u8
 where
     R::File: AsRawFd,
 {

@@ -3,6 +3,7 @@ ghost use Rattle.std.specs.Prelude.{◌≡◌, ◌≢◌};
 ghost use Rattle.rgwd.specs.Statuses.{status_of};
 
 use crate::help::{HELP, USAGE, VERSIONS};
+use crate::parted::{MOST_FILES, MOST_MEGABYTES};
 use bad_network::SpoilingFault;
 use gateway_core::FIRSTS;
 use live_ends::put_pieces;
@@ -15,7 +16,14 @@ use system_reasons::reason_of;
 
 // Why there is no page at any address.
 const ANY_ADDRESS: &str =
-    "--http: the page answers those who name its address, and nobody names 0.0.0.0: write one of this machine's, as 127.0.0.1:8080\n";
+    "--http: the page answers those who name its address, and nobody names 0.0.0.0: write one of this machine's, as 127.0.0.1:8080, or a name behind --http-host\n";
+
+// What doesn't say who may speak.
+const BAD_AGENTS: &str =
+    "--agents: wanted any, or addresses, as 10.0.0.7,10.1.0.0/16, of which the first 16 bits count\n";
+
+// What is no list of names.
+const BAD_HOSTS: &str = "--http-host: wanted names, as rgw.example.net,10.0.0.5, without a port\n";
 
 // Why ids begin with no number.
 const NO_TIME_OF_DAY: &str =
@@ -43,6 +51,14 @@ pub enum Ending<'a> {
     BadAddress {
         word: &'static str,
     },
+    /// What stands behind `--agents` doesn't say who may speak.
+    BadAgents,
+    /// What stands behind `--http-host` is no list of names.
+    BadHosts,
+    /// What stands behind `--capture-size` is no size of a capture's files, or there is no capture.
+    BadSize,
+    /// What stands behind `--capture-files` is no number of them, or the capture has one file alone.
+    BadFiles,
     /// The page would be at any address of the machine, and so at none that it can tell.
     AnyAddress,
     /// This part of what stands behind `--network` says nothing of a network.
@@ -104,6 +120,10 @@ impl<'a> Ending<'a> {
             Ending::Usage
             | Ending::Told
             | Ending::BadAddress { .. }
+            | Ending::BadAgents
+            | Ending::BadHosts
+            | Ending::BadSize
+            | Ending::BadFiles
             | Ending::AnyAddress
             | Ending::BadNetwork { .. }
             | Ending::BadFirst
@@ -180,6 +200,18 @@ impl<'a> fmt::Display for Ending<'a> {
             Ending::Help => put_pieces(f, &HELP),
             Ending::Version => put_pieces(f, &VERSIONS),
             Ending::BadAddress { word } => put_pieces(f, &[word, ": no address a.b.c.d:port\n"]),
+            Ending::BadAgents => f.write_str(BAD_AGENTS),
+            Ending::BadHosts => f.write_str(BAD_HOSTS),
+            Ending::BadSize => writeln!(
+                f,
+                "--capture-size: wanted 1 to {} MB, beside --capture",
+                MOST_MEGABYTES
+            ),
+            Ending::BadFiles => writeln!(
+                f,
+                "--capture-files: wanted 1 to {}, beside --capture-size",
+                MOST_FILES
+            ),
             Ending::AnyAddress => f.write_str(ANY_ADDRESS),
             Ending::BadNetwork { fault } => put_pieces(f, &["--network: ", fault.text(), "\n"]),
             Ending::BadFirst => writeln!(f, "--first: wanted a number, 0 to {}", LAST_FIRST),

@@ -12,7 +12,7 @@ pub const PHONES: &str = "127.0.0.1:2428";
 
 /// The words of the command line, in a line.
 pub const USAGE: &str =
-    "rgwd CONFIG [--check] [--listen ADDRESS] [--phones ADDRESS] [--http ADDRESS] [--log] [--capture FILE] [--trace] [--network TEXT] [--first N] [--spread MS] [--stop-after MS]
+    "rgwd CONFIG [--check] [--listen ADDRESS] [--agents ADDRESS[/BITS],..|any] [--phones ADDRESS] [--phones-open] [--http ADDRESS] [--http-host NAME,..] [--log] [--capture FILE] [--capture-size MB] [--capture-files N] [--trace] [--network TEXT] [--first N] [--spread MS] [--stop-after MS]
        rgwd --tell ADDRESS LINE
        rgwd --replay TRACE";
 
@@ -26,12 +26,17 @@ An MGCP gateway of telephone lines, on a network. It serves until it is stopped.
   --listen ADDRESS    of its socket for call agents; else ";
 
 const BETWEEN: &str = "
+  --agents LIST       who may speak to it: any, or addresses, as 10.0.0.7,10.1.0.0/16; else the configuration's agent and names
   --phones ADDRESS    of its telephones' socket; else ";
 
 const BELOW: &str = "
+  --phones-open       other machines may use the telephones, too, but not end the program
   --http ADDRESS      of its page for browsers; else there is none
+  --http-host LIST    names under which it is asked whether it is well, and what was counted; then it may be at 0.0.0.0
   --log               what is said is written to standard error, a line a message
   --capture FILE      datagrams are written into this file, for tshark and Wireshark
+  --capture-size MB   they are written into FILE.1, FILE.2 .., of so many MB each
+  --capture-files N   of these so many are kept; else 10
   --trace             all that happens is written to standard output; else nothing is
   --network TEXT      datagrams are lost, copied and late, as \"lose 10%, copy 5%, late 0-3000, seed 7\"
   --first N           ids begin with this number; else with one that the time of day gives, so that a new start has others

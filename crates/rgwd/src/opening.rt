@@ -5,13 +5,13 @@ ghost use Rattle.std.specs.Net.Socket.{v4_ip, v4_port};
 
 use crate::ending::Ending;
 use crate::reception::PageReception;
-use crate::words::Settings;
+use crate::words::{Settings, hosts_in, speakers_in};
 use bad_network::BadNetwork;
 use gateway_core::Gateway;
 use live_ends::{Live, Now, Written, bind};
-use live_gateway::{Desk, Exchange, SpoiltWay, boxed};
+use live_gateway::{Admission, Desk, Exchange, SpoiltWay, boxed, speakers_of};
 use live_journal::{Capture, Journal, Log, MessageTally, Trace};
-use live_page::Site;
+use live_page::{HostNames, Site};
 use live_play::LivePlay;
 use mio::net::UdpSocket;
 use page_answers::Board;
@@ -63,10 +63,30 @@ fn open_site<'w, R: Net>(
     let Some(address) = settings.http else {
         return Ok(None);
     };
-    match Site::open(rt, alloc, address, &live.ready) {
+    let names = match settings.http_hosts {
+        Some(text) => hosts_in(alloc, text)?,
+        None => HostNames::none(alloc),
+    };
+    match Site::open(rt, alloc, address, names, &live.ready) {
         Ok(site) => Ok(Some(boxed(alloc, PageReception { site })?)),
         Err(fault) => Err(Ending::unbound("--http", address, fault.kind())),
     }
+}
+
+// Who may speak to this gateway, and who may type.
+fn admission_of<'w>(
+    alloc: Global,
+    settings: &Settings<'w>,
+    gateway: &Gateway,
+) -> Result<Admission, Ending<'w>> {
+    let speakers = match settings.agents {
+        Some(text) => speakers_in(alloc, text)?,
+        None => speakers_of(alloc, gateway.setup())?,
+    };
+    Ok(Admission {
+        speakers,
+        are_phones_open: settings.phones_open,
+    })
 }
 
 // The bad network, if one is asked for.
@@ -150,11 +170,13 @@ fn desk_of<'a, R: Net + Clock>(
     config: &[u8],
     gateway: Box<Gateway>,
     exchange: Box<Exchange<Live<'a, R>>>,
+    admission: Admission,
 ) -> Result<Box<Desk<Live<'a, R>, Trace>>, AllocError> {
     let trace = Trace::new(alloc, settings.trace, config, gateway.setup().first);
     let play = boxed(alloc, LivePlay::new(alloc, gateway, trace))?;
     let lines = boxed(alloc, Lines::new(alloc)?)?;
-    let desk = Desk::new(alloc, play, exchange, lines, settings.stop_after);
+    let end = settings.stop_after;
+    let desk = Desk::new(alloc, play, exchange, lines, admission, end);
     boxed(alloc, desk)
 }
 
@@ -168,7 +190,8 @@ pub fn open<'a, 'w, R: Net + Clock>(
 ) -> Result<Opened<'a, R>, Ending<'w>> {
     let live = open_sockets(rt, alloc, settings)?;
     let visitors = open_site(rt, alloc, settings, &live)?;
+    let admission = admission_of(alloc, settings, &gateway)?;
     let exchange = exchange_of(alloc, settings, &gateway, live)?;
-    let desk = desk_of(alloc, settings, config, gateway, exchange)?;
+    let desk = desk_of(alloc, settings, config, gateway, exchange, admission)?;
     Ok(Opened { desk, visitors })
 }

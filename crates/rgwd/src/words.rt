@@ -1,17 +1,22 @@
 //! Reads the words of the command line.
-ghost use Rattle.std.specs.Prelude.{◌≡◌, ◌≢◌, ◌⊎◌, IfOk, IfErr, codes};
+ghost use Rattle.std.specs.Prelude.{◌≡◌, ◌≢◌, ◌⊎◌, Some, IfOk, IfErr, codes};
 ghost use Rattle.std.specs.Net.Grammar.{IsSocketV4Text};
+ghost use Rattle.live_page.specs.Naming.{names_in, names_of};
+ghost use Rattle.surroundings.specs.Speaking.{admitted_by, admitted_in};
 
 use crate::ending::Ending;
 use crate::help::{LISTEN, PHONES, USAGE, VERSION};
+use crate::parted::parting_of;
 use bad_network::Spoiling;
 use clap::error::ErrorKind;
 use clap::{Arg, ArgAction, ArgMatches, Command, Error};
-use live_ends::Outlet;
+use live_ends::{Outlet, Parting};
+use live_page::HostNames;
 use new_start::{FirstNumber, spread_in};
 use std::alloc::{AllocError, Global};
 use std::io::Write;
 use std::net::SocketAddrV4;
+use surroundings::Speakers;
 
 /// What the program is asked to do.
 #[derive(Drop)]
@@ -28,10 +33,17 @@ pub struct Settings<'a> {
     pub trace: bool,
     /// Whether what is said is written to standard error, for people.
     pub log: bool,
+    /// Who may speak to it, where that is said: a text that `Speakers::read` takes.
+    pub agents: Option<&'a str>,
+    /// Whether its telephones are open to other machines.
+    pub phones_open: bool,
     /// The address of its site, where it has one; port 0 is any free one.
     pub http: Option<SocketAddrV4>,
-    /// The file that datagrams are captured into.
+    /// Under which further names that is asked for counts, where that is said: a text that `HostNames::read` takes.
+    pub http_hosts: Option<&'a str>,
+    /// The file that datagrams are captured into, and how that is parted, where it is.
     pub capture: Option<&'a str>,
+    pub parting: Option<Parting>,
     /// How a network spoils its datagrams, where one is asked for.
     pub network: Option<Spoiling>,
     /// The number with which ids begin, where that is said.
@@ -43,11 +55,21 @@ pub struct Settings<'a> {
 }
 
 // The words that stand there or not.
-const FLAGS: [&str; 3] = ["check", "trace", "log"];
+const FLAGS: [&str; 4] = ["check", "trace", "log", "phones-open"];
 
 // Those behind which a text stands.
-const NAMES: [&str; 7] = [
-    "listen", "phones", "http", "capture", "network", "first", "spread",
+const NAMES: [&str; 11] = [
+    "listen",
+    "phones",
+    "agents",
+    "http",
+    "http-host",
+    "capture",
+    "capture-size",
+    "capture-files",
+    "network",
+    "first",
+    "spread",
 ];
 
 fn with_flags<'a>(alloc: Global, mut command: Command<'a>) -> Result<Command<'a>, AllocError> {
@@ -99,16 +121,73 @@ pub fn unless_help<'w>(word: &'w str) -> Result<&'w str, Ending<'w>>
     Ok(word)
 }
 
-// The address of the site, if that stands there: one of the machine's, since the page answers only those who name its address.
+// The address of the site, if that stands there: one of the machine's, since the page answers only those who name its address; or where
+// it has a further name, any.
 fn site_in<'a>(matches: &ArgMatches<'a>) -> Result<Option<SocketAddrV4>, Ending<'a>> {
     let Some(text) = matches.get_str("http") else {
         return Ok(None);
     };
     let address = address_behind("--http", text)?;
-    if address.ip().is_unspecified() {
+    if address.ip().is_unspecified() && matches.get_str("http-host").is_none() {
         return Err(Ending::AnyAddress);
     }
     Ok(Some(address))
+}
+
+/// Who may speak, as this text says it.
+pub fn speakers_in<'w>(alloc: Global, text: &str) -> Result<Speakers, Ending<'w>>
+    ensures { IfOk result (λ speakers. admitted_in text.now ≡ Some (admitted_by speakers)) }
+{
+    match Speakers::read(alloc, text.as_bytes())? {
+        Some(speakers) => Ok(speakers),
+        None => Err(Ending::BadAgents),
+    }
+}
+
+/// The names that this text says.
+pub fn hosts_in<'w>(alloc: Global, text: &str) -> Result<HostNames, Ending<'w>>
+    ensures { IfOk result (λ names. names_in text.now ≡ Some (names_of names)) }
+{
+    match HostNames::read(alloc, text.as_bytes())? {
+        Some(names) => Ok(names),
+        None => Err(Ending::BadHosts),
+    }
+}
+
+// What says who may speak, if that stands there.
+fn agents_in<'a>(alloc: Global, matches: &ArgMatches<'a>) -> Result<Option<&'a str>, Ending<'a>> {
+    let Some(text) = matches.get_str("agents") else {
+        return Ok(None);
+    };
+    let _ = speakers_in(alloc, text)?;
+    Ok(Some(text))
+}
+
+// What says the site's further names, if that stands there.
+fn http_hosts_in<'a>(
+    alloc: Global,
+    matches: &ArgMatches<'a>,
+) -> Result<Option<&'a str>, Ending<'a>> {
+    let Some(text) = matches.get_str("http-host") else {
+        return Ok(None);
+    };
+    let _ = hosts_in(alloc, text)?;
+    Ok(Some(text))
+}
+
+// The bytes of a text, if that stands there.
+fn bytes_in<'m>(matches: &'m ArgMatches<'_>, word: &str) -> Option<&'m [u8]> {
+    match matches.get_str(word) {
+        Some(text) => Some(text.as_bytes()),
+        None => None,
+    }
+}
+
+// How the capture is parted, if it is.
+fn parting_in<'a>(matches: &ArgMatches<'a>) -> Result<Option<Parting>, Ending<'a>> {
+    let has_capture = matches.get_str("capture").is_some();
+    let size = bytes_in(matches, "capture-size");
+    parting_of(has_capture, size, bytes_in(matches, "capture-files"))
 }
 
 // How a network spoils datagrams, if that stands there.
@@ -138,7 +217,7 @@ fn longest_wait_in<'a>(matches: &ArgMatches<'a>) -> Result<Option<u32>, Ending<'
     }
 }
 
-fn settings_in<'a>(matches: &ArgMatches<'a>) -> Result<Settings<'a>, Ending<'a>> {
+fn settings_in<'a>(alloc: Global, matches: &ArgMatches<'a>) -> Result<Settings<'a>, Ending<'a>> {
     let Some(config) = matches.get_str("config") else {
         return Err(Ending::Usage);
     };
@@ -151,10 +230,14 @@ fn settings_in<'a>(matches: &ArgMatches<'a>) -> Result<Settings<'a>, Ending<'a>>
         check: matches.get_flag("check"),
         listen: address_behind("--listen", matches.get_str("listen").unwrap_or(LISTEN))?,
         phones: address_behind("--phones", matches.get_str("phones").unwrap_or(PHONES))?,
+        agents: agents_in(alloc, matches)?,
+        phones_open: matches.get_flag("phones-open"),
         http: site_in(matches)?,
+        http_hosts: http_hosts_in(alloc, matches)?,
         trace: matches.get_flag("trace"),
         log: matches.get_flag("log"),
         capture: matches.get_str("capture"),
+        parting: parting_in(matches)?,
         network: network_in(matches)?,
         first,
         spread: longest_wait_in(matches)?,
@@ -187,7 +270,7 @@ pub fn read_words<'a, F: Write + Drop>(
     said: &mut Outlet<F>,
 ) -> Result<Settings<'a>, Ending<'a>> {
     match command(alloc)?.try_get_matches_from(words) {
-        Ok(matches) => settings_in(&matches),
+        Ok(matches) => settings_in(alloc, &matches),
         Err(fault) => Err(ending_by(alloc, &fault, said)?),
     }
 }

@@ -1,0 +1,7 @@
+-- The definitions opened, so that worked examples compute.
+use Rattle.std.specs.Prelude.{⊤}
+use Rattle.mg_bytes.proofs.Computing.{on_examples as byte_examples}
+
+unfoldable pub on_examples : ⊤
+unfolding byte_examples
+on_examples = tt

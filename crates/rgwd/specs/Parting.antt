@@ -1,0 +1,43 @@
+-- What words say of the files of a capture.
+use Rattle.std.specs.Prelude.{ℕ, ◌*◌, Bool, ◌&&◌, nat_le, if◌then◌else◌, List, Option, Some, None, Result, Ok, Err}
+use Rattle.mg_bytes.specs.Steps.{◌>>=◌}
+use Rattle.mg_bytes.specs.Numbers.{decimal_of}
+use Rattle.live_ends.specs.declared.parting.Parting.{Parting}
+use Rattle.rgwd.specs.declared.ending.Ending.{Ending}
+use Rattle.rgwd.specs.declared.ending.Ending.TheVariants.{BadSize, BadFiles}
+
+-- so many bytes are a MB
+abbrev pub megabyte : ℕ
+megabyte = 1000000
+
+-- so large a file may be at most, in MB, and so many there may be; and so many are kept where nothing is said
+abbrev pub most_megabytes : ℕ
+most_megabytes = 100000
+
+abbrev pub most_files : ℕ
+most_files = 10000
+
+abbrev pub usual_files : ℕ
+usual_files = 10
+
+-- a number from 1 to this one, or a fault
+abbrev pub number_within : ℕ → Ending → Option ℕ → Result ℕ Ending
+number_within most fault None = Err fault
+number_within most fault (Some number) = if nat_le 1 number && nat_le number most then Ok number else Err fault
+
+abbrev pub files_of : Option (List ℕ) → Result ℕ Ending
+files_of None = Ok usual_files
+files_of (Some text) = number_within most_files BadFiles (decimal_of text)
+
+abbrev pub parted : ℕ → ℕ → Parting
+parted megabytes files = record { size = megabytes * megabyte; files = files }
+
+abbrev pub parted_of : List ℕ → Option (List ℕ) → Result (Option Parting) Ending
+parted_of size files =
+    number_within most_megabytes BadSize (decimal_of size) >>= λ megabytes. files_of files >>= λ number. Ok (Some (parted megabytes number))
+
+-- how a capture is parted, where there is one: by a size, and a number of files, which says nothing without a size
+abbrev pub parting_of : Bool → Option (List ℕ) → Option (List ℕ) → Result (Option Parting) Ending
+parting_of has_capture None None = Ok None
+parting_of has_capture None (Some files) = Err BadFiles
+parting_of has_capture (Some size) files = if has_capture then parted_of size files else Err BadSize

@@ -1,0 +1,64 @@
+//! What words say of the files of a capture.
+ghost use Rattle.std.specs.Prelude.{◌≡◌, option_copied};
+ghost use Rattle.rgwd.specs.Parting.{number_within, files_of, parted_of, parting_of};
+
+use crate::ending::Ending;
+use live_ends::Parting;
+use mg_bytes::decimal;
+
+/// So large a file of a capture may be at most, in MB.
+pub const MOST_MEGABYTES: u64 = 100_000;
+
+/// So many files of a capture may be kept at most.
+pub const MOST_FILES: u64 = 10_000;
+
+// So many are kept where nothing is said.
+const USUAL_FILES: u64 = 10;
+
+const MEGABYTE: u64 = 1_000_000;
+
+// A number from 1 to this one, or a fault.
+fn number_within<'w>(most: u64, fault: Ending<'w>, number: Option<u64>) -> Result<u64, Ending<'w>>
+    ensures { result ≡ number_within most fault.entry number }
+{
+    match number {
+        Some(number) if number >= 1 && number <= most => Ok(number),
+        Some(_) | None => Err(fault),
+    }
+}
+
+fn files_of<'w>(text: Option<&[u8]>) -> Result<u64, Ending<'w>>
+    ensures { result ≡ files_of (option_copied text.entry) }
+{
+    match text {
+        Some(text) => number_within(MOST_FILES, Ending::BadFiles, decimal(text)),
+        None => Ok(USUAL_FILES),
+    }
+}
+
+fn parted_of<'w>(size: &[u8], files: Option<&[u8]>) -> Result<Option<Parting>, Ending<'w>>
+    ensures { result ≡ parted_of size.now (option_copied files.entry) }
+{
+    let megabytes = number_within(MOST_MEGABYTES, Ending::BadSize, decimal(size))?;
+    let files = files_of(files)?;
+    Ok(Some(Parting {
+        size: megabytes * MEGABYTE,
+        files,
+    }))
+}
+
+/// How a capture is parted, where there is one, by what stands behind `--capture-size` and `--capture-files`.
+pub fn parting_of<'w>(
+    has_capture: bool,
+    size: Option<&[u8]>,
+    files: Option<&[u8]>,
+) -> Result<Option<Parting>, Ending<'w>>
+    ensures { result ≡ parting_of has_capture (option_copied size.entry) (option_copied files.entry) }
+{
+    match (size, files) {
+        (None, None) => Ok(None),
+        (None, Some(_)) => Err(Ending::BadFiles),
+        (Some(size), files) if has_capture => parted_of(size, files),
+        (Some(_), _) => Err(Ending::BadSize),
+    }
+}

@@ -1,0 +1,72 @@
+//! What a gateway's records go to: its outlets, and the files of its capture, of which the next is made where one is full.
+use live_ends::{CaptureFiles, Outlets};
+use live_gateway::Recorder;
+use live_journal::{Journal, Trace};
+use std::io::Write;
+use std::rt::Files;
+
+/// The outlets of a gateway, and the files of its capture, where that is parted.
+#[derive(Drop)]
+pub struct Recording<'r, R: Files> {
+    pub rt: &'r R,
+    pub outlets: &'r mut Outlets<R::File>,
+    pub files: Option<CaptureFiles>,
+}
+
+// What is captured goes on in the next file; where that can't be made the capture has failed.
+fn begin_next<R: Files>(
+    rt: &R,
+    files: &mut CaptureFiles,
+    outlets: &mut Outlets<R::File>,
+    journal: &mut Journal,
+) {
+    match files.next(rt) {
+        Ok(outlet) => {
+            outlets.capture = Some(outlet);
+            journal.capture.begin_file();
+        }
+        Err(kind) => {
+            if let Some(capture) = &mut outlets.capture {
+                if let Ok(name) = files.file() {
+                    capture.name = name;
+                }
+                capture.refuse(kind);
+            }
+        }
+    }
+}
+
+// Whether all that was captured so far is taken.
+fn is_taken<F: Write + Drop>(outlets: &Outlets<F>) -> bool {
+    match &outlets.capture {
+        Some(capture) => capture.is_taken(),
+        None => true,
+    }
+}
+
+// What a turn has put goes into the next file, where the one that is written is full, and has taken all that was put before.
+fn turn_over<R: Files>(
+    rt: &R,
+    files: &mut CaptureFiles,
+    outlets: &mut Outlets<R::File>,
+    journal: &mut Journal,
+) {
+    let more = journal.capture.record.out.len();
+    if more > 0 && files.is_full(more) && is_taken(outlets) {
+        begin_next(rt, files, outlets, journal);
+    }
+    files.put(journal.capture.record.out.len());
+}
+
+impl<R: Files> Recorder<Trace> for Recording<'_, R> {
+    fn write(&mut self, journal: &mut Journal, trace: &mut Trace, time: u64) {
+        if let Some(files) = &mut self.files {
+            turn_over(self.rt, files, &mut *self.outlets, journal);
+        }
+        journal.write(trace, &mut *self.outlets, time);
+    }
+
+    fn is_offering(&self) -> bool {
+        !self.outlets.are_taken()
+    }
+}
