@@ -1,6 +1,7 @@
 //! Stories of `rgwd`: its loop, from its words and its configuration on.
 //!
-//! - `words --log` it is called with this; each word stands in a line of its own, with its value.
+//! - `words --log` it is called with this; each word stands in a line of its own, with its value. Who may speak is who the configuration
+//!   names, unless `words --agents` says another.
 //! - `set ..` changes the configuration, as in a script.
 //! - `at 2000` what stands below comes, and goes out, at this moment by the machine's clock, in ms.
 //! - `<`, `>` and the lines of a datagram, up to `--`: it comes from the agent, or goes there; behind them may stand an address.
@@ -22,8 +23,9 @@ use crate::titled::Titled;
 use bad_network::BadNetwork;
 use gateway_core::Gateway;
 use live_ends::{Now, Written};
-use live_gateway::{Desk, Exchange, Recorder, SpoiltWay, boxed};
+use live_gateway::{Admission, Desk, Exchange, Recorder, SpoiltWay, boxed, speakers_of};
 use live_journal::{Capture, Journal, Log, MessageTally, Trace};
+use live_page::HostNames;
 use live_play::LivePlay;
 use page_answers::Board;
 use rgw_play::{PlayFault, gateway_from};
@@ -124,34 +126,54 @@ fn exchange_of(
     boxed(alloc, Exchange::new(around, network, journal, now))
 }
 
+// Who may speak to a gateway, and who may type.
+fn admission_of(
+    alloc: Global,
+    words: &mut Words,
+    gateway: &Gateway,
+) -> Result<Admission, AllocError> {
+    let speakers = match words.agents.take() {
+        Some(speakers) => speakers,
+        None => speakers_of(alloc, gateway.setup())?,
+    };
+    Ok(Admission {
+        speakers,
+        are_phones_open: words.are_phones_open,
+    })
+}
+
 // A gateway that runs.
 fn desk_of(
     alloc: Global,
-    words: &Words,
+    words: &mut Words,
     config: &str,
     gateway: Box<Gateway>,
     story: &mut Story,
 ) -> Result<Box<Desk<Scripted, Trace>>, AllocError> {
+    let admission = admission_of(alloc, words, &gateway)?;
     let exchange = exchange_of(alloc, words, &gateway, story)?;
     let first = words.first.number();
     let trace = Trace::new(alloc, words.has_trace, config.as_bytes(), first);
     let play = boxed(alloc, LivePlay::new(alloc, gateway, trace))?;
     let lines = boxed(alloc, Lines::new(alloc)?)?;
     let end = words.stop_after.unwrap_or(story.moment.saturating_add(1));
-    boxed(alloc, Desk::new(alloc, play, exchange, lines, Some(end)))
+    let desk = Desk::new(alloc, play, exchange, lines, admission, Some(end));
+    boxed(alloc, desk)
 }
 
 // Who visits the page, if there is one.
 fn visitors_of(
     alloc: Global,
-    words: &Words,
+    words: &mut Words,
     story: &mut Story,
 ) -> Result<Option<Box<Browsers>>, AllocError> {
     let Some(site) = words.http else {
         return Ok(None);
     };
     let visits = mem::replace(&mut story.visits, VecDeque::new(alloc));
-    Ok(Some(boxed(alloc, Browsers::new(alloc, site, visits))?))
+    let names = words.http_hosts.take().unwrap_or(HostNames::none(alloc));
+    let browsers = Browsers::new(alloc, site, names, visits);
+    Ok(Some(boxed(alloc, browsers)?))
 }
 
 // Puts what a replay finds of a trace.
@@ -212,7 +234,7 @@ fn run(
 // Plays a story with a gateway of this configuration.
 fn play_with(
     alloc: Global,
-    words: &Words,
+    words: &mut Words,
     config: &str,
     gateway: Box<Gateway>,
     story: &mut Story,
@@ -227,7 +249,7 @@ fn play_with(
 // Plays a story where the program is called with these words.
 fn play_asked(
     alloc: Global,
-    words: &Words,
+    words: &mut Words,
     story: &mut Story,
     given: &mut Transcript,
 ) -> io::Result<bool> {
@@ -251,7 +273,7 @@ impl Program for Live {
 
     fn play(alloc: Global, story: &mut Story, given: &mut Transcript) -> io::Result<bool> {
         match words_in(alloc, story.words.as_slice(), Live::place().own)? {
-            Some(words) => play_asked(alloc, &words, story, given),
+            Some(mut words) => play_asked(alloc, &mut words, story, given),
             None => Ok(false),
         }
     }

@@ -2,7 +2,7 @@
 use crate::stories::{Transcript, Visit};
 use http_server::{Config, Connection};
 use live_gateway::{Visitors, boxed};
-use live_page::Desk;
+use live_page::{Desk, HostNames};
 use page_answers::Board;
 use std::alloc::Global;
 use std::collections::VecDeque;
@@ -26,6 +26,7 @@ impl RandomSource for KnownKeys {
 pub struct Browsers {
     alloc: Global,
     site: SocketAddrV4,
+    names: HostNames,
     visits: VecDeque<Visit>,
     /// What they got.
     pub given: Transcript,
@@ -70,10 +71,16 @@ fn front_of(answer: &[u8]) -> &[u8] {
 
 impl Browsers {
     /// None has been there.
-    pub fn new(alloc: Global, site: SocketAddrV4, visits: VecDeque<Visit>) -> Browsers {
+    pub fn new(
+        alloc: Global,
+        site: SocketAddrV4,
+        names: HostNames,
+        visits: VecDeque<Visit>,
+    ) -> Browsers {
         Browsers {
             alloc,
             site,
+            names,
             visits,
             given: Transcript::new(alloc),
         }
@@ -92,7 +99,7 @@ impl Browsers {
         let Some(visit) = self.visits.pop_front() else {
             return Ok(());
         };
-        let mut desk = Desk::new(self.site, board);
+        let mut desk = Desk::new(self.site, &self.names, board);
         let answer = answered(self.alloc, &mut desk, visit.request.as_slice())?;
         let told = if visit.is_brief {
             front_of(answer.as_slice())

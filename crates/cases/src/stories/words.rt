@@ -1,11 +1,13 @@
 //! The words that a program is called with, as far as its loop asks for them.
 use bad_network::Spoiling;
 use live_gateway::boxed;
+use live_page::HostNames;
 use mg_bytes::decimal;
 use new_start::FirstNumber;
 use std::alloc::Global;
 use std::io;
 use std::net::{Ipv4Addr, SocketAddrV4};
+use surroundings::Speakers;
 
 /// What the words ask for.
 #[derive(Drop)]
@@ -13,6 +15,9 @@ pub struct Words {
     /// The addresses of its sockets: for datagrams, and for who types.
     pub own: [SocketAddrV4; 2],
     pub http: Option<SocketAddrV4>,
+    pub http_hosts: Option<HostNames>,
+    pub agents: Option<Speakers>,
+    pub are_phones_open: bool,
     pub has_log: bool,
     pub has_trace: bool,
     pub is_routed: bool,
@@ -36,6 +41,9 @@ impl Words {
             "--listen" => self.own[0] = address_in(value),
             "--phones" | "--control" => self.own[1] = address_in(value),
             "--http" => self.http = Some(address_in(value)),
+            "--http-host" => self.http_hosts = HostNames::read(alloc, value.as_bytes())?,
+            "--agents" => self.agents = Speakers::read(alloc, value.as_bytes())?,
+            "--phones-open" => self.are_phones_open = true,
             "--log" => self.has_log = true,
             "--trace" => self.has_trace = true,
             "--route" => self.is_routed = true,
@@ -62,6 +70,9 @@ pub fn words_in(
     let asked = Words {
         own,
         http: None,
+        http_hosts: None,
+        agents: None,
+        are_phones_open: false,
         has_log: false,
         has_trace: false,
         is_routed: false,

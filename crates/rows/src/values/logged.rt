@@ -73,6 +73,12 @@ fn note_of(row: &mut Row<'_>, call: &str, value: &[u8]) -> Note {
         "log unreadable" => Note::Unreadable,
         "log not sent" => Note::Unsent,
         "log out of memory" => Note::OutOfMemory,
+        "log stranger" => Note::Stranger {
+            untold: number_of(row, value),
+        },
+        "log no room" => Note::NoRoom {
+            young: number_of(row, value),
+        },
         _ => {
             row.unread();
             Note::Unreadable
