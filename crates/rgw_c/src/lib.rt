@@ -1,0 +1,21 @@
+//! The gateway for programs in C: each export calls one public function of the libraries below and states its clauses again.
+//!
+//! A program keeps a handle, one word, which begins as null. `include/rgw.h` says what C has to keep at each call, since nothing here
+//! can check it: pointers that are not null and have their room, and one call at a time on a handle. All else that can go wrong has a
+//! number, and what is left then stands in the clauses. Nothing is global.
+#![tactic(auto)]
+
+mod account;
+mod acts;
+mod copying;
+mod events;
+pub mod examples;
+mod handle;
+mod instance;
+mod lines;
+mod loose;
+mod numbers;
+mod opening;
+mod outputs;
+mod structs;
+mod times;

@@ -1,0 +1,118 @@
+//! How a gateway is opened from the text of a configuration, what is wrong with one, and how it is closed.
+ghost use Rattle.std.specs.Prelude.{◌≡◌, ◌≢◌, ◌<◌, ◌≤◌, length, IfOk, IfErr, IfSome, IsSome, IsSomeAnd, None};
+ghost use Rattle.plain_machine.specs.Setup.{firsts};
+ghost use Rattle.rgw_scenes.specs.Flaws.{flaw_of};
+ghost use Rattle.rgw_c.specs.Opening.{Opened, Explained};
+ghost use Rattle.rgw_c.specs.Telling.{open_number};
+
+use crate::copying::copy_out;
+use crate::handle::{Handle, put, take};
+use crate::instance::Instance;
+use crate::numbers::{
+    BAD_FIRST, HAS_FLAW, IS_OPEN, NOT_OPEN, OK, OUT_OF_MEMORY, TOO_LONG, VERSION, config_number,
+};
+use gateway_core::{FIRSTS, Outputs};
+use rgw_scenes::{flaw_of, gateway_from, told};
+use rgw_scripts::{PlayFault, is_too_long};
+use std::alloc::Global;
+
+// An instance of a configuration's text, which has sent nothing; or the number of why there is none.
+fn instance_of(alloc: Global, config: &[u8], first: u32) -> Result<Box<Instance>, u32>
+    requires { first < firsts }
+    ensures ok { IfOk result (λ instance. Opened config.now first instance.value) }
+    ensures err { IfErr result (λ number. Explained config.now first number) }
+    ensures wrong { IfErr result (λ number. number ≢ OK) }
+{
+    match gateway_from(alloc, config, first) {
+        Ok(gateway) => {
+            let outputs = Outputs::new(alloc);
+            match Box::new(alloc, Instance { gateway, outputs }) {
+                Ok(instance) => Ok(instance),
+                Err(_) => Err(OUT_OF_MEMORY),
+            }
+        }
+        Err(PlayFault::Config { number }) => Err(config_number(number)),
+        Err(_) => Err(OUT_OF_MEMORY),
+    }
+}
+
+/// Opens a handle that isn't open on a gateway of the configuration in this text, at moment 0, whose ids begin with this number. What is
+/// refused leaves the handle as it was.
+#[unsafe(no_mangle)]
+pub extern "C" fn rgw_open_nonnull(
+    alloc: Global,
+    handle: &mut Handle,
+    config: &[u8],
+    first: u32,
+) -> u32
+    ensures opened { result ≡ OK → IsSomeAnd handle.new.held (λ is. Opened config.now first is) }
+    ensures was_open { IfSome handle.old.held (λ _. result ≡ IS_OPEN) }
+    ensures first { handle.old.held ≡ None → FIRSTS ≤ first → result ≡ BAD_FIRST }
+    ensures fault { handle.old.held ≡ None → Explained config.now first result }
+    ensures left { result ≢ OK → handle.new.held ≡ handle.old.held }
+{
+    let held = take(handle, alloc);
+    if let Some(instance) = held {
+        put(handle, alloc, instance);
+        return IS_OPEN;
+    }
+    if first >= FIRSTS {
+        return BAD_FIRST;
+    }
+    if is_too_long(config) {
+        return TOO_LONG;
+    }
+    match instance_of(alloc, config, first) {
+        Ok(instance) => {
+            put(handle, alloc, instance);
+            OK
+        }
+        Err(number) => number,
+    }
+}
+
+/// What is wrong with the configuration in this text, in a line without its end, as `rgwd --check` says it; the line is copied to the
+/// start of the buffer. `needed` is how long it is. `OK` where nothing is wrong.
+#[unsafe(no_mangle)]
+pub extern "C" fn rgw_check_nonnull(
+    alloc: Global,
+    config: &[u8],
+    buffer: &mut [u8],
+    needed: &mut usize,
+) -> u32
+    ensures none { result ≡ OK → flaw_of config.now ≡ None }
+    ensures flaw { result ≢ OK → result ≢ OUT_OF_MEMORY → IsSome (flaw_of config.now) }
+    ensures needed { result ≡ HAS_FLAW → needed.new ≤ length buffer.old }
+    ensures left { result ≢ HAS_FLAW → buffer.new ≡ buffer.old }
+{
+    let flaw = match flaw_of(alloc, config) {
+        Ok(Some(flaw)) => flaw,
+        Ok(None) => return OK,
+        Err(_) => return OUT_OF_MEMORY,
+    };
+    let Ok(line) = told(alloc, config, flaw) else {
+        return OUT_OF_MEMORY;
+    };
+    let number = copy_out(&line, buffer, needed);
+    if number == OK { HAS_FLAW } else { number }
+}
+
+/// Closes a handle, and frees what it had.
+#[unsafe(no_mangle)]
+pub extern "C" fn rgw_close_nonnull(alloc: Global, handle: &mut Handle) -> u32
+    ensures number { result ≡ open_number handle.old.held }
+    ensures closed { handle.new.held ≡ None }
+{
+    match take(handle, alloc) {
+        Some(_) => OK,
+        None => NOT_OPEN,
+    }
+}
+
+/// The version of the library: 10,000 times the first number, 100 times the second, and the third.
+#[unsafe(no_mangle)]
+pub extern "C" fn rgw_version() -> u32
+    ensures { result ≡ VERSION }
+{
+    VERSION
+}

@@ -1,0 +1,62 @@
+//! What was sent at the last event, datagram by datagram.
+ghost use Rattle.std.specs.Prelude.{◌≡◌, ◌≢◌, length, take, IfSome};
+ghost use Rattle.rgw_c.specs.Telling.{open_number, output_of, output_number, output_at};
+
+use crate::copying::copy_out;
+use crate::handle::{Handle, put, take};
+use crate::numbers::{NO_SUCH_PLACE, NOT_OPEN, OK};
+use crate::structs::Output;
+use std::alloc::Global;
+
+/// How many datagrams the last event sent that was taken.
+#[unsafe(no_mangle)]
+pub extern "C" fn rgw_outputs_nonnull(alloc: Global, handle: &mut Handle, count: &mut usize) -> u32
+    ensures number { result ≡ open_number handle.old.held }
+    ensures count { IfSome handle.old.held (λ is. count.new ≡ length is.outputs) }
+    ensures left { result ≢ OK → count.new ≡ count.old }
+    ensures kept { handle.new.held ≡ handle.old.held }
+{
+    let Some(instance) = take(handle, alloc) else {
+        return NOT_OPEN;
+    };
+    *count = instance.outputs.as_slice().len();
+    put(handle, alloc, instance);
+    OK
+}
+
+/// A datagram that the last event sent, by its index from 0, in their order: where to and when, and its bytes, which are copied to the
+/// start of the buffer. `needed` is how many they are. Where the buffer is too small, it alone is as it was.
+#[unsafe(no_mangle)]
+pub extern "C" fn rgw_output_nonnull(
+    alloc: Global,
+    handle: &mut Handle,
+    index: usize,
+    output: &mut Output,
+    buffer: &mut [u8],
+    needed: &mut usize,
+) -> u32
+    ensures number { result ≡ output_number handle.old.held index (length buffer.old) }
+    ensures output { IfSome (output_at handle.old.held index) (λ datagram. output.new ≡ output_of datagram) }
+    ensures needed { IfSome (output_at handle.old.held index) (λ datagram. needed.new ≡ length datagram.bytes) }
+    ensures copied { result ≡ OK → IfSome (output_at handle.old.held index) (λ datagram.
+        take (length datagram.bytes) buffer.new ≡ datagram.bytes) }
+    ensures left { result ≢ OK → buffer.new ≡ buffer.old }
+    ensures kept { handle.new.held ≡ handle.old.held }
+{
+    let Some(instance) = take(handle, alloc) else {
+        return NOT_OPEN;
+    };
+    let number = match instance.outputs.as_slice().get(index) {
+        Some(datagram) => {
+            *output = Output {
+                moment: datagram.moment,
+                host: datagram.to.ip().to_bits(),
+                port: datagram.to.port(),
+            };
+            copy_out(datagram.bytes.as_bytes(), buffer, needed)
+        }
+        None => NO_SUCH_PLACE,
+    };
+    put(handle, alloc, instance);
+    number
+}
