@@ -1,0 +1,291 @@
+"""A gateway."""
+
+import threading
+from ctypes import byref, c_size_t, c_uint16, c_uint32, c_uint64, create_string_buffer
+from dataclasses import dataclass
+from socket import inet_aton, inet_ntoa
+from types import TracebackType
+from typing import NamedTuple
+
+from rgw.library import CALLS, ConnectionInfo, Handle, MessageInfo, OutputInfo, SignalInfo
+from rgw.numbers import Closed, ConfigFault, Number, RgwError, raised
+
+# The acts that are no key, by the words of scripts.
+ACTS = {"off": 1, "on": 2, "flash": 3}
+SIGNALS = ("", "L/dl", "L/bz", "L/ro", "L/rg", "L/rs", "L/vmwi", "G/rt", "G/cg", "G/cf")
+MODES = ("", "sendonly", "recvonly", "sendrecv", "confrnce", "inactive")
+VERBS = ("", "EPCF", "RQNT", "NTFY", "CRCX", "MDCX", "DLCX", "AUEP", "AUCX", "RSIP")
+WHATS = ("", "answer", "again", "command", "resent", "acknowledgement")
+PLACES = 4
+# The longest tick, in ms.
+LONGEST_TICK = 1000
+# So long a datagram that is sent may be before it is asked for twice.
+ROOM = 4096
+
+
+class Address(NamedTuple):
+    """An IPv4 address and a port."""
+
+    host: str
+    port: int
+
+    def __str__(self) -> str:
+        return f"{self.host}:{self.port}"
+
+
+@dataclass(frozen=True, slots=True)
+class Output:
+    """A datagram that the gateway sends: when (in ms), where to, and its bytes."""
+
+    moment: int
+    to: Address
+    data: bytes
+
+
+@dataclass(frozen=True, slots=True)
+class Message:
+    """A message that was sent: when, where to, its transaction id; of which line it is, where 0 is the gateway's own and None that it
+    belongs to none; what it is (a word of WHATS); an answer's return code; a command's verb; and which send of it this is."""
+
+    moment: int
+    to: Address
+    id: int
+    line: int | None
+    what: str
+    code: int
+    verb: str
+    send: int
+
+
+@dataclass(frozen=True, slots=True)
+class Signal:
+    """An active signal, and the moment at which it ends; None where no time ends it."""
+
+    name: str
+    end: int | None
+
+
+@dataclass(frozen=True, slots=True)
+class Connection:
+    """A connection: its number and mode, where it receives and sends (None while that isn't known), the time of a packet in ms, and the
+    payload types in force."""
+
+    number: int
+    mode: str
+    local: Address
+    remote: Address | None
+    packet_time: int
+    payloads: tuple[int, ...]
+
+
+def address_of(source: str | tuple[str, int]) -> Address:
+    """The address that a text, as "10.0.0.1:2727", or a pair says."""
+    if not isinstance(source, str):
+        return Address(*source)
+    host, _, port = source.rpartition(":")
+    return Address(host, int(port))
+
+
+def _host(number: int) -> str:
+    return inet_ntoa(number.to_bytes(4, "big"))
+
+
+def act_number(act: str) -> int:
+    """The number of an act: `off`, `on`, `flash` or a key. 0, which is none, of any other word."""
+    return ACTS.get(act) or (ord(act) if len(act) == 1 else 0)
+
+
+def flaw_of(config: bytes) -> str:
+    """What is wrong with a configuration, as `rgwd --check` says it; empty where nothing is."""
+    room = ROOM
+    while True:
+        buffer, needed = create_string_buffer(room), c_size_t()
+        number = CALLS["check"](config, len(config), buffer, room, byref(needed))
+        if number == Number.OK:
+            return ""
+        if number == Number.HAS_FLAW:
+            return buffer.raw[: needed.value].decode("ascii")
+        if number != Number.SMALL_BUFFER:
+            raise raised(number)
+        room = needed.value
+
+
+class Line:
+    """A line of a gateway, as it is when it is asked."""
+
+    def __init__(self, gateway: "Gateway", number: int) -> None:
+        self._gateway, self.number = gateway, number
+
+    @property
+    def hook(self) -> str:
+        """`on` or `off`."""
+        hook = c_uint32()
+        self._gateway._ask("hook", self.number, byref(hook))
+        return "off" if hook.value else "on"
+
+    @property
+    def lost(self) -> int:
+        """How many of its events found no room."""
+        lost = c_uint64()
+        self._gateway._ask("lost", self.number, byref(lost))
+        return lost.value
+
+    @property
+    def signals(self) -> tuple[Signal, ...]:
+        """Its active signals, in the order of the table."""
+        found: list[Signal] = []
+        info = SignalInfo()
+        while self._gateway._finds("signal", self.number, len(found), byref(info)):
+            found.append(Signal(SIGNALS[info.signal], info.end if info.ends else None))
+        return tuple(found)
+
+    @property
+    def connections(self) -> tuple[Connection | None, ...]:
+        """What each of its four places holds."""
+        return tuple(self._connection(place) for place in range(PLACES))
+
+    def _connection(self, place: int) -> Connection | None:
+        info = ConnectionInfo()
+        if not self._gateway._finds("connection", self.number, place, byref(info)):
+            return None
+        payloads = (info.first_payload, info.last_payload)[: info.payloads]
+        local = Address(_host(info.local_host), info.local_port)
+        remote = Address(_host(info.remote_host), info.remote_port) if info.is_remote_known else None
+        return Connection(info.number, MODES[info.mode], local, remote, info.packet_time, payloads)
+
+
+class Gateway:
+    """A gateway of a configuration (TOML, as `rgwd` takes it), whose ids begin with `first`. It is used on the thread that made it."""
+
+    def __init__(self, config: str | bytes, first: int = 0) -> None:
+        self.config = config.encode() if isinstance(config, str) else config
+        self.first = first
+        self._handle = Handle()
+        self._at = byref(self._handle)
+        self._thread = threading.get_ident()
+        self._buffer, self._needed, self._count = create_string_buffer(ROOM), c_size_t(), c_size_t()
+        if not 0 <= first < 1 << 32:
+            raise RgwError(Number.BAD_FIRST)
+        number = CALLS["open"](self._at, self.config, len(self.config), first)
+        if Number.BAD_DOMAIN <= number <= Number.TOO_LONG:
+            raise ConfigFault(Number(number), flaw_of(self.config))
+        if number != Number.OK:
+            raise raised(number)
+
+    def close(self) -> None:
+        """Frees what it has. Each call afterwards but this one raises `Closed`."""
+        if self._handle.inner:
+            CALLS["close"](self._at)
+
+    def __enter__(self) -> "Gateway":
+        return self
+
+    def __exit__(self, kind: type[BaseException] | None, fault: BaseException | None, trace: TracebackType | None) -> None:
+        self.close()
+
+    def __del__(self) -> None:
+        if hasattr(self, "_at"):
+            self.close()
+
+    def _call(self, name: str, *words: object) -> int:
+        if threading.get_ident() != self._thread:
+            raise Closed(Number.NOT_OPEN, "it is another thread's")
+        number: int = CALLS[name](self._at, *words)
+        return number
+
+    def _ask(self, name: str, *words: object) -> None:
+        number = self._call(name, *words)
+        if number != Number.OK:
+            raise raised(number)
+
+    def _finds(self, name: str, *words: object) -> bool:
+        """Whether something is there."""
+        number = self._call(name, *words)
+        if number in (Number.NO_SUCH_PLACE, Number.NO_CONNECTION, Number.NOTHING_DUE):
+            return False
+        if number != Number.OK:
+            raise raised(number)
+        return True
+
+    def datagram(self, source: str | tuple[str, int], data: bytes) -> list[Output]:
+        """A datagram came from this address. What is sent because of it."""
+        host, port = address_of(source)
+        self._ask("datagram", int.from_bytes(inet_aton(host), "big"), port, data, len(data))
+        return self.outputs
+
+    def phone(self, line: int, act: str) -> list[Output]:
+        """An act at the telephone of a line: `off`, `on`, `flash`, or a key. What is sent because of it."""
+        if not 0 <= line < 1 << 16:
+            raise raised(Number.NO_SUCH_LINE)
+        self._ask("phone", line, act_number(act))
+        return self.outputs
+
+    def tick(self, moment: int) -> list[Output]:
+        """The clock: it is this moment, at most 1,000 ms past now. What is sent up to it."""
+        if not 0 <= moment < 1 << 64:
+            raise raised(Number.TICK_TOO_FAR if moment > 0 else Number.CLOCK_BACK)
+        self._ask("tick", moment)
+        return self.outputs
+
+    def wait(self, by: int) -> list[Output]:
+        """The clock goes on by so many ms, in ticks of 1,000 and one of the rest. What is sent up to then."""
+        end, sent = self.now + by, []
+        while self.now < end:
+            sent += self.tick(min(end, self.now + LONGEST_TICK))
+        return sent
+
+    @property
+    def now(self) -> int:
+        """The moment of the last tick, in ms; 0 before any."""
+        moment = c_uint64()
+        self._ask("now", byref(moment))
+        return moment.value
+
+    @property
+    def next_due(self) -> int | None:
+        """The moment at which something falls due next. Until then no tick does anything but move the clock."""
+        moment = c_uint64()
+        return moment.value if self._finds("next_due", byref(moment)) else None
+
+    @property
+    def lines(self) -> int:
+        """How many lines it has."""
+        lines = c_uint16()
+        self._ask("lines", byref(lines))
+        return lines.value
+
+    def line(self, number: int) -> Line:
+        """One of its lines, from 1."""
+        if not 1 <= number <= self.lines:
+            raise raised(Number.NO_SUCH_LINE)
+        return Line(self, number)
+
+    @property
+    def outputs(self) -> list[Output]:
+        """What the last event sent that wasn't refused."""
+        self._ask("outputs", byref(self._count))
+        return [self._output(index) for index in range(self._count.value)]
+
+    def _output(self, index: int) -> Output:
+        info, needed = OutputInfo(), self._needed
+        while True:
+            number = self._call("output", index, byref(info), self._buffer, len(self._buffer), byref(needed))
+            if number == Number.OK:
+                return Output(info.moment, Address(_host(info.host), info.port), self._buffer.raw[: needed.value])
+            if number != Number.SMALL_BUFFER:
+                raise raised(number)
+            self._buffer = create_string_buffer(needed.value)
+
+    @property
+    def messages(self) -> list[Message]:
+        """What is told of each message that the last event sent: several may share a datagram."""
+        self._ask("messages", byref(self._count))
+        return [self._message(index) for index in range(self._count.value)]
+
+    def _message(self, index: int) -> Message:
+        info = MessageInfo()
+        self._ask("message", index, byref(info))
+        to = Address(_host(info.host), info.port)
+        is_own = info.whose == 2
+        line = info.line if is_own or (info.whose == 1 and info.line) else None
+        return Message(info.moment, to, info.id, line, WHATS[info.what], info.code, VERBS[info.verb], info.send)
