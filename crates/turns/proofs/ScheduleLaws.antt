@@ -14,7 +14,7 @@ use Rattle.turns.specs.declared.schedule.Mode.TheVariants.{Rounds, Reading, Catc
 use Rattle.turns.specs.declared.schedule.Schedule.{Schedule}
 use Rattle.turns.specs.Circle.{is_ready, first_ready}
 use Rattle.turns.specs.Clock.{longest_tick, longest_wait, is_over, tick_to, wait_until}
-use Rattle.turns.specs.Schedule.{longest_read_pause, is_far_behind, met, asked, taken, turn_of, is_tick_due, is_stale, round_by, round, is_paused, lateness_of, noted, woken, of_sockets, read_by, read_on, onward, next_met, next_of}
+use Rattle.turns.specs.Schedule.{longest_read_pause, most_read, is_far_behind, reads_on, met, asked, taken, turn_of, is_tick_due, is_stale, round_by, round, is_paused, lateness_of, noted, woken, of_sockets, read_by, read_on, onward, next_met, next_of}
 use Rattle.turns.specs.Runs.{turns_from, source_of, is_its, is_turn_of, is_rounds, is_round, IsReadyIn, reading}
 
 -- ---- tests
@@ -128,7 +128,7 @@ count_more p t ts = sum_by-cons (λ x. cond (p x) 1 0) t ts
 
 on_mode : (mode : Mode) (s : Schedule) (at : Situation) → is_rounds mode ≡ true → onward mode s at ≡ round s at
 on_mode Rounds s at is = refl
-on_mode (Reading late before left) s at is = absurd (true≢false (sym is))
+on_mode (Reading late before) s at is = absurd (true≢false (sym is))
 on_mode (CatchingUp left) s at is = absurd (true≢false (sym is))
 
 next_round : (s : Schedule) (at : Situation) → is_round s at ≡ true → next_of s at ≡ round (met s at) at
@@ -301,19 +301,19 @@ found_no_tick at Commands other = λ moment is. absurd cc
 found_no_tick at Datagrams other = λ moment is. absurd cc
 found_no_tick at Visitors other = λ moment is. absurd cc
 
-read_no_tick : (s : Schedule) (at : Situation) (late before left : ℕ) → NoTick (read_on s at late before left).0
-read_no_tick s at late before left =
-    by_if (λ (found : Option Source). NoTick (read_by found s at late before left).0) (nat_lt 0 left && not (is_far_behind at)) (first_ready false (of_sockets at.ready) s.last) None
+read_no_tick : (s : Schedule) (at : Situation) (late before : ℕ) → NoTick (read_on s at late before).0
+read_no_tick s at late before =
+    by_if (λ (found : Option Source). NoTick (read_by found s at late before).0) (reads_on at before) (first_ready false (of_sockets at.ready) s.last) None
     (λ some. by_found (first_ready false (of_sockets at.ready) s.last) refl) (λ none moment e. absurd cc) where
-      by_found : (found : Option Source) → first_ready false (of_sockets at.ready) s.last ≡ found → NoTick (read_by found s at late before left).0
+      by_found : (found : Option Source) → first_ready false (of_sockets at.ready) s.last ≡ found → NoTick (read_by found s at late before).0
       by_found None is = λ moment e. absurd cc
       by_found (Some found) is =
-          by_if (λ (r : Turn × Schedule). NoTick r.0) (is_stale s at) (Look, asked s at) (turn_of at found, record (taken s at found) { mode = Reading late before (left - 1) })
+          by_if (λ (r : Turn × Schedule). NoTick r.0) (is_stale s at) (Look, asked s at) (turn_of at found, taken s at found)
           (λ stale moment e. absurd cc) (λ seen. found_no_tick at found (no_clock (of_sockets at.ready) found (found_is_ready false (of_sockets at.ready) s.last found is)))
 
 onward_bounds : (mode : Mode) (s : Schedule) (at : Situation) → at.moment < 2 ^ 64 → Bounded at (onward mode s at).0
 onward_bounds Rounds s at few = round_bounds s at few
-onward_bounds (Reading late before left) s at few = λ moment e. absurd (read_no_tick s at late before left moment e)
+onward_bounds (Reading late before) s at few = λ moment e. absurd (read_no_tick s at late before moment e)
 onward_bounds (CatchingUp left) s at few =
     by_if (λ (r : Turn × Schedule). Bounded at r.0) (nat_lt 0 left && nat_lt at.ticked at.moment)
     (Tick (tick_to at), record (taken s at Clock) { mode = CatchingUp (left - 1) }) (round (record s { mode = Rounds }) at)
@@ -334,62 +334,62 @@ ticks_within s at moment few is =
 
 -- ---- pauses
 
-met_with : (b : Bool) (s : Schedule) (moment late before left : ℕ) → (if b then record (reading s late before left) { looked = moment } else reading s late before left)
-    ≡ reading (if b then record s { looked = moment } else s) late before left
-met_with true s moment late before left = refl
-met_with false s moment late before left = refl
+met_with : (b : Bool) (s : Schedule) (moment late before : ℕ) → (if b then record (reading s late before) { looked = moment } else reading s late before)
+    ≡ reading (if b then record s { looked = moment } else s) late before
+met_with true s moment late before = refl
+met_with false s moment late before = refl
 
 and_false : (b : Bool) → (b && false) ≡ false
 and_false true = refl
 and_false false = refl
 
-next_reading : (s : Schedule) (at : Situation) (late before left : ℕ) → next_met (reading s late before left) at ≡ read_on (reading s late before left) at late before left
-next_reading s at late before left = rw (and_false (nat_lt 500 (at.moment - s.awaited))) refl
+next_reading : (s : Schedule) (at : Situation) (late before : ℕ) → next_met (reading s late before) at ≡ read_on (reading s late before) at late before
+next_reading s at late before = rw (and_false (nat_lt 500 (at.moment - s.awaited))) refl
 
-in_pause : (P : Turn × Schedule → Type 0) (s : Schedule) (at : Situation) (late before left : ℕ) → P (End, reading s late before left)
-    → ((met_then : Schedule) → P (read_on (reading met_then late before left) at late before left)) → P (next_of (reading s late before left) at)
+in_pause : (P : Turn × Schedule → Type 0) (s : Schedule) (at : Situation) (late before : ℕ) → P (End, reading s late before)
+    → ((met_then : Schedule) → P (read_on (reading met_then late before) at late before)) → P (next_of (reading s late before) at)
 unfolding next_of
-in_pause P s at late before left over on =
-    by_if P (is_over at) (End, reading s late before left) (next_met (met (reading s late before left) at) at) (λ is. over)
-    (λ is. subst (λ (m : Schedule). P (next_met m at)) (sym (met_with s.is_fresh s at.moment late before left))
-    (subst P (sym (next_reading (met s at) at late before left)) (on (met s at))))
+in_pause P s at late before over on =
+    by_if P (is_over at) (End, reading s late before) (next_met (met (reading s late before) at) at) (λ is. over)
+    (λ is. subst (λ (m : Schedule). P (next_met m at)) (sym (met_with s.is_fresh s at.moment late before))
+    (subst P (sym (next_reading (met s at) at late before)) (on (met s at))))
 
-pub pause_without_ticks : (s : Schedule) (at : Situation) (late before left moment : ℕ) → (next_of (reading s late before left) at).0 ≡ Tick moment → ⊥
-pause_without_ticks s at late before left moment is =
-    in_pause (λ r. NoTick r.0) s at late before left (λ m e. absurd cc) (λ m. read_no_tick (reading m late before left) at late before left) moment is
+pub pause_without_ticks : (s : Schedule) (at : Situation) (late before moment : ℕ) → (next_of (reading s late before) at).0 ≡ Tick moment → ⊥
+pause_without_ticks s at late before moment is =
+    in_pause (λ r. NoTick r.0) s at late before (λ m e. absurd cc) (λ m. read_no_tick (reading m late before) at late before) moment is
 
-abbrev OneLess : ℕ → ℕ → ℕ → Turn × Schedule → Type 0
-OneLess late before left r = (source : Source) → source_of r.0 ≡ Some source → (0 < left) × (r.1.mode ≡ Reading late before (left - 1))
+abbrev Enough : Situation → ℕ → ℕ → Turn × Schedule → Type 0
+Enough at late before r = (source : Source) → source_of r.0 ≡ Some source → (at.read - before < most_read) × (r.1.mode ≡ Reading late before)
 
-read_less : (s : Schedule) (at : Situation) (late before left : ℕ) → OneLess late before left (read_on s at late before left)
-read_less s at late before left =
-    by_if (λ (found : Option Source). OneLess late before left (read_by found s at late before left)) (nat_lt 0 left && not (is_far_behind at)) (first_ready false (of_sockets at.ready) s.last) None
+read_enough : (s : Schedule) (at : Situation) (late before : ℕ) → Enough at late before (read_on (reading s late before) at late before)
+read_enough s at late before =
+    by_if (λ (found : Option Source). Enough at late before (read_by found (reading s late before) at late before)) (reads_on at before) (first_ready false (of_sockets at.ready) s.last) None
     (λ some. by_found some (first_ready false (of_sockets at.ready) s.last)) (λ none source e. absurd cc) where
-      by_found : (nat_lt 0 left && not (is_far_behind at)) ≡ true → (found : Option Source) → OneLess late before left (read_by found s at late before left)
+      by_found : reads_on at before ≡ true → (found : Option Source) → Enough at late before (read_by found (reading s late before) at late before)
       by_found some None = λ source e. absurd cc
       by_found some (Some found) =
-          by_if (OneLess late before left) (is_stale s at) (Look, asked s at) (turn_of at found, record (taken s at found) { mode = Reading late before (left - 1) })
-          (λ stale source e. absurd cc) (λ seen source e. (ltb-true 0 left (both_hold (nat_lt 0 left) _ some).0, refl))
+          by_if (Enough at late before) (is_stale (reading s late before) at) (Look, asked (reading s late before) at) (turn_of at found, taken (reading s late before) at found)
+          (λ stale source e. absurd cc) (λ seen source e. (ltb-true (at.read - before) most_read (both_hold (nat_lt (at.read - before) most_read) _ some).0, refl))
 
-pub pause_gets_less : (s : Schedule) (at : Situation) (late before left : ℕ) (source : Source) → source_of (next_of (reading s late before left) at).0 ≡ Some source
-    → (0 < left) × ((next_of (reading s late before left) at).1.mode ≡ Reading late before (left - 1))
-pause_gets_less s at late before left source is =
-    in_pause (OneLess late before left) s at late before left (λ x e. absurd cc) (λ m. read_less (reading m late before left) at late before left) source is
+pub pause_has_enough : (s : Schedule) (at : Situation) (late before : ℕ) (source : Source) → source_of (next_of (reading s late before) at).0 ≡ Some source
+    → (at.read - before < most_read) × ((next_of (reading s late before) at).1.mode ≡ Reading late before)
+pause_has_enough s at late before source is =
+    in_pause (Enough at late before) s at late before (λ x e. absurd cc) (λ m. read_enough m at late before) source is
 
 -- nobody's turn comes where the clock is too far behind
 abbrev NotFar : Situation → Turn × Schedule → Type 0
 NotFar at r = (source : Source) → source_of r.0 ≡ Some source → at.moment - at.ticked ≤ longest_read_pause
 
-read_not_far : (s : Schedule) (at : Situation) (late before left : ℕ) → NotFar at (read_on s at late before left)
-read_not_far s at late before left =
-    by_if (λ (found : Option Source). NotFar at (read_by found s at late before left)) (nat_lt 0 left && not (is_far_behind at)) (first_ready false (of_sockets at.ready) s.last) None
-    (λ some source e. let near = ltb-false longest_read_pause (at.moment - at.ticked) (is_not (is_far_behind at) (both_hold (nat_lt 0 left) _ some).1) in omega (arith, near))
+read_not_far : (s : Schedule) (at : Situation) (late before : ℕ) → NotFar at (read_on s at late before)
+read_not_far s at late before =
+    by_if (λ (found : Option Source). NotFar at (read_by found s at late before)) (reads_on at before) (first_ready false (of_sockets at.ready) s.last) None
+    (λ some source e. let near = ltb-false longest_read_pause (at.moment - at.ticked) (is_not (is_far_behind at) (both_hold (nat_lt (at.read - before) most_read) _ some).1) in omega (arith, near))
     (λ none source e. absurd cc)
 
-pub pause_is_not_far : (s : Schedule) (at : Situation) (late before left : ℕ) (source : Source) → source_of (next_of (reading s late before left) at).0 ≡ Some source
+pub pause_is_not_far : (s : Schedule) (at : Situation) (late before : ℕ) (source : Source) → source_of (next_of (reading s late before) at).0 ≡ Some source
     → at.moment - at.ticked ≤ longest_read_pause
-pause_is_not_far s at late before left source is =
-    in_pause (NotFar at) s at late before left (λ x e. absurd cc) (λ m. read_not_far (reading m late before left) at late before left) source is
+pause_is_not_far s at late before source is =
+    in_pause (NotFar at) s at late before (λ x e. absurd cc) (λ m. read_not_far (reading m late before) at late before) source is
 
 -- ---- waiting
 
@@ -411,15 +411,15 @@ round_waits s at = by_found (first_ready (is_tick_due s at) at.ready s.last) ref
       by_if (λ (r : Turn × Schedule). Waits (is_tick_due s at) at r.0) (is_stale s at) (Look, asked s at) (turn_of at found, taken s at found) (λ stale until e. absurd cc)
       (λ seen. turn_no_wait (is_tick_due s at) at found)
 
-read_no_wait : (due : Bool) (s : Schedule) (at : Situation) (late before left : ℕ) (found : Option Source) → Waits due at (read_by found s at late before left).0
-read_no_wait due s at late before left None = λ until e. absurd cc
-read_no_wait due s at late before left (Some found) =
-    by_if (λ (r : Turn × Schedule). Waits due at r.0) (is_stale s at) (Look, asked s at) (turn_of at found, record (taken s at found) { mode = Reading late before (left - 1) })
+read_no_wait : (due : Bool) (s : Schedule) (at : Situation) (late before : ℕ) (found : Option Source) → Waits due at (read_by found s at late before).0
+read_no_wait due s at late before None = λ until e. absurd cc
+read_no_wait due s at late before (Some found) =
+    by_if (λ (r : Turn × Schedule). Waits due at r.0) (is_stale s at) (Look, asked s at) (turn_of at found, taken s at found)
     (λ stale until e. absurd cc) (λ seen. turn_no_wait due at found)
 
 onward_waits : (mode : Mode) (s : Schedule) (at : Situation) → Waits (is_tick_due s at) at (onward mode s at).0
 onward_waits Rounds s at = round_waits s at
-onward_waits (Reading late before left) s at = read_no_wait (is_tick_due s at) s at late before left _
+onward_waits (Reading late before) s at = read_no_wait (is_tick_due s at) s at late before _
 onward_waits (CatchingUp left) s at =
     by_if (λ (r : Turn × Schedule). Waits (is_tick_due s at) at r.0) (nat_lt 0 left && nat_lt at.ticked at.moment)
     (Tick (tick_to at), record (taken s at Clock) { mode = CatchingUp (left - 1) }) (round (record s { mode = Rounds }) at)

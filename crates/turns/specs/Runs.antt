@@ -47,7 +47,7 @@ is_turn_of source turn = is_its source (source_of turn)
 
 abbrev pub is_rounds : Mode → Bool
 is_rounds Rounds = true
-is_rounds (Reading lateness before left) = false
+is_rounds (Reading lateness before) = false
 is_rounds (CatchingUp left) = false
 
 -- a round goes on: the end hasn't come, and there was no pause
@@ -60,6 +60,6 @@ IsReadyIn source s [] = ⊤
 IsReadyIn source s (at ∷ more) =
     (is_round s at ≡ true) × (is_ready (is_tick_due (met s at) at) at.ready source ≡ true) × IsReadyIn source (next_of s at).1 more
 
--- a schedule in which what came in a pause is read, in so many turns at most
-abbrev pub reading : Schedule → ℕ → ℕ → ℕ → Schedule
-reading s late before left = record s { mode = Reading late before left }
+-- a schedule in which what came in a pause is read; so many datagrams had been read before it
+abbrev pub reading : Schedule → ℕ → ℕ → Schedule
+reading s late before = record s { mode = Reading late before }

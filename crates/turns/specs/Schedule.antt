@@ -12,7 +12,7 @@ use Rattle.turns.specs.declared.schedule.Schedule.{Schedule}
 use Rattle.turns.specs.Circle.{first_ready}
 use Rattle.turns.specs.Clock.{is_over, tick_to, ticks_behind, wait_until}
 
--- Limits, in ms and in turns
+-- Limits, in ms and in datagrams
 
 -- who wakes so late and no later wasn't stopped
 abbrev pub longest_oversleep : ℕ
@@ -23,7 +23,7 @@ longest_oversleep = 500
 abbrev pub longest_read_pause : ℕ
 longest_read_pause = 150000
 
--- so much of what came in a pause is read first
+-- so many datagrams of what came in a pause are read first
 abbrev pub most_read : ℕ
 most_read = 4096
 
@@ -115,7 +115,7 @@ lateness_of s at = at.moment - s.awaited
 
 abbrev pub is_reading : Mode → Bool
 is_reading Rounds = false
-is_reading (Reading lateness before left) = true
+is_reading (Reading lateness before) = true
 is_reading (CatchingUp left) = false
 
 -- it was stopped; while what came meanwhile is read, that isn't asked again
@@ -136,23 +136,25 @@ is_far_behind at = nat_lt longest_read_pause (at.moment - at.ticked)
 abbrev pub woken : Schedule → Situation → Turn × Schedule
 woken s at =
     if is_far_behind at then noted s at (lateness_of s at) None
-    else (Look, record (asked s at) { mode = Reading (lateness_of s at) at.read most_read })
+    else (Look, record (asked s at) { mode = Reading (lateness_of s at) at.read })
 
 -- the sockets alone are read
 abbrev pub of_sockets : Ready → Ready
 of_sockets ready = record ready { visitors = false }
 
-abbrev pub read_by : Option Source → Schedule → Situation → ℕ → ℕ → ℕ → Turn × Schedule
-read_by None s at late before left = noted s at late (Some (at.read - before))
-read_by (Some source) s at late before left =
-    if is_stale s at then (Look, asked s at)
-    else (turn_of at source, record (taken s at source) { mode = Reading late before (left - 1) })
+abbrev pub read_by : Option Source → Schedule → Situation → ℕ → ℕ → Turn × Schedule
+read_by None s at late before = noted s at late (Some (at.read - before))
+read_by (Some source) s at late before = if is_stale s at then (Look, asked s at) else (turn_of at source, taken s at source)
+
+-- more of what came in a pause is read: it wasn't enough, and the clock isn't too far behind
+abbrev pub reads_on : Situation → ℕ → Bool
+reads_on at before = nat_lt (at.read - before) most_read && not (is_far_behind at)
 
 -- what came in a pause is read, lines and datagrams by turns, until nothing is left of it, it was enough, or it was stopped again for
 -- too long; so in a flood of the ones the others are seen too
-abbrev pub read_on : Schedule → Situation → ℕ → ℕ → ℕ → Turn × Schedule
-read_on s at late before left =
-    read_by (if nat_lt 0 left && not (is_far_behind at) then first_ready false (of_sockets at.ready) s.last else None) s at late before left
+abbrev pub read_on : Schedule → Situation → ℕ → ℕ → Turn × Schedule
+read_on s at late before =
+    read_by (if reads_on at before then first_ready false (of_sockets at.ready) s.last else None) s at late before
 
 -- the clock catches up, by so many ticks at most, and a round goes on
 abbrev pub catch_up : Schedule → Situation → ℕ → Turn × Schedule
@@ -163,7 +165,7 @@ catch_up s at left =
 
 abbrev pub onward : Mode → Schedule → Situation → Turn × Schedule
 onward Rounds s at = round s at
-onward (Reading late before left) s at = read_on s at late before left
+onward (Reading late before) s at = read_on s at late before
 onward (CatchingUp left) s at = catch_up s at left
 
 -- What comes next

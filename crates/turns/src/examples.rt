@@ -103,14 +103,16 @@ pub fn a_stop_within_a_turn_is_a_pause()
         ∷ standing 510 7 (ready false true false) ∷ standing 510 7 (ready false true false) ∷ []) ≡ Datagram ∷ Look ∷ Look ∷ Datagram ∷ [] }
 {}
 
-/// Of what came in a pause so much is read in 4,096 turns, and no more.
+/// Of what came in a pause 4,096 datagrams are read, and no more; the lines of one don't count.
 pub fn a_flood_in_a_pause_is_cut_off()
-    ensures most { (schedule_after asleep (wakes_at 1501)).mode ≡ Reading 501 0 4096 }
-    ensures before { (schedule_after asleep (having_read 7 (standing 1501 0 nobody) ∷ [])).mode ≡ Reading 501 7 4096 }
-    ensures one_less { (schedule_after (reading asleep 501 0 4096) (wakes_at 1502)).mode ≡ Reading 501 0 4095 }
-    ensures look { (schedule_after asleep (wakes_at 1501 ++ wakes_at 1501 ++ wakes_at 1503)).mode ≡ Reading 501 0 4095 }
-    ensures last { turns_from (reading asleep 3200 7 1) (having_read 7 (standing 4200 0 (ready false true false))
-        ∷ having_read 8 (standing 4200 0 (ready false true false)) ∷ []) ≡ Datagram ∷ Note (record { lateness = 3200; read = Some 1 }) ∷ [] }
+    ensures begins { (schedule_after asleep (wakes_at 1501)).mode ≡ Reading 501 0 }
+    ensures before { (schedule_after asleep (having_read 7 (standing 1501 0 nobody) ∷ [])).mode ≡ Reading 501 7 }
+    ensures goes_on { (schedule_after (reading asleep 501 0) (wakes_at 1502)).mode ≡ Reading 501 0 }
+    ensures look { (schedule_after asleep (wakes_at 1501 ++ wakes_at 1501 ++ wakes_at 1503)).mode ≡ Reading 501 0 }
+    ensures last { turns_from (reading asleep 3200 7) (having_read 4102 (standing 4200 0 (ready false true false))
+        ∷ having_read 4103 (standing 4200 0 (ready false true false)) ∷ []) ≡ Datagram ∷ Note (record { lateness = 3200; read = Some 4096 }) ∷ [] }
+    ensures lines { turns_from (reading asleep 3200 7) (having_read 4102 (standing 4200 0 (ready true false false))
+        ∷ having_read 4102 (standing 4200 0 (ready true false false)) ∷ []) ≡ Command ∷ Command ∷ [] }
 {}
 
 /// Where the clock is behind by more than 150 s, after one pause or several, what came isn't read first.

@@ -7,7 +7,7 @@ ghost use Rattle.turns.specs.declared.schedule.Mode.TheVariants.{Reading};
 ghost use Rattle.turns.specs.declared.turn.Turn.TheVariants.{Tick, Note, Wait};
 ghost use Rattle.turns.specs.Circle.{is_ready};
 ghost use Rattle.turns.specs.Clock.{longest_tick, longest_wait, is_over};
-ghost use Rattle.turns.specs.Schedule.{longest_read_pause, longest_unseen, met, is_tick_due, next_of};
+ghost use Rattle.turns.specs.Schedule.{longest_read_pause, most_read, longest_unseen, met, is_tick_due, next_of};
 ghost use Rattle.turns.specs.Runs.{turns_from, is_turn_of, source_of, is_round, IsReadyIn, reading};
 
 /// While a source is ready, and has no turn, each other one has one turn at most.
@@ -16,16 +16,16 @@ pub fn who_is_ready_waits_for_one_turn_of_each_other()
         count_by (is_turn_of source) (turns_from s all) ≡ 0 → count_by (is_turn_of other) (turns_from s all) ≤ 1 }
 {}
 
-/// While what came in a pause is read the clock doesn't go on; each such turn is one less, and behind them the pause is noted. None
-/// is where the clock is too far behind, however often it was stopped.
+/// While what came in a pause is read the clock doesn't go on, and behind it the pause is noted. Nobody has a turn where enough was
+/// read, nor where the clock is too far behind, however often it was stopped.
 pub fn a_pause_is_read_at_the_moment_before_it()
-    ensures no_tick { (s : Schedule) (at : Situation) (late before left moment : ℕ) →
-        (next_of (reading s late before left) at).0 ≡ Tick moment → ⊥ }
-    ensures one_less { (s : Schedule) (at : Situation) (late before left : ℕ) (source : Source) →
-        source_of (next_of (reading s late before left) at).0 ≡ Some source →
-        (0 < left) × ((next_of (reading s late before left) at).1.mode ≡ Reading late before (left - 1)) }
-    ensures not_far { (s : Schedule) (at : Situation) (late before left : ℕ) (source : Source) →
-        source_of (next_of (reading s late before left) at).0 ≡ Some source → at.moment - at.ticked ≤ longest_read_pause }
+    ensures no_tick { (s : Schedule) (at : Situation) (late before moment : ℕ) →
+        (next_of (reading s late before) at).0 ≡ Tick moment → ⊥ }
+    ensures most { (s : Schedule) (at : Situation) (late before : ℕ) (source : Source) →
+        source_of (next_of (reading s late before) at).0 ≡ Some source →
+        (at.read - before < most_read) × ((next_of (reading s late before) at).1.mode ≡ Reading late before) }
+    ensures not_far { (s : Schedule) (at : Situation) (late before : ℕ) (source : Source) →
+        source_of (next_of (reading s late before) at).0 ≡ Some source → at.moment - at.ticked ≤ longest_read_pause }
 {}
 
 /// A tick never goes back, past now, or on by more than a longest one.

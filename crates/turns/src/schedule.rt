@@ -1,6 +1,6 @@
 //! The schedule: what comes next, by how things stand and by what came before.
 ghost use Rattle.std.specs.Prelude.{◌≡◌};
-ghost use Rattle.turns.specs.Schedule.{opening, met, asked, slept, aim_of, tried_of, taken, is_refused_now, is_tick_due, is_stale, round_by, round, lateness_of, is_reading, is_paused, noted, is_far_behind, woken, of_sockets, read_by, read_on, catch_up, onward, next_met, next_of};
+ghost use Rattle.turns.specs.Schedule.{opening, met, asked, slept, aim_of, tried_of, taken, is_refused_now, is_tick_due, is_stale, round_by, round, lateness_of, is_reading, is_paused, noted, is_far_behind, woken, of_sockets, read_by, reads_on, read_on, catch_up, onward, next_met, next_of};
 
 use crate::circle::{Ready, Source, first_ready};
 use crate::situation::{Situation, is_over, tick_to, ticks_behind, wait_until};
@@ -13,8 +13,8 @@ const LONGEST_OVERSLEEP: u64 = 500;
 // 3435, 3.2.1.2).
 const LONGEST_READ_PAUSE: u64 = 150_000;
 
-// So much of what came in a pause is read first.
-const MOST_READ: u16 = 4096;
+// So many datagrams of what came in a pause are read first.
+const MOST_READ: u64 = 4096;
 
 // Nothing is taken where it wasn't asked for so long, in ms, what has come.
 const LONGEST_UNSEEN: u64 = 2;
@@ -24,16 +24,10 @@ const LONGEST_UNSEEN: u64 = 2;
 enum Mode {
     // Each source has its turn.
     Rounds,
-    // What came in a pause is read, in so many turns at most.
-    Reading {
-        lateness: u64,
-        before: u64,
-        left: u16,
-    },
+    // What came in a pause is read; so many datagrams had been read before it.
+    Reading { lateness: u64, before: u64 },
     // The clock catches up, in so many ticks at most.
-    CatchingUp {
-        left: u64,
-    },
+    CatchingUp { left: u64 },
 }
 
 /// What comes next. It keeps a few numbers of what came before, and takes no memory.
@@ -226,7 +220,6 @@ fn woken(schedule: Schedule, at: Situation) -> (Turn, Schedule)
     let mode = Mode::Reading {
         lateness,
         before: at.read,
-        left: MOST_READ,
     };
     let next = Schedule {
         mode,
@@ -251,9 +244,8 @@ fn read_by(
     at: Situation,
     lateness: u64,
     before: u64,
-    left: u16,
 ) -> (Turn, Schedule)
-    ensures { result ≡ read_by found schedule at lateness before left }
+    ensures { result ≡ read_by found schedule at lateness before }
 {
     let Some(source) = found else {
         let read = at.read.saturating_sub(before);
@@ -262,34 +254,26 @@ fn read_by(
     if is_stale(schedule, at) {
         return (Turn::Look, asked(schedule, at));
     }
-    let mode = Mode::Reading {
-        lateness,
-        before,
-        left: left.saturating_sub(1),
-    };
-    let next = Schedule {
-        mode,
-        ..taken(schedule, at, source)
-    };
-    (turn_of(at, source), next)
+    (turn_of(at, source), taken(schedule, at, source))
+}
+
+// More of what came in a pause is read: it wasn't enough, and the clock isn't too far behind.
+fn reads_on(at: Situation, before: u64) -> bool
+    ensures { result ≡ reads_on at before }
+{
+    at.read.saturating_sub(before) < MOST_READ && !is_far_behind(at)
 }
 
 // What came in a pause is read.
-fn read_on(
-    schedule: Schedule,
-    at: Situation,
-    lateness: u64,
-    before: u64,
-    left: u16,
-) -> (Turn, Schedule)
-    ensures { result ≡ read_on schedule at lateness before left }
+fn read_on(schedule: Schedule, at: Situation, lateness: u64, before: u64) -> (Turn, Schedule)
+    ensures { result ≡ read_on schedule at lateness before }
 {
-    let found = if 0 < left && !is_far_behind(at) {
+    let found = if reads_on(at, before) {
         first_ready(false, of_sockets(at.ready), schedule.last)
     } else {
         None
     };
-    read_by(found, schedule, at, lateness, before, left)
+    read_by(found, schedule, at, lateness, before)
 }
 
 // The clock catches up, and a round goes on.
@@ -318,11 +302,7 @@ fn onward(mode: Mode, schedule: Schedule, at: Situation) -> (Turn, Schedule)
 {
     match mode {
         Mode::Rounds => round(schedule, at),
-        Mode::Reading {
-            lateness,
-            before,
-            left,
-        } => read_on(schedule, at, lateness, before, left),
+        Mode::Reading { lateness, before } => read_on(schedule, at, lateness, before),
         Mode::CatchingUp { left } => catch_up(schedule, at, left),
     }
 }
