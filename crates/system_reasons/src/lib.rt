@@ -3,11 +3,17 @@
 //! A program ends the line that tells of it with what stands here.
 #![tactic(auto)]
 
+ghost use Rattle.std.specs.Prelude.{◌≡◌};
+ghost use Rattle.system_reasons.specs.Reasons.{reason_of};
+
 use std::io::{ErrorKind, Read};
 
 /// What a line that tells of a refused socket or file ends with, by the kind of the system's error: as `: address in use`, and
 /// nothing where the kind says no more than that.
-pub fn reason_of(kind: ErrorKind) -> &'static str {
+#[tactic(auto, unfolding(crate::specs::Reasons::reason_of))]
+pub fn reason_of(kind: ErrorKind) -> &'static str
+    ensures { result.now ≡ reason_of kind }
+{
     if kind == ErrorKind::AddrInUse {
         return ": address in use";
     }
