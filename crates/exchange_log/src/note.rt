@@ -123,11 +123,16 @@ fn put_untold(alloc: Global, out: &mut Vec<u8>, untold: u64) -> Result<(), OutOf
     put_around(alloc, out, b", as ", untold, b" before it")
 }
 
-// What came of a stranger's isn't heard.
-fn put_stranger(alloc: Global, out: &mut Vec<u8>, untold: u64) -> Result<(), OutOfMemory>
-    ensures { OnOk result (out.new.items ≡ out.old.items ++ (codes "a stranger's, not heard" ++ untold_text untold)) }
+// A piece, and how many strangers aren't told of.
+fn put_before_untold(
+    alloc: Global,
+    out: &mut Vec<u8>,
+    before: &[u8],
+    untold: u64,
+) -> Result<(), OutOfMemory>
+    ensures { OnOk result (out.new.items ≡ out.old.items ++ (before.now ++ untold_text untold)) }
 {
-    out.extend_from_slice(b"a stranger's, not heard")?;
+    out.extend_from_slice(before)?;
     put_untold(alloc, out, untold)
 }
 
@@ -140,13 +145,17 @@ fn host_text(alloc: Global, host: Ipv4Addr) -> Result<String, OutOfMemory>
     Ok(text)
 }
 
-// What is sent goes to who isn't heard, and by which word that would be.
-fn put_unheard(alloc: Global, out: &mut Vec<u8>, host: Ipv4Addr) -> Result<(), OutOfMemory>
-    ensures { OnOk result (out.new.items
-        ≡ out.old.items ++ (codes "no answer is heard from there, but with --agents " ++ ipv4_text (ipv4_octets host))) }
+// A piece, and an address.
+fn put_before_host(
+    alloc: Global,
+    out: &mut Vec<u8>,
+    before: &[u8],
+    host: Ipv4Addr,
+) -> Result<(), OutOfMemory>
+    ensures { OnOk result (out.new.items ≡ out.old.items ++ (before.now ++ ipv4_text (ipv4_octets host))) }
 {
     let host = host_text(alloc, host)?;
-    out.extend_from_slice(b"no answer is heard from there, but with --agents ")?;
+    out.extend_from_slice(before)?;
     out.extend_from_slice(host.as_bytes())?;
     Ok(())
 }
@@ -215,8 +224,17 @@ pub(crate) fn put_note_text(alloc: Global, out: &mut Vec<u8>, note: Note) -> Res
             )
         }
         Note::OutOfMemory => out.extend_from_slice(b"out of memory, nothing was done"),
-        Note::Stranger { untold } => put_stranger(alloc, out, untold),
-        Note::Unheard { host } => put_unheard(alloc, out, host),
+        Note::Stranger { untold } => {
+            put_before_untold(alloc, out, b"a stranger's, not heard", untold)
+        }
+        Note::Unheard { host } => {
+            put_before_host(
+                alloc,
+                out,
+                b"no answer is heard from there, but with --agents ",
+                host,
+            )
+        }
         Note::NoRoom { young } => put_no_room(alloc, out, young),
     }
 }
