@@ -1,12 +1,13 @@
 -- What is shown of a datagram is printable ASCII.
 use Rattle.std.proofs.Common.{◌≡◌, ℕ, zero, suc, ◌+◌, ◌/◌, ◌%◌, ◌<◌, ◌≤◌, ◌==◌, ◌&&◌, Bool, true, false, List, [], ◌∷◌, ◌++◌, length, take, refl, ap, ◌∙◌, arith, ⊎_elim}
-use Rattle.std.specs.Prelude.{codes, nat_le, not, if◌then◌else◌}
+use Rattle.std.specs.Prelude.{codes, nat_le, nat_lt, not, if◌then◌else◌}
 use Rattle.std.specs.List.{list_all}
 use Rattle.std.specs.Fmt.{decimal, digits, digits_onto, digit_glyph}
 use Rattle.std.proofs.lemmas.Bool.{cases_Bool}
 use Rattle.std.proofs.lemmas.Bool.Decides.{nat_tests}
 use Rattle.std.proofs.lemmas.List.Folds.{list_all-append}
 use Rattle.exchange_log.specs.Escaping.{is_printable, is_plain, backslash, hex_digit, shown_byte, escaped, shown, is_text}
+use Rattle.exchange_log.specs.Grouping.{comma_before, grouped, number_shown}
 
 -- one text behind another
 pub text_append : (xs ys : List ℕ) → is_text xs ≡ true → is_text ys ≡ true → is_text (xs ++ ys) ≡ true
@@ -81,3 +82,18 @@ onto_text (suc k) n text all =
 pub decimal_text : (n : ℕ) → is_text (decimal n) ≡ true
 unfolding digits
 decimal_text n = onto_text 64 n [] refl
+
+comma_text : (is_behind : Bool) → is_text (if is_behind then codes "," else []) ≡ true
+comma_text true = refl
+comma_text false = refl
+
+grouped_text : (digits : List ℕ) → is_text digits ≡ true → is_text (grouped digits) ≡ true
+unfolding grouped
+grouped_text [] all = refl
+grouped_text (digit ∷ digits) all =
+    text_cons digit (comma_before digits ++ grouped digits) (and_front (is_printable digit) (is_text digits) all)
+    (text_append (comma_before digits) (grouped digits) (comma_text (nat_lt 0 (length digits) && length digits % 3 == 0))
+    (grouped_text digits (and_back (is_printable digit) (is_text digits) all)))
+
+pub number_text : (n : ℕ) → is_text (number_shown n) ≡ true
+number_text n = grouped_text (decimal n) (decimal_text n)

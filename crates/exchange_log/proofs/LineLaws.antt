@@ -1,7 +1,8 @@
 -- Each line of the log is one line of printable ASCII.
-use Rattle.std.proofs.Common.{◌≡◌, ℕ, ◌+◌, ◌/◌, ◌%◌, ◌<◌, Bool, true, false, List, [], ◌∷◌, ◌++◌, Option, Some, None, refl, arith}
+use Rattle.std.proofs.Common.{◌≡◌, ℕ, ◌+◌, ◌/◌, ◌%◌, ◌<◌, ◌==◌, Bool, true, false, List, [], ◌∷◌, ◌++◌, Option, Some, None, refl, arith}
 use Rattle.std.specs.Prelude.{codes, decimal, slice_index, if◌then◌else◌}
 use Rattle.std.specs.List.{flat_map}
+use Rattle.std.specs.Net.Addr.{ipv4_octets}
 use Rattle.std.specs.Net.Text.{ipv4_text, socket_v4_text}
 use Rattle.std.specs.declared.net.socket_addr.SocketAddrV4.{SocketAddrV4}
 use Rattle.mg_bytes.specs.declared.return_code.ReturnCode.{ReturnCode}
@@ -16,14 +17,15 @@ use Rattle.exchange_log.specs.declared.stamp.Way.TheVariants.{Came, Sent}
 use Rattle.exchange_log.specs.declared.note.Note.{Note}
 use Rattle.exchange_log.specs.declared.note.Notice.{Notice}
 use Rattle.exchange_log.specs.declared.note.Notice.TheVariants.{Dropped}
-use Rattle.exchange_log.specs.declared.note.Note.TheVariants.{AnsweredAgain, Unanswered, SentAgain, Refused, Unreadable, TooLong, Unsent, OutOfMemory, Lost, Late, Copied}
+use Rattle.exchange_log.specs.declared.note.Note.TheVariants.{AnsweredAgain, Unanswered, SentAgain, Refused, Unreadable, TooLong, Unsent, OutOfMemory, Lost, Late, Copied, Stranger, Unheard, NoRoom}
 use Rattle.exchange_log.specs.Escaping.{shown, escaped, is_text, IsLine}
 use Rattle.exchange_log.specs.Calendar.{is_leap, month_lengths, year_in, month_in}
 use Rattle.exchange_log.specs.TimeOfDay.{two_digits, three_digits, month_text, date_text, date_of, time_of_day, date_and_time}
 use Rattle.exchange_log.specs.Messages.{set_off, name_shown, header_shown, headed, line_shown, message_of, message_shown, header_of}
-use Rattle.exchange_log.specs.Notes.{words_from, note_text, notice_text}
+use Rattle.exchange_log.specs.Grouping.{number_shown}
+use Rattle.exchange_log.specs.Notes.{words_from, untold_text, note_text, notice_text}
 use Rattle.exchange_log.specs.Lines.{stamp_text, mark_of, waited_text, message_line, note_line, notice_line, given_up_line, refused_line}
-use Rattle.exchange_log.proofs.EscapingLaws.{text_append, text_cons, digit_printable, escaped_text, shown_text, decimal_text}
+use Rattle.exchange_log.proofs.EscapingLaws.{text_append, text_cons, digit_printable, escaped_text, shown_text, decimal_text, number_text}
 
 two_text : (n : ℕ) → is_text (two_digits n) ≡ true
 unfolding two_digits
@@ -146,6 +148,12 @@ from_text : (code : Option ReturnCode) → is_text (words_from code) ≡ true
 from_text None = refl
 from_text (Some code) = text_append (codes " ") (words_of code) refl (code_words code)
 
+untold_printable : (untold : ℕ) → is_text (untold_text untold) ≡ true
+untold_printable untold = at_test (untold == 0) where
+  at_test : (none : Bool) → is_text (if none then [] else codes ", as " ++ decimal untold ++ codes " before it") ≡ true
+  at_test true = refl
+  at_test false = around (codes ", as ") (decimal untold) (codes " before it") refl (decimal_text untold) refl
+
 noted_text : (note : Note) → is_text (note_text note) ≡ true
 unfolding note_text
 noted_text (AnsweredAgain id) = around (codes "repeat of ") (decimal id) (codes ", answered again") refl (decimal_text id) refl
@@ -165,6 +173,12 @@ noted_text (Copied first second) =
     around (codes "copied, late by " ++ decimal first ++ codes " and ") (decimal second) (codes " ms")
     (around (codes "copied, late by ") (decimal first) (codes " and ") refl (decimal_text first) refl)
     (decimal_text second) refl
+noted_text (Stranger untold) = text_append (codes "a stranger's, not heard") (untold_text untold) refl (untold_printable untold)
+noted_text (Unheard host) =
+    let o : List ℕ = ipv4_octets host in
+    text_append (codes "no answer is heard from there, but with --agents ") (ipv4_text o) refl
+    (octets_text (slice_index o 0) (slice_index o 1) (slice_index o 2) (slice_index o 3))
+noted_text (NoRoom young) = around (codes "lost: ") (number_shown young) (codes " commands are young") refl (number_text young) refl
 
 notice_printable : (notice : Notice) → is_text (notice_text notice) ≡ true
 unfolding notice_text
