@@ -1,4 +1,5 @@
 pub mod Judging
 pub mod Matching
+pub mod Hearing
 pub mod Waiting
 pub mod Reporting

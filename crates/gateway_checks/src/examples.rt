@@ -5,6 +5,10 @@ ghost use Rattle.std.specs.Prelude.{◌≡◌, [], ◌∷◌, true, false, Some,
 ghost use Rattle.gateway_checks.specs.declared.judging.Fault.TheVariants.{NotSupported, Otherwise};
 ghost use Rattle.gateway_checks.specs.declared.judging.Verdict.TheVariants as verdicts;
 ghost use Rattle.gateway_checks.specs.declared.socket.Socket.TheVariants.{First, Second};
+ghost use Rattle.mgcp_text.specs.Reading.{read_text};
+ghost use Rattle.gateway_checks.specs.declared.hearing.Heard.TheVariants as heard;
+ghost use Rattle.gateway_checks.specs.declared.step.Step.TheVariants as steps;
+ghost use Rattle.gateway_checks.specs.Hearing.{heard_of, is_own, awaits_answer, kept_in, to_nothing};
 ghost use Rattle.gateway_checks.specs.Judging.{is_provisional, judged, settled, fault_of, verdict_of};
 ghost use Rattle.gateway_checks.specs.Matching.{is_among, code_fault, has_value, has_another};
 ghost use Rattle.gateway_checks.specs.Reporting.{word_of, greatest_count, one_more, with_verdict};
@@ -29,6 +33,35 @@ pub fn provisional_codes_have_one_hundred()
     ensures last { is_provisional 199 ≡ true }
     ensures below { is_provisional 99 ≡ false }
     ensures above { is_provisional 200 ≡ false }
+{}
+
+/// A text is a response, behind which the answer may still be to come, or a command, or no message.
+pub fn a_text_is_an_answer_or_not()
+    ensures answer { heard_of (read_text (codes "200 7 OK\n")) ≡ heard.Answer 7 200 }
+    ensures provisional { heard_of (read_text (codes "100 7\n")) ≡ heard.Provisional 7 }
+    ensures command { heard_of (read_text (codes "NTFY 7 aaln/1@gw1 MGCP 1.0\n")) ≡ heard.Command 7 }
+    ensures version { heard_of (read_text (codes "NTFY 7 aaln/1@gw1 MGCP 2.0\n")) ≡ heard.Nothing }
+    ensures body { heard_of (read_text (codes "NTFY 7 aaln/1@gw1\n")) ≡ heard.Nothing }
+    ensures nothing { heard_of (read_text (codes "hello\n")) ≡ heard.Nothing }
+{}
+
+/// Answers wait in their order, but those to commands of the check before; what is no message waits too, as an answer to nothing.
+pub fn answers_wait_for_a_step()
+    ensures first { is_own 3000 3000 ≡ true }
+    ensures before { is_own 3000 2999 ≡ false }
+    ensures thousand { is_own 3000 2000 ≡ false }
+    ensures others { is_own 3000 1999 ≡ true }
+    ensures order { kept_in 3000 true Second (codes "200 3001 OK\n" ∷ codes "hello\n" ∷ [])
+        ≡ record { at = Second; id = 3001; code = 200; text = codes "200 3001 OK\n" } ∷ to_nothing Second (codes "hello\n") ∷ [] }
+    ensures earlier { kept_in 3000 true First (codes "200 2999 OK\n" ∷ []) ≡ [] }
+    ensures command { kept_in 3000 true First (codes "NTFY 7 aaln/1@gw1 MGCP 1.0\n" ∷ []) ≡ [] }
+    ensures provisional { kept_in 3000 true First (codes "100 3001\n" ∷ []) ≡ [] }
+    ensures silence { kept_in 3000 false First (codes "100 3001\n" ∷ []) ≡ to_nothing First (codes "100 3001\n") ∷ [] }
+    ensures to_nothing { to_nothing First (codes "x") ≡ record { at = First; id = 0; code = 0; text = codes "x" } }
+    ensures silent { awaits_answer (Some (steps.Silence 500)) ≡ false }
+    ensures waits { awaits_answer (Some (steps.Wait 500)) ≡ false }
+    ensures none { awaits_answer None ≡ true }
+    ensures unknown { awaits_answer (Some steps.Unknown) ≡ true }
 {}
 
 /// The first fault counts, and what the RFC leaves open is no failure.

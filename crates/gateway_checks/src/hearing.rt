@@ -1,5 +1,7 @@
 //! What a text that comes is to a call agent.
-ghost use Rattle.std.specs.Prelude.{◌≡◌};
+ghost use Rattle.std.specs.Prelude.{◌≡◌, IfOk};
+ghost use Rattle.mgcp_text.specs.Reading.{message as said, read_text};
+ghost use Rattle.gateway_checks.specs.Hearing.{heard_of};
 ghost use Rattle.gateway_checks.specs.Judging.{is_provisional};
 
 use mg_bytes::OutOfMemory;
@@ -27,7 +29,9 @@ pub(crate) fn is_provisional(code: u16) -> bool
     100 <= code && code <= 199
 }
 
-fn heard_in(message: &Message<'_>) -> Heard {
+fn heard_in(message: &Message<'_>) -> Heard
+    ensures { result ≡ heard_of (said message.now) }
+{
     match message {
         Message::Response { code, id, .. } if is_provisional(*code) => Heard::Provisional {
             id: id.number(),
@@ -41,7 +45,9 @@ fn heard_in(message: &Message<'_>) -> Heard {
 }
 
 /// What a text is.
-pub(crate) fn hear_text(alloc: Global, text: &[u8]) -> Result<Heard, OutOfMemory> {
+pub(crate) fn hear_text(alloc: Global, text: &[u8]) -> Result<Heard, OutOfMemory>
+    ensures { IfOk result (λ heard. heard ≡ heard_of (read_text text.now)) }
+{
     match read_message(alloc, text) {
         Ok(message) => Ok(heard_in(&message)),
         Err(TextFault::OutOfMemory) => Err(AllocError),

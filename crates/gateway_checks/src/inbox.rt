@@ -1,5 +1,5 @@
 //! The answers that came.
-ghost use Rattle.std.specs.Prelude.{◌≡◌, position};
+ghost use Rattle.std.specs.Prelude.{◌≡◌, ◌++◌, ◌∷◌, [], OnOk, position};
 ghost use Rattle.gateway_checks.specs.Matching.{is_of, answer_at, left_at, first_text};
 
 use crate::socket::Socket;
@@ -41,7 +41,10 @@ impl Inbox {
     }
 
     /// An answer has come.
-    pub fn put(&mut self, arrived: Arrived) -> Result<(), OutOfMemory> {
+    pub fn put(&mut self, arrived: Arrived) -> Result<(), OutOfMemory>
+        ensures waiting { OnOk result (self.new.waiting.items ≡ self.old.waiting.items ++ arrived ∷ []) }
+        ensures taken { self.new.taken ≡ self.old.taken }
+    {
         self.waiting.push(arrived)?;
         Ok(())
     }

@@ -1,4 +1,7 @@
 //! What the names in braces stand for.
+ghost use Rattle.std.specs.Prelude.{◌≡◌};
+ghost use Rattle.gateway_checks.specs.Hearing.{is_own};
+
 use mg_bytes::OutOfMemory;
 use std::alloc::Global;
 
@@ -45,7 +48,9 @@ impl<'a> Names<'a> {
     }
 
     /// Whether an id isn't one of an earlier check's: those have the thousand before.
-    pub(crate) fn is_own(&self, id: u32) -> bool {
+    pub(crate) fn is_own(&self, id: u32) -> bool
+        ensures { result ≡ is_own self.now.base id }
+    {
         id >= self.base || id < self.base.saturating_sub(1000)
     }
 

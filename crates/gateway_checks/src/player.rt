@@ -1,5 +1,7 @@
 //! Plays a check: what is to be sent, until when something is waited for, and what comes of it.
-ghost use Rattle.std.specs.Prelude.{◌≡◌, ◌+◌, min, true, false, Some, None, IfSome, unwrap_or};
+ghost use Rattle.std.specs.Prelude.{◌≡◌, ◌⊎◌, ◌+◌, ◌++◌, map, min, true, false, Some, None, IfSome, OnOk, unwrap_or};
+ghost use Rattle.piggyback.specs.Parts.{parts_of};
+ghost use Rattle.gateway_checks.specs.Hearing.{came_as, awaits_answer, kept_of, kept_in};
 ghost use Rattle.gateway_checks.specs.Judging.{judged, settled, verdict_of};
 ghost use Rattle.gateway_checks.specs.Waiting.{waited_until};
 
@@ -116,8 +118,7 @@ impl<'a> Player<'a> {
 
     // Notes what came or went; what undoes the check isn't told.
     fn note(&mut self, mark: &str, bytes: &[u8]) -> Result<(), OutOfMemory>
-        ensures fault { self.new.fault ≡ self.old.fault }
-        ensures begun { self.new.begun ≡ self.old.begun }
+        ensures { self.new ≡ record self.old { said = self.new.said } }
     {
         if self.is_undoing {
             return Ok(());
@@ -354,7 +355,9 @@ impl<'a> Player<'a> {
     }
 
     // Whether an answer is waited for, and not silence.
-    fn awaits_answer(&self) -> bool {
+    fn awaits_answer(&self) -> bool
+        ensures { result ≡ awaits_answer self.now.step }
+    {
         match self.step {
             Some(Step::Silence { .. } | Step::Wait { .. }) => false,
             _ => true,
@@ -371,7 +374,8 @@ impl<'a> Player<'a> {
 
     // A provisional response has come to a socket: behind one to the same command the answer is waited for anew.
     fn prolong(&mut self, at: Socket, id: u32) -> Result<(), OutOfMemory>
-        ensures { self.new.begun ≡ self.old.begun }
+        ensures until { (self.new.until ≡ self.old.until) ⊎ (self.new.until ≡ None) }
+        ensures rest { self.new ≡ record self.old { until = self.new.until } }
     {
         if is_prolonged(self.awaited_id()?, self.from, id, at) {
             self.until = None;
@@ -381,7 +385,13 @@ impl<'a> Player<'a> {
 
     // A text has come to a socket. What is no message counts as an answer to nothing.
     fn hear(&mut self, at: Socket, text: &[u8]) -> Result<(), OutOfMemory>
-        ensures { self.new.begun ≡ self.old.begun }
+        ensures waiting { OnOk result (map came_as self.new.inbox.waiting.items
+            ≡ map came_as self.old.inbox.waiting.items ++ kept_of self.old.names.base (awaits_answer self.old.step) at text.now) }
+        ensures until { (self.new.until ≡ self.old.until) ⊎ (self.new.until ≡ None) }
+        ensures rest { self.new ≡ record self.old {
+          inbox = record self.old.inbox { waiting = self.new.inbox.waiting };
+          until = self.new.until;
+        } }
     {
         let (id, code) = match hear_text(self.alloc, text)? {
             Heard::Answer { id, code } if self.names.is_own(id) => (id, code),
@@ -394,8 +404,17 @@ impl<'a> Player<'a> {
     }
 
     /// A datagram has come to a socket. Whatever it is, the step that waits began when it began.
+    #[tactic(auto, unfolding(crate::specs::Hearing::kept_in))]
     pub fn take(&mut self, at: Socket, datagram: &[u8]) -> Result<(), OutOfMemory>
-        ensures { self.new.begun ≡ self.old.begun }
+        ensures begun { self.new.begun ≡ self.old.begun }
+        ensures waiting { OnOk result (map came_as self.new.inbox.waiting.items ≡ map came_as self.old.inbox.waiting.items
+            ++ kept_in self.old.names.base (awaits_answer self.old.step) at (parts_of datagram.now)) }
+        ensures until { (self.new.until ≡ self.old.until) ⊎ (self.new.until ≡ None) }
+        ensures rest { self.new ≡ record self.old {
+          inbox = record self.old.inbox { waiting = self.new.inbox.waiting };
+          until = self.new.until;
+          said = self.new.said;
+        } }
     {
         let mark = if at.is_second() { "<< " } else { "< " };
         self.note(mark, datagram)?;

@@ -1,0 +1,75 @@
+-- What a text that comes is to a call agent, and what of a datagram waits for a step that asks for an answer.
+use Rattle.std.specs.Prelude.{ℕ, ◌-◌, Bool, true, false, ◌||◌, nat_le, nat_lt, if◌then◌else◌, List, [], ◌∷◌, ◌++◌, Option, Some, None}
+use Rattle.mgcp_text.specs.declared.message.Message.TheVariants.{Command, Response}
+use Rattle.mgcp_text.specs.Reading.{Outcome, message, no_header, bad_version, bad_body, read_text}
+use Rattle.gateway_checks.specs.declared.hearing.Heard.{Heard}
+use Rattle.gateway_checks.specs.declared.hearing.Heard.TheVariants as heard
+use Rattle.gateway_checks.specs.declared.inbox.Arrived.{Arrived}
+use Rattle.gateway_checks.specs.declared.socket.Socket.{Socket}
+use Rattle.gateway_checks.specs.declared.step.Step.{Step}
+use Rattle.gateway_checks.specs.declared.step.Step.TheVariants as steps
+use Rattle.gateway_checks.specs.Judging.{is_provisional}
+
+-- behind a provisional response the answer is still to come (RFC 3435, 3.5.6)
+abbrev pub response_heard : ℕ → ℕ → Heard
+response_heard code id = if is_provisional code then heard.Provisional id else heard.Answer id code
+
+-- what a text is that is read so
+abbrev pub heard_of : Outcome → Heard
+heard_of (message (Command verb id name params body)) = heard.Command id
+heard_of (message (Response code id params body)) = response_heard code id
+heard_of no_header = heard.Nothing
+heard_of (bad_version id) = heard.Nothing
+heard_of (bad_body id) = heard.Nothing
+
+-- Answers that wait
+
+-- an answer: the socket to which it came, the command that it answers, its return code, and its bytes
+pub record Came : Type 0 where
+  pub at : Socket
+  pub id : ℕ
+  pub code : ℕ
+  pub text : List ℕ
+
+abbrev pub came_as : Arrived → Came
+came_as arrived = record { at = arrived.at; id = arrived.id; code = arrived.code; text = arrived.text.items }
+
+-- an id isn't one of an earlier check's: those have the thousand before this one's
+abbrev pub is_own : ℕ → ℕ → Bool
+is_own base id = nat_le base id || nat_lt id (base - 1000)
+
+-- an answer is waited for, and not silence
+abbrev pub awaits_answer : Option Step → Bool
+awaits_answer None = true
+awaits_answer (Some (steps.Send from text)) = true
+awaits_answer (Some (steps.SendAgain from)) = true
+awaits_answer (Some (steps.Answer codes id is_optional)) = true
+awaits_answer (Some (steps.Same id)) = true
+awaits_answer (Some (steps.Silence ms)) = false
+awaits_answer (Some (steps.Wait ms)) = false
+awaits_answer (Some (steps.Has code value)) = true
+awaits_answer (Some (steps.Unlike code value)) = true
+awaits_answer (Some (steps.Tells text)) = true
+awaits_answer (Some (steps.Keep name code)) = true
+awaits_answer (Some steps.Unknown) = true
+
+-- what is no message counts as an answer to nothing
+abbrev pub to_nothing : Socket → List ℕ → Came
+to_nothing at text = record { at = at; id = 0; code = 0; text = text }
+
+-- an answer waits, where it isn't to a command of an earlier check; a command doesn't; and a provisional response counts as an answer
+-- to nothing where silence is waited for
+abbrev pub kept_as : ℕ → Bool → Socket → List ℕ → Heard → List Came
+kept_as base awaits at text (heard.Answer id code) =
+    if is_own base id then record { at = at; id = id; code = code; text = text } ∷ [] else []
+kept_as base awaits at text (heard.Provisional id) = if awaits then [] else to_nothing at text ∷ []
+kept_as base awaits at text (heard.Command id) = []
+kept_as base awaits at text heard.Nothing = to_nothing at text ∷ []
+
+abbrev pub kept_of : ℕ → Bool → Socket → List ℕ → List Came
+kept_of base awaits at text = kept_as base awaits at text (heard_of (read_text text))
+
+-- what of these texts waits, in their order
+unfoldable pub kept_in : ℕ → Bool → Socket → List (List ℕ) → List Came
+kept_in base awaits at [] = []
+kept_in base awaits at (text ∷ texts) = kept_of base awaits at text ++ kept_in base awaits at texts
