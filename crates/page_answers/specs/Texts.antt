@@ -2,7 +2,7 @@
 use Rattle.std.specs.Prelude.{ℕ, Bool, codes, if◌then◌else◌, List, map, fold, Option, Some, None}
 use Rattle.std.specs.Str.Lossy.{utf8_lossy}
 use Rattle.std.specs.Borrow.{Bor}
-use Rattle.serde_json.specs.Data.{Data, null, number, unsigned, string, array, object, Members, no_members, put}
+use Rattle.serde_json.specs.Data.{Data, null, boolean, number, unsigned, string, array, object, Members, no_members, put}
 use Rattle.serde_json.specs.View.{items_of}
 use Rattle.serde_json.specs.Written.{IsInOrder}
 use Rattle.page_answers.specs.declared.counts.VerbCount.{VerbCount}
@@ -24,11 +24,13 @@ put_number name n members = put name (number (unsigned n)) members
 abbrev pub put_shown : ℕ → ℕ → Members → Members
 put_shown version clock members = put_number (codes "clock") clock (put_number (codes "version") version members)
 
--- what a gateway is: with which number its ids began, its lines, how many of their events were lost, and what was counted
-abbrev pub state_data : ℕ → ℕ → ℕ → ℕ → Data → Data → Data
-state_data version clock first lost lines counts =
+-- what a gateway is: with which number its ids began, whether it serves (RFC 3435, 4.4.6), its lines, how many of their events were
+-- lost, and what was counted
+abbrev pub state_data : ℕ → ℕ → ℕ → Bool → ℕ → Data → Data → Data
+state_data version clock first is_serving lost lines counts =
     object (put (codes "counts") counts (put (codes "lines") lines
-    (put_number (codes "lost") lost (put_number (codes "first") first (put_shown version clock no_members)))))
+    (put_number (codes "lost") lost (put (codes "serving") (boolean is_serving)
+    (put_number (codes "first") first (put_shown version clock no_members))))))
 
 -- Lines
 
@@ -99,5 +101,5 @@ counts_data counts =
 -- the text tells this picture under this number
 abbrev pub TellsState : Picture → ℕ → List ℕ → Type 0
 TellsState picture version text =
-    IsInOrder text (state_data version picture.clock picture.first (totals_of picture.lines.items).lost
+    IsInOrder text (state_data version picture.clock picture.first picture.is_serving (totals_of picture.lines.items).lost
     (lines_data picture.lines.items) (counts_data picture.counts))

@@ -52,9 +52,10 @@ pub fn what_happened_is_told_behind_a_number()
 pub fn what_is_told_is_json()
     ensures shown { put_shown 3 2000 no_members
         ≡ member (codes "clock") (number (unsigned 2000)) (member (codes "version") (number (unsigned 3)) no_members) }
-    ensures state { state_data 3 2000 4711 1 (boolean true) null ≡ object (member (codes "clock") (number (unsigned 2000))
+    ensures state { state_data 3 2000 4711 false 1 (boolean true) null ≡ object (member (codes "clock") (number (unsigned 2000))
         (member (codes "counts") null (member (codes "first") (number (unsigned 4711)) (member (codes "lines") (boolean true)
-        (member (codes "lost") (number (unsigned 1)) (member (codes "version") (number (unsigned 3)) no_members)))))) }
+        (member (codes "lost") (number (unsigned 1)) (member (codes "serving") (boolean false)
+        (member (codes "version") (number (unsigned 3)) no_members))))))) }
     ensures act { compact_text (event_data lifted)
         ≡ codes "{\"at\":5000,\"hex\":\"70686f6e652031206f6666\",\"kind\":\"act\",\"n\":7,\"peer\":\"192.168.1.5:2727\"}" }
     ensures kinds { map kind_word (Received ∷ Sent ∷ Act ∷ Told ∷ []) ≡ codes "in" ∷ codes "out" ∷ codes "act" ∷ codes "told" ∷ [] }

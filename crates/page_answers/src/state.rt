@@ -178,7 +178,8 @@ fn counts_value(alloc: Global, counts: &Counts) -> Result<Value, AllocError>
 
 fn state_value(alloc: Global, picture: &Picture, version: u64) -> Result<Value, AllocError>
     ensures { IfOk result (λ value. view value ≡ state_data version picture.now.clock picture.now.first
-        (totals_of picture.now.lines.items).lost (lines_data picture.now.lines.items) (counts_data picture.now.counts)) }
+        picture.now.is_serving (totals_of picture.now.lines.items).lost
+        (lines_data picture.now.lines.items) (counts_data picture.now.counts)) }
 {
     let mut map = Map::new(alloc);
     put_shown(alloc, &mut map, version, picture.clock)?;
@@ -188,6 +189,7 @@ fn state_value(alloc: Global, picture: &Picture, version: u64) -> Result<Value, 
         "first",
         Value::from(u64::from(picture.first)),
     )?;
+    put(&mut map, alloc, "serving", Value::from(picture.is_serving))?;
     put(&mut map, alloc, "lost", Value::from(picture.totals().lost))?;
     let lines = lines_value(alloc, picture.lines.as_slice())?;
     put(&mut map, alloc, "lines", lines)?;
@@ -196,7 +198,8 @@ fn state_value(alloc: Global, picture: &Picture, version: u64) -> Result<Value, 
     Ok(Value::from(map))
 }
 
-/// What the gateway is: its clock in ms, the number with which its ids began, its lines from the first, and what was counted. `version` says which state is shown.
+/// What the gateway is: its clock in ms, the number with which its ids began, whether it serves (RFC 3435, 4.4.6), its lines from the
+/// first, and what was counted. `version` says which state is shown.
 pub fn state_text(alloc: Global, picture: &Picture, version: u64) -> Result<String, AllocError>
     ensures { IfOk result (λ text. TellsState picture.now version (string_bytes text)) }
 {
