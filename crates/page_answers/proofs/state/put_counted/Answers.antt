@@ -1,0 +1,4 @@
+use Rattle.page_answers.proofs.state.put_counted.Goals as goal
+
+pub returns : goal.returns
+returns c = rw (← c.given_up_in.ensures) c.put_numbers.ensures
