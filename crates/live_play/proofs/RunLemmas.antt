@@ -104,11 +104,11 @@ written_marks script after last (became mark place ∷ marks) more are =
     ∙ sym (append_assoc (told_mark mark place) (written script marks) (written script more))
 
 marks_behind : (after before last : ℕ) (marks : List Entry) → after ≤ before → AreMarks before last marks → AreMarks after last marks
-marks_behind after before last [] no are = tt
-marks_behind after before last (showed input move shown ∷ marks) no are = absurd are
-marks_behind after before last (became mark place ∷ marks) no are =
+marks_behind after before last [] low are = tt
+marks_behind after before last (showed input move shown ∷ marks) low are = absurd are
+marks_behind after before last (became mark place ∷ marks) low are =
     let behind : before < place = are.0 in
-    (omega (arith, no, behind), are.1, are.2)
+    (omega (arith, low, behind), are.1, are.2)
 
 more_marks : (after mid last : ℕ) (marks more : List Entry) → after ≤ mid → mid ≤ last → AreMarks after mid marks → AreMarks mid last more
     → AreMarks after last (marks ++ more)

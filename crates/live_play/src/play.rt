@@ -263,7 +263,7 @@ impl<T: Teller + Drop> LivePlay<T> {
     }
 
     /// The clock goes to this moment, in ms: what the gateway sends at it is handed out. A refused tick changes nothing.
-    #[tactic(auto, using(crate::proofs::RunLemmas::goes_on_quietly, crate::proofs::RunLemmas::ran_nothing))]
+    #[tactic(auto, using(crate::proofs::RunLemmas::goes_on_quietly))]
     pub fn tick<O: Outlet>(&mut self, out: &mut O, moment: u64) -> Result<(), Refusal>
         ensures ran { HeardFrom (λ nobody. ⊥)
             (live self.old.gateway.value self.old.script (T.told self.old.teller) (O.handed out.old))
@@ -289,7 +289,7 @@ impl<T: Teller + Drop> LivePlay<T> {
     }
 
     /// A datagram came from there: what the gateway sends at it is handed out. Where memory is refused for it nothing is changed.
-    #[tactic(auto, using(crate::proofs::RunLemmas::goes_on_quietly, crate::proofs::RunLemmas::ran_nothing))]
+    #[tactic(auto, using(crate::proofs::RunLemmas::goes_on_quietly))]
     pub fn datagram<O: Outlet>(
         &mut self,
         out: &mut O,

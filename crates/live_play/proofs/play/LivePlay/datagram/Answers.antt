@@ -3,7 +3,7 @@ use Rattle.std.specs.declared.net.socket_addr.SocketAddrV4.{SocketAddrV4}
 use Rattle.plain_machine.specs.Event.{datagram}
 use Rattle.traces.specs.Writing.{arrived}
 use Rattle.live_play.specs.Running.{live}
-use Rattle.live_play.proofs.RunLemmas.{takes_so, goes_on_by}
+use Rattle.live_play.proofs.RunLemmas.{ran_nothing, takes_so, goes_on_by}
 use Rattle.live_play.proofs.play.LivePlay.datagram.Goals as goal
 
 pub returns-in-Ok-clause-taken : goal.returns-in-Ok-clause-taken
@@ -19,3 +19,6 @@ returns-in-Ok-clause-ran g c = goes_on_by (λ (sender : SocketAddrV4). sender �
     (live c.tell_datagram.new.self.gateway.value c.tell_datagram.new.self.script (g.T.Teller.told c.tell_datagram.new.self.teller) (g.O.Outlet.handed c.args.out.now)) _ c.take.new.gateway.value
     (arrived c.args.source c.args.bytes.now) (datagram c.args.source c.args.bytes.now) _ c.as_slice-sent.result.now refl c.in-Ok.ensures.ok (ap (λ gateway. gateway.value) c.tell_datagram.ensures.gateway) c.as_slice-sent.ensures c.in-Ok.ensures.ends refl
     c.tell_datagram.ensures.told c.tell_datagram.ensures.script c.hand_out.ensures)
+
+pub returns-in-Err-clause-refused : goal.returns-in-Err-clause-refused
+returns-in-Err-clause-refused g c = ran_nothing _ _ c.in-Err.ensures.err refl refl refl

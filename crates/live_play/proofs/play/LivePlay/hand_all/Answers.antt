@@ -1,4 +1,4 @@
-use Rattle.std.proofs.Common.{refl, arith}
+use Rattle.std.proofs.Common.{◌≡◌, ◌+◌, refl, arith}
 use Rattle.live_play.proofs.RunLemmas.{none_handed, one_more}
 use Rattle.live_play.proofs.play.LivePlay.hand_all.Goals as goal
 
@@ -9,7 +9,8 @@ pub loop-datagram-preserved : goal.loop-datagram-preserved
 loop-datagram-preserved g c =
     let here = c.loop-datagram.invariant.0 in
     let inside = c.loop-datagram-test.true in
-    let next = c.saturating_add-place.ensures in (
-      omega (arith, here, inside, next, c.args.datagrams.ok),
-      one_more _ _ _ _ _ _ inside c.loop-datagram.invariant.1 (rw (c.datagram-item.is) at (c.hand.ensures _ (omega (arith, here, inside, next, c.args.datagrams.ok)))),
+    let capped = c.saturating_add-place.ensures in
+    let next : c.saturating_add-place.result ≡ c.loop-datagram.datagram-index + 1 = omega (arith, here, inside, capped) in (
+      next,
+      one_more _ _ _ _ _ _ inside c.loop-datagram.invariant.1 (rw (c.datagram-item.is) at (c.hand.ensures c.loop-datagram.datagram-index next)),
     )

@@ -3,7 +3,7 @@ use Rattle.std.specs.declared.net.socket_addr.SocketAddrV4.{SocketAddrV4}
 use Rattle.plain_machine.specs.Event.{tick}
 use Rattle.traces.specs.Writing.{passed}
 use Rattle.live_play.specs.Running.{live}
-use Rattle.live_play.proofs.RunLemmas.{takes_so, goes_on_by}
+use Rattle.live_play.proofs.RunLemmas.{ran_nothing, takes_so, goes_on_by}
 use Rattle.live_play.proofs.play.LivePlay.tick.Goals as goal
 
 pub returns-in-Ok-clause-taken : goal.returns-in-Ok-clause-taken
@@ -19,3 +19,6 @@ returns-in-Ok-clause-ran g c = goes_on_by (λ (nobody : SocketAddrV4). ⊥) _ _ 
     (live c.tell_tick.new.self.gateway.value c.tell_tick.new.self.script (g.T.Teller.told c.tell_tick.new.self.teller) (g.O.Outlet.handed c.args.out.now)) _ c.take.new.gateway.value
     (passed c.args.moment) (tick c.args.moment) _ c.as_slice-sent.result.now refl c.in-Ok.ensures.ok (ap (λ gateway. gateway.value) c.tell_tick.ensures.gateway) c.as_slice-sent.ensures c.in-Ok.ensures.ends refl
     c.tell_tick.ensures.told c.tell_tick.ensures.script c.hand_out.ensures)
+
+pub returns-in-Err-clause-refused : goal.returns-in-Err-clause-refused
+returns-in-Err-clause-refused g c = ran_nothing _ _ c.in-Err.ensures.err refl refl refl
