@@ -14,19 +14,27 @@ pub const PAGE: &str = r##"<!doctype html>
 <body>
 <header>
   <h1>rgwd</h1>
-  <p id="standing" role="status">not connected</p>
+  <p id="standing" role="status" title="Whether this page hears from the gateway">not connected</p>
+  <p id="agent" role="status" title="Whether the gateway hears from its call agent"></p>
   <p id="numbers"></p>
-  <p id="clock" aria-label="The clock of the gateway"></p>
+  <p class="clocks"><span id="clock" title="The clock of the gateway"></span> <span id="wall" title="The time of day, UTC, by this browser's clock"></span></p>
   <div class="tools">
-    <label>Show <select id="shown-line"><option value="0">all lines</option></select></label>
+    <label>Lines <input type="search" id="wanted-lines" placeholder="all, or 3, 7-12" autocomplete="off" spellcheck="false"></label>
+    <label>Call <select id="shown-call"><option value="">all calls</option></select></label>
     <label><input type="checkbox" id="following" checked> Follow</label>
+    <button type="button" id="save" title="Saves what the ladder shows as a trace">Save as a trace</button>
     <label class="file">Open a trace .. <input type="file" id="file"></label>
     <button type="button" id="live" hidden>Back to the gateway</button>
   </div>
 </header>
 <main>
   <section id="telephones" aria-labelledby="telephones-title">
-    <h2 id="telephones-title">Telephones</h2>
+    <div class="title">
+      <h2 id="telephones-title">Telephones</h2>
+      <label><input type="checkbox" id="busy-only" autocomplete="off"> Only lines that do something</label>
+      <label title="Tones of the United States, ITU-T E.180, at the chosen telephone"><input type="checkbox" id="tones" autocomplete="off"> Tones</label>
+      <p id="phones-told" class="hint" role="status"></p>
+    </div>
     <p class="hint">Arrows choose a telephone. On it: <kbd>0</kbd>-<kbd>9</kbd> <kbd>*</kbd> <kbd>#</kbd>
       <kbd>a</kbd>-<kbd>d</kbd> are its keys, <kbd>h</kbd> is its hook, <kbd>f</kbd> a flash, <kbd>Enter</kbd> opens and closes its keypad.</p>
     <p id="refused" role="alert"></p>
@@ -39,6 +47,7 @@ pub const PAGE: &str = r##"<!doctype html>
     <div id="message" hidden>
       <div class="message-head">
         <p id="message-title"></p>
+        <button type="button" id="message-call" hidden>Show its call</button>
         <button type="button" id="message-close" aria-label="Close the message">Close</button>
       </div>
       <pre id="message-text" tabindex="0"></pre>

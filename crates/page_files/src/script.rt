@@ -1,4 +1,4 @@
-//! What it does: the file page/page.js, written by `tools/page_files`.
+//! What it does: page/text.js and 8 files behind it, written by `tools/page_files`.
 
 /// What it does.
 pub const SCRIPT: &str = r##"// What the page of rgwd does.
@@ -7,31 +7,16 @@ pub const SCRIPT: &str = r##"// What the page of rgwd does.
 //
 // It asks the program what happened since the last answer, ten times a second while it can be seen: the program's answers are
 // whole as they are given, so none can wait for something to happen. All that comes from outside becomes text nodes alone.
+//
+// This file has what all others use: elements, clocks, and messages as text.
 "use strict";
 
-const POLL = 100;
-const POLL_HIDDEN = 1000;
-const POLL_LOST = 1000;
-// What is sent again under an id within this time is a repeat, in ms (RFC 3435, 3.5.1).
-const REPEAT_TIME = 30000;
-// So many rows are kept in the ladder.
-const MOST_ROWS = 3000;
-
-const KEYS = ["1", "2", "3", "A", "4", "5", "6", "B", "7", "8", "9", "C", "*", "0", "#", "D"];
-const HEARD = {
-  "L/dl": "dial tone",
-  "L/bz": "busy",
-  "L/ro": "reorder tone",
-  "L/rg": "rings",
-  "L/rs": "ring splash",
-  "L/vmwi": "message lamp",
-  "G/rt": "ringback",
-  "G/cg": "congestion",
-  "G/cf": "confirm tone",
-};
-const RINGING = new Set(["L/rg", "L/rs"]);
 // The parameters that a row shows behind its head.
 const TOLD = /^(S|R|O|M|RM|ES|I|C|D|N|X|K|Z|Z2|F|E|T|Q):/i;
+// A gateway has so many lines at most.
+const MOST_LINES = 96;
+// The codecs of a gateway, by their payload types (RFC 3551, 6).
+const CODECS = { 0: "PCMU", 8: "PCMA" };
 
 const byId = (id) => document.getElementById(id);
 
@@ -51,6 +36,15 @@ function setText(element, text) {
   }
 }
 
+// Forgets the oldest of a map that has grown past this.
+function forget(map, most) {
+  if (map.size > most) {
+    map.delete(map.keys().next().value);
+  }
+}
+
+// ---- Clocks
+
 // A moment in ms, as minutes, seconds and thousandths.
 function clockText(moment) {
   if (moment === null) {
@@ -61,6 +55,31 @@ function clockText(moment) {
   const hours = Math.floor(seconds / 3600);
   const rest = `${two(Math.floor(seconds / 60) % 60)}:${two(seconds % 60)}.${String(moment % 1000).padStart(3, "0")}`;
   return hours > 0 ? `${hours}:${rest}` : rest;
+}
+
+// A time of day in ms, as its second, in UTC as the log has it.
+function wallText(time) {
+  return time === null ? "" : `${new Date(time).toISOString().slice(11, 19)}Z`;
+}
+
+// ---- Lines
+
+// The lines that a text names, as `3, 7-12`; null where it names none.
+function linesOf(text) {
+  const lines = new Set();
+  for (const [, first, last] of text.matchAll(/(\d{1,5})(?:\s*-\s*(\d{1,5}))?/g)) {
+    const end = Math.min(Number(last ?? first), MOST_LINES);
+    for (let line = Number(first); line <= end; line += 1) {
+      lines.add(line);
+    }
+  }
+  return lines.size > 0 || /\d/.test(text) ? lines : null;
+}
+
+// The number of the line that an endpoint's name is of, or 0.
+function lineOfName(name) {
+  const found = /^aaln\/(\d+)(@|$)/i.exec(name);
+  return found ? Number(found[1]) : 0;
 }
 
 // ---- Messages as text
@@ -76,6 +95,11 @@ function textOfHex(hex) {
   return decoder.decode(bytes);
 }
 
+// The pairs of hexadecimal digits that spell a text.
+function hexOfText(text) {
+  return [...new TextEncoder().encode(text)].map((byte) => byte.toString(16).padStart(2, "0")).join("");
+}
+
 // The messages of a datagram, which lines of a single dot part (RFC 3435, 3.5.5).
 function messagesOf(text) {
   const messages = [[]];
@@ -89,10 +113,50 @@ function messagesOf(text) {
   return messages.map((lines) => lines.join("\n"));
 }
 
-// The number of the line that an endpoint's name is of, or 0.
-function lineOfName(name) {
-  const found = /^aaln\/(\d+)(@|$)/i.exec(name);
-  return found ? Number(found[1]) : 0;
+// What a session description says of where its media go and how, or null where there is none (RFC 3435, 3.4).
+function readDescription(lines) {
+  const first = (form) => lines.map((line) => form.exec(line.trim())).find((found) => found);
+  const audio = first(/^m=audio (\d+) \S+ (\d+)/i);
+  if (!audio) {
+    return null;
+  }
+  const host = first(/^c=IN IP4 ([\d.]+)/i);
+  const time = first(/^a=ptime:(\d+)/i);
+  return {
+    address: host ? `${host[1]}:${audio[1]}` : "",
+    codec: CODECS[audio[2]] ?? `payload ${audio[2]}`,
+    packetTime: time ? Number(time[1]) : null,
+  };
+}
+
+// The value of a parameter, or an empty text.
+function valueOf(parameters, name) {
+  const found = parameters.map((line) => /^\s*(\w+)\s*:\s*(.*)$/.exec(line)).find((pair) => pair && pair[1].toUpperCase() === name);
+  return found ? found[2].trim() : "";
+}
+
+// What a command's head says.
+function readCommand(head, parameters) {
+  const [, verb, id, endpoint] = head;
+  return {
+    is: "command",
+    verb: verb.toUpperCase(),
+    id: Number(id),
+    endpoint: endpoint.toLowerCase(),
+    line: lineOfName(endpoint),
+    head: [verb.toUpperCase(), id, endpoint.replace(/@.*$/, "")],
+    reason: "",
+    disconnected: /^disconnected\b/i.test(valueOf(parameters, "RM")),
+  };
+}
+
+// What a response's head says. One without words has those of its code.
+function readResponse(head) {
+  const [, digits, id, words] = head;
+  const code = Number(digits);
+  const said = (words ?? "").trim().slice(0, 40);
+  const reason = said === "" || code >= 400 ? reasonOf(code) : "";
+  return { is: "response", code, id: Number(id), line: 0, head: [digits, id, said], reason };
 }
 
 // What the page has to know of a message.
@@ -100,63 +164,326 @@ function readMessage(text) {
   const [head, ...rest] = text.split("\n");
   const body = rest.findIndex((line) => line.trim() === "");
   const parameters = body < 0 ? rest : rest.slice(0, body);
-  const more = parameters.filter((line) => TOLD.test(line.trim())).map((line) => line.trim()).join("  ");
+  const told = {
+    more: parameters.filter((line) => TOLD.test(line.trim())).map((line) => line.trim()).join("  "),
+    call: valueOf(parameters, "C"),
+    connection: valueOf(parameters, "I").toUpperCase(),
+    named: lineOfName(valueOf(parameters, "Z")),
+    description: body < 0 ? null : readDescription(rest.slice(body)),
+  };
   const command = /^\s*([A-Za-z]{4})\s+(\d{1,9})\s+(\S+)\s+MGCP/i.exec(head);
   if (command) {
-    const name = command[3].replace(/@.*$/, "");
-    return {
-      is: "command",
-      verb: command[1].toUpperCase(),
-      id: Number(command[2]),
-      endpoint: command[3].toLowerCase(),
-      line: lineOfName(command[3]),
-      label: `${command[1].toUpperCase()} ${command[2]} ${name}`,
-      more,
-      disconnected: parameters.some((line) => /^\s*RM\s*:\s*disconnected\b/i.test(line)),
-    };
+    return { ...told, ...readCommand(command, parameters) };
   }
   const response = /^\s*(\d{3})\s+(\d{1,9})(\s.*)?$/.exec(head);
   if (response) {
-    return {
-      is: "response",
-      code: Number(response[1]),
-      id: Number(response[2]),
-      line: 0,
-      label: head.trim().slice(0, 60),
-      more,
-    };
+    return { ...told, ...readResponse(response) };
   }
-  return { is: "none", line: 0, label: text.trim() === "" ? "(empty)" : `not MGCP: ${head.trim().slice(0, 40)}`, more: "" };
+  const label = text.trim() === "" ? "(empty)" : `not MGCP: ${head.trim().slice(0, 40)}`;
+  return { is: "none", line: 0, head: [label, "", ""], reason: "", more: "", call: "", connection: "", named: 0, description: null };
+}
+
+// ---- Return codes
+
+// What each return code says (RFC 3435, 2.4).
+const REASONS = {
+  0: "response acknowledgement",
+  100: "the transaction is currently being executed",
+  101: "the transaction has been queued for execution",
+  200: "the requested transaction was executed normally",
+  250: "the connection was deleted",
+  400: "the transaction could not be executed, due to some unspecified transient error",
+  401: "the phone is already off hook",
+  402: "the phone is already on hook",
+  403: "the endpoint does not have sufficient resources at this time",
+  404: "insufficient bandwidth at this time",
+  405: "the endpoint is restarting",
+  406: "transaction time-out",
+  407: "transaction aborted",
+  409: "internal overload",
+  410: "no endpoint available",
+  500: "the endpoint is unknown",
+  501: "the endpoint is not ready",
+  502: "the endpoint does not have sufficient resources",
+  503: "\"all of\" wildcard too complicated",
+  504: "unknown or unsupported command",
+  505: "unsupported RemoteConnectionDescriptor",
+  506: "unable to satisfy both LocalConnectionOptions and RemoteConnectionDescriptor",
+  507: "unsupported functionality",
+  508: "unknown or unsupported quarantine handling",
+  509: "error in RemoteConnectionDescriptor",
+  510: "some unspecified protocol error was detected",
+  511: "unrecognized extension",
+  512: "the gateway is not equipped to detect one of the requested events",
+  513: "the gateway is not equipped to generate one of the requested signals",
+  514: "the gateway cannot send the specified announcement",
+  515: "incorrect connection-id",
+  516: "unknown or incorrect call-id",
+  517: "unsupported mode",
+  518: "unsupported or unknown package",
+  519: "the endpoint does not have a digit map",
+  520: "the endpoint is restarting",
+  521: "the endpoint is redirected to another call agent",
+  522: "no such event or signal",
+  523: "unknown action or illegal combination of actions",
+  524: "internal inconsistency in LocalConnectionOptions",
+  525: "unknown extension in LocalConnectionOptions",
+  526: "insufficient bandwidth",
+  527: "missing RemoteConnectionDescriptor",
+  528: "incompatible protocol version",
+  529: "internal hardware failure",
+  530: "CAS signaling protocol error",
+  531: "failure of a grouping of trunks",
+  532: "unsupported value in LocalConnectionOptions",
+  533: "response too large",
+  534: "codec negotiation failure",
+  535: "packetization period not supported",
+  536: "unknown or unsupported RestartMethod",
+  537: "unknown or unsupported digit map extension",
+  538: "event or signal parameter error",
+  539: "invalid or unsupported command parameter",
+  540: "per endpoint connection limit exceeded",
+  541: "invalid or unsupported LocalConnectionOptions",
+};
+
+// What a code says: one that isn't in the table is taken as the first of its kind (RFC 3435, 2.4), and 800 to 899 are a package's own.
+function reasonOf(code) {
+  if (code >= 800 && code <= 899) {
+    return "a code of a package";
+  }
+  return REASONS[code] ?? REASONS[100 * Math.floor(code / 100)] ?? "unknown code";
+}
+
+// ---- Calls and connections
+
+// So many calls are remembered.
+const MOST_CALLS = 200;
+
+// What the conversation tells of calls and their connections. A page that came later knows of those alone that it has heard of.
+class Calls {
+  constructor() {
+    // By the call's identifier in upper case.
+    this.calls = new Map();
+    // By the line and the connection's identifier.
+    this.connections = new Map();
+    // By the id of their command: what connection commands ask for.
+    this.asked = new Map();
+  }
+
+  // The call that a command is of: it names it, or a connection of it.
+  callOf(message) {
+    const named = message.call || this.connections.get(`${message.line} ${message.connection}`)?.call.name || "";
+    return named === "" ? null : this.named(named);
+  }
+
+  named(name) {
+    const key = name.toUpperCase();
+    let call = this.calls.get(key);
+    if (!call) {
+      call = { key, name, lines: new Set(), first: null, last: null };
+      this.calls.set(key, call);
+      forget(this.calls, MOST_CALLS);
+    }
+    return call;
+  }
+
+  // Whether a call has a connection.
+  isHeld(call) {
+    return [...this.connections.values()].some((held) => held.call === call);
+  }
+
+  // A row is of a call: it reaches from its first row to its last.
+  extend(call, row) {
+    call.first ??= row.position;
+    call.last = Math.max(call.last ?? 0, row.number);
+    if (row.line > 0) {
+      call.lines.add(row.line);
+    }
+  }
+
+  // The call agent asks for something.
+  ask(message) {
+    if (["CRCX", "MDCX", "DLCX"].includes(message.verb)) {
+      this.asked.set(message.id, message);
+      forget(this.asked, 1000);
+    }
+  }
+
+  // The gateway has answered: what was asked for has become so, or hasn't.
+  answer(message) {
+    const asked = this.asked.get(message.id);
+    if (!asked || message.code < 200) {
+      return;
+    }
+    this.asked.delete(message.id);
+    if (message.code >= 300) {
+      return;
+    }
+    if (asked.verb === "DLCX") {
+      this.end(asked);
+    } else {
+      this.take(asked, message);
+    }
+  }
+
+  // A connection was made or changed: the answer has its local description, where it has a new one.
+  take(asked, answer) {
+    const line = answer.named || asked.line;
+    const key = `${line} ${answer.connection || asked.connection}`;
+    const held = this.connections.get(key) ?? { call: this.callOf(asked), codec: "", packetTime: null, remote: "" };
+    if (!held.call) {
+      return;
+    }
+    held.call.lines.add(line);
+    held.codec = answer.description?.codec ?? held.codec;
+    held.packetTime = answer.description?.packetTime ?? held.packetTime;
+    held.remote = asked.description?.address ?? held.remote;
+    this.connections.set(key, held);
+    forget(this.connections, 1000);
+  }
+
+  // Connections were deleted: one, those of a call on a line, or all of a line or of the gateway.
+  end(asked) {
+    for (const [key, held] of this.connections) {
+      const [line, connection] = key.split(" ");
+      const isThere = asked.line === 0 || asked.line === Number(line);
+      const isMeant = asked.connection === "" || asked.connection === connection;
+      const isCalled = asked.call === "" || asked.call.toUpperCase() === held.call.key;
+      if (isThere && isMeant && isCalled) {
+        this.connections.delete(key);
+      }
+    }
+  }
+
+  // What is known of a connection, in words.
+  tell(line, held) {
+    const connection = held.number.toString(16).toUpperCase();
+    const known = this.connections.get(`${line} ${connection}`);
+    const head = `connection ${connection} ${held.mode}`;
+    if (!known) {
+      return head;
+    }
+    const time = known.packetTime === null ? "" : ` ${known.packetTime} ms`;
+    const codec = known.codec === "" ? "" : `, ${known.codec}${time}`;
+    const remote = known.remote === "" ? ", no remote address yet" : ` to ${known.remote}`;
+    return `${head}, call ${known.call.name}${codec}${remote}`;
+  }
+}
+
+// Whether a row belongs to a call: it is of the call, or of a notification by one of its lines, from its first row to its last, or to
+// now while it has a connection.
+function isOfCall(row, call) {
+  if (row.call === call) {
+    return true;
+  }
+  const isBetween = row.position > call.first && (row.position < call.last || ladder.calls.isHeld(call));
+  return row.isNotification && call.lines.has(row.line) && isBetween;
+}
+
+// ---- What is shown
+
+// The lines and the call that are shown; null is all of them.
+const view = { lines: null, call: null };
+
+// Whether a row is shown. What is of no line is shown for all lines.
+function isWanted(row) {
+  const isOfLines = view.lines === null || row.line === 0 || view.lines.has(row.line);
+  return isOfLines && (view.call === null || isOfCall(row, view.call));
+}
+
+// What a call is called in a list.
+function callText(call) {
+  const lines = [...call.lines].sort((a, b) => a - b);
+  return lines.length > 0 ? `${call.name}, line ${lines.join(", ")}` : call.name;
+}
+
+// Lists these calls, the latest first.
+function listCalls(known) {
+  const shown = byId("shown-call");
+  const calls = [...known.calls.values()].reverse();
+  const texts = calls.map(callText);
+  const wanted = texts.join("\n");
+  if (shown.dataset.calls === wanted) {
+    return;
+  }
+  shown.dataset.calls = wanted;
+  const options = calls.map((call, place) => make("option", { value: call.key }, texts[place]));
+  shown.replaceChildren(make("option", { value: "" }, "all calls"), ...options);
+  if (view.call && !calls.includes(view.call)) {
+    shown.append(make("option", { value: view.call.key }, callText(view.call)));
+  }
+  shown.value = view.call?.key ?? "";
+}
+
+// Shows the rows of a call, or of all calls.
+function showCall(call) {
+  view.call = call;
+  byId("shown-call").value = call?.key ?? "";
+  ladder.settleAll();
+}
+
+// Shows the telephones and the rows of the lines that are searched for.
+function showLines() {
+  view.lines = linesOf(byId("wanted-lines").value);
+  telephones.settle();
+  ladder.settleAll();
+}
+
+// ---- The message that is shown
+
+function showMessage(row) {
+  setText(byId("message-title"), row.title);
+  setText(byId("message-text"), row.text);
+  const call = byId("message-call");
+  call.hidden = !row.call;
+  setText(call, row.call ? `Show call ${row.call.name}` : "");
+  byId("message").hidden = false;
+}
+
+function hideMessage() {
+  byId("message").hidden = true;
 }
 
 // ---- The ladder
 
-// Forgets the oldest of a map that has grown past this.
-function forget(map, most) {
-  if (map.size > most) {
-    map.delete(map.keys().next().value);
-  }
-}
+// What is sent again under an id within this time is a repeat, in ms (RFC 3435, 3.5.1).
+const REPEAT_TIME = 30000;
+// So many rows are kept in the ladder.
+const MOST_ROWS = 3000;
+// A list this close to its end, in pixels, is at its end.
+const NEAR_END = 8;
 
 // Draws what happened, and marks what is said again and what is given up.
 class Ladder {
   constructor() {
     this.list = byId("ladder");
+    this.isAtEnd = true;
+    this.list.addEventListener("scroll", () => {
+      this.isAtEnd = this.list.scrollHeight - this.list.scrollTop - this.list.clientHeight < NEAR_END;
+    });
+    // Whatever makes it smaller or wider, its end stays in sight.
+    new ResizeObserver(() => this.keepEnd()).observe(this.list);
     this.clear();
   }
 
   clear() {
     this.list.replaceChildren();
     this.peers = [];
-    this.rows = 0;
+    this.rows = [];
+    this.count = 0;
+    this.calls = new Calls();
     // By direction, peer and head: when it was first said.
     this.said = new Map();
-    // Commands that nobody has answered yet, by direction and id: their endpoint, line and rows.
+    // Commands that nobody has answered yet, by direction and id: their endpoint and rows.
     this.open = new Map();
-    // Those that were answered, with their lines.
+    // Those that were answered, with their first rows.
     this.answered = new Map();
+    // Since when the gateway has asked for an answer and had none, in ms.
+    this.waitsSince = null;
     this.chosen = null;
     this.lastAct = null;
+    view.call = null;
+    listCalls(this.calls);
     this.setLanes();
     hideMessage();
   }
@@ -172,10 +499,7 @@ class Ladder {
       names.append(make("span", { title: peer }, peer));
     }
     byId("lanes").replaceChildren(names);
-    for (const track of this.list.querySelectorAll(".track")) {
-      track.style.setProperty("--lanes", String(this.lanes));
-      track.style.gridTemplateColumns = `repeat(${2 * this.lanes}, minmax(0, 1fr))`;
-    }
+    this.rows.forEach((row) => row.track?.style.setProperty("--lanes", String(this.lanes)));
   }
 
   // The lane of an address: the first has number 3.
@@ -189,57 +513,119 @@ class Ladder {
     return 3 + place;
   }
 
-  // A row with an arrow between two lanes.
-  addRow(row) {
-    const lanes = this.lanes;
+  // ---- Rows
+
+  // What an arrow says: of its head the id alone may be cut.
+  drawLabel(row) {
+    const [word, id, name] = row.head;
+    const label = make("span", { class: "label" }, make("span", { class: "word" }, word));
+    if (id !== "") {
+      label.append(" ", make("span", { class: "id", title: id }, id));
+    }
+    if (name !== "") {
+      label.append(" ", make("span", { class: "name" }, name));
+    }
+    return label;
+  }
+
+  // The arrow between two lanes, with what it says above it.
+  drawTrack(row) {
     const [left, right] = row.from < row.to ? [row.from, row.to] : [row.to, row.from];
-    const label = make("span", { class: "label" }, row.label);
-    const arrow = make("span", { class: `arrow ${row.kind} ${row.from < row.to ? "right" : "left"}` }, label);
-    if (row.more) {
-      arrow.append(make("span", { class: "more" }, row.more));
+    const arrow = make("span", { class: `arrow ${row.from < row.to ? "right" : "left"}` });
+    const said = make("span", { class: "said" }, this.drawLabel(row));
+    for (const [name, text] of [["reason", row.reason], ["more", row.more]]) {
+      if (text) {
+        said.append(make("span", { class: name, title: text }, text));
+      }
     }
-    arrow.style.gridColumn = `${2 * left} / ${2 * right}`;
-    const track = make("span", { class: "track" }, arrow);
-    track.style.setProperty("--lanes", String(lanes));
-    track.style.gridTemplateColumns = `repeat(${2 * lanes}, minmax(0, 1fr))`;
-    const button = make("button", { type: "button", class: "row", "aria-pressed": "false" },
-      make("span", { class: "at" }, clockText(row.at)), track);
-    const item = make("li", {}, button);
-    item.dataset.line = String(row.line);
-    const made = { ...row, item, button, arrow, label };
-    button.addEventListener("click", () => this.choose(made));
-    item.classList.toggle("of-line", isShown(row.line));
-    this.list.append(item);
-    this.rows += 1;
-    while (this.rows > MOST_ROWS) {
-      this.list.firstElementChild.remove();
-      this.rows -= 1;
+    const track = make("span", { class: `track ${row.kind}` }, said, arrow);
+    track.style.setProperty("--lanes", String(this.lanes));
+    track.style.setProperty("--left", String(2 * left));
+    track.style.setProperty("--right", String(2 * right));
+    return track;
+  }
+
+  // Draws a row with an arrow between two lanes.
+  addRow(told) {
+    const row = { reason: "", more: "", call: null, isNotification: false, ...told };
+    this.count += 1;
+    row.number = this.count;
+    // Where it stands in the conversation: an answer stands where it was asked for.
+    row.position = row.number;
+    row.track = this.drawTrack(row);
+    const at = make("span", { class: "at" }, make("span", {}, clockText(row.at)));
+    if (row.wall !== null) {
+      at.append(make("span", { class: "wall", title: "The time of day, UTC, by this browser's clock" }, wallText(row.wall)));
     }
-    return made;
+    row.button = make("button", { type: "button", class: "row", "aria-pressed": "false" }, at, row.track);
+    row.button.addEventListener("click", () => this.choose(row));
+    row.item = make("li", {}, row.button);
+    this.keep(row);
+    return row;
+  }
+
+  // A row stands in the list, and the oldest of too many doesn't any more.
+  keep(row) {
+    row.item.hidden = !isWanted(row);
+    this.list.append(row.item);
+    this.rows.push(row);
+    while (this.rows.length > MOST_ROWS) {
+      this.rows.shift().item.remove();
+    }
   }
 
   choose(row) {
-    if (this.chosen) {
-      this.chosen.button.setAttribute("aria-pressed", "false");
-    }
+    this.chosen?.button.setAttribute("aria-pressed", "false");
     this.chosen = row;
     row.button.setAttribute("aria-pressed", "true");
-    showMessage(row.title, row.text);
+    const isFollowed = this.isAtEnd && byId("following").checked;
+    showMessage(row);
+    if (isFollowed) {
+      this.toEnd();
+    } else {
+      row.item.scrollIntoView({ block: "nearest" });
+    }
   }
 
-  // What stands in a row is true of the row's line from now on.
-  setLine(row, line) {
+  // What stands in a row is true of this line and this call from now on.
+  settle(row, line, call) {
     row.line = line;
-    row.item.dataset.line = String(line);
-    row.item.classList.toggle("of-line", isShown(line));
+    row.call = call;
+    if (call) {
+      this.calls.extend(call, row);
+    }
+    row.item.hidden = !isWanted(row);
+  }
+
+  // Shows the rows that are wanted now, and no others.
+  settleAll() {
+    this.rows.forEach((row) => {
+      row.item.hidden = !isWanted(row);
+    });
+    if (byId("following").checked) {
+      this.toEnd();
+    }
+  }
+
+  toEnd() {
+    this.list.scrollTop = this.list.scrollHeight;
+    this.isAtEnd = true;
+  }
+
+  keepEnd() {
+    if (this.isAtEnd && byId("following").checked) {
+      this.toEnd();
+    }
   }
 
   mark(row, name, text) {
-    if (!row.arrow.classList.contains(name)) {
-      row.arrow.classList.add(name);
-      row.label.append(make("span", { class: "badge" }, text));
+    if (!row.track.classList.contains(name)) {
+      row.track.classList.add(name);
+      row.track.querySelector(".label").append(make("span", { class: "badge" }, text));
     }
   }
+
+  // ---- What belongs together
 
   // Whether this was said before, less than half a minute ago.
   isAgain(key, at) {
@@ -263,6 +649,13 @@ class Ladder {
   }
 
   addCommand(row, message, direction) {
+    row.isNotification = message.verb === "NTFY";
+    this.settle(row, message.line, this.calls.callOf(message));
+    if (direction === "in") {
+      this.calls.ask(message);
+    } else {
+      this.waitsSince ??= row.at;
+    }
     const key = `${direction} ${message.id}`;
     // The gateway may send a repeat to another address of its agent.
     const peer = direction === "in" ? row.peer : "";
@@ -275,49 +668,52 @@ class Ladder {
     if (direction === "out" && message.verb === "RSIP") {
       this.giveUp(direction, message.endpoint, message.id);
     }
-    this.open.set(key, { direction, id: message.id, endpoint: message.endpoint, line: message.line, rows: [row] });
+    this.open.set(key, { direction, id: message.id, endpoint: message.endpoint, rows: [row] });
     forget(this.open, 1000);
   }
 
   addResponse(row, message, direction) {
-    const asked = `${direction === "out" ? "in" : "out"} ${message.id}`;
+    if (direction === "out") {
+      this.calls.answer(message);
+    } else {
+      this.waitsSince = null;
+    }
+    const key = `${direction === "out" ? "in" : "out"} ${message.id}`;
     if (this.isAgain(`${direction} ${row.peer} ${message.code} ${message.id}`, row.at)) {
       this.mark(row, "again", "repeat");
     }
-    const found = this.open.get(asked);
-    if (found) {
-      this.setLine(row, found.line);
-      if (message.code >= 200) {
-        this.open.delete(asked);
-        this.answered.set(asked, found.line);
-        forget(this.answered, 5000);
-      }
-    } else if (this.answered.has(asked)) {
-      this.setLine(row, this.answered.get(asked));
+    const asked = this.open.get(key)?.rows[0] ?? this.answered.get(key);
+    if (!asked) {
+      return;
     }
+    if (message.code >= 200 && this.open.delete(key)) {
+      this.answered.set(key, asked);
+      forget(this.answered, 5000);
+    }
+    row.isNotification = asked.isNotification;
+    row.position = asked.number;
+    this.settle(row, message.named || asked.line, asked.call);
   }
+
+  // ---- What happened
 
   // A datagram that came to the gateway or went out.
   addDatagram(happened) {
     const direction = happened.kind;
     const lane = this.laneOf(happened.peer);
     const texts = messagesOf(happened.text);
+    const way = direction === "in" ? `from ${happened.peer}` : `to ${happened.peer}`;
     texts.forEach((text, place) => {
       const message = readMessage(text);
       const isFault = message.is === "none" || (message.is === "response" && message.code >= 400);
       const part = texts.length > 1 ? `, ${place + 1} of ${texts.length} in its datagram` : "";
-      const way = direction === "in" ? `from ${happened.peer}` : `to ${happened.peer}`;
       const row = this.addRow({
-        at: happened.at,
-        peer: happened.peer,
+        happened, at: happened.at, wall: happened.wall, peer: happened.peer, text,
         kind: isFault ? "fault" : message.is,
         from: direction === "in" ? lane : 2,
         to: direction === "in" ? 2 : lane,
-        line: message.line,
-        label: message.label,
-        more: message.more,
-        title: `${way}${happened.at === null ? "" : ` at ${clockText(happened.at)}`}${part}`,
-        text,
+        line: message.line, head: message.head, reason: message.reason, more: message.more,
+        title: `${way}${whenText(happened)}${part}${message.reason ? `: ${message.reason}` : ""}`,
       });
       if (message.is === "command") {
         this.addCommand(row, message, direction);
@@ -334,8 +730,8 @@ class Ladder {
     const words = { off: "lifted", on: "hung up", flash: "flash" };
     const label = found ? `${found[1]}: ${words[found[2]] ?? `key ${found[2]}`}` : happened.text.trim();
     this.lastAct = this.addRow({
-      at: happened.at, peer: "", kind: "act", from: 1, to: 2, line, label, more: "",
-      title: `at a telephone${happened.at === null ? "" : ` at ${clockText(happened.at)}`}`, text: happened.text.trim(),
+      happened, at: happened.at, wall: happened.wall, peer: "", kind: "act", from: 1, to: 2, line, head: [label, "", ""],
+      title: `at a telephone${whenText(happened)}`, text: happened.text.trim(),
     });
   }
 
@@ -347,17 +743,17 @@ class Ladder {
     }
     const of = /^line (\d+) /.exec(text);
     this.addRow({
-      at: happened.at, peer: "", kind: text.startsWith("!") ? "fault" : "act", from: 2, to: 1,
-      line: of ? Number(of[1]) : this.lastAct?.line ?? 0, label: text.slice(0, 80), more: "",
-      title: "told to the telephones", text,
+      happened, at: happened.at, wall: happened.wall, peer: "", kind: text.startsWith("!") ? "fault" : "act", from: 2, to: 1,
+      line: of ? Number(of[1]) : this.lastAct?.line ?? 0, head: [text.slice(0, 80), "", ""],
+      title: `told to the telephones${whenText(happened)}`, text,
     });
   }
 
   // Events that this page has missed.
   addGap(count) {
-    const more = make("li", { class: "of-line" }, make("p", { class: "hint" }, `${count} events are no longer known`));
-    this.list.append(more);
-    this.rows += 1;
+    const item = make("li", {}, make("p", { class: "hint" }, `${count} events are no longer known`));
+    this.count += 1;
+    this.keep({ item, line: 0, number: this.count, position: this.count, call: null, isNotification: false });
   }
 
   add(happened) {
@@ -370,29 +766,23 @@ class Ladder {
     }
   }
 
-  // Adds these, and goes to the end if the reader follows.
-  addAll(list) {
-    list.forEach((happened) => this.add(happened));
-    if (list.length > 0 && byId("following").checked) {
-      this.list.scrollTop = this.list.scrollHeight;
+  // Adds these, each by what takes it, and goes to the end if the reader follows.
+  addAll(list, take) {
+    if (list.length === 0) {
+      return;
+    }
+    list.forEach(take);
+    listCalls(this.calls);
+    if (byId("following").checked) {
+      this.toEnd();
     }
   }
 }
 
-// Whether a row of this line is shown. What is of no line is always shown.
-function isShown(line) {
-  const wanted = Number(byId("shown-line").value);
-  return wanted === 0 || line === 0 || line === wanted;
-}
-
-function showMessage(title, text) {
-  setText(byId("message-title"), title);
-  setText(byId("message-text"), text);
-  byId("message").hidden = false;
-}
-
-function hideMessage() {
-  byId("message").hidden = true;
+// When something happened, by the gateway's clock and by the time of day.
+function whenText(happened) {
+  const wall = happened.wall === null ? "" : `, ${wallText(happened.wall)}`;
+  return happened.at === null ? "" : ` at ${clockText(happened.at)}${wall}`;
 }
 
 // ---- Traces and outputs of scripts
@@ -413,8 +803,8 @@ class Recording {
     }
   }
 
-  put(kind, peer, text, at = this.at) {
-    this.happened.push({ kind, peer, text, at });
+  put(kind, peer, text, at = this.at, hex = null) {
+    this.happened.push({ kind, peer, text, at, hex, wall: null });
   }
 
   // A line, of a script or of what was printed.
@@ -459,7 +849,7 @@ class Recording {
     if (word === "from") {
       this.begin("in", first ?? "", this.at);
     } else if (word === "raw") {
-      this.put("in", first ?? "", textOfHex(second ?? ""));
+      this.put("in", first ?? "", textOfHex(second ?? ""), this.at, second ?? "");
     } else if (word === "phone") {
       this.put("act", "", line);
     } else if (word === "at") {
@@ -470,18 +860,161 @@ class Recording {
   }
 }
 
+// ---- What is shown, as a trace
+
+// The lines that tell of something that happened.
+function traceLines(happened) {
+  const lines = happened.text.split(/\r\n|\n/).map((line) => line.trim());
+  while (lines.length > 1 && lines[lines.length - 1] === "") {
+    lines.pop();
+  }
+  if (happened.kind === "in") {
+    const hex = happened.hex ?? hexOfText(lines.map((line) => `${line}\r\n`).join(""));
+    return hex === "" ? [`from ${happened.peer}`, "--"] : [`raw ${happened.peer} ${hex}`];
+  }
+  if (happened.kind === "out") {
+    return [`| > ${happened.peer}`, ...lines.map((line) => `| ${line}`), "| --"];
+  }
+  return lines.map((line) => (happened.kind === "act" ? line : `| ${line}`));
+}
+
+// The trace of what happened. It has no configuration, so it can be drawn, but not replayed.
+function traceOf(list, told) {
+  const lines = [`# ${told}`, "%%"];
+  let at = 0;
+  for (const happened of list) {
+    if (happened.at !== null && happened.at !== at) {
+      at = happened.at;
+      lines.push(`at ${at}`);
+    }
+    lines.push(...traceLines(happened));
+  }
+  return `${lines.join("\n")}\n`;
+}
+
+// Saves what the ladder shows as a file: whole datagrams, of which a message is shown.
+function saveShown() {
+  const shown = new Set(ladder.rows.filter((row) => row.happened && !row.item.hidden).map((row) => row.happened));
+  const time = new Date().toISOString().slice(0, 19);
+  const parts = [view.call ? `call ${view.call.name}` : "", view.lines ? `lines ${[...view.lines].join(", ")}` : ""];
+  const text = traceOf(shown, `${["shown by the page of rgwd", ...parts.filter((part) => part !== "")].join(", ")}, ${time}Z`);
+  const address = URL.createObjectURL(new Blob([text], { type: "text/plain" }));
+  const link = make("a", { href: address, download: `rgwd_${time.replaceAll(":", "-")}Z.trace` });
+  link.click();
+  setTimeout(() => URL.revokeObjectURL(address), 10000);
+}
+
+// ---- Tones
+
+// The tones of a lifted handset in the United States (ITU-T E.180, Supplement 2; that of confirmation by RFC 3660, 2.1): their
+// frequencies in Hz, their seconds of sound and of silence, and how often they come, where they end by themselves.
+const TONES = {
+  "L/dl": { hertz: [350, 440], sound: 1, silence: 0 },
+  "L/bz": { hertz: [480, 620], sound: 0.5, silence: 0.5 },
+  "L/ro": { hertz: [480, 620], sound: 0.25, silence: 0.25 },
+  "G/cg": { hertz: [480, 620], sound: 0.25, silence: 0.25 },
+  "G/rt": { hertz: [440, 480], sound: 2, silence: 4 },
+  "G/cf": { hertz: [350, 440], sound: 0.1, silence: 0.1, times: 3 },
+};
+// How loud each frequency is, of 1.
+const LOUD = 0.1;
+// A sound begins and ends within so many seconds, so that it doesn't click.
+const EDGE = 0.004;
+
+// How loud a sound of so many seconds is at a moment of it, of 1.
+function edgeAt(tone, moment) {
+  if (tone.silence === 0) {
+    return 1;
+  }
+  return Math.max(0, Math.min(1, moment / EDGE, (tone.sound - moment) / EDGE));
+}
+
+// Fills samples with one sound and one silence of a tone, as often as it comes.
+function fillTone(samples, tone, rate) {
+  const period = tone.sound + tone.silence;
+  for (let place = 0; place < samples.length; place += 1) {
+    const moment = (place / rate) % period;
+    const sum = tone.hertz.reduce((all, hertz) => all + Math.sin(2 * Math.PI * hertz * (place / rate)), 0);
+    samples[place] = LOUD * sum * edgeAt(tone, moment);
+  }
+}
+
+// What is heard at the chosen telephone is played, where it was asked for.
+const speaker = {
+  context: null,
+  isOn: false,
+  // By the signal's name: what plays it.
+  playing: new Map(),
+
+  // Begins to play a tone.
+  begin(name) {
+    const tone = TONES[name];
+    const rate = this.context.sampleRate;
+    const buffer = this.context.createBuffer(1, Math.round(rate * (tone.sound + tone.silence) * (tone.times ?? 1)), rate);
+    fillTone(buffer.getChannelData(0), tone, rate);
+    const source = this.context.createBufferSource();
+    source.buffer = buffer;
+    source.loop = tone.times === undefined;
+    source.connect(this.context.destination);
+    source.start();
+    this.playing.set(name, source);
+  },
+
+  // Plays the tones among these signals, and no others.
+  hear(names) {
+    const wanted = this.isOn ? names.filter((name) => name in TONES) : [];
+    for (const [name, source] of this.playing) {
+      if (!wanted.includes(name)) {
+        source.stop();
+        this.playing.delete(name);
+      }
+    }
+    wanted.filter((name) => !this.playing.has(name)).forEach((name) => this.begin(name));
+  },
+
+  // Tones are asked for, or aren't any more.
+  turn(isOn) {
+    this.isOn = isOn;
+    if (isOn) {
+      this.context ??= new AudioContext();
+      this.context.resume();
+    } else {
+      this.context?.suspend();
+    }
+    telephones.sound();
+  },
+};
+
 // ---- Telephones
+
+const KEYS = ["1", "2", "3", "A", "4", "5", "6", "B", "7", "8", "9", "C", "*", "0", "#", "D"];
+const HEARD = {
+  "L/dl": "dial tone",
+  "L/bz": "busy",
+  "L/ro": "reorder tone",
+  "L/rg": "rings",
+  "L/rs": "ring splash",
+  "L/vmwi": "message lamp",
+  "G/rt": "ringback",
+  "G/cg": "congestion",
+  "G/cf": "confirm tone",
+};
+const RINGING = new Set(["L/rg", "L/rs"]);
 
 class Telephone {
   constructor(line) {
     this.line = line;
     this.hook = "on";
+    this.signals = [];
+    this.isBusy = false;
     this.name = make("button", { type: "button", class: "phone-name", "aria-expanded": "false" }, `Line ${line}`);
     this.hookButton = make("button", { type: "button", class: "phone-hook" }, "Lift");
     this.hears = make("p", { class: "hears silent" }, "silent");
-    this.carries = make("p", { class: "carries" });
+    this.carries = make("div", { class: "carries" });
     this.lost = make("p", { class: "lost" });
     this.lost.hidden = true;
+    this.refusal = make("p", { class: "refusal" });
+    this.refusal.hidden = true;
     this.keys = make("div", { class: "keys", role: "group", "aria-label": `Keys of line ${line}` });
     this.keyButtons = KEYS.map((key) => {
       const button = make("button", { type: "button" }, key);
@@ -492,14 +1025,19 @@ class Telephone {
     this.keys.append(...this.keyButtons, this.flash);
     this.card = make("div", { class: "phone", role: "group", "aria-label": `Line ${line}` },
       make("div", { class: "phone-head" }, this.name, this.hookButton),
-      this.hears, this.carries, this.lost, this.keys);
+      this.refusal, this.hears, this.carries, this.lost, this.keys);
     this.card.dataset.line = String(line);
-    this.name.addEventListener("click", () => this.toggle());
-    this.hookButton.addEventListener("click", () => this.pressHook());
-    this.flash.addEventListener("click", () => act(line, "flash"));
-    this.card.addEventListener("focusin", () => telephones.choose(this, false));
+    this.listen();
     this.reach(false);
     this.enable();
+  }
+
+  listen() {
+    this.name.addEventListener("click", () => this.toggle());
+    this.hookButton.addEventListener("click", () => this.pressHook());
+    this.flash.addEventListener("click", () => act(this.line, "flash"));
+    this.card.addEventListener("focusin", () => telephones.choose(this, false));
+    this.card.addEventListener("focusout", () => setTimeout(() => telephones.settle(), 0));
   }
 
   toggle(open = !this.card.classList.contains("open")) {
@@ -526,6 +1064,12 @@ class Telephone {
     }
   }
 
+  // Tells at the telephone itself what was refused there.
+  refuse(text) {
+    this.refusal.hidden = text === "";
+    setText(this.refusal, text);
+  }
+
   show(state) {
     if (this.hook !== state.hook) {
       this.hook = state.hook;
@@ -534,13 +1078,30 @@ class Telephone {
     const isOff = state.hook === "off";
     this.card.classList.toggle("off", isOff);
     setText(this.hookButton, isOff ? "Hang up" : "Lift");
-    const names = state.signals.map((signal) => HEARD[signal.name] ?? signal.name);
-    this.card.classList.toggle("rings", state.signals.some((signal) => RINGING.has(signal.name)));
+    this.signals = state.signals.map((signal) => signal.name);
+    this.isBusy = isOff || state.signals.length > 0 || state.connections.length > 0;
+    const names = this.signals.map((name) => HEARD[name] ?? name);
+    this.card.classList.toggle("rings", this.signals.some((name) => RINGING.has(name)));
     this.hears.classList.toggle("silent", names.length === 0);
     setText(this.hears, names.length > 0 ? names.join(", ") : isOff ? "off hook, silent" : "on hook");
-    setText(this.carries, state.connections.map((held) => `connection ${held.number.toString(16).toUpperCase()} ${held.mode}`).join(", "));
+    this.showConnections(state.connections.map((held) => ladder.calls.tell(this.line, held)));
     this.lost.hidden = state.lost === 0;
     setText(this.lost, `lost events: ${state.lost}`);
+  }
+
+  // Each connection in a line of its own.
+  showConnections(texts) {
+    const shown = [...this.carries.children].map((line) => line.textContent);
+    if (shown.join("\n") !== texts.join("\n")) {
+      this.carries.replaceChildren(...texts.map((text) => make("p", {}, text)));
+    }
+  }
+
+  // It is shown if its line is searched for, and does something where only such lines are wanted; never taken from under a hand.
+  settle(isBusyOnly) {
+    const isSearched = view.lines === null || view.lines.has(this.line);
+    const isHeld = this.card.contains(document.activeElement);
+    this.card.hidden = !isHeld && !(isSearched && (!isBusyOnly || this.isBusy));
   }
 }
 
@@ -560,23 +1121,43 @@ const telephones = {
     if (count > 0) {
       this.choose(this.list[0], false);
     }
-    const shown = byId("shown-line");
-    const wanted = shown.value;
-    const options = this.list.map((telephone) => make("option", { value: String(telephone.line) }, `line ${telephone.line}`));
-    shown.replaceChildren(make("option", { value: "0" }, "all lines"), ...options);
-    shown.value = Number(wanted) <= count ? wanted : "0";
   },
 
   show(states) {
     this.resize(states.length);
     states.forEach((state, place) => this.list[place].show(state));
+    this.settle();
+    this.sound();
+  },
+
+  get shown() {
+    return this.list.filter((telephone) => !telephone.card.hidden);
+  },
+
+  // Shows the telephones that are wanted, and says how many of all they are.
+  settle() {
+    const isBusyOnly = byId("busy-only").checked;
+    this.list.forEach((telephone) => telephone.settle(isBusyOnly));
+    const shown = this.shown;
+    setText(byId("phones-told"), shown.length === this.list.length ? "" : `${shown.length} of ${this.list.length} lines are shown`);
+    if (shown.length > 0 && this.chosen?.card.hidden) {
+      this.choose(shown[0], false);
+    }
+  },
+
+  // Plays what is heard at the chosen one, if it is lifted.
+  sound() {
+    speaker.hear(this.chosen?.hook === "off" ? this.chosen.signals : []);
   },
 
   choose(telephone, focus) {
     if (this.chosen !== telephone) {
       this.chosen?.reach(false);
+      this.chosen?.card.classList.remove("chosen");
       this.chosen = telephone;
       telephone.reach(true);
+      telephone.card.classList.add("chosen");
+      this.sound();
     }
     if (focus) {
       telephone.name.focus();
@@ -585,16 +1166,24 @@ const telephones = {
 
   // How many stand side by side.
   columns() {
-    const top = this.list[0]?.card.offsetTop;
-    const below = this.list.findIndex((telephone) => telephone.card.offsetTop !== top);
-    return below < 0 ? this.list.length : below;
+    const shown = this.shown;
+    const top = shown[0]?.card.offsetTop;
+    const below = shown.findIndex((telephone) => telephone.card.offsetTop !== top);
+    return below < 0 ? shown.length : below;
   },
 
   go(steps) {
-    const place = this.list.indexOf(this.chosen) + steps;
-    if (place >= 0 && place < this.list.length) {
-      this.choose(this.list[place], true);
+    const shown = this.shown;
+    const place = shown.indexOf(this.chosen) + steps;
+    if (place >= 0 && place < shown.length) {
+      this.choose(shown[place], true);
     }
+  },
+
+  // What was refused is told at its telephone, and above all of them.
+  refuse(line, text) {
+    this.list[line - 1]?.refuse(text);
+    setText(byId("refused"), text === "" ? "" : `Line ${line}: ${text}`);
   },
 };
 
@@ -622,7 +1211,7 @@ function keyDown(event) {
 
 // Does something at a telephone. What comes of it is told by the events.
 async function act(line, word) {
-  setText(byId("refused"), "");
+  telephones.refuse(line, "");
   try {
     const answer = await fetch("/phone", {
       method: "POST",
@@ -630,17 +1219,25 @@ async function act(line, word) {
       body: JSON.stringify({ line, act: word }),
     });
     if (!answer.ok) {
-      setText(byId("refused"), `Line ${line}, ${word}: refused, ${answer.status} ${answer.statusText}`);
+      telephones.refuse(line, `${word}: refused, ${answer.status} ${answer.statusText}`);
     }
   } catch {
-    setText(byId("refused"), `Line ${line}, ${word}: the gateway doesn't answer`);
+    telephones.refuse(line, `${word}: the gateway doesn't answer`);
   }
 }
 
 // ---- The gateway
 
+const POLL = 100;
+const POLL_HIDDEN = 1000;
+const POLL_LOST = 1000;
+// An agent that owes an answer for so long, in ms, is told to owe it.
+const LONG_WAIT = 2000;
+// The time of day at which the gateway's clock was 0 is taken anew where it is off by more, in ms.
+const CLOCK_PLAY = 100;
+
 const ladder = new Ladder();
-const gateway = { after: 0, version: null, isFile: false, timer: 0, turn: 0 };
+const gateway = { after: 0, version: null, isFile: false, isServing: null, zero: null, timer: 0, turn: 0 };
 
 function stand(is, text) {
   const standing = byId("standing");
@@ -656,10 +1253,42 @@ async function ask(path) {
   return answer.json();
 }
 
-// A refusal of what was done last is told beside the telephones too.
-function tellRefusal(happened) {
-  if (happened.kind === "told" && happened.text.startsWith("!")) {
-    setText(byId("refused"), `refused: ${happened.text.trim().replace(/^! \d+ /, "")}`);
+// Says whether the call agent answers: it has answered the announcement (RFC 3435, 4.4.6), and owes nothing for long.
+function tellAgent(clock) {
+  const waits = ladder.waitsSince === null ? 0 : clock - ladder.waitsSince;
+  const agent = byId("agent");
+  if (gateway.isServing === false) {
+    agent.dataset.is = "lost";
+    setText(agent, "no agent has answered yet");
+  } else if (waits > LONG_WAIT) {
+    agent.dataset.is = "lost";
+    setText(agent, `the agent hasn't answered for ${Math.floor(waits / 1000)} s`);
+  } else {
+    agent.dataset.is = "live";
+    setText(agent, gateway.isServing ? "the agent answers" : "");
+  }
+}
+
+// The gateway's clock, and the time of day beside it.
+function tellClock(clock) {
+  const zero = Date.now() - clock;
+  if (gateway.zero === null || Math.abs(zero - gateway.zero) > CLOCK_PLAY) {
+    gateway.zero = zero;
+  }
+  setText(byId("clock"), clockText(clock));
+  setText(byId("wall"), wallText(gateway.zero + clock));
+}
+
+// A refusal of what was done last is told at its telephone.
+function tellRefusal(text) {
+  telephones.refuse(ladder.lastAct?.line ?? 0, `refused: ${text.trim().replace(/^! \d+ /, "")}`);
+}
+
+function takeEvent(event) {
+  const text = textOfHex(event.hex);
+  ladder.add({ kind: event.kind, peer: event.peer, at: event.at, wall: gateway.zero + event.at, hex: event.hex, text });
+  if (event.kind === "told" && text.startsWith("!")) {
+    tellRefusal(text);
   }
 }
 
@@ -668,20 +1297,20 @@ function takeEvents(answer) {
     // Another run of the program: it is read from its beginning at the next turn.
     gateway.after = 0;
     gateway.version = null;
+    gateway.zero = null;
     ladder.clear();
     return;
   }
   if (answer.first > gateway.after + 1 && answer.events.length > 0 && gateway.after > 0) {
     ladder.addGap(answer.first - gateway.after - 1);
   }
-  const list = answer.events.map((event) => ({ kind: event.kind, peer: event.peer, at: event.at, text: textOfHex(event.hex) }));
-  ladder.addAll(list);
-  list.forEach(tellRefusal);
+  ladder.addAll(answer.events, takeEvent);
   gateway.after = answer.next;
 }
 
 function takeState(state) {
   gateway.version = state.version;
+  gateway.isServing = state.serving ?? null;
   telephones.show(state.lines);
   const off = state.lines.filter((line) => line.hook === "off").length;
   const held = state.lines.reduce((sum, line) => sum + line.connections.length, 0);
@@ -698,6 +1327,7 @@ async function follow(turn) {
     if (turn !== gateway.turn) {
       return;
     }
+    tellClock(answer.clock);
     takeEvents(answer);
     if (answer.version !== gateway.version || answer.events.length > 0) {
       const state = await ask("/state");
@@ -706,13 +1336,15 @@ async function follow(turn) {
       }
       takeState(state);
     }
-    setText(byId("clock"), clockText(answer.clock));
-    stand("live", "connected");
+    tellAgent(answer.clock);
+    stand("live", "page connected");
     if (answer.more) {
       pause = 0;
     }
   } catch {
     stand("lost", "the gateway doesn't answer");
+    setText(byId("agent"), "");
+    speaker.hear([]);
     pause = POLL_LOST;
   }
   if (turn === gateway.turn) {
@@ -737,23 +1369,14 @@ async function openFile(file) {
   const text = await file.text();
   gateway.isFile = true;
   stop();
+  speaker.hear([]);
   document.querySelector("main").classList.add("is-file");
   byId("live").hidden = false;
-  setText(byId("numbers"), "");
-  setText(byId("clock"), "");
+  ["numbers", "clock", "wall", "agent"].forEach((id) => setText(byId(id), ""));
   ladder.clear();
   const { happened } = new Recording(text);
-  const lines = new Set();
-  for (const it of happened) {
-    for (const found of it.text.matchAll(/\baaln\/(\d+)|^phone (\d+)/gi)) {
-      lines.add(Number(found[1] ?? found[2]));
-    }
-  }
-  const options = [...lines].sort((a, b) => a - b).slice(0, 96).map((line) => make("option", { value: String(line) }, `line ${line}`));
-  byId("shown-line").replaceChildren(make("option", { value: "0" }, "all lines"), ...options);
-  ladder.addAll(happened);
+  ladder.addAll(happened, (it) => ladder.add(it));
   ladder.list.scrollTop = 0;
-  showLine();
   stand("file", `${file.name}: ${happened.length} events`);
 }
 
@@ -761,7 +1384,6 @@ function backToGateway() {
   gateway.isFile = false;
   gateway.after = 0;
   gateway.version = null;
-  telephones.list = [];
   document.querySelector("main").classList.remove("is-file");
   byId("live").hidden = true;
   byId("file").value = "";
@@ -769,16 +1391,16 @@ function backToGateway() {
   start();
 }
 
-// Shows the rows of the chosen line alone.
-function showLine() {
-  ladder.list.classList.toggle("one-line", byId("shown-line").value !== "0");
-  for (const item of ladder.list.children) {
-    item.classList.toggle("of-line", isShown(Number(item.dataset.line ?? 0)));
-  }
-}
+// ---- What is listened to
 
 byId("phones").addEventListener("keydown", keyDown);
-byId("shown-line").addEventListener("change", showLine);
+byId("wanted-lines").addEventListener("input", showLines);
+byId("busy-only").addEventListener("change", () => telephones.settle());
+byId("shown-call").addEventListener("change", (event) => showCall(ladder.calls.calls.get(event.target.value) ?? null));
+byId("following").addEventListener("change", () => ladder.settleAll());
+byId("tones").addEventListener("change", (event) => speaker.turn(event.target.checked));
+byId("save").addEventListener("click", saveShown);
+byId("message-call").addEventListener("click", () => showCall(ladder.chosen.call));
 byId("message-close").addEventListener("click", hideMessage);
 byId("live").addEventListener("click", backToGateway);
 byId("file").addEventListener("change", (event) => {
@@ -796,5 +1418,6 @@ document.addEventListener("visibilitychange", () => {
     start();
   }
 });
+showLines();
 start();
 "##;

@@ -77,27 +77,33 @@ header {
   background: var(--card);
   border-bottom: 1px solid var(--edge);
 }
-#standing { font-weight: 600; }
-#standing[data-is="lost"] { color: var(--fault); }
-#standing[data-is="live"] { color: var(--response); }
-#numbers, #clock { color: var(--soft); font-variant-numeric: tabular-nums; }
+#standing, #agent { font-weight: 600; }
+#standing[data-is="lost"], #agent[data-is="lost"] { color: var(--fault); }
+#standing[data-is="live"], #agent[data-is="live"] { color: var(--response); }
+#numbers, .clocks { color: var(--soft); font-variant-numeric: tabular-nums; }
 .tools { display: flex; flex-wrap: wrap; align-items: center; gap: .4rem 1rem; margin-left: auto; }
 .file { border: 1px solid var(--edge); border-radius: 6px; padding: .15rem .5rem; cursor: pointer; }
 .file:hover { border-color: var(--mark); }
 .file:focus-within { outline: 2px solid var(--mark); outline-offset: 2px; }
 .file input { position: absolute; width: 1px; height: 1px; opacity: 0; }
+#wanted-lines { width: 10rem; }
+#wanted-lines, select { max-width: 100%; background: var(--card); border: 1px solid var(--edge); border-radius: 6px; padding: .15rem .4rem; }
+#shown-call { width: 12rem; }
 main {
   flex: 1;
   min-height: 0;
   display: grid;
-  grid-template-columns: minmax(20rem, 2fr) 3fr;
+  grid-template-columns: minmax(20rem, 2fr) minmax(0, 3fr);
 }
-main.is-file { grid-template-columns: 1fr; }
+main.is-file { grid-template-columns: minmax(0, 1fr); }
 main.is-file #telephones { display: none; }
-section { display: flex; flex-direction: column; min-height: 0; padding: .7rem 1rem; gap: .4rem; }
+section { display: flex; flex-direction: column; min-width: 0; min-height: 0; padding: .7rem 1rem; gap: .4rem; }
 #telephones { border-right: 1px solid var(--edge); overflow-y: auto; }
+.title { display: flex; flex-wrap: wrap; align-items: baseline; gap: .2rem 1rem; }
 .hint { color: var(--soft); font-size: .85rem; }
-#refused { color: var(--fault); min-height: 1.3em; font-size: .9rem; }
+/* What was refused stays in sight, however far the telephones are scrolled. */
+#refused { color: var(--fault); min-height: 1.3em; font-size: .9rem; position: sticky; top: -.7rem; z-index: 1; }
+#refused:not(:empty) { background: var(--back); border-bottom: 1px solid var(--fault); padding: .2rem 0; }
 #phones {
   display: grid;
   grid-template-columns: repeat(auto-fill, minmax(11.5rem, 1fr));
@@ -113,6 +119,7 @@ section { display: flex; flex-direction: column; min-height: 0; padding: .7rem 1
   gap: .25rem;
 }
 .phone.off { border-color: var(--mark); }
+.phone.chosen .phone-name { text-decoration: underline; text-underline-offset: 3px; }
 .phone.rings { border-color: var(--ring); background: var(--hot); }
 .phone-head { display: flex; align-items: center; gap: .4rem; }
 .phone-name { font-weight: 600; border: 0; background: none; padding: 0 .2rem; }
@@ -120,7 +127,7 @@ section { display: flex; flex-direction: column; min-height: 0; padding: .7rem 1
 .hears { min-height: 1.4em; font-weight: 600; color: var(--ring); }
 .hears.silent { color: var(--soft); font-weight: 400; }
 .carries { color: var(--soft); font-size: .82rem; min-height: 1.2em; overflow-wrap: anywhere; }
-.lost { color: var(--fault); font-size: .82rem; }
+.lost, .refusal { color: var(--fault); font-size: .82rem; overflow-wrap: anywhere; }
 .keys { display: none; grid-template-columns: repeat(4, 1fr); gap: .2rem; }
 .phone.open .keys { display: grid; }
 .keys button { padding: .2rem 0; }
@@ -130,19 +137,19 @@ section { display: flex; flex-direction: column; min-height: 0; padding: .7rem 1
   overflow-y: hidden;
   scrollbar-gutter: stable;
   display: grid;
-  grid-template-columns: 5.6rem 1fr;
+  grid-template-columns: 5.6rem minmax(0, 1fr);
   font-weight: 600;
   font-size: .85rem;
   border-bottom: 1px solid var(--edge);
 }
-.lane-names { grid-column: 2; display: grid; grid-auto-flow: column; grid-auto-columns: 1fr; text-align: center; }
+.lane-names { grid-column: 2; display: grid; grid-auto-flow: column; grid-auto-columns: minmax(0, 1fr); text-align: center; }
 .lane-names span { overflow: hidden; text-overflow: ellipsis; white-space: nowrap; padding: 0 .2rem; }
-#ladder { list-style: none; padding: 0; flex: 1; min-height: 8rem; overflow-y: auto; scrollbar-gutter: stable; }
-#ladder li { content-visibility: auto; contain-intrinsic-size: auto 2.6rem; }
-#ladder.one-line li:not(.of-line) { display: none; }
+#ladder { list-style: none; padding: 0; flex: 1; min-height: 8rem; overflow-x: hidden; overflow-y: auto; scrollbar-gutter: stable; }
+/* A row that isn't drawn yet keeps its height alone: a kept width would keep the ladder as wide as it once was. */
+#ladder li { content-visibility: auto; contain-intrinsic-height: auto 2.6rem; }
 .row {
   display: grid;
-  grid-template-columns: 5.6rem 1fr;
+  grid-template-columns: 5.6rem minmax(0, 1fr);
   width: 100%;
   padding: 0;
   border: 0;
@@ -152,27 +159,40 @@ section { display: flex; flex-direction: column; min-height: 0; padding: .7rem 1
 }
 .row:hover { background: var(--rule); }
 .row[aria-pressed="true"] { background: var(--chosen); }
-.row .at { color: var(--soft); font: .8rem/1 ui-monospace, monospace; padding: 1.25rem .4rem 0 0; text-align: right; }
+.row .at {
+  display: grid;
+  align-content: end;
+  gap: .2rem;
+  padding: 0 .5rem .25rem 0;
+  color: var(--soft);
+  font: .8rem/1 ui-monospace, monospace;
+  text-align: right;
+}
+.row .wall { font-size: .7rem; }
 .row .track {
   display: grid;
   min-height: 2.6rem;
-  align-items: end;
+  align-content: end;
+  grid-template-columns: repeat(calc(2 * var(--lanes)), minmax(0, 1fr));
   padding-bottom: .45rem;
   background-image: linear-gradient(to right, transparent calc(50% - 1px), var(--edge) calc(50% - 1px), var(--edge) 50%, transparent 50%);
   background-size: calc(100% / var(--lanes)) 100%;
 }
-.arrow { position: relative; display: block; border-bottom: 2px solid currentColor; min-width: 0; padding: 0 .7rem 1px; }
-.arrow .label, .arrow .more {
-  display: block;
+.said, .arrow { grid-column: var(--left) / var(--right); min-width: 0; }
+.said { padding: 0 .7rem 1px; text-align: center; font-size: .82rem; line-height: 1.25; }
+.said > span { display: block; overflow: hidden; text-overflow: ellipsis; white-space: nowrap; }
+.said .label { display: flex; justify-content: center; column-gap: .35em; font-weight: 600; }
+/* Of a long head the id is cut, never the line's name. */
+.label .word, .label .name, .label .badge { flex: none; }
+.label .id { flex: 0 1 auto; min-width: 1.5em; overflow: hidden; text-overflow: ellipsis; }
+.track:is(.response, .fault, .act) .label .word:only-child, .track:is(.response, .fault) .label .name {
+  flex: 0 1 auto;
   overflow: hidden;
   text-overflow: ellipsis;
-  white-space: nowrap;
-  text-align: center;
-  font-size: .82rem;
-  line-height: 1.25;
 }
-.arrow .label { font-weight: 600; }
-.arrow .more { color: var(--soft); font-family: ui-monospace, monospace; font-size: .75rem; }
+.track:is(.response, .fault) .label .id { flex: none; }
+.said .more { color: var(--soft); font-family: ui-monospace, monospace; font-size: .75rem; }
+.arrow { position: relative; border-bottom: 2px solid currentColor; }
 .arrow::after {
   content: "";
   position: absolute;
@@ -185,17 +205,17 @@ section { display: flex; flex-direction: column; min-height: 0; padding: .7rem 1
 .response { color: var(--response); }
 .fault { color: var(--fault); }
 .act { color: var(--act); }
-.arrow.again { border-bottom-style: dashed; }
+.track.again .arrow { border-bottom-style: dashed; }
 .badge {
   display: inline-block;
   border: 1px solid currentColor;
   border-radius: 99px;
   padding: 0 .4rem;
-  margin-left: .4rem;
+  margin-left: .1rem;
   font-size: .7rem;
   font-weight: 400;
 }
-.arrow.given-up .label { text-decoration: line-through; }
+.track.given-up .label :is(.word, .id, .name) { text-decoration: line-through; }
 #message { border-top: 1px solid var(--edge); padding-top: .4rem; max-height: 40%; display: flex; flex-direction: column; }
 .message-head { display: flex; align-items: baseline; gap: 1rem; }
 #message-title { flex: 1; font-weight: 600; overflow-wrap: anywhere; }
@@ -212,9 +232,19 @@ section { display: flex; flex-direction: column; min-height: 0; padding: .7rem 1
 }
 @media (max-width: 60rem) {
   html, body { height: auto; }
-  main { grid-template-columns: 1fr; }
+  main { grid-template-columns: minmax(0, 1fr); }
+  .tools { margin-left: 0; }
   #telephones { border-right: 0; border-bottom: 1px solid var(--edge); max-height: 60vh; }
   #ladder { max-height: 60vh; }
+  #message { max-height: 40vh; }
+}
+/* Where lanes are narrow, what is said stands across all of them, over its arrow. */
+@media (max-width: 40rem) {
+  section, header { padding-left: .6rem; padding-right: .6rem; }
+  #lanes, .row { grid-template-columns: 4.7rem minmax(0, 1fr); }
+  .said { grid-column: 1 / -1; padding: .3rem .2rem 1px; }
+  .row .at { font-size: .7rem; padding-right: .3rem; }
+  .message-head { flex-wrap: wrap; gap: .3rem 1rem; }
 }
 @media (prefers-reduced-motion: no-preference) {
   .phone.rings .hears { animation: rings 1s steps(2) infinite; }

@@ -1,0 +1,125 @@
+// ---- Calls and connections
+
+// So many calls are remembered.
+const MOST_CALLS = 200;
+
+// What the conversation tells of calls and their connections. A page that came later knows of those alone that it has heard of.
+class Calls {
+  constructor() {
+    // By the call's identifier in upper case.
+    this.calls = new Map();
+    // By the line and the connection's identifier.
+    this.connections = new Map();
+    // By the id of their command: what connection commands ask for.
+    this.asked = new Map();
+  }
+
+  // The call that a command is of: it names it, or a connection of it.
+  callOf(message) {
+    const named = message.call || this.connections.get(`${message.line} ${message.connection}`)?.call.name || "";
+    return named === "" ? null : this.named(named);
+  }
+
+  named(name) {
+    const key = name.toUpperCase();
+    let call = this.calls.get(key);
+    if (!call) {
+      call = { key, name, lines: new Set(), first: null, last: null };
+      this.calls.set(key, call);
+      forget(this.calls, MOST_CALLS);
+    }
+    return call;
+  }
+
+  // Whether a call has a connection.
+  isHeld(call) {
+    return [...this.connections.values()].some((held) => held.call === call);
+  }
+
+  // A row is of a call: it reaches from its first row to its last.
+  extend(call, row) {
+    call.first ??= row.position;
+    call.last = Math.max(call.last ?? 0, row.number);
+    if (row.line > 0) {
+      call.lines.add(row.line);
+    }
+  }
+
+  // The call agent asks for something.
+  ask(message) {
+    if (["CRCX", "MDCX", "DLCX"].includes(message.verb)) {
+      this.asked.set(message.id, message);
+      forget(this.asked, 1000);
+    }
+  }
+
+  // The gateway has answered: what was asked for has become so, or hasn't.
+  answer(message) {
+    const asked = this.asked.get(message.id);
+    if (!asked || message.code < 200) {
+      return;
+    }
+    this.asked.delete(message.id);
+    if (message.code >= 300) {
+      return;
+    }
+    if (asked.verb === "DLCX") {
+      this.end(asked);
+    } else {
+      this.take(asked, message);
+    }
+  }
+
+  // A connection was made or changed: the answer has its local description, where it has a new one.
+  take(asked, answer) {
+    const line = answer.named || asked.line;
+    const key = `${line} ${answer.connection || asked.connection}`;
+    const held = this.connections.get(key) ?? { call: this.callOf(asked), codec: "", packetTime: null, remote: "" };
+    if (!held.call) {
+      return;
+    }
+    held.call.lines.add(line);
+    held.codec = answer.description?.codec ?? held.codec;
+    held.packetTime = answer.description?.packetTime ?? held.packetTime;
+    held.remote = asked.description?.address ?? held.remote;
+    this.connections.set(key, held);
+    forget(this.connections, 1000);
+  }
+
+  // Connections were deleted: one, those of a call on a line, or all of a line or of the gateway.
+  end(asked) {
+    for (const [key, held] of this.connections) {
+      const [line, connection] = key.split(" ");
+      const isThere = asked.line === 0 || asked.line === Number(line);
+      const isMeant = asked.connection === "" || asked.connection === connection;
+      const isCalled = asked.call === "" || asked.call.toUpperCase() === held.call.key;
+      if (isThere && isMeant && isCalled) {
+        this.connections.delete(key);
+      }
+    }
+  }
+
+  // What is known of a connection, in words.
+  tell(line, held) {
+    const connection = held.number.toString(16).toUpperCase();
+    const known = this.connections.get(`${line} ${connection}`);
+    const head = `connection ${connection} ${held.mode}`;
+    if (!known) {
+      return head;
+    }
+    const time = known.packetTime === null ? "" : ` ${known.packetTime} ms`;
+    const codec = known.codec === "" ? "" : `, ${known.codec}${time}`;
+    const remote = known.remote === "" ? ", no remote address yet" : ` to ${known.remote}`;
+    return `${head}, call ${known.call.name}${codec}${remote}`;
+  }
+}
+
+// Whether a row belongs to a call: it is of the call, or of a notification by one of its lines, from its first row to its last, or to
+// now while it has a connection.
+function isOfCall(row, call) {
+  if (row.call === call) {
+    return true;
+  }
+  const isBetween = row.position > call.first && (row.position < call.last || ladder.calls.isHeld(call));
+  return row.isNotification && call.lines.has(row.line) && isBetween;
+}

@@ -1,0 +1,70 @@
+// ---- Return codes
+
+// What each return code says (RFC 3435, 2.4).
+const REASONS = {
+  0: "response acknowledgement",
+  100: "the transaction is currently being executed",
+  101: "the transaction has been queued for execution",
+  200: "the requested transaction was executed normally",
+  250: "the connection was deleted",
+  400: "the transaction could not be executed, due to some unspecified transient error",
+  401: "the phone is already off hook",
+  402: "the phone is already on hook",
+  403: "the endpoint does not have sufficient resources at this time",
+  404: "insufficient bandwidth at this time",
+  405: "the endpoint is restarting",
+  406: "transaction time-out",
+  407: "transaction aborted",
+  409: "internal overload",
+  410: "no endpoint available",
+  500: "the endpoint is unknown",
+  501: "the endpoint is not ready",
+  502: "the endpoint does not have sufficient resources",
+  503: "\"all of\" wildcard too complicated",
+  504: "unknown or unsupported command",
+  505: "unsupported RemoteConnectionDescriptor",
+  506: "unable to satisfy both LocalConnectionOptions and RemoteConnectionDescriptor",
+  507: "unsupported functionality",
+  508: "unknown or unsupported quarantine handling",
+  509: "error in RemoteConnectionDescriptor",
+  510: "some unspecified protocol error was detected",
+  511: "unrecognized extension",
+  512: "the gateway is not equipped to detect one of the requested events",
+  513: "the gateway is not equipped to generate one of the requested signals",
+  514: "the gateway cannot send the specified announcement",
+  515: "incorrect connection-id",
+  516: "unknown or incorrect call-id",
+  517: "unsupported mode",
+  518: "unsupported or unknown package",
+  519: "the endpoint does not have a digit map",
+  520: "the endpoint is restarting",
+  521: "the endpoint is redirected to another call agent",
+  522: "no such event or signal",
+  523: "unknown action or illegal combination of actions",
+  524: "internal inconsistency in LocalConnectionOptions",
+  525: "unknown extension in LocalConnectionOptions",
+  526: "insufficient bandwidth",
+  527: "missing RemoteConnectionDescriptor",
+  528: "incompatible protocol version",
+  529: "internal hardware failure",
+  530: "CAS signaling protocol error",
+  531: "failure of a grouping of trunks",
+  532: "unsupported value in LocalConnectionOptions",
+  533: "response too large",
+  534: "codec negotiation failure",
+  535: "packetization period not supported",
+  536: "unknown or unsupported RestartMethod",
+  537: "unknown or unsupported digit map extension",
+  538: "event or signal parameter error",
+  539: "invalid or unsupported command parameter",
+  540: "per endpoint connection limit exceeded",
+  541: "invalid or unsupported LocalConnectionOptions",
+};
+
+// What a code says: one that isn't in the table is taken as the first of its kind (RFC 3435, 2.4), and 800 to 899 are a package's own.
+function reasonOf(code) {
+  if (code >= 800 && code <= 899) {
+    return "a code of a package";
+  }
+  return REASONS[code] ?? REASONS[100 * Math.floor(code / 100)] ?? "unknown code";
+}

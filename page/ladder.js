@@ -1,0 +1,340 @@
+// ---- The ladder
+
+// What is sent again under an id within this time is a repeat, in ms (RFC 3435, 3.5.1).
+const REPEAT_TIME = 30000;
+// So many rows are kept in the ladder.
+const MOST_ROWS = 3000;
+// A list this close to its end, in pixels, is at its end.
+const NEAR_END = 8;
+
+// Draws what happened, and marks what is said again and what is given up.
+class Ladder {
+  constructor() {
+    this.list = byId("ladder");
+    this.isAtEnd = true;
+    this.list.addEventListener("scroll", () => {
+      this.isAtEnd = this.list.scrollHeight - this.list.scrollTop - this.list.clientHeight < NEAR_END;
+    });
+    // Whatever makes it smaller or wider, its end stays in sight.
+    new ResizeObserver(() => this.keepEnd()).observe(this.list);
+    this.clear();
+  }
+
+  clear() {
+    this.list.replaceChildren();
+    this.peers = [];
+    this.rows = [];
+    this.count = 0;
+    this.calls = new Calls();
+    // By direction, peer and head: when it was first said.
+    this.said = new Map();
+    // Commands that nobody has answered yet, by direction and id: their endpoint and rows.
+    this.open = new Map();
+    // Those that were answered, with their first rows.
+    this.answered = new Map();
+    // Since when the gateway has asked for an answer and had none, in ms.
+    this.waitsSince = null;
+    this.chosen = null;
+    this.lastAct = null;
+    view.call = null;
+    listCalls(this.calls);
+    this.setLanes();
+    hideMessage();
+  }
+
+  get lanes() {
+    return 2 + Math.max(1, this.peers.length);
+  }
+
+  setLanes() {
+    const names = make("div", { class: "lane-names" }, make("span", {}, "telephones"), make("span", {}, "gateway"));
+    const peers = this.peers.length > 0 ? this.peers : ["call agent"];
+    for (const peer of peers) {
+      names.append(make("span", { title: peer }, peer));
+    }
+    byId("lanes").replaceChildren(names);
+    this.rows.forEach((row) => row.track?.style.setProperty("--lanes", String(this.lanes)));
+  }
+
+  // The lane of an address: the first has number 3.
+  laneOf(peer) {
+    let place = this.peers.indexOf(peer);
+    if (place < 0) {
+      this.peers.push(peer);
+      place = this.peers.length - 1;
+      this.setLanes();
+    }
+    return 3 + place;
+  }
+
+  // ---- Rows
+
+  // What an arrow says: of its head the id alone may be cut.
+  drawLabel(row) {
+    const [word, id, name] = row.head;
+    const label = make("span", { class: "label" }, make("span", { class: "word" }, word));
+    if (id !== "") {
+      label.append(" ", make("span", { class: "id", title: id }, id));
+    }
+    if (name !== "") {
+      label.append(" ", make("span", { class: "name" }, name));
+    }
+    return label;
+  }
+
+  // The arrow between two lanes, with what it says above it.
+  drawTrack(row) {
+    const [left, right] = row.from < row.to ? [row.from, row.to] : [row.to, row.from];
+    const arrow = make("span", { class: `arrow ${row.from < row.to ? "right" : "left"}` });
+    const said = make("span", { class: "said" }, this.drawLabel(row));
+    for (const [name, text] of [["reason", row.reason], ["more", row.more]]) {
+      if (text) {
+        said.append(make("span", { class: name, title: text }, text));
+      }
+    }
+    const track = make("span", { class: `track ${row.kind}` }, said, arrow);
+    track.style.setProperty("--lanes", String(this.lanes));
+    track.style.setProperty("--left", String(2 * left));
+    track.style.setProperty("--right", String(2 * right));
+    return track;
+  }
+
+  // Draws a row with an arrow between two lanes.
+  addRow(told) {
+    const row = { reason: "", more: "", call: null, isNotification: false, ...told };
+    this.count += 1;
+    row.number = this.count;
+    // Where it stands in the conversation: an answer stands where it was asked for.
+    row.position = row.number;
+    row.track = this.drawTrack(row);
+    const at = make("span", { class: "at" }, make("span", {}, clockText(row.at)));
+    if (row.wall !== null) {
+      at.append(make("span", { class: "wall", title: "The time of day, UTC, by this browser's clock" }, wallText(row.wall)));
+    }
+    row.button = make("button", { type: "button", class: "row", "aria-pressed": "false" }, at, row.track);
+    row.button.addEventListener("click", () => this.choose(row));
+    row.item = make("li", {}, row.button);
+    this.keep(row);
+    return row;
+  }
+
+  // A row stands in the list, and the oldest of too many doesn't any more.
+  keep(row) {
+    row.item.hidden = !isWanted(row);
+    this.list.append(row.item);
+    this.rows.push(row);
+    while (this.rows.length > MOST_ROWS) {
+      this.rows.shift().item.remove();
+    }
+  }
+
+  choose(row) {
+    this.chosen?.button.setAttribute("aria-pressed", "false");
+    this.chosen = row;
+    row.button.setAttribute("aria-pressed", "true");
+    const isFollowed = this.isAtEnd && byId("following").checked;
+    showMessage(row);
+    if (isFollowed) {
+      this.toEnd();
+    } else {
+      row.item.scrollIntoView({ block: "nearest" });
+    }
+  }
+
+  // What stands in a row is true of this line and this call from now on.
+  settle(row, line, call) {
+    row.line = line;
+    row.call = call;
+    if (call) {
+      this.calls.extend(call, row);
+    }
+    row.item.hidden = !isWanted(row);
+  }
+
+  // Shows the rows that are wanted now, and no others.
+  settleAll() {
+    this.rows.forEach((row) => {
+      row.item.hidden = !isWanted(row);
+    });
+    if (byId("following").checked) {
+      this.toEnd();
+    }
+  }
+
+  toEnd() {
+    this.list.scrollTop = this.list.scrollHeight;
+    this.isAtEnd = true;
+  }
+
+  keepEnd() {
+    if (this.isAtEnd && byId("following").checked) {
+      this.toEnd();
+    }
+  }
+
+  mark(row, name, text) {
+    if (!row.track.classList.contains(name)) {
+      row.track.classList.add(name);
+      row.track.querySelector(".label").append(make("span", { class: "badge" }, text));
+    }
+  }
+
+  // ---- What belongs together
+
+  // Whether this was said before, less than half a minute ago.
+  isAgain(key, at) {
+    const first = this.said.get(key);
+    if (first !== undefined && (at === null || at - first < REPEAT_TIME)) {
+      return true;
+    }
+    this.said.set(key, at ?? 0);
+    forget(this.said, 5000);
+    return false;
+  }
+
+  // The gateway or its peer gives up what it asked of this endpoint, since it asks for something new.
+  giveUp(direction, endpoint, id) {
+    for (const [key, asked] of this.open) {
+      if (asked.direction === direction && asked.endpoint === endpoint && asked.id !== id) {
+        asked.rows.forEach((row) => this.mark(row, "given-up", "given up"));
+        this.open.delete(key);
+      }
+    }
+  }
+
+  addCommand(row, message, direction) {
+    row.isNotification = message.verb === "NTFY";
+    this.settle(row, message.line, this.calls.callOf(message));
+    if (direction === "in") {
+      this.calls.ask(message);
+    } else {
+      this.waitsSince ??= row.at;
+    }
+    const key = `${direction} ${message.id}`;
+    // The gateway may send a repeat to another address of its agent.
+    const peer = direction === "in" ? row.peer : "";
+    if (this.isAgain(`${direction} ${peer} ${message.verb} ${message.id}`, row.at)) {
+      this.mark(row, "again", "repeat");
+      this.open.get(key)?.rows.push(row);
+      return;
+    }
+    // A line that has lost its agent, or a gateway that announces itself anew, has given up what it asked before.
+    if (direction === "out" && message.verb === "RSIP") {
+      this.giveUp(direction, message.endpoint, message.id);
+    }
+    this.open.set(key, { direction, id: message.id, endpoint: message.endpoint, rows: [row] });
+    forget(this.open, 1000);
+  }
+
+  addResponse(row, message, direction) {
+    if (direction === "out") {
+      this.calls.answer(message);
+    } else {
+      this.waitsSince = null;
+    }
+    const key = `${direction === "out" ? "in" : "out"} ${message.id}`;
+    if (this.isAgain(`${direction} ${row.peer} ${message.code} ${message.id}`, row.at)) {
+      this.mark(row, "again", "repeat");
+    }
+    const asked = this.open.get(key)?.rows[0] ?? this.answered.get(key);
+    if (!asked) {
+      return;
+    }
+    if (message.code >= 200 && this.open.delete(key)) {
+      this.answered.set(key, asked);
+      forget(this.answered, 5000);
+    }
+    row.isNotification = asked.isNotification;
+    row.position = asked.number;
+    this.settle(row, message.named || asked.line, asked.call);
+  }
+
+  // ---- What happened
+
+  // A datagram that came to the gateway or went out.
+  addDatagram(happened) {
+    const direction = happened.kind;
+    const lane = this.laneOf(happened.peer);
+    const texts = messagesOf(happened.text);
+    const way = direction === "in" ? `from ${happened.peer}` : `to ${happened.peer}`;
+    texts.forEach((text, place) => {
+      const message = readMessage(text);
+      const isFault = message.is === "none" || (message.is === "response" && message.code >= 400);
+      const part = texts.length > 1 ? `, ${place + 1} of ${texts.length} in its datagram` : "";
+      const row = this.addRow({
+        happened, at: happened.at, wall: happened.wall, peer: happened.peer, text,
+        kind: isFault ? "fault" : message.is,
+        from: direction === "in" ? lane : 2,
+        to: direction === "in" ? 2 : lane,
+        line: message.line, head: message.head, reason: message.reason, more: message.more,
+        title: `${way}${whenText(happened)}${part}${message.reason ? `: ${message.reason}` : ""}`,
+      });
+      if (message.is === "command") {
+        this.addCommand(row, message, direction);
+      } else if (message.is === "response") {
+        this.addResponse(row, message, direction);
+      }
+    });
+  }
+
+  // Something was done at a telephone.
+  addAct(happened) {
+    const found = /^\s*phone\s+(\d+)\s+(\S+)/.exec(happened.text);
+    const line = found ? Number(found[1]) : 0;
+    const words = { off: "lifted", on: "hung up", flash: "flash" };
+    const label = found ? `${found[1]}: ${words[found[2]] ?? `key ${found[2]}`}` : happened.text.trim();
+    this.lastAct = this.addRow({
+      happened, at: happened.at, wall: happened.wall, peer: "", kind: "act", from: 1, to: 2, line, head: [label, "", ""],
+      title: `at a telephone${whenText(happened)}`, text: happened.text.trim(),
+    });
+  }
+
+  // What was told to a telephone, or of a line.
+  addTold(happened) {
+    const text = happened.text.trim();
+    if (text === "done" || text === "") {
+      return;
+    }
+    const of = /^line (\d+) /.exec(text);
+    this.addRow({
+      happened, at: happened.at, wall: happened.wall, peer: "", kind: text.startsWith("!") ? "fault" : "act", from: 2, to: 1,
+      line: of ? Number(of[1]) : this.lastAct?.line ?? 0, head: [text.slice(0, 80), "", ""],
+      title: `told to the telephones${whenText(happened)}`, text,
+    });
+  }
+
+  // Events that this page has missed.
+  addGap(count) {
+    const item = make("li", {}, make("p", { class: "hint" }, `${count} events are no longer known`));
+    this.count += 1;
+    this.keep({ item, line: 0, number: this.count, position: this.count, call: null, isNotification: false });
+  }
+
+  add(happened) {
+    if (happened.kind === "in" || happened.kind === "out") {
+      this.addDatagram(happened);
+    } else if (happened.kind === "act") {
+      this.addAct(happened);
+    } else {
+      this.addTold(happened);
+    }
+  }
+
+  // Adds these, each by what takes it, and goes to the end if the reader follows.
+  addAll(list, take) {
+    if (list.length === 0) {
+      return;
+    }
+    list.forEach(take);
+    listCalls(this.calls);
+    if (byId("following").checked) {
+      this.toEnd();
+    }
+  }
+}
+
+// When something happened, by the gateway's clock and by the time of day.
+function whenText(happened) {
+  const wall = happened.wall === null ? "" : `, ${wallText(happened.wall)}`;
+  return happened.at === null ? "" : ` at ${clockText(happened.at)}${wall}`;
+}

@@ -1,0 +1,118 @@
+// ---- Traces and outputs of scripts
+
+// Reads a trace of rgwd, a script, or what rgw simulate printed, into what happened.
+class Recording {
+  constructor(text) {
+    this.happened = [];
+    this.at = null;
+    this.inside = null;
+    const lines = text.split(/\r\n|\n/);
+    const end = lines.findIndex((line) => line.trim() === "%%");
+    if (end >= 0) {
+      this.at = 0;
+    }
+    for (const line of lines.slice(end + 1)) {
+      this.read(line, end >= 0);
+    }
+  }
+
+  put(kind, peer, text, at = this.at, hex = null) {
+    this.happened.push({ kind, peer, text, at, hex, wall: null });
+  }
+
+  // A line, of a script or of what was printed.
+  read(line, isScript) {
+    const isPrinted = line.startsWith("| ");
+    const said = isPrinted ? line.slice(2) : line;
+    if (this.inside) {
+      this.readInside(said);
+    } else if (isPrinted || !isScript) {
+      this.readPrinted(said);
+    } else {
+      this.readStep(said.trim());
+    }
+  }
+
+  // A line of a datagram, or its end.
+  readInside(line) {
+    if (line.trim() === "--") {
+      this.put(this.inside.kind, this.inside.peer, this.inside.lines.join("\n"), this.inside.at);
+      this.inside = null;
+    } else {
+      this.inside.lines.push(line);
+    }
+  }
+
+  begin(kind, peer, at) {
+    this.inside = { kind, peer, at, lines: [] };
+  }
+
+  readPrinted(line) {
+    const sent = /^> (?:(\d+) )?(\S+)$/.exec(line.trim());
+    if (sent) {
+      this.begin("out", sent[2], sent[1] === undefined ? this.at : Number(sent[1]));
+    } else if (/^(! \d|line )/.test(line)) {
+      // (`! not sent 1` and `! lost on its way 1` are marks of the trace's own)
+      this.put("told", "", line);
+    }
+  }
+
+  readStep(line) {
+    const [word, first, second] = line.split(/\s+/);
+    if (word === "from") {
+      this.begin("in", first ?? "", this.at);
+    } else if (word === "raw") {
+      this.put("in", first ?? "", textOfHex(second ?? ""), this.at, second ?? "");
+    } else if (word === "phone") {
+      this.put("act", "", line);
+    } else if (word === "at") {
+      this.at = Number(first);
+    } else if (word === "tick" || word === "wait") {
+      this.at += Number(first);
+    }
+  }
+}
+
+// ---- What is shown, as a trace
+
+// The lines that tell of something that happened.
+function traceLines(happened) {
+  const lines = happened.text.split(/\r\n|\n/).map((line) => line.trim());
+  while (lines.length > 1 && lines[lines.length - 1] === "") {
+    lines.pop();
+  }
+  if (happened.kind === "in") {
+    const hex = happened.hex ?? hexOfText(lines.map((line) => `${line}\r\n`).join(""));
+    return hex === "" ? [`from ${happened.peer}`, "--"] : [`raw ${happened.peer} ${hex}`];
+  }
+  if (happened.kind === "out") {
+    return [`| > ${happened.peer}`, ...lines.map((line) => `| ${line}`), "| --"];
+  }
+  return lines.map((line) => (happened.kind === "act" ? line : `| ${line}`));
+}
+
+// The trace of what happened. It has no configuration, so it can be drawn, but not replayed.
+function traceOf(list, told) {
+  const lines = [`# ${told}`, "%%"];
+  let at = 0;
+  for (const happened of list) {
+    if (happened.at !== null && happened.at !== at) {
+      at = happened.at;
+      lines.push(`at ${at}`);
+    }
+    lines.push(...traceLines(happened));
+  }
+  return `${lines.join("\n")}\n`;
+}
+
+// Saves what the ladder shows as a file: whole datagrams, of which a message is shown.
+function saveShown() {
+  const shown = new Set(ladder.rows.filter((row) => row.happened && !row.item.hidden).map((row) => row.happened));
+  const time = new Date().toISOString().slice(0, 19);
+  const parts = [view.call ? `call ${view.call.name}` : "", view.lines ? `lines ${[...view.lines].join(", ")}` : ""];
+  const text = traceOf(shown, `${["shown by the page of rgwd", ...parts.filter((part) => part !== "")].join(", ")}, ${time}Z`);
+  const address = URL.createObjectURL(new Blob([text], { type: "text/plain" }));
+  const link = make("a", { href: address, download: `rgwd_${time.replaceAll(":", "-")}Z.trace` });
+  link.click();
+  setTimeout(() => URL.revokeObjectURL(address), 10000);
+}
