@@ -11,10 +11,8 @@ const NEAR_END = 8;
 class Ladder {
   constructor() {
     this.list = byId("ladder");
-    this.isAtEnd = true;
-    this.list.addEventListener("scroll", () => {
-      this.isAtEnd = this.list.scrollHeight - this.list.scrollTop - this.list.clientHeight < NEAR_END;
-    });
+    // Whether the reader looks at a row far from the end.
+    this.isLeft = false;
     // Whatever makes it smaller or wider, its end stays in sight.
     new ResizeObserver(() => this.keepEnd()).observe(this.list);
     this.clear();
@@ -132,13 +130,12 @@ class Ladder {
     this.chosen?.button.setAttribute("aria-pressed", "false");
     this.chosen = row;
     row.button.setAttribute("aria-pressed", "true");
-    const isFollowed = this.isAtEnd && byId("following").checked;
+    this.isLeft = this.list.scrollHeight - this.list.scrollTop - this.list.clientHeight > NEAR_END;
     showMessage(row);
-    if (isFollowed) {
-      this.toEnd();
-    } else {
+    if (this.isLeft) {
       row.item.scrollIntoView({ block: "nearest" });
     }
+    this.keepEnd();
   }
 
   // What stands in a row is true of this line and this call from now on.
@@ -156,19 +153,23 @@ class Ladder {
     this.rows.forEach((row) => {
       row.item.hidden = !isWanted(row);
     });
-    if (byId("following").checked) {
-      this.toEnd();
-    }
+    this.toEnd();
   }
 
+  // Goes to the end if the reader follows.
   toEnd() {
-    this.list.scrollTop = this.list.scrollHeight;
-    this.isAtEnd = true;
+    this.isLeft = false;
+    this.keepEnd();
   }
 
-  keepEnd() {
-    if (this.isAtEnd && byId("following").checked) {
-      this.toEnd();
+  // Stays at the end if the reader follows. Rows that are drawn only once they are reached may have another height then.
+  keepEnd(frames = 2) {
+    if (this.isLeft || !byId("following").checked) {
+      return;
+    }
+    this.list.scrollTop = this.list.scrollHeight;
+    if (frames > 0) {
+      requestAnimationFrame(() => this.keepEnd(frames - 1));
     }
   }
 
@@ -327,9 +328,7 @@ class Ladder {
     }
     list.forEach(take);
     listCalls(this.calls);
-    if (byId("following").checked) {
-      this.toEnd();
-    }
+    this.toEnd();
   }
 }
 

@@ -148,6 +148,7 @@ async function openFile(file) {
   ladder.clear();
   const { happened } = new Recording(text);
   ladder.addAll(happened, (it) => ladder.add(it));
+  ladder.isLeft = true;
   ladder.list.scrollTop = 0;
   stand("file", `${file.name}: ${happened.length} events`);
 }

@@ -54,7 +54,7 @@ function showMessage(row) {
   setText(byId("message-text"), row.text);
   const call = byId("message-call");
   call.hidden = !row.call;
-  setText(call, row.call ? `Show call ${row.call.name}` : "");
+  call.title = row.call ? `Call ${row.call.name}` : "";
   byId("message").hidden = false;
 }
 

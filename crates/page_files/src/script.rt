@@ -436,7 +436,7 @@ function showMessage(row) {
   setText(byId("message-text"), row.text);
   const call = byId("message-call");
   call.hidden = !row.call;
-  setText(call, row.call ? `Show call ${row.call.name}` : "");
+  call.title = row.call ? `Call ${row.call.name}` : "";
   byId("message").hidden = false;
 }
 
@@ -457,10 +457,8 @@ const NEAR_END = 8;
 class Ladder {
   constructor() {
     this.list = byId("ladder");
-    this.isAtEnd = true;
-    this.list.addEventListener("scroll", () => {
-      this.isAtEnd = this.list.scrollHeight - this.list.scrollTop - this.list.clientHeight < NEAR_END;
-    });
+    // Whether the reader looks at a row far from the end.
+    this.isLeft = false;
     // Whatever makes it smaller or wider, its end stays in sight.
     new ResizeObserver(() => this.keepEnd()).observe(this.list);
     this.clear();
@@ -578,13 +576,12 @@ class Ladder {
     this.chosen?.button.setAttribute("aria-pressed", "false");
     this.chosen = row;
     row.button.setAttribute("aria-pressed", "true");
-    const isFollowed = this.isAtEnd && byId("following").checked;
+    this.isLeft = this.list.scrollHeight - this.list.scrollTop - this.list.clientHeight > NEAR_END;
     showMessage(row);
-    if (isFollowed) {
-      this.toEnd();
-    } else {
+    if (this.isLeft) {
       row.item.scrollIntoView({ block: "nearest" });
     }
+    this.keepEnd();
   }
 
   // What stands in a row is true of this line and this call from now on.
@@ -602,19 +599,23 @@ class Ladder {
     this.rows.forEach((row) => {
       row.item.hidden = !isWanted(row);
     });
-    if (byId("following").checked) {
-      this.toEnd();
-    }
+    this.toEnd();
   }
 
+  // Goes to the end if the reader follows.
   toEnd() {
-    this.list.scrollTop = this.list.scrollHeight;
-    this.isAtEnd = true;
+    this.isLeft = false;
+    this.keepEnd();
   }
 
-  keepEnd() {
-    if (this.isAtEnd && byId("following").checked) {
-      this.toEnd();
+  // Stays at the end if the reader follows. Rows that are drawn only once they are reached may have another height then.
+  keepEnd(frames = 2) {
+    if (this.isLeft || !byId("following").checked) {
+      return;
+    }
+    this.list.scrollTop = this.list.scrollHeight;
+    if (frames > 0) {
+      requestAnimationFrame(() => this.keepEnd(frames - 1));
     }
   }
 
@@ -773,9 +774,7 @@ class Ladder {
     }
     list.forEach(take);
     listCalls(this.calls);
-    if (byId("following").checked) {
-      this.toEnd();
-    }
+    this.toEnd();
   }
 }
 
@@ -1376,6 +1375,7 @@ async function openFile(file) {
   ladder.clear();
   const { happened } = new Recording(text);
   ladder.addAll(happened, (it) => ladder.add(it));
+  ladder.isLeft = true;
   ladder.list.scrollTop = 0;
   stand("file", `${file.name}: ${happened.length} events`);
 }

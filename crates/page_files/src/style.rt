@@ -99,6 +99,7 @@ main.is-file { grid-template-columns: minmax(0, 1fr); }
 main.is-file #telephones { display: none; }
 section { display: flex; flex-direction: column; min-width: 0; min-height: 0; padding: .7rem 1rem; gap: .4rem; }
 #telephones { border-right: 1px solid var(--edge); overflow-y: auto; }
+#telephones > * { flex: none; }
 .title { display: flex; flex-wrap: wrap; align-items: baseline; gap: .2rem 1rem; }
 .hint { color: var(--soft); font-size: .85rem; }
 /* What was refused stays in sight, however far the telephones are scrolled. */
@@ -184,7 +185,7 @@ section { display: flex; flex-direction: column; min-width: 0; min-height: 0; pa
 .said .label { display: flex; justify-content: center; column-gap: .35em; font-weight: 600; }
 /* Of a long head the id is cut, never the line's name. */
 .label .word, .label .name, .label .badge { flex: none; }
-.label .id { flex: 0 1 auto; min-width: 1.5em; overflow: hidden; text-overflow: ellipsis; }
+.label .id { flex: 0 1 auto; min-width: 1ch; overflow: hidden; text-overflow: ellipsis; }
 .track:is(.response, .fault, .act) .label .word:only-child, .track:is(.response, .fault) .label .name {
   flex: 0 1 auto;
   overflow: hidden;
