@@ -176,7 +176,7 @@ class Ladder {
   mark(row, name, text) {
     if (!row.track.classList.contains(name)) {
       row.track.classList.add(name);
-      row.track.querySelector(".label").append(make("span", { class: "badge" }, text));
+      row.track.querySelector(".label").append(" ", make("span", { class: "badge" }, text));
     }
   }
 

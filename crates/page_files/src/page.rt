@@ -15,9 +15,12 @@ pub const PAGE: &str = r##"<!doctype html>
 <header>
   <h1>rgwd</h1>
   <p id="standing" role="status" title="Whether this page hears from the gateway">not connected</p>
-  <p id="agent" role="status" title="Whether the gateway hears from its call agent"></p>
+  <p id="agent" title="Whether the gateway hears from its call agent"></p>
   <p id="numbers"></p>
-  <p class="clocks"><span id="clock" title="The clock of the gateway"></span> <span id="wall" title="The time of day, UTC, by this browser's clock"></span></p>
+  <p class="clocks">
+    <span id="clock" title="The clock of the gateway"></span>
+    <span id="wall" title="The time of day, UTC, by this browser's clock"></span>
+  </p>
   <div class="tools">
     <label>Lines <input type="search" id="wanted-lines" placeholder="all, or 3, 7-12" autocomplete="off" spellcheck="false"></label>
     <label>Call <select id="shown-call"><option value="">all calls</option></select></label>
@@ -32,7 +35,8 @@ pub const PAGE: &str = r##"<!doctype html>
     <div class="title">
       <h2 id="telephones-title">Telephones</h2>
       <label><input type="checkbox" id="busy-only" autocomplete="off"> Only lines that do something</label>
-      <label title="Tones of the United States, ITU-T E.180, at the chosen telephone"><input type="checkbox" id="tones" autocomplete="off"> Tones</label>
+      <label title="At the chosen telephone, while it is lifted: tones of the United States, ITU-T E.180">
+        <input type="checkbox" id="tones" autocomplete="off"> Tones</label>
       <p id="phones-told" class="hint" role="status"></p>
     </div>
     <p class="hint">Arrows choose a telephone. On it: <kbd>0</kbd>-<kbd>9</kbd> <kbd>*</kbd> <kbd>#</kbd>

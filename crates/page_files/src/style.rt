@@ -81,13 +81,20 @@ header {
 #standing[data-is="lost"], #agent[data-is="lost"] { color: var(--fault); }
 #standing[data-is="live"], #agent[data-is="live"] { color: var(--response); }
 #numbers, .clocks { color: var(--soft); font-variant-numeric: tabular-nums; }
+#clock { margin-right: .6rem; }
 .tools { display: flex; flex-wrap: wrap; align-items: center; gap: .4rem 1rem; margin-left: auto; }
 .file { border: 1px solid var(--edge); border-radius: 6px; padding: .15rem .5rem; cursor: pointer; }
 .file:hover { border-color: var(--mark); }
 .file:focus-within { outline: 2px solid var(--mark); outline-offset: 2px; }
 .file input { position: absolute; width: 1px; height: 1px; opacity: 0; }
 #wanted-lines { width: 10rem; }
-#wanted-lines, select { max-width: 100%; background: var(--card); border: 1px solid var(--edge); border-radius: 6px; padding: .15rem .4rem; }
+#wanted-lines, select {
+  max-width: 100%;
+  background: var(--card);
+  border: 1px solid var(--edge);
+  border-radius: 6px;
+  padding: .15rem .4rem;
+}
 #shown-call { width: 12rem; }
 main {
   flex: 1;
