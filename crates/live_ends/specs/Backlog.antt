@@ -59,6 +59,13 @@ noted backlog note = record backlog { waiting = backlog.waiting ++ note; is_full
 abbrev pub ended : BacklogState → List ℕ → BacklogState
 ended backlog last = record backlog { waiting = backlog.waiting ++ last; is_over = true }
 
+-- where the line has no more bytes than there may be of it, and no more wait than there may be of texts; else nothing is kept any more
+-- all the same
+abbrev pub ended_within : ℕ → ℕ → BacklogState → List ℕ → BacklogState
+ended_within longest room backlog last =
+    if nat_le (length last) longest && nat_le (length backlog.waiting) room then ended backlog last
+    else record backlog { is_over = true }
+
 -- so many bytes were taken
 abbrev pub taken : BacklogState → ℕ → BacklogState
 taken backlog count = record backlog { waiting = drop count backlog.waiting }

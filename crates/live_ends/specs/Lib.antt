@@ -3,4 +3,5 @@ pub mod Recording
 pub mod Parting
 pub mod Written
 pub mod Looking
+pub mod Refusing
 pub mod Example

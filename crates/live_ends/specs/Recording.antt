@@ -42,6 +42,10 @@ faults_of state = if is_open state then 0 else 1
 abbrev pub said : ℕ → BacklogState → List ℕ → BacklogState
 said room backlog lines = if is_kept room backlog lines then with_text backlog lines else backlog
 
+-- some lines are said, or nothing changes
+abbrev pub Says : ℕ → BacklogState → BacklogState → Type 0
+Says room old new = (new ≡ old) ⊎ ((lines : List ℕ) × (new ≡ said room old lines))
+
 -- that lines weren't kept is noted at a moment, where that may be; or nothing changes
 abbrev pub Notes : ℕ → BacklogState → ℕ → BacklogState → Type 0
 Notes room old moment new =

@@ -1,7 +1,7 @@
 //! What waits for somebody who takes it later, up to a bound.
 ghost use Rattle.std.specs.Prelude.{◌≡◌, ◌<◌, ◌≤◌, ◌+◌, IfOk, length, drop, true, false};
 ghost use Rattle.std.specs.Vec.{vec_capacity};
-ghost use Rattle.live_ends.specs.Backlog.{nothing_waits, lines_ended, is_kept, with_text, offered, may_note, noted, ended, taken, closed};
+ghost use Rattle.live_ends.specs.Backlog.{nothing_waits, lines_ended, is_kept, with_text, offered, may_note, noted, ended_within, taken, closed};
 
 use std::alloc::{AllocError, Global};
 use std::marker::Model;
@@ -179,9 +179,7 @@ impl Backlog {
 
     /// Puts a last line behind what waits, where it has no more bytes than `NOTE_ROOM`; nothing is kept from then on.
     pub fn end(&mut self, last: &[u8])
-        ensures ended { length last.now ≤ NOTE_ROOM → length self.old.waiting ≤ TEXT_ROOM → self.new ≡ ended self.old last.now }
-        ensures too_long { NOTE_ROOM < length last.now → self.new ≡ record self.old { is_over = true } }
-        ensures too_full { TEXT_ROOM < length self.old.waiting → self.new ≡ record self.old { is_over = true } }
+        ensures { self.new ≡ ended_within NOTE_ROOM TEXT_ROOM self.old last.now }
     {
         if last.len() <= NOTE_ROOM && self.waiting().len() <= TEXT_ROOM {
             self.put(last);

@@ -3,7 +3,7 @@
 
 ghost use Rattle.std.specs.Prelude.{◌≡◌, codes, true, false, [], ◌∷◌, Some, None};
 ghost use Rattle.std.specs.declared.io.ErrorKind.{ErrorKind};
-ghost use Rattle.live_ends.specs.Backlog.{nothing_waits, lines_ended, is_kept, offered, offered_all, may_note, noted, ended, taken, closed, kept_of, lines_of_all};
+ghost use Rattle.live_ends.specs.Backlog.{nothing_waits, lines_ended, is_kept, offered, offered_all, may_note, noted, ended, ended_within, taken, closed, kept_of, lines_of_all};
 ghost use Rattle.live_ends.specs.Recording.{state_when, is_told, is_refused, is_open, faults_of, said, given_up, state_given_up, offer_left};
 ghost use Rattle.live_ends.specs.Parting.{number_behind, numbered, is_old, is_full};
 ghost use Rattle.live_ends.specs.Written.{written_line};
@@ -44,6 +44,9 @@ pub fn what_was_taken_is_gone()
     ensures some { taken (full (codes "ab\ncd\n") 1 1) 4 ≡ full (codes "d\n") 1 1 }
     ensures all { taken (waits (codes "ab\n")) 3 ≡ waits [] }
     ensures last { ended (waits (codes "ab\n")) (codes "end\n") ≡ over (codes "ab\nend\n") }
+    ensures room_for_last { ended_within 4 3 (waits (codes "ab\n")) (codes "end\n") ≡ over (codes "ab\nend\n") }
+    ensures last_too_long { ended_within 3 3 (waits (codes "ab\n")) (codes "end\n") ≡ over (codes "ab\n") }
+    ensures too_many_wait { ended_within 4 2 (waits (codes "ab\n")) (codes "end\n") ≡ over (codes "ab\n") }
     ensures closed { closed (waits (codes "ab\n")) ≡ over [] }
 {}
 

@@ -1,11 +1,11 @@
 //! An outlet: what is recorded waits there until it is taken.
-ghost use Rattle.std.specs.Prelude.{◌≡◌, ◌≢◌, ◌≤◌, [], true, false, IfOk, length, string_bytes};
+ghost use Rattle.std.specs.Prelude.{◌≡◌, ◌≢◌, [], true, false, IfOk, string_bytes};
 ghost use Rattle.mg_bytes.specs.Lists.{is_empty};
-ghost use Rattle.live_ends.specs.declared.outlet.OutletState.TheVariants.{Open, BrokenOff};
+ghost use Rattle.live_ends.specs.declared.outlet.OutletState.TheVariants.{Open, BrokenOff, Failed};
 ghost use Rattle.live_ends.specs.declared.record.RecordState.TheVariants.{Off};
 ghost use Rattle.live_ends.specs.declared.backlog.TheConstants.{NOTE_ROOM, TEXT_ROOM};
-ghost use Rattle.live_ends.specs.Backlog.{nothing_waits, is_kept, offered, ended, closed};
-ghost use Rattle.live_ends.specs.Recording.{is_refused, is_open, faults_of, said, Notes, KeepsLog, given_up, state_given_up};
+ghost use Rattle.live_ends.specs.Backlog.{nothing_waits, is_kept, offered, ended_within, closed};
+ghost use Rattle.live_ends.specs.Recording.{is_refused, is_open, faults_of, said, Says, Notes, KeepsLog, given_up, state_given_up};
 
 use crate::backlog::Backlog;
 use crate::record::Record;
@@ -130,8 +130,9 @@ impl<F: Write + Drop> Outlet<F> {
 
     // Nothing is recorded from then on, and nothing waits.
     fn fail(&mut self, kind: ErrorKind)
-        ensures state { is_open self.new.state ≡ false }
+        ensures state { self.new.state ≡ Failed kind }
         ensures backlog { self.new.backlog ≡ closed self.old.backlog }
+        ensures rest { self.new ≡ record self.old { backlog = self.new.backlog; state = self.new.state } }
     {
         self.state = OutletState::Failed { kind };
         self.backlog.close();
@@ -139,8 +140,9 @@ impl<F: Write + Drop> Outlet<F> {
 
     /// It can't be written, by the system's error of this kind: nothing is recorded any more.
     pub fn refuse(&mut self, kind: ErrorKind)
-        ensures state { is_open self.new.state ≡ false }
+        ensures state { self.new.state ≡ Failed kind }
         ensures backlog { self.new.backlog ≡ closed self.old.backlog }
+        ensures rest { self.new ≡ record self.old { backlog = self.new.backlog; state = self.new.state } }
     {
         self.fail(kind);
     }
@@ -150,6 +152,7 @@ impl<F: Write + Drop> Outlet<F> {
         ensures kept { result ≡ is_kept TEXT_ROOM self.old.backlog lines.now }
         ensures backlog { self.new.backlog ≡ said TEXT_ROOM self.old.backlog lines.now }
         ensures state { self.new.state ≡ self.old.state }
+        ensures rest { self.new ≡ record self.old { backlog = self.new.backlog } }
     {
         say(&mut self.backlog, lines)
     }
@@ -159,6 +162,7 @@ impl<F: Write + Drop> Outlet<F> {
     pub fn note_dropped(&mut self, moment: u64)
         ensures backlog { Notes TEXT_ROOM self.old.backlog moment self.new.backlog }
         ensures state { self.new.state ≡ self.old.state }
+        ensures rest { self.new ≡ record self.old { backlog = self.new.backlog } }
     {
         note_dropped(self.alloc, &mut self.backlog, moment);
     }
@@ -168,6 +172,7 @@ impl<F: Write + Drop> Outlet<F> {
     pub fn keep_log(&mut self, record: &mut Record, moment: u64)
         ensures backlog { KeepsLog TEXT_ROOM self.old.backlog moment record.old.out.items self.new.backlog }
         ensures state { self.new.state ≡ self.old.state }
+        ensures rest { self.new ≡ record self.old { backlog = self.new.backlog } }
         ensures out { record.new.out.items ≡ [] }
         ensures record { record.new.state ≡ record.old.state }
     {
@@ -183,6 +188,7 @@ impl<F: Write + Drop> Outlet<F> {
     /// before that, with this last line.
     pub fn keep_whole(&mut self, record: &mut Record, last: &[u8])
         ensures nothing { record.old.out.items ≡ [] → self.new.backlog ≡ self.old.backlog }
+        ensures untouched { record.old.out.items ≡ [] → (self.new.state ≡ self.old.state) × (record.new.state ≡ record.old.state) }
         ensures kept { record.old.out.items ≢ [] → is_kept TEXT_ROOM self.old.backlog record.old.out.items ≡ true →
             self.new.backlog ≡ offered TEXT_ROOM self.old.backlog record.old.out.items }
         ensures told { is_kept TEXT_ROOM self.old.backlog record.old.out.items ≡ true →
@@ -191,9 +197,12 @@ impl<F: Write + Drop> Outlet<F> {
         ensures broken_off { record.old.out.items ≢ [] → is_kept TEXT_ROOM self.old.backlog record.old.out.items ≡ false →
             is_open self.old.state ≡ true → self.new.state ≡ BrokenOff }
         ensures last { record.old.out.items ≢ [] → is_kept TEXT_ROOM self.old.backlog record.old.out.items ≡ false →
-            is_open self.old.state ≡ true → length last.now ≤ NOTE_ROOM → length self.old.backlog.waiting ≤ TEXT_ROOM →
-            self.new.backlog ≡ ended self.old.backlog last.now }
+            is_open self.old.state ≡ true → self.new.backlog ≡ ended_within NOTE_ROOM TEXT_ROOM self.old.backlog last.now }
+        ensures not_open { is_open self.old.state ≡ false → self.new.state ≡ self.old.state }
+        ensures no_last { is_kept TEXT_ROOM self.old.backlog record.old.out.items ≡ false → is_open self.old.state ≡ false →
+            self.new.backlog ≡ self.old.backlog }
         ensures out { record.new.out.items ≡ [] }
+        ensures rest { self.new ≡ record self.old { backlog = self.new.backlog; state = self.new.state } }
     {
         if record.out.is_empty() {
             return;
@@ -215,8 +224,10 @@ impl<F: Write + Drop> Outlet<F> {
         ensures not_refused { is_refused record.now.state ≡ false → (self.new.state ≡ self.old.state) × (self.new.backlog ≡ self.old.backlog) }
         ensures not_open { is_open self.old.state ≡ false → (self.new.state ≡ self.old.state) × (self.new.backlog ≡ self.old.backlog) }
         ensures fault { is_refused record.now.state ≡ true → is_open self.new.state ≡ false }
-        ensures last { is_refused record.now.state ≡ true → is_open self.old.state ≡ true → length last.now ≤ NOTE_ROOM →
-            length self.old.backlog.waiting ≤ TEXT_ROOM → self.new.backlog ≡ ended self.old.backlog last.now }
+        ensures memory { is_refused record.now.state ≡ true → is_open self.old.state ≡ true → self.new.state ≡ Failed ErrorKind.OutOfMemory }
+        ensures last { is_refused record.now.state ≡ true → is_open self.old.state ≡ true →
+            self.new.backlog ≡ ended_within NOTE_ROOM TEXT_ROOM self.old.backlog last.now }
+        ensures rest { self.new ≡ record self.old { backlog = self.new.backlog; state = self.new.state } }
     {
         if record.is_refused() && self.is_open() {
             self.state = REFUSED;
@@ -229,6 +240,9 @@ impl<F: Write + Drop> Outlet<F> {
         ensures not_refused { is_refused log.now.state ≡ false → (self.new.state ≡ self.old.state) × (self.new.backlog ≡ self.old.backlog) }
         ensures not_open { is_open self.old.state ≡ false → (self.new.state ≡ self.old.state) × (self.new.backlog ≡ self.old.backlog) }
         ensures fault { is_refused log.now.state ≡ true → is_open self.new.state ≡ false }
+        ensures memory { is_refused log.now.state ≡ true → is_open self.old.state ≡ true → self.new.state ≡ Failed ErrorKind.OutOfMemory }
+        ensures says { Says TEXT_ROOM self.old.backlog self.new.backlog }
+        ensures rest { self.new ≡ record self.old { backlog = self.new.backlog; state = self.new.state } }
     {
         if !log.is_refused() || !self.is_open() {
             return;
@@ -267,6 +281,7 @@ impl<F: Write + Drop> Outlet<F> {
     pub fn give_up(&mut self)
         ensures backlog { self.new.backlog ≡ given_up self.old.backlog }
         ensures state { self.new.state ≡ state_given_up self.old.state self.old.backlog }
+        ensures rest { self.new ≡ record self.old { backlog = self.new.backlog; state = self.new.state } }
     {
         if !self.is_taken() {
             self.state = OutletState::BrokenOff;

@@ -1,5 +1,7 @@
 //! How a program begins and ends, whichever it is: its words, its outlets, the file of its capture, and what it says at last.
 ghost use Rattle.std.specs.Prelude.{◌≡◌, ◌≢◌};
+ghost use Rattle.system_reasons.specs.Reasons.{reason_of};
+ghost use Rattle.live_ends.specs.Refusing.{IsRefusedFor};
 
 use crate::outlet::Outlet;
 use crate::outlets::Outlets;
@@ -28,6 +30,7 @@ impl SystemFault {
     pub fn of(kind: ErrorKind) -> SystemFault
         ensures memory { kind ≡ ErrorKind.OutOfMemory → result ≡ SystemFault.OutOfMemory }
         ensures other { kind ≢ ErrorKind.OutOfMemory → result ≢ SystemFault.OutOfMemory }
+        ensures reason { kind ≢ ErrorKind.OutOfMemory → IsRefusedFor (reason_of kind) result }
     {
         if kind == ErrorKind::OutOfMemory {
             return SystemFault::OutOfMemory;

@@ -117,7 +117,7 @@ impl Readiness {
     /// Nothing was told of the site's visitors.
     pub fn forget_visits(&mut self)
         ensures visits { self.new.visits ≡ replicate MOST_VISITORS no_visit }
-        ensures listener { self.new.listener ≡ self.old.listener }
+        ensures rest { self.new ≡ record self.old { visits = self.new.visits } }
     {
         self.visits = [NO_VISIT; MOST_VISITORS];
     }
