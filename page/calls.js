@@ -117,9 +117,8 @@ class Calls {
 // Whether a row belongs to a call: it is of the call, or of a notification by one of its lines, from its first row to its last, or to
 // now while it has a connection.
 function isOfCall(row, call) {
-  if (row.call === call) {
-    return true;
+  if (row.call === call || !row.isNotification || !call.lines.has(row.line)) {
+    return row.call === call;
   }
-  const isBetween = row.position > call.first && (row.position < call.last || ladder.calls.isHeld(call));
-  return row.isNotification && call.lines.has(row.line) && isBetween;
+  return row.position > call.first && (row.position < call.last || ladder.calls.isHeld(call));
 }

@@ -4,8 +4,8 @@
 const REPEAT_TIME = 30000;
 // So many rows are kept in the ladder.
 const MOST_ROWS = 3000;
-// A list this close to its end, in pixels, is at its end.
-const NEAR_END = 8;
+// A list this close to its end, in pixels, is at its end: two rows, since those that come may be higher once they are drawn.
+const NEAR_END = 80;
 
 // Draws what happened, and marks what is said again and what is given up.
 class Ladder {
@@ -308,6 +308,8 @@ class Ladder {
   addGap(count) {
     const item = make("li", {}, make("p", { class: "hint" }, `${count} events are no longer known`));
     this.count += 1;
+    // An answer may be among them.
+    this.waitsSince = null;
     this.keep({ item, line: 0, number: this.count, position: this.count, call: null, isNotification: false });
   }
 

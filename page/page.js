@@ -7,6 +7,8 @@ const POLL_LOST = 1000;
 const LONG_WAIT = 2000;
 // The time of day at which the gateway's clock was 0 is taken anew where it is off by more, in ms.
 const CLOCK_PLAY = 100;
+// What was refused longer ago, in ms, is no news any more.
+const NEWS = 5000;
 
 const ladder = new Ladder();
 const gateway = { after: 0, version: null, isFile: false, isServing: null, zero: null, timer: 0, turn: 0 };
@@ -56,10 +58,10 @@ function tellRefusal(text) {
   telephones.refuse(ladder.lastAct?.line ?? 0, `refused: ${text.trim().replace(/^! \d+ /, "")}`);
 }
 
-function takeEvent(event) {
+function takeEvent(event, clock) {
   const text = textOfHex(event.hex);
   ladder.add({ kind: event.kind, peer: event.peer, at: event.at, wall: gateway.zero + event.at, hex: event.hex, text });
-  if (event.kind === "told" && text.startsWith("!")) {
+  if (event.kind === "told" && text.startsWith("!") && clock - event.at < NEWS) {
     tellRefusal(text);
   }
 }
@@ -76,7 +78,7 @@ function takeEvents(answer) {
   if (answer.first > gateway.after + 1 && answer.events.length > 0 && gateway.after > 0) {
     ladder.addGap(answer.first - gateway.after - 1);
   }
-  ladder.addAll(answer.events, takeEvent);
+  ladder.addAll(answer.events, (event) => takeEvent(event, answer.clock));
   gateway.after = answer.next;
 }
 

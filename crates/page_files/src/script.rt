@@ -373,11 +373,10 @@ class Calls {
 // Whether a row belongs to a call: it is of the call, or of a notification by one of its lines, from its first row to its last, or to
 // now while it has a connection.
 function isOfCall(row, call) {
-  if (row.call === call) {
-    return true;
+  if (row.call === call || !row.isNotification || !call.lines.has(row.line)) {
+    return row.call === call;
   }
-  const isBetween = row.position > call.first && (row.position < call.last || ladder.calls.isHeld(call));
-  return row.isNotification && call.lines.has(row.line) && isBetween;
+  return row.position > call.first && (row.position < call.last || ladder.calls.isHeld(call));
 }
 
 // ---- What is shown
@@ -450,8 +449,8 @@ function hideMessage() {
 const REPEAT_TIME = 30000;
 // So many rows are kept in the ladder.
 const MOST_ROWS = 3000;
-// A list this close to its end, in pixels, is at its end.
-const NEAR_END = 8;
+// A list this close to its end, in pixels, is at its end: two rows, since those that come may be higher once they are drawn.
+const NEAR_END = 80;
 
 // Draws what happened, and marks what is said again and what is given up.
 class Ladder {
@@ -754,6 +753,8 @@ class Ladder {
   addGap(count) {
     const item = make("li", {}, make("p", { class: "hint" }, `${count} events are no longer known`));
     this.count += 1;
+    // An answer may be among them.
+    this.waitsSince = null;
     this.keep({ item, line: 0, number: this.count, position: this.count, call: null, isNotification: false });
   }
 
@@ -1234,6 +1235,8 @@ const POLL_LOST = 1000;
 const LONG_WAIT = 2000;
 // The time of day at which the gateway's clock was 0 is taken anew where it is off by more, in ms.
 const CLOCK_PLAY = 100;
+// What was refused longer ago, in ms, is no news any more.
+const NEWS = 5000;
 
 const ladder = new Ladder();
 const gateway = { after: 0, version: null, isFile: false, isServing: null, zero: null, timer: 0, turn: 0 };
@@ -1283,10 +1286,10 @@ function tellRefusal(text) {
   telephones.refuse(ladder.lastAct?.line ?? 0, `refused: ${text.trim().replace(/^! \d+ /, "")}`);
 }
 
-function takeEvent(event) {
+function takeEvent(event, clock) {
   const text = textOfHex(event.hex);
   ladder.add({ kind: event.kind, peer: event.peer, at: event.at, wall: gateway.zero + event.at, hex: event.hex, text });
-  if (event.kind === "told" && text.startsWith("!")) {
+  if (event.kind === "told" && text.startsWith("!") && clock - event.at < NEWS) {
     tellRefusal(text);
   }
 }
@@ -1303,7 +1306,7 @@ function takeEvents(answer) {
   if (answer.first > gateway.after + 1 && answer.events.length > 0 && gateway.after > 0) {
     ladder.addGap(answer.first - gateway.after - 1);
   }
-  ladder.addAll(answer.events, takeEvent);
+  ladder.addAll(answer.events, (event) => takeEvent(event, answer.clock));
   gateway.after = answer.next;
 }
 

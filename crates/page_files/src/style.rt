@@ -189,8 +189,8 @@ section { display: flex; flex-direction: column; min-width: 0; min-height: 0; pa
 .said, .arrow { grid-column: var(--left) / var(--right); min-width: 0; }
 .said { padding: 0 .7rem 1px; text-align: center; font-size: .82rem; line-height: 1.25; }
 .said > span { display: block; overflow: hidden; text-overflow: ellipsis; white-space: nowrap; }
-.said .label { display: flex; justify-content: center; column-gap: .35em; font-weight: 600; }
-/* Of a long head the id is cut, never the line's name. */
+/* Of a long head the id is cut, never the line's name: that may stand out over its arrow. */
+.said .label { display: flex; justify-content: center; column-gap: .35em; overflow: visible; font-weight: 600; }
 .label .word, .label .name, .label .badge { flex: none; }
 .label .id { flex: 0 1 auto; min-width: 1ch; overflow: hidden; text-overflow: ellipsis; }
 .track:is(.response, .fault, .act) .label .word:only-child, .track:is(.response, .fault) .label .name {
