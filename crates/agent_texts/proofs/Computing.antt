@@ -4,7 +4,8 @@ use Rattle.mg_bytes.proofs.Computing.{on_examples as byte_examples}
 use Rattle.exchange_log.specs.Escaping.{shown}
 use Rattle.exchange_log.specs.Grouping.{grouped}
 use Rattle.agent_texts.specs.Counts.{calls_text, messages_text, losses_text}
+use Rattle.agent_texts.specs.Telling.{line_of_pieces, call_line, line_line}
 
 unfoldable pub on_examples : ⊤
-unfolding byte_examples shown grouped calls_text messages_text losses_text
+unfolding byte_examples shown grouped calls_text messages_text losses_text line_of_pieces call_line line_line
 on_examples = tt

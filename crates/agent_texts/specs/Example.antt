@@ -78,3 +78,7 @@ each_counted = record {
 -- the station of a gateway's second line, which is dialled by this number
 abbrev pub station : List ℕ → Station
 station number = record { gateway = 0; line = 2; name = codes "aaln/2@gw1"; number = number; taken = 0 }
+
+-- two lines, and their numbers
+abbrev pub two_stations : List Station
+two_stations = station (codes "201") ∷ station (codes "202") ∷ []

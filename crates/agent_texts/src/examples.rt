@@ -8,12 +8,13 @@ ghost use Rattle.call_routing.specs.declared.phase.Phase.TheVariants as phases;
 ghost use Rattle.call_routing.specs.declared.line.Leg.TheVariants as legs;
 ghost use Rattle.agent_texts.specs.declared.config_fault.ValueFault.TheVariants as faults;
 ghost use Rattle.agent_texts.specs.declared.standing.Progress.TheVariants.{Ringing, Answered, Connected};
-ghost use Rattle.agent_texts.specs.declared.standing.Standing.TheVariants.{Rest, Dialling, Busy, Reorder, Called};
+ghost use Rattle.agent_texts.specs.declared.standing.Standing.TheVariants.{Rest, Dialling, Busy, Reorder, Caller, Called};
 ghost use Rattle.agent_texts.specs.Counts.{greatest_count, one_more, nothing_counted, told, counts_text};
 ghost use Rattle.agent_texts.specs.ConfigFaults.{place_by, value_text, fault_text, missing_line, unknown_line, value_line, count_line, name_line, limit_line};
 ghost use Rattle.agent_texts.specs.Standings.{stands_for, standing_of, with_change};
 ghost use Rattle.agent_texts.specs.Stations.{number_at};
-ghost use Rattle.agent_texts.specs.Example.{leg_in, rings_other, calls, exchange_with, answered_with, each_counted, station};
+ghost use Rattle.agent_texts.specs.Telling.{plain, change_told};
+ghost use Rattle.agent_texts.specs.Example.{leg_in, rings_other, calls, exchange_with, answered_with, each_counted, station, two_stations};
 
 /// Numbers are told behind what they are the number of, and a count stays at its greatest value.
 pub fn counts_are_told_in_a_row()
@@ -103,6 +104,23 @@ pub fn calls_are_counted_as_they_come()
     ensures other_tone { with_change Busy Reorder nothing_counted ≡ nothing_counted }
     ensures busy_later { with_change Reorder Busy nothing_counted ≡ nothing_counted }
     ensures called_before { with_change Called Rest nothing_counted ≡ nothing_counted }
+{}
+
+/// What becomes of a line is told in lines of printable ASCII: a call that is over, and how the line stands now.
+pub fn changes_are_told_in_lines()
+    ensures plain { plain (31 ∷ 32 ∷ 126 ∷ 127 ∷ []) ≡ 46 ∷ 32 ∷ 126 ∷ 46 ∷ [] }
+    ensures dials { change_told two_stations 1 Rest Dialling ≡ codes "line 202: dialling\n" }
+    ensures rests { change_told two_stations 1 Busy Rest ≡ codes "line 202: at rest\n" }
+    ensures rings { change_told two_stations 0 Dialling (calls Ringing) ≡ codes "call 3: 201 -> 202 ringing\n" }
+    ensures answered { change_told two_stations 0 (calls Ringing) (calls Answered) ≡ codes "call 3: 201 -> 202 answered\n" }
+    ensures connected { change_told two_stations 0 (calls Answered) (calls Connected) ≡ codes "call 3: 201 -> 202 connected\n" }
+    ensures over { change_told two_stations 0 (calls Connected) Busy ≡ codes "call 3: 201 -> 202 over\nline 201: busy tone\n" }
+    ensures failed { change_told two_stations 0 (calls Ringing) Reorder ≡ codes "call 3: 201 -> 202 over\nline 201: reorder tone\n" }
+    ensures another { change_told two_stations 0 (calls Ringing) (Caller 4 1 Ringing)
+        ≡ codes "call 3: 201 -> 202 over\ncall 4: 201 -> 202 ringing\n" }
+    ensures called { change_told two_stations 1 Rest Called ≡ [] }
+    ensures called_before { change_told two_stations 0 (calls Ringing) Called ≡ codes "call 3: 201 -> 202 over\n" }
+    ensures no_number { change_told [] 1 Rest Dialling ≡ codes "line ?: dialling\n" }
 {}
 
 /// A station has the number by which it is dialled; a place without one has none.

@@ -1,9 +1,11 @@
 //! What is told of the conversation: on standard output, in the log, in a capture, and in counts.
-ghost use Rattle.std.specs.Prelude.{◌≡◌, ◌⊎◌, ◌++◌, true, [], IfOk, OnOk};
+ghost use Rattle.std.specs.Prelude.{◌≡◌, ◌⊎◌, ◌++◌, true, false, [], IfOk, OnOk};
 ghost use Rattle.live_ends.specs.declared.record.RecordState.TheVariants as states;
 ghost use Rattle.live_ends.specs.Recording.{state_when};
-ghost use Rattle.live_ends.specs.Written.{written_line};
+ghost use Rattle.exchange_log.specs.File.{file_head};
+ghost use Rattle.live_ends.specs.Written.{faults_in, written_line};
 ghost use Rattle.agent_texts.specs.Counts.{counts_text, nothing_counted};
+ghost use Rattle.agent_texts.specs.Telling.{plain, line_of_pieces, Tells};
 
 use crate::tally::{Tally, count};
 use crate::text::header_word;
@@ -42,7 +44,9 @@ pub struct Journal {
 }
 
 // Each byte that isn't printable ASCII is told as a dot.
-fn put_plain(out: &mut Vec<u8>, bytes: &[u8]) -> Result<(), OutOfMemory> {
+fn put_plain(out: &mut Vec<u8>, bytes: &[u8]) -> Result<(), OutOfMemory>
+    ensures { OnOk result (out.new.items ≡ out.old.items ++ plain bytes.now) }
+{
     for byte in bytes {
         let is_plain = *byte >= b' ' && *byte <= b'~';
         out.push(if is_plain { *byte } else { b'.' })?;
@@ -51,7 +55,10 @@ fn put_plain(out: &mut Vec<u8>, bytes: &[u8]) -> Result<(), OutOfMemory> {
 }
 
 // A line of these pieces.
-fn put_line(out: &mut Vec<u8>, pieces: &[&[u8]]) -> Result<(), OutOfMemory> {
+#[tactic(auto, unfolding(crate::specs::Telling::line_of_pieces))]
+fn put_line(out: &mut Vec<u8>, pieces: &[&[u8]]) -> Result<(), OutOfMemory>
+    ensures { OnOk result (out.new.items ≡ out.old.items ++ line_of_pieces pieces.now) }
+{
     for piece in pieces {
         put_plain(out, piece)?;
     }
@@ -105,6 +112,10 @@ impl Journal {
         ensures here { result.here ≡ here }
         ensures tally { result.tally ≡ nothing_counted }
         ensures capture_name { result.capture_name.items ≡ [] }
+        ensures head { result.capture.state ≡ states.On → result.capture.out.items ≡ file_head }
+        ensures no_capture { has_capture ≡ false → result.capture.out.items ≡ [] }
+        ensures faults { faults_in result.written ≡ 0 }
+        ensures dropped { result.written.dropped ≡ 0 }
     {
         let mut capture = Record::new(alloc, has_capture);
         if has_capture && put_head(&mut capture.out).is_err() {
@@ -156,8 +167,10 @@ impl Journal {
     }
 
     /// Tells a line of these pieces.
+    #[tactic(auto, using(crate::proofs::TellingLemmas::tells_text, crate::proofs::TellingLemmas::tells_nothing, crate::proofs::TellingLemmas::tells_refusal))]
     pub(crate) fn tell(&mut self, pieces: &[&[u8]])
-        ensures { self.new.tally ≡ self.old.tally }
+        ensures tells { Tells (line_of_pieces pieces.now) self.old.told self.new.told }
+        ensures rest { self.new ≡ record self.old { told = self.new.told } }
     {
         if self.told.is_on() && put_line(&mut self.told.out, pieces).is_err() {
             self.told.refuse();

@@ -1,6 +1,7 @@
 //! How lines stand, as it is told to people.
 ghost use Rattle.std.specs.Prelude.{◌≡◌};
 ghost use Rattle.call_routing.specs.Exchange.{line_of};
+ghost use Rattle.agent_texts.specs.Telling.{is_caller_in, words_of, call_line, line_line, end_told, standing_told, change_told, Tells};
 ghost use Rattle.agent_texts.specs.Standings.{stands_for, is_joined, progress_of, tone_standing, part_standing, standing_of, with_progress, with_failure, with_end, with_refusal, with_rest, with_change};
 
 use crate::journal::Journal;
@@ -108,7 +109,9 @@ pub fn standing_of(exchange: &Exchange, line: usize) -> Standing
     }
 }
 
-fn is_caller_in(standing: Standing, call: u64) -> bool {
+fn is_caller_in(standing: Standing, call: u64) -> bool
+    ensures { result ≡ is_caller_in standing call }
+{
     match standing {
         Standing::Caller { call: of, .. } => of == call,
         _ => false,
@@ -187,7 +190,9 @@ fn count_change(tally: &mut Tally, was: Standing, is: Standing)
 }
 
 // What is told of a line that stands so, behind its number or its call.
-fn words_of(standing: Standing) -> &'static [u8] {
+fn words_of(standing: Standing) -> &'static [u8]
+    ensures { result.now ≡ words_of standing }
+{
     match standing {
         Standing::Rest => b": at rest",
         Standing::Dialling => b": dialling",
@@ -203,6 +208,7 @@ fn words_of(standing: Standing) -> &'static [u8] {
 }
 
 // Tells how far a call has come.
+#[tactic(auto, unfolding(crate::specs::Telling::call_line, crate::specs::Telling::line_of_pieces), using(crate::proofs::TellingLemmas::tells_refusal))]
 fn tell_call(
     alloc: Global,
     journal: &mut Journal,
@@ -212,7 +218,8 @@ fn tell_call(
     other: usize,
     words: &[u8],
 )
-    ensures { journal.new.tally ≡ journal.old.tally }
+    ensures tells { Tells (call_line stations.now call line other words.now) journal.old.told journal.new.told }
+    ensures rest { journal.new ≡ record journal.old { told = journal.new.told } }
 {
     let mut number = Vec::new(alloc);
     if put_decimal(alloc, &mut number, call).is_err() {
@@ -231,13 +238,16 @@ fn tell_call(
 }
 
 // Tells how a line stands that is in no call.
+#[tactic(auto, unfolding(crate::specs::Telling::line_line, crate::specs::Telling::line_of_pieces))]
 fn tell_line(journal: &mut Journal, number: &[u8], words: &[u8])
-    ensures { journal.new.tally ≡ journal.old.tally }
+    ensures tells { Tells (line_line number.now words.now) journal.old.told journal.new.told }
+    ensures rest { journal.new ≡ record journal.old { told = journal.new.told } }
 {
     journal.tell(&[b"line ".as_slice(), number, words]);
 }
 
 // Tells that a call of a line is over that stood so, where it is in that no longer.
+#[tactic(auto, using(crate::proofs::TellingLemmas::tells_none))]
 fn tell_end(
     alloc: Global,
     journal: &mut Journal,
@@ -246,7 +256,8 @@ fn tell_end(
     was: Standing,
     is: Standing,
 )
-    ensures { journal.new.tally ≡ journal.old.tally }
+    ensures tells { Tells (end_told stations.now line was is) journal.old.told journal.new.told }
+    ensures rest { journal.new ≡ record journal.old { told = journal.new.told } }
 {
     if let Standing::Caller { call, other, .. } = was
         && !is_caller_in(is, call)
@@ -256,6 +267,7 @@ fn tell_end(
 }
 
 // Tells how a line stands now.
+#[tactic(auto, using(crate::proofs::TellingLemmas::tells_none))]
 fn tell_standing(
     alloc: Global,
     journal: &mut Journal,
@@ -263,7 +275,8 @@ fn tell_standing(
     line: usize,
     is: Standing,
 )
-    ensures { journal.new.tally ≡ journal.old.tally }
+    ensures tells { Tells (standing_told stations.now line is) journal.old.told journal.new.told }
+    ensures rest { journal.new ≡ record journal.old { told = journal.new.told } }
 {
     match is {
         Standing::Caller { call, other, .. } => {
@@ -275,6 +288,7 @@ fn tell_standing(
 }
 
 /// Tells and counts what became of the line at this place, which stood otherwise before.
+#[tactic(auto, using(crate::proofs::TellingLemmas::tells_both))]
 pub fn tell_change(
     alloc: Global,
     journal: &mut Journal,
@@ -283,7 +297,9 @@ pub fn tell_change(
     was: Standing,
     is: Standing,
 )
-    ensures { journal.new.tally ≡ with_change was is journal.old.tally }
+    ensures tally { journal.new.tally ≡ with_change was is journal.old.tally }
+    ensures tells { Tells (change_told stations.now line was is) journal.old.told journal.new.told }
+    ensures rest { journal.new ≡ record journal.old { told = journal.new.told; tally = journal.new.tally } }
 {
     count_change(&mut journal.tally, was, is);
     tell_end(alloc, journal, stations, line, was, is);

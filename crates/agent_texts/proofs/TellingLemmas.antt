@@ -1,0 +1,46 @@
+-- What is told, one text behind another, and where nothing is.
+use Rattle.std.proofs.Common.{inl, inr, ◌≡◌, ℕ, Bool, true, false, List, [], ◌++◌, refl, sym, ap, ◌∙◌, append_assoc, append-nil}
+use Rattle.std.specs.Prelude.{if◌then◌else◌}
+use Rattle.live_ends.specs.declared.record.Record.{Record}
+use Rattle.live_ends.specs.declared.record.RecordState.{RecordState}
+use Rattle.live_ends.specs.declared.record.RecordState.TheVariants as records
+use Rattle.live_ends.specs.Recording.{is_told}
+use Rattle.agent_texts.specs.Telling.{Tells}
+
+pub tells_text : (text : List ℕ) (was is : Record) → is_told was.state ≡ true → is.state ≡ was.state
+    → is.out.items ≡ was.out.items ++ text → Tells text was is
+tells_text text was is on same grew = inl (same, rw on grew)
+
+pub tells_nothing : (text : List ℕ) (was is : Record) → is_told was.state ≡ false → is ≡ was → Tells text was is
+tells_nothing text was is off same = inl (ap (λ (r : Record). r.state) same, rw off (ap (λ (r : Record). r.out.items) same))
+
+pub tells_refusal : (text : List ℕ) (was is : Record) → is.state ≡ records.OutOfMemory → is.out.items ≡ [] → Tells text was is
+tells_refusal text was is state none = inr (state, none)
+
+none_grown : (on : Bool) (were : List ℕ) → were ≡ (if on then were ++ [] else were)
+none_grown true were = sym (append-nil were)
+none_grown false were = refl
+
+pub tells_none : (was is : Record) → is ≡ was → Tells [] was is
+tells_none was is same =
+    inl (ap (λ (r : Record). r.state) same, ap (λ (r : Record). r.out.items) same ∙ none_grown (is_told was.state) was.out.items)
+
+both_grown : (on : Bool) (were a b : List ℕ)
+    → (if on then (if on then were ++ a else were) ++ b else (if on then were ++ a else were)) ≡ (if on then were ++ (a ++ b) else were)
+both_grown true were a b = append_assoc were a b
+both_grown false were a b = refl
+
+pub tells_both : (a b : List ℕ) (was mid is : Record) → Tells a was mid → Tells b mid is → Tells (a ++ b) was is
+tells_both a b was mid is (inl one) (inl two) =
+    inl (
+      two.0 ∙ one.0,
+      two.1 ∙ ap (λ (s : RecordState). if is_told s then mid.out.items ++ b else mid.out.items) one.0
+          ∙ ap (λ (m : List ℕ). if is_told was.state then m ++ b else m) one.1 ∙ both_grown (is_told was.state) was.out.items a b,
+    )
+tells_both a b was mid is (inl one) (inr end) = inr end
+tells_both a b was mid is (inr gone) (inl two) =
+    inr (
+      two.0 ∙ gone.0,
+      two.1 ∙ ap (λ (s : RecordState). if is_told s then mid.out.items ++ b else mid.out.items) gone.0 ∙ gone.1,
+    )
+tells_both a b was mid is (inr gone) (inr end) = inr end
