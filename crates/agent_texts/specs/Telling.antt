@@ -3,7 +3,6 @@ use Rattle.std.specs.Prelude.{◌≡◌, ◌⊎◌, ℕ, Bool, false, ◌==◌, 
 use Rattle.std.specs.List.{flat_map}
 use Rattle.std.specs.Borrow.{Bor}
 use Rattle.live_ends.specs.declared.record.Record.{Record}
-use Rattle.live_ends.specs.declared.record.RecordState.{RecordState}
 use Rattle.live_ends.specs.declared.record.RecordState.TheVariants as records
 use Rattle.live_ends.specs.Recording.{is_told}
 use Rattle.agent_texts.specs.declared.standing.Progress.{Progress}
