@@ -275,10 +275,11 @@ impl<S: Surroundings + Drop, T: Teller + Drop> Desk<S, T> {
     fn take_line(&mut self)
         ensures { GoesOn T.told S.sent self.old self.new }
     {
+        let typist = self.typist();
         let Some(text) = self.lines.line() else {
             return;
         };
-        match request_in(self.alloc, text, self.typist()) {
+        match request_in(self.alloc, text, typist) {
             TelephoneRequest::Act { line, act } => {
                 let now = self.exchange.now;
                 self.exchange.journal.act(now, text);
