@@ -651,9 +651,7 @@ class Ladder {
   addCommand(row, message, direction) {
     row.isNotification = message.verb === "NTFY";
     this.settle(row, message.line, this.calls.callOf(message));
-    if (direction === "in") {
-      this.calls.ask(message);
-    } else {
+    if (direction === "out") {
       this.waitsSince ??= row.at;
     }
     const key = `${direction} ${message.id}`;
@@ -667,6 +665,9 @@ class Ladder {
     // A line that has lost its agent, or a gateway that announces itself anew, has given up what it asked before.
     if (direction === "out" && message.verb === "RSIP") {
       this.giveUp(direction, message.endpoint, message.id);
+    }
+    if (direction === "in") {
+      this.calls.ask(message);
     }
     this.open.set(key, { direction, id: message.id, endpoint: message.endpoint, rows: [row] });
     forget(this.open, 1000);
