@@ -54,15 +54,19 @@ unfoldable pub answers_from : ℕ → List ℕ → List ℕ
 answers_from code [] = []
 answers_from code (number ∷ more) = answer_text code number ++ answers_from (code + 1) more
 
-unfoldable pub others_text : MessageTally → ℕ → Faults → List ℕ
-others_text tally lost faults =
+-- what is told behind the answers, where so many commands of its own were given up
+unfoldable pub others_with : MessageTally → ℕ → ℕ → Faults → List ℕ
+others_with tally given_up lost faults =
     told_all ((codes " repeated ", tally.sent.again) ∷ (codes "\nnotifications ", slice_index tally.sent.commands (place_of Ntfy))
     ∷ (codes " repeated ", slice_index tally.sent.commands_again (place_of Ntfy))
     ∷ (codes "\nannouncements ", slice_index tally.sent.commands (place_of Rsip))
-    ∷ (codes " repeated ", slice_index tally.sent.commands_again (place_of Rsip)) ∷ (codes " given up ", all_given_up (tally_in tally.sent))
+    ∷ (codes " repeated ", slice_index tally.sent.commands_again (place_of Rsip)) ∷ (codes " given up ", given_up)
     ∷ (codes "\nlost events ", lost) ∷ (codes " refused ", faults.refused)
     ∷ (codes "\nfaults receive ", faults.receive) ∷ (codes " send ", faults.send)
     ∷ (codes "\nstrangers ", tally.strangers) ∷ (codes " lost commands ", tally.texts.lost) ∷ [])
+
+abbrev pub others_text : MessageTally → ℕ → Faults → List ℕ
+others_text tally lost faults = others_with tally (all_given_up (tally_in tally.sent)) lost faults
 
 -- how many events of so many lines, from the first on, were lost
 unfoldable pub lost_of_lines : Machine → ℕ → ℕ

@@ -1,5 +1,6 @@
 //! Counts the sends of the gateway's own commands by which of its agent's addresses they go to. A count stays at its greatest value.
 ghost use Rattle.std.specs.Prelude.{◌≡◌, replicate};
+ghost use Rattle.std.specs.List.{position};
 ghost use Rattle.page_answers.specs.declared.counts.TheConstants.{PLACES};
 ghost use Rattle.live_journal.specs.Places.{is_same, place_in, place_among, with_send, with_sends};
 
@@ -28,14 +29,21 @@ fn is_same(one: SocketAddrV4, other: SocketAddrV4) -> bool
     one.port() == other.port() && here.as_slice() == there.as_slice()
 }
 
-// The first place of an address among these.
+// The first place of an address among these, if it has one.
+fn first_place(addresses: &[SocketAddrV4], to: SocketAddrV4) -> Option<usize>
+    ensures { result ≡ position (is_same to) addresses.now }
+{
+    addresses.iter().position(|address| is_same(to, *address))
+}
+
+// The first place of an address among these, or that of all others.
 fn place_in(addresses: &[SocketAddrV4], to: SocketAddrV4) -> usize
     ensures { result ≡ place_in addresses.now to }
 {
-    addresses
-        .iter()
-        .position(|address| is_same(to, *address))
-        .unwrap_or(OTHERS)
+    match first_place(addresses, to) {
+        Some(place) => place,
+        None => OTHERS,
+    }
 }
 
 // The first place of an address among those of a receiver.

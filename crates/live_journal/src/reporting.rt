@@ -5,7 +5,7 @@ ghost use Rattle.plain_machine.specs.Event.{GatewayEvent};
 ghost use Rattle.plain_machine.specs.Lists.{plain};
 ghost use Rattle.gateway_core.specs.Stands.{Stands};
 ghost use Rattle.page_answers.specs.Metrics.{code_text};
-ghost use Rattle.live_journal.specs.Reporting.{told, entry_text, datagrams_text, verbs_text, commands_text, texts_text, answer_text, answers_from, lost_of_lines, traffic_text, others_text, report_text, counts_text};
+ghost use Rattle.live_journal.specs.Reporting.{told, entry_text, datagrams_text, verbs_text, commands_text, texts_text, answer_text, answers_from, lost_of_lines, traffic_text, others_with, others_text, report_text, counts_text};
 
 use crate::journal::Journal;
 use crate::message_tally::MessageTally;
@@ -153,8 +153,37 @@ fn put_answers(alloc: Global, text: &mut Vec<u8>, answers: &[u64]) -> Result<(),
     Ok(())
 }
 
+// What is told behind the answers, where so many commands of its own were given up.
+#[tactic(auto, unfolding(crate::specs::Reporting::others_with))]
+fn put_others_with(
+    alloc: Global,
+    text: &mut Vec<u8>,
+    tally: &MessageTally,
+    given_up: u64,
+    lost: u64,
+    faults: Faults,
+) -> Result<(), AllocError>
+    ensures { OnOk result (text.new.items ≡ text.old.items ++ others_with tally.now given_up lost faults) }
+{
+    let (notifications, announcements) = (place_of(Verb::Ntfy), place_of(Verb::Rsip));
+    let numbers = [
+        (" repeated ", tally.sent.again),
+        ("\nnotifications ", tally.sent.commands[notifications]),
+        (" repeated ", tally.sent.commands_again[notifications]),
+        ("\nannouncements ", tally.sent.commands[announcements]),
+        (" repeated ", tally.sent.commands_again[announcements]),
+        (" given up ", given_up),
+        ("\nlost events ", lost),
+        (" refused ", faults.refused),
+        ("\nfaults receive ", faults.receive),
+        (" send ", faults.send),
+        ("\nstrangers ", tally.strangers),
+        (" lost commands ", tally.texts.lost),
+    ];
+    put_numbers(alloc, text, &numbers)
+}
+
 // What is told behind the answers.
-#[tactic(auto, unfolding(crate::specs::Reporting::others_text))]
 fn put_others(
     alloc: Global,
     text: &mut Vec<u8>,
@@ -164,22 +193,7 @@ fn put_others(
 ) -> Result<(), AllocError>
     ensures { OnOk result (text.new.items ≡ text.old.items ++ others_text tally.now lost faults) }
 {
-    let (notifications, announcements) = (place_of(Verb::Ntfy), place_of(Verb::Rsip));
-    let numbers = [
-        (" repeated ", tally.sent.again),
-        ("\nnotifications ", tally.sent.commands[notifications]),
-        (" repeated ", tally.sent.commands_again[notifications]),
-        ("\nannouncements ", tally.sent.commands[announcements]),
-        (" repeated ", tally.sent.commands_again[announcements]),
-        (" given up ", tally.sent.given_up()),
-        ("\nlost events ", lost),
-        (" refused ", faults.refused),
-        ("\nfaults receive ", faults.receive),
-        (" send ", faults.send),
-        ("\nstrangers ", tally.strangers),
-        (" lost commands ", tally.texts.lost),
-    ];
-    put_numbers(alloc, text, &numbers)
+    put_others_with(alloc, text, tally, tally.sent.given_up(), lost, faults)
 }
 
 // What is told of texts.
