@@ -22,10 +22,12 @@ name_more names name value route members is = rw (← is) (by_others (names_from
   by_others (Some others) = ap Some (append_assoc names (more ∷ []) others)
 
 pub loop-name-preserved : goal.loop-name-preserved
-loop-name-preserved c =
-    (c.loop-name.invariant.0, c.loop-name.invariant.1,
-      ap (λ names. option_map (λ others. names ++ others) (names_from (members_view c.next.new.self))) c.in_ok-push.ensures.ok
+loop-name-preserved c = (
+  c.loop-name.invariant.0,
+  c.loop-name.invariant.1,
+  ap (λ names. option_map (λ others. names ++ others) (names_from (members_view c.next.new.self))) c.in_ok-push.ensures.ok
       ∙ name_more c.loop-name.names c.in_ok-name.name (view c.in-Some.value.now) c.in-Some-route_in.route (members_view c.next.new.self) c.in-Some-route_in.ensures
       ∙ ap (λ name. option_map (λ others. c.loop-name.names ++ others) (names_from (member name (view c.in-Some.value.now) (members_view c.next.new.self)))) (c.in_ok-name.ensures ∙ c.as_str.ensures.value)
       ∙ ap (λ entries. option_map (λ others. c.loop-name.names ++ others) (names_from (members_view entries))) (sym c.in-Some.ensures.steps)
-      ∙ c.loop-name.invariant.2)
+      ∙ c.loop-name.invariant.2,
+)
