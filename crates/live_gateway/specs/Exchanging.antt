@@ -1,10 +1,11 @@
 -- What was handed to an exchange: to the sockets, or to the bad network before them.
-use Rattle.std.specs.Prelude.{ℕ, Bool, true, false, List, Option, Some, None}
+use Rattle.std.specs.Prelude.{◌≡◌, ℕ, Bool, true, false, List, Option, Some, None}
 use Rattle.std.specs.Global.{Box}
 use Rattle.bad_network.specs.Waiting.{first_due}
 use Rattle.gateway_core.specs.Wire.{counted}
 use Rattle.live_journal.specs.declared.reporting.Faults.{Faults}
 use Rattle.surroundings.specs.Sending.{Sent}
+use Rattle.live_gateway.specs.declared.exchange.Exchange.{Exchange}
 use Rattle.live_gateway.specs.declared.spoilt_way.SpoiltWay.{SpoiltWay}
 use Rattle.live_gateway.specs.Offering.{offered_by}
 
@@ -22,3 +23,15 @@ next_due (Some way) = first_due way.value.network.waiting.items
 abbrev pub with_refused : Bool → Faults → Faults
 with_refused true faults = record faults { refused = counted faults.refused 1 }
 with_refused false faults = faults
+
+-- nothing failed
+abbrev pub faultless : Faults
+faultless = record { refused = 0; receive = 0; send = 0 }
+
+-- nothing could be received, or the clock not be read
+abbrev pub with_unreceived : Faults → Faults
+with_unreceived faults = record faults { receive = counted faults.receive 1 }
+
+-- the turn under way is the same, and whether something waits to be taken
+abbrev pub IsSameTurn : {S : Type 0} → Exchange S → Exchange S → Type 0
+IsSameTurn was is = (is.now ≡ was.now) × (is.is_offering ≡ was.is_offering)

@@ -376,7 +376,11 @@ impl<S: Surroundings + Drop, T: Teller + Drop> Desk<S, T> {
     /// Writes what was recorded at the turn that is over, as far as it is taken at once.
     #[tactic(auto, using(crate::proofs::DeskLemmas::written_off))]
     pub fn write<W: Recorder<T>>(&mut self, recorder: &mut W)
-        ensures { GoesOn T.told S.sent self.old self.new }
+        ensures play { GoesOn T.told S.sent self.old self.new }
+        ensures lines { self.new.lines ≡ self.old.lines }
+        ensures end { self.new.end ≡ self.old.end }
+        ensures read { self.new.exchange.value.read ≡ self.old.exchange.value.read }
+        ensures faults { self.new.exchange.value.faults ≡ self.old.exchange.value.faults }
     {
         let time = self.exchange.now.time;
         recorder.write(&mut self.exchange.journal, &mut self.play.teller, time);

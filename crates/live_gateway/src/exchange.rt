@@ -1,8 +1,9 @@
 //! What goes between the gateway and others: over sockets, behind a bad network where one is asked for; and its journal.
-ghost use Rattle.std.specs.Prelude.{◌≡◌, ◌≤◌, ◌∷◌, [], true, length, List, Option, IfSome};
+ghost use Rattle.std.specs.Prelude.{◌≡◌, ◌≤◌, ◌∷◌, ◌⊎◌, [], true, false, length, List, Option, IfSome};
+ghost use Rattle.gateway_core.specs.Wire.{counted};
 ghost use Rattle.surroundings.specs.Sending.{Sent, Grows};
 ghost use Rattle.surroundings.specs.Speaking.{admitted_by, may_speak};
-ghost use Rattle.live_gateway.specs.Exchanging.{handed_by, next_due, with_refused};
+ghost use Rattle.live_gateway.specs.Exchanging.{handed_by, next_due, faultless, with_refused, with_unreceived, IsSameTurn};
 
 use crate::spoilt_way::SpoiltWay;
 use crate::visitors::Visitors;
@@ -70,7 +71,10 @@ impl<S: Surroundings + Drop> Exchange<S> {
         ensures around { result.around ≡ around }
         ensures network { result.network ≡ network }
         ensures journal { result.journal ≡ journal }
+        ensures now { result.now ≡ now }
         ensures read { result.read ≡ 0 }
+        ensures faults { result.faults ≡ faultless }
+        ensures offering { result.is_offering ≡ false }
     {
         Exchange {
             around,
@@ -88,6 +92,10 @@ impl<S: Surroundings + Drop> Exchange<S> {
         ensures network { self.new.network ≡ self.old.network }
         ensures around { self.new.around ≡ self.old.around }
         ensures clock { self.new.now.clock ≡ ticked }
+        ensures journal { self.new.journal ≡ self.old.journal }
+        ensures read { self.new.read ≡ self.old.read }
+        ensures faults { self.new.faults ≡ self.old.faults }
+        ensures offering { self.new.is_offering ≡ self.old.is_offering }
     {
         self.now = Now {
             clock: ticked,
@@ -100,6 +108,9 @@ impl<S: Surroundings + Drop> Exchange<S> {
         ensures network { self.new.network ≡ self.old.network }
         ensures around { self.new.around ≡ self.old.around }
         ensures faults { self.new.faults ≡ with_refused is_refused self.old.faults }
+        ensures journal { self.new.journal ≡ self.old.journal }
+        ensures read { self.new.read ≡ self.old.read }
+        ensures turn { IsSameTurn self.old self.new }
     {
         if is_refused {
             count(&mut self.faults.refused);
@@ -120,6 +131,10 @@ impl<S: Surroundings + Drop> Exchange<S> {
     pub fn moment(&mut self, ticked: u64) -> u64
         ensures network { self.new.network ≡ self.old.network }
         ensures around { self.new.around ≡ self.old.around }
+        ensures faults { (self.new.faults ≡ self.old.faults) ⊎ ((self.new.faults ≡ with_unreceived self.old.faults) × (result ≡ ticked)) }
+        ensures journal { self.new.journal ≡ self.old.journal }
+        ensures read { self.new.read ≡ self.old.read }
+        ensures turn { IsSameTurn self.old self.new }
     {
         match self.around.moment() {
             Ok(moment) => moment,
@@ -134,6 +149,9 @@ impl<S: Surroundings + Drop> Exchange<S> {
     pub fn serve_visitor<V: Visitors<S>>(&mut self, visitors: &mut Option<Box<V>>, moment: u64)
         ensures network { self.new.network ≡ self.old.network }
         ensures sent { S.sent self.new.around ≡ S.sent self.old.around }
+        ensures faults { self.new.faults ≡ self.old.faults }
+        ensures read { self.new.read ≡ self.old.read }
+        ensures turn { IsSameTurn self.old self.new }
     {
         let journal = &mut *self.journal;
         if let Some(visitors) = visitors {
@@ -147,6 +165,10 @@ impl<S: Surroundings + Drop> Exchange<S> {
     pub fn hear(&mut self, lines: &mut Lines)
         ensures network { self.new.network ≡ self.old.network }
         ensures sent { S.sent self.new.around ≡ S.sent self.old.around }
+        ensures faults { self.new.faults ≡ self.old.faults }
+        ensures journal { self.new.journal ≡ self.old.journal }
+        ensures read { ((self.new.read ≡ self.old.read) × (lines.new ≡ lines.old)) ⊎ (self.new.read ≡ counted self.old.read 1) }
+        ensures turn { IsSameTurn self.old self.new }
     {
         if lines.hear(&mut self.around) {
             count(&mut self.read);
@@ -155,7 +177,11 @@ impl<S: Surroundings + Drop> Exchange<S> {
 
     /// Waits until something comes, but no longer than this, in ms, nor than until what waits to be taken is offered again.
     pub fn wait(&mut self, longest: u64)
-        ensures { handed_by self.new.network (S.sent self.new.around) ≡ handed_by self.old.network (S.sent self.old.around) }
+        ensures handed { handed_by self.new.network (S.sent self.new.around) ≡ handed_by self.old.network (S.sent self.old.around) }
+        ensures faults { (self.new.faults ≡ self.old.faults) ⊎ (self.new.faults ≡ with_unreceived self.old.faults) }
+        ensures journal { self.new.journal ≡ self.old.journal }
+        ensures read { self.new.read ≡ self.old.read }
+        ensures turn { IsSameTurn self.old self.new }
     {
         let longest = if self.is_offering {
             longest.min(NEXT_OFFER)

@@ -24,7 +24,8 @@ pub struct SpoiltWay {
 impl SpoiltWay {
     /// The way over this network, over which nothing went. What is offered isn't kept.
     pub fn new(alloc: Global, network: BadNetwork) -> SpoiltWay
-        ensures { offered_by result ≡ None }
+        ensures offered { offered_by result ≡ None }
+        ensures network { result.network ≡ network }
     {
         SpoiltWay {
             alloc,
@@ -35,7 +36,8 @@ impl SpoiltWay {
 
     /// The same, which keeps what is offered on the way out, until memory is refused for that.
     pub fn keeping(alloc: Global, network: BadNetwork) -> SpoiltWay
-        ensures { offered_by result ≡ Some [] }
+        ensures offered { offered_by result ≡ Some [] }
+        ensures network { result.network ≡ network }
     {
         SpoiltWay {
             alloc,
