@@ -36,8 +36,12 @@ abbrev pub parted_of : List ℕ → Option (List ℕ) → Result (Option Parting
 parted_of size files =
     number_within most_megabytes BadSize (decimal_of size) >>= λ megabytes. files_of files >>= λ number. Ok (Some (parted megabytes number))
 
--- how a capture is parted, where there is one: by a size, and a number of files, which says nothing without a size
+-- without a size a number of files says nothing
+abbrev pub sizeless : Option (List ℕ) → Result (Option Parting) Ending
+sizeless None = Ok None
+sizeless (Some files) = Err BadFiles
+
+-- how a capture is parted, where there is one: by a size, and a number of files
 abbrev pub parting_of : Bool → Option (List ℕ) → Option (List ℕ) → Result (Option Parting) Ending
-parting_of has_capture None None = Ok None
-parting_of has_capture None (Some files) = Err BadFiles
+parting_of has_capture None files = sizeless files
 parting_of has_capture (Some size) files = if has_capture then parted_of size files else Err BadSize

@@ -1,6 +1,6 @@
 //! What words say of the files of a capture.
 ghost use Rattle.std.specs.Prelude.{◌≡◌, option_copied};
-ghost use Rattle.rgwd.specs.Parting.{number_within, files_of, parted_of, parting_of};
+ghost use Rattle.rgwd.specs.Parting.{number_within, files_of, parted_of, sizeless, parting_of};
 
 use crate::ending::Ending;
 use live_ends::Parting;
@@ -47,6 +47,16 @@ fn parted_of<'w>(size: &[u8], files: Option<&[u8]>) -> Result<Option<Parting>, E
     }))
 }
 
+// Without a size a number of files says nothing.
+fn sizeless<'w>(files: Option<&[u8]>) -> Result<Option<Parting>, Ending<'w>>
+    ensures { result ≡ sizeless (option_copied files.entry) }
+{
+    match files {
+        Some(_) => Err(Ending::BadFiles),
+        None => Ok(None),
+    }
+}
+
 /// How a capture is parted, where there is one, by what stands behind `--capture-size` and `--capture-files`.
 pub fn parting_of<'w>(
     has_capture: bool,
@@ -55,10 +65,11 @@ pub fn parting_of<'w>(
 ) -> Result<Option<Parting>, Ending<'w>>
     ensures { result ≡ parting_of has_capture (option_copied size.entry) (option_copied files.entry) }
 {
-    match (size, files) {
-        (None, None) => Ok(None),
-        (None, Some(_)) => Err(Ending::BadFiles),
-        (Some(size), files) if has_capture => parted_of(size, files),
-        (Some(_), _) => Err(Ending::BadSize),
+    let Some(size) = size else {
+        return sizeless(files);
+    };
+    if !has_capture {
+        return Err(Ending::BadSize);
     }
+    parted_of(size, files)
 }
