@@ -1,7 +1,7 @@
 //! Worked examples of the definitions, as theorems: each sentence of a definition has one that a slip in it breaks.
 #![tactic(auto, unfolding(crate::proofs::Computing::on_examples))]
 
-ghost use Rattle.std.specs.Prelude.{◌≡◌, codes, true, false, [], ◌∷◌};
+ghost use Rattle.std.specs.Prelude.{◌≡◌, ℕ, codes, true, false, [], ◌∷◌};
 ghost use Rattle.endpoint_names.specs.declared.route.Route.TheVariants.{One, Two};
 ghost use Rattle.mg_line.specs.declared.phone.Act.TheVariants.{OffHook};
 ghost use Rattle.live_journal.specs.declared.reporting.Faults.{Faults};
@@ -11,7 +11,8 @@ ghost use Rattle.live_gateway.specs.declared.telephones.TelephoneRequest.TheVari
 ghost use Rattle.live_gateway.specs.Admitting.{with_hosts, hosts_of, with_named, typist_of};
 ghost use Rattle.live_gateway.specs.Asking.{request_in};
 ghost use Rattle.live_gateway.specs.Example.{host, at_port};
-ghost use Rattle.live_gateway.specs.Exchanging.{with_refused};
+ghost use Rattle.live_gateway.specs.declared.exchange.Exchange.{Exchange};
+ghost use Rattle.live_gateway.specs.Exchanging.{faultless, with_refused, with_unreceived, IsSameTurn};
 
 /// A line has one of five words, or asks for nothing that can be done: other steps of a script can't be asked for.
 pub fn lines_ask_for_this()
@@ -34,6 +35,18 @@ pub fn lines_ask_for_this()
 pub fn refused_inputs_are_counted()
     ensures refused { (faults : Faults) → with_refused true (record faults { refused = 4 }) ≡ record faults { refused = 5 } }
     ensures taken { (faults : Faults) → with_refused false faults ≡ faults }
+{}
+
+/// Nothing failed at the start; what can't be received is counted, and nothing else.
+pub fn what_isnt_received_is_counted()
+    ensures none { faultless ≡ record { refused = 0; receive = 0; send = 0 } }
+    ensures unreceived { (faults : Faults) → with_unreceived (record faults { receive = 4 }) ≡ record faults { receive = 5 } }
+{}
+
+/// A turn is the same where clocks said the same, and as much waits to be taken.
+pub fn a_turn_is_the_same_by_its_clocks()
+    ensures now { (was is : Exchange ℕ) → IsSameTurn was is → is.now ≡ was.now }
+    ensures waits { (was is : Exchange ℕ) → IsSameTurn was is → is.is_offering ≡ was.is_offering }
 {}
 
 /// Each address of a host may speak, and no other; of an agent its port doesn't matter.
