@@ -98,14 +98,14 @@ fn served_ending<'w, F: Write + Drop>(
 fn serve_to_end<'w, R: Files + Net + Clock + RandomSource>(
     rt: &R,
     opened: &mut Opened<'_, R>,
-    recording: &mut Recording<'_, R>,
+    recording: &mut Recording<R>,
 ) -> Result<Ending<'w>, AllocError> {
     opened.desk.run(&mut opened.visitors, recording);
     opened.desk.play.end();
     opened.desk.write(recording);
     let counts = opened.desk.counts()?;
     let exchange = &opened.desk.exchange;
-    let outlets = &mut *recording.outlets;
+    let outlets = &mut recording.outlets;
     outlets.finish(rt, counts.as_slice(), exchange.now.time);
     Ok(served_ending(&exchange.journal, &opened.desk.play.teller, outlets))
 }
@@ -127,9 +127,9 @@ fn serve_opened<'w, R: Files + Net + Clock + RandomSource>(
     alloc: Global,
     begun: Begun,
     opened: &mut Opened<'_, R>,
-    recording: &mut Recording<'_, R>,
+    recording: &mut Recording<R>,
 ) -> Result<Ending<'w>, Ending<'w>> {
-    tell_start(alloc, &mut *recording.outlets, opened, begun);
+    tell_start(alloc, &mut recording.outlets, opened, begun);
     if wait_first(rt, &mut opened.desk.exchange.around, begun).is_err() {
         return Err(Ending::Clock);
     }
@@ -227,13 +227,13 @@ fn serve_with<'w, R: Files + Net + Clock + RandomSource + Alloc + Clone + Drop>(
     start: Start,
     config: &[u8],
     gateway: Box<Gateway>,
-    outlets: &mut Outlets<R::File>,
+    recording: &mut Recording<R>,
 ) -> Result<Ending<'w>, Ending<'w>> {
     let begun = start.begun(gateway.setup().names.domain.as_bytes());
     let mut opened = open(rt, alloc, settings, config, gateway)?;
-    let files = open_files(rt, alloc, settings, outlets)?;
-    let mut recording = Recording { rt, outlets, files };
-    serve_opened(rt, alloc, begun, &mut opened, &mut recording)
+    let files = open_files(rt, alloc, settings, &mut recording.outlets)?;
+    recording.files = files;
+    serve_opened(rt, alloc, begun, &mut opened, recording)
 }
 
 // Serves with a gateway of the configuration in this text, which has no flaw; or says what it will be.
@@ -242,16 +242,16 @@ fn serve_config<'w, R: Files + Net + Clock + RandomSource + Alloc + Clone + Drop
     alloc: Global,
     settings: &Settings<'w>,
     text: &[u8],
-    outlets: &mut Outlets<R::File>,
+    recording: &mut Recording<R>,
 ) -> Result<Ending<'w>, Ending<'w>> {
     let Some(start) = Start::now(rt, settings) else {
         return Err(Ending::NoTimeOfDay);
     };
     let gateway = gateway_of(alloc, text, &start)?;
     if settings.check {
-        return Ok(check_gateway(alloc, settings, &gateway, outlets)?);
+        return Ok(check_gateway(alloc, settings, &gateway, &mut recording.outlets)?);
     }
-    serve_with(rt, alloc, settings, start, text, gateway, outlets)
+    serve_with(rt, alloc, settings, start, text, gateway, recording)
 }
 
 // Says on standard error which flaw the configuration in this text has.
@@ -274,13 +274,13 @@ fn perform<'w, R: Files + Net + Clock + RandomSource + Alloc + Clone + Drop>(
     rt: &R,
     alloc: Global,
     settings: &Settings<'w>,
-    outlets: &mut Outlets<R::File>,
+    recording: &mut Recording<R>,
 ) -> Result<Ending<'w>, Ending<'w>> {
     let file = settings.config;
     let text = config_text(rt, alloc, file)?;
     match flaw_of(alloc, text.as_slice())? {
-        None => serve_config(rt, alloc, settings, text.as_slice(), outlets),
-        Some(flaw) => Ok(tell_flaw(alloc, file, text.as_slice(), flaw, outlets)?),
+        None => serve_config(rt, alloc, settings, text.as_slice(), recording),
+        Some(flaw) => Ok(tell_flaw(alloc, file, text.as_slice(), flaw, &mut recording.outlets)?),
     }
 }
 
@@ -296,16 +296,16 @@ fn words_behind<'w>(first: &str, words: &'w [String]) -> Option<&'w [String]> {
 fn ending_by<'w, R: AllocGlobal + Files + Net + Clock + RandomSource + Clone + Drop>(
     rt: &R,
     words: &'w [String],
-    outlets: &mut Outlets<R::File>,
+    recording: &mut Recording<R>,
 ) -> Result<Ending<'w>, Ending<'w>> {
     if let Some(asked) = words_behind(TELL, words) {
-        return tell_line(rt, asked, &mut outlets.output);
+        return tell_line(rt, asked, &mut recording.outlets.output);
     }
     if let Some(asked) = words_behind(REPLAY, words) {
-        return replay_trace(rt, asked, outlets);
+        return replay_trace(rt, asked, &mut recording.outlets);
     }
-    match read_words(rt.alloc(), words, &mut outlets.error) {
-        Ok(settings) => perform(rt, rt.alloc(), &settings, outlets),
+    match read_words(rt.alloc(), words, &mut recording.outlets.error) {
+        Ok(settings) => perform(rt, rt.alloc(), &settings, recording),
         Err(ending) => Err(ending),
     }
 }
@@ -345,15 +345,35 @@ fn tell<R: AllocGlobal + Files + Clock>(
 // Runs the program with these outlets, and gives its exit status.
 fn run_with<R: AllocGlobal + Env + Files + Net + Clock + RandomSource + Clone + Drop>(
     rt: &R,
-    outlets: &mut Outlets<R::File>,
+    recording: &mut Recording<R>,
 ) -> u8 {
     let words = match words_of(rt) {
         Ok(words) => words,
-        Err(SystemFault::OutOfMemory) => return tell(rt, outlets, Ending::OutOfMemory),
-        Err(SystemFault::Refused { .. }) => return tell(rt, outlets, Ending::Usage),
+        Err(SystemFault::OutOfMemory) => {
+            return tell(rt, &mut recording.outlets, Ending::OutOfMemory);
+        }
+        Err(SystemFault::Refused { .. }) => {
+            return tell(rt, &mut recording.outlets, Ending::Usage);
+        }
     };
-    match ending_by(rt, words.as_slice(), outlets) {
-        Ok(ending) | Err(ending) => tell(rt, outlets, ending),
+    match ending_by(rt, words.as_slice(), recording) {
+        Ok(ending) | Err(ending) => tell(rt, &mut recording.outlets, ending),
+    }
+}
+
+// The outlets of the program, whose gateway captures nothing yet; none for want of memory.
+fn recording_of<R: AllocGlobal + Files + Clone + Drop>(rt: &R) -> Option<Recording<R>>
+where
+    R::File: AsRawFd,
+{
+    let outlets = open_outlets(rt)?;
+    match rt.clone() {
+        Ok(rt) => Some(Recording {
+            rt,
+            outlets,
+            files: None,
+        }),
+        Err(_) => None,
     }
 }
 
@@ -363,8 +383,8 @@ where
     R::File: AsRawFd,
 {
     let _held = hold_standard(rt, rt.alloc());
-    match open_outlets(rt) {
-        Some(mut outlets) => run_with(rt, &mut outlets),
+    match recording_of(rt) {
+        Some(mut recording) => run_with(rt, &mut recording),
         None => Ending::OutOfMemory.status(),
     }
 }

@@ -5,11 +5,11 @@ use live_journal::{Journal, Trace};
 use std::io::Write;
 use std::rt::Files;
 
-/// The outlets of a gateway, and the files of its capture, where that is parted.
+/// The outlets of a program, and the files of its gateway's capture, where that is parted; and what makes these.
 #[derive(Drop)]
-pub struct Recording<'r, R: Files> {
-    pub rt: &'r R,
-    pub outlets: &'r mut Outlets<R::File>,
+pub struct Recording<R: Files> {
+    pub rt: R,
+    pub outlets: Outlets<R::File>,
     pub files: Option<CaptureFiles>,
 }
 
@@ -58,12 +58,12 @@ fn turn_over<R: Files>(
     files.put(journal.capture.record.out.len());
 }
 
-impl<R: Files> Recorder<Trace> for Recording<'_, R> {
+impl<R: Files> Recorder<Trace> for Recording<R> {
     fn write(&mut self, journal: &mut Journal, trace: &mut Trace, time: u64) {
         if let Some(files) = &mut self.files {
-            turn_over(self.rt, files, &mut *self.outlets, journal);
+            turn_over(&self.rt, files, &mut self.outlets, journal);
         }
-        journal.write(trace, &mut *self.outlets, time);
+        journal.write(trace, &mut self.outlets, time);
     }
 
     fn is_offering(&self) -> bool {
