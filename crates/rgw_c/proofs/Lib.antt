@@ -1,3 +1,3 @@
 pub mod Computing
-pub mod Values
 pub mod Handles
+pub mod Boxing

@@ -3,7 +3,6 @@ ghost use Rattle.std.specs.Prelude.{◌≡◌, Option, Some, None, option_map};
 ghost use Rattle.rgw_c.specs.declared.instance.Instance.{Instance};
 
 use crate::instance::Instance;
-use crate::loose::Loose;
 use std::alloc::Global;
 use std::marker::Model;
 use std::mem::replace;
@@ -29,27 +28,23 @@ fn closed() -> Handle
     Handle { at: null_mut() }
 }
 
-// An open one.
-fn opened(loose: Loose<Instance, Global>) -> Handle
-    ensures { result.held ≡ Some loose.value }
+// An open one: from here on its word alone says where the instance is.
+fn opened(instance: Box<Instance>) -> Handle
+    ensures { result.held ≡ Some instance.value }
 {
-    let Loose { at, alloc: _ } = loose;
+    let at = Box::into_raw(instance);
     Handle { at: at as *mut u8 }
 }
 
-// What it holds.
-fn inside(handle: Handle, alloc: Global) -> Option<Loose<Instance, Global>>
-    ensures { option_map (λ l. l.value) result ≡ handle.held }
+// What one held that is used up.
+fn inside(handle: Handle, alloc: Global) -> Option<Box<Instance>>
+    ensures { option_map (λ b. b.value) result ≡ handle.held }
 {
     let Handle { at } = handle;
     if at.is_null() {
-        None
-    } else {
-        Some(Loose {
-            at: at as *mut Instance,
-            alloc,
-        })
+        return None;
     }
+    Some(unsafe { Box::from_raw(alloc, at as *mut Instance) })
 }
 
 /// Takes out what it holds; it is then closed.
@@ -57,17 +52,12 @@ pub fn take(handle: &mut Handle, alloc: Global) -> Option<Box<Instance>>
     ensures held { option_map (λ b. b.value) result ≡ handle.old.held }
     ensures closed { handle.new.held ≡ None }
 {
-    match inside(replace(handle, closed()), alloc) {
-        Some(loose) => Some(loose.into_box()),
-        None => None,
-    }
+    inside(replace(handle, closed()), alloc)
 }
 
 /// Puts an instance into it; what it held before is dropped.
 pub fn put(handle: &mut Handle, alloc: Global, instance: Box<Instance>)
     ensures { handle.new.held ≡ Some instance.value }
 {
-    if let Some(loose) = inside(replace(handle, opened(Loose::of(instance))), alloc) {
-        drop(loose.into_box());
-    }
+    drop(inside(replace(handle, opened(instance)), alloc));
 }

@@ -13,7 +13,6 @@ pub mod examples;
 mod handle;
 mod instance;
 mod lines;
-mod loose;
 mod numbers;
 mod opening;
 mod outputs;

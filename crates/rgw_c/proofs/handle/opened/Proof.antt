@@ -1,42 +1,59 @@
--- `opened` casts the pointer.
-use Rattle.std.proofs.Common.{◌≡◌, List, [], ◌∷◌, ◌++◌, refl, sym, subst}
+-- `opened` asks the box for its pointer.
+use Rattle.std.proofs.Common.{◌≡◌, ℕ, List, [], ◌∷◌, ◌++◌, refl, sym, subst}
 use mir.Val.{Val, vptr}
 use base.Logic.{SProp, ent, emp, id⊢}
 use base.Fml.{ftrue}
 use prog.Wp.{WpFn}
-use types.Kit.{‵, raw, ◌⊛◌, ◌$◌, ◌∵◌, !, qed, by, move, keep, split, fsplit, fjoin, suffices, use0}
-use types.Run.{stop, fld, of_opd, no_more, and_then, returns, enter}
-use types.ByLocal.{alloc_all, pass_all, free_all, look_at, get, get_in, sets}
-use types.Part.{agg, sub, whole}
+use types.Kit.{‵, raw, ◌⊛◌, some, later, given, ◌$◌, ◌∵◌, !, qed, by, move, keep, split, fsplit, fjoin, suffices, use0, use1, pick, learn, await}
+use types.Run.{of_opd, no_more, and_then, returns, enter}
+use types.ByLocal.{alloc_all, pass_all, free_all, look_at, get, sets, lands_as}
+use types.Part.{agg}
 use contract.Monad.{fact, fact_i}
 use contract.Running.{tables}
 use denote.Exit.{yes}
-use denote.RattleType.{RattleType, owns}
+use denote.RattleType.{owns}
 use denote.Signature.{types_at, plain}
 use denote.RawPtr.{block_ptr}
 use denote.Steps.{nothing}
+use denote.Triple.Call.{calls_at}
 use denote.Triple.Walked.{Stays, stay_dropped, walk_of, Goes-dropped}
+use Rattle.core.proofs.atomic.Steps.{fm}
 use Rattle.std.specs.Prelude.{Some}
-use Rattle.std.specs.contracts.impls.GlobalAllocator.TheImpl.{ghosts}
-use Rattle.std.proofs.alloc.Global.TheLaws as heap_laws
+use Rattle.std.specs.contracts.impls.GlobalAllocator.TheImpl.{ghosts, dict}
+use Rattle.std.proofs.impls.GlobalAllocator.TheImpl.Met as allocator
 use Rattle.std.proofs.raw_atomic.Walks.{proved_at, leaves}
-use Rattle.rgw_c.proofs.Values.{both, Loose, loose_good, loose_out}
-use Rattle.rgw_c.proofs.Handles.{R, Z, word, open_in}
+use Rattle.std_alloc.specs.Box.Ownership.{box_owns}
+use Rattle.std_alloc.proofs.boxed.Box.into_raw.Met.{met}
+use Rattle.rgw_c.specs.Held.{heap}
+use Rattle.rgw_c.proofs.Handles.{R, Held, word, open_in}
+use Rattle.rgw_c.proofs.Boxing.{Owner, owner_laws, one_value, R', Z', instance_laws', heap_laws', lets_heap, lets_instance, heap_goes, instance_goes, Raw, at_raw, raw_asks, raw_tells}
 use Rattle.rgw_c.specs.contracts.handle.opened.{ended, clauses}
 use Rattle.rgw_c.specs.contracts.handle.opened.Key.{name as #self}
 use Rattle.rgw_c.proofs.handle.opened.Statement.{statement}
 use Rattle.rgw_c.proofs.handle.opened.Code as code
 
+abbrev stayed : Stays ended.signature.params ended.kept
+stayed = (stay_dropped (plain (λ _. Owner)) yes, tt)
+
 pub opened_spec : {M : Type 1} → statement M
-opened_spec 𝓤 𝓛 𝓜 𝓡 wired =
-    let H = 𝓛.H in let 𝓣 = tables 𝓤 H 𝓜 𝓡 𝓡.env in let c = clauses 𝓛 𝓜.mem 𝓡.returns in let fn = code.function in let LZ = heap_laws.the_row_laws in let L : RattleType = Loose R Z LZ ghosts in
-    let hs : Stays ended.signature.params ended.kept = (stay_dropped (plain (λ _. L)) yes, tt) in
-    proved_at 𝓛 ended hs c 𝓜 𝓡 (Goes-dropped 𝓛 0 (plain (λ _. L)) yes (λ κs x f. refl), tt) #self fn (code.unfolded 𝓤 H 𝓜 𝓡 wired) (λ z are.
-    let Post : Val → SProp 𝓤 = (walk_of 𝓛 ended hs c).post z in let Run : List Val → SProp 𝓤 = λ ws. WpFn 𝓤 H 𝓣.C 𝓣.Λ fn ws Post in let v = z.0.3.0 in let a = v.alloc in
-    qed 𝓛 ((‵ ftrue ⊛ ‵ (owns (types_at ended.signature.params tt) z.0.3 z.0.4)) ∷ raw ((c tt z.0.3).requires z.1) ∷ []) ∵ split ! $ move ! (1 ∷ []) $ fsplit ! $ loose_out R Z LZ ghosts ! v z.0.4.0 (λ b o h e ws fits.
-    let w : Val = both (vptr b o) h in let typed = loose_good R Z LZ ghosts b o h fits in
-    suffices ! (Run (w ∷ [])) (subst (λ (us : List Val). ent 𝓤 (Run (w ∷ [])) (Run us)) (sym (λ i. ws i ++ [])) (id⊢ 𝓤 (Run (w ∷ [])))) $
-    enter ! 𝓣.C 𝓣.Λ fn (w ∷ []) Post $ alloc_all ! (λ l. pass_all ! refl (typed, tt) $
-    sets ! (of_opd ! (get_in ! (fld ! refl (stop !)) (sub ! 0 refl (whole !)))) refl (tt, tt) $ sets ! (of_opd ! (get ! refl)) refl (tt, tt) $ sets ! (agg ! (and_then ! (get ! refl) (no_more !))) refl (tt, (tt, tt)) $
-    open_in ! b o v.value $ use0 𝓛 (raw (fact 𝓤 (Some v.value ≡ Some v.value))) (fact_i 𝓤 (Some v.value ≡ Some v.value) (emp 𝓤) refl) $ nothing ! $ nothing ! $ nothing ! $ fjoin ! $
-    returns ! (look_at ! 0 refl) $ free_all ! refl $ keep ! (1 ∷ 0 ∷ 3 ∷ 2 ∷ []) $ by ! (leaves 𝓛 ended hs c z (word (vptr b o)) (record { at = block_ptr b o; held = Some v.value }) (tt, tt) (tt, tt)))))
+opened_spec {M = M} 𝓤 𝓛 𝓜 𝓡 wired =
+    let H = 𝓛.H in let 𝓣 = tables 𝓤 H 𝓜 𝓡 𝓡.env in let c = clauses 𝓛 𝓜.mem 𝓡.returns in let fn = code.function in
+    proved_at 𝓛 ended stayed c 𝓜 𝓡 (Goes-dropped 𝓛 0 (plain (λ _. Owner)) yes (λ κs x f. refl), tt) #self fn (code.unfolded 𝓤 H 𝓜 𝓡 wired) (λ z are.
+    let Post : Val → SProp 𝓤 = (walk_of 𝓛 ended stayed c).post z in let d = z.0.3.0 in
+    qed 𝓛 ((‵ ftrue ⊛ ‵ (owns (types_at ended.signature.params tt) z.0.3 z.0.4)) ∷ raw ((c tt z.0.3).requires z.1) ∷ []) ∵ split ! $ move ! (1 ∷ []) $ fsplit ! $
+    one_value ! Owner owner_laws d z.0.4.0 (λ w is good.
+    suffices ! (WpFn 𝓤 H 𝓣.C 𝓣.Λ fn (w ∷ []) Post) (subst (λ (us : List Val). ent 𝓤 (WpFn 𝓤 H 𝓣.C 𝓣.Λ fn (w ∷ []) Post) (WpFn 𝓤 H 𝓣.C 𝓣.Λ fn us Post)) (sym (λ i. is i ++ [])) (id⊢ 𝓤 _)) $
+    enter ! 𝓣.C 𝓣.Λ fn (w ∷ []) Post $ alloc_all ! (λ l. pass_all ! refl (good, tt) $
+    sets ! (of_opd ! (get ! refl)) refl good $ use1 𝓛 (raw ((Raw 𝓛 𝓜.mem 𝓡.returns).pre (at_raw 𝓛 𝓜.mem 𝓡.returns d w))) (raw_asks 𝓛 𝓜.mem 𝓡.returns d w) $
+    calls_at ! (fm 𝓛 𝓜 𝓡) (Raw 𝓛 𝓜.mem 𝓡.returns)
+    (met 𝓤 𝓛 𝓜 𝓡 (code.calls-std_alloc::boxed::Box::into_raw 𝓡.env wired) R' Z' instance_laws' heap_laws' ghosts dict lets_heap lets_instance
+    (allocator.passed 𝓡.env (code.calls-std_heap::GlobalAllocator::allocate 𝓡.env wired) (code.calls-std_heap::GlobalAllocator::deallocate 𝓡.env wired)
+    (code.calls-std_heap::GlobalAllocator::grow 𝓡.env wired) (code.calls-std_heap::GlobalAllocator::shrink 𝓡.env wired) M 𝓤 𝓛 𝓜 𝓡)
+    (heap_goes 𝓤 𝓛 𝓜 𝓡 (code.calls-rgw_c::Destruct++none::drop 𝓡.env wired)) (instance_goes 𝓤 𝓛 𝓜 𝓡 (code.calls-rgw_c::rgw_c++instance++Instance+Destruct::drop 𝓡.env wired)))
+    (at_raw 𝓛 𝓜.mem 𝓡.returns d w) (and_then ! (get ! refl) (no_more !)) (λ v.
+    use1 𝓛 (later (some (λ (b : ℕ). some (λ (o : ℕ). given (v ≡ vptr b o) (‵ (box_owns (ghosts.dealloc_token heap) R (block_ptr b o) d.value)))))) (raw_tells 𝓛 𝓜.mem 𝓡.returns d w v) $
+    await ! tt $ pick ! (λ b. pick ! (λ o. learn ! (λ at. lands_as ! at refl (tt, tt) $
+    sets ! (of_opd ! (get ! refl)) refl (tt, tt) $ sets ! (agg ! (and_then ! (get ! refl) (no_more !))) refl (tt, (tt, tt)) $ open_in ! b o d.value $
+    let h : Held.Denot = record { at = block_ptr b o; held = Some d.value } in
+    use0 𝓛 (raw (fact 𝓤 (h.held ≡ Some d.value))) (fact_i 𝓤 (h.held ≡ Some d.value) (emp 𝓤) refl) $ move ! (1 ∷ 0 ∷ []) $ returns ! (look_at ! 0 refl) $ free_all ! refl $
+    nothing ! $ nothing ! $ fjoin ! $ nothing ! $ keep ! (0 ∷ 1 ∷ 2 ∷ 3 ∷ []) $ by ! (leaves 𝓛 ended stayed c z (word (vptr b o)) h (tt, tt) (tt, tt)))))))))
