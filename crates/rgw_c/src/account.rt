@@ -1,8 +1,8 @@
 //! What is told of each message that was sent at the last event: its label.
-ghost use Rattle.std.specs.Prelude.{◌≡◌, ◌≢◌, length, IfSome};
+ghost use Rattle.std.specs.Prelude.{◌≡◌, ◌≢◌, length, slice_get, IfSome};
 ghost use Rattle.rgw_c.specs.Account.{verb_number, whose_number, line_of, what_number, code_of, verb_of};
 ghost use Rattle.rgw_c.specs.Account.{message_of, message_number, message_at};
-ghost use Rattle.rgw_c.specs.Telling.{open_number};
+ghost use Rattle.rgw_c.specs.Telling.{open_number, found_number};
 
 use crate::handle::{Handle, put, take};
 use crate::numbers::{NO_SUCH_PLACE, NOT_OPEN, OK};
@@ -91,6 +91,21 @@ pub extern "C" fn rgw_messages_nonnull(alloc: Global, handle: &mut Handle, count
     OK
 }
 
+// Tells a message of these, if there is one at the index.
+fn tell_message(sent: &[SentMessage], index: usize, message: &mut Message) -> u32
+    ensures number { result ≡ found_number (slice_get sent.now index) }
+    ensures message { IfSome (slice_get sent.now index) (λ found. message.new ≡ message_of found) }
+    ensures left { result ≢ OK → message.new ≡ message.old }
+{
+    match sent.get(index) {
+        Some(found) => {
+            *message = message_of(found);
+            OK
+        }
+        None => NO_SUCH_PLACE,
+    }
+}
+
 /// A message that the last event sent, by its index from 0, in their order.
 #[unsafe(no_mangle)]
 pub extern "C" fn rgw_message_nonnull(
@@ -107,13 +122,7 @@ pub extern "C" fn rgw_message_nonnull(
     let Some(instance) = take(handle, alloc) else {
         return NOT_OPEN;
     };
-    let number = match instance.gateway.sent().get(index) {
-        Some(sent) => {
-            *message = message_of(sent);
-            OK
-        }
-        None => NO_SUCH_PLACE,
-    };
+    let number = tell_message(instance.gateway.sent(), index, message);
     put(handle, alloc, instance);
     number
 }

@@ -6,7 +6,7 @@ ghost use Rattle.rgw_c.specs.Stepping.{source_at, TookIn, Stayed, EndsIn};
 
 use crate::acts::act_in;
 use crate::handle::{Handle, put, take};
-use crate::numbers::{BAD_ACT, NOT_OPEN, OK, number_of};
+use crate::numbers::{BAD_ACT, NOT_OPEN, OK};
 use gateway_core::Event;
 use std::alloc::Global;
 use std::net::{Ipv4Addr, SocketAddrV4};
@@ -26,10 +26,7 @@ fn step(alloc: Global, handle: &mut Handle, event: Event<'_>) -> u32
     let Some(mut instance) = take(handle, alloc) else {
         return NOT_OPEN;
     };
-    let number = match instance.step(event) {
-        Ok(()) => OK,
-        Err(refusal) => number_of(refusal),
-    };
+    let number = instance.step(event);
     put(handle, alloc, instance);
     number
 }

@@ -64,7 +64,7 @@ pub fn a_host_is_a_number()
 pub fn what_is_asked_in_vain_has_a_number()
     ensures closed { open_number None ≡ NOT_OPEN }
     ensures closed_first { line_number None 0 ≡ NOT_OPEN }
-    ensures place { found_number (Some 7) ≡ OK }
+    ensures place { found_number (Some acts.OffHook) ≡ OK }
     ensures no_place { message_number None 0 ≡ NOT_OPEN }
     ensures room { room_number (7 ∷ 8 ∷ []) 2 ≡ OK }
     ensures no_room { room_number (7 ∷ 8 ∷ []) 1 ≡ SMALL_BUFFER }

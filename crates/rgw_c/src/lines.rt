@@ -45,6 +45,19 @@ fn hook_number(hook: Hook) -> u32
     }
 }
 
+// Tells the hook state of a line, if there is such a line.
+fn tell_hook(gateway: &Gateway, line: u16, hook: &mut u32) -> u32
+    ensures number { result ≡ line_number_in gateway.now.setup line }
+    ensures hook { result ≡ OK → TellsOf gateway.now (λ _ m. option_map hook_number (hook_of m line) ≡ Some hook.new) }
+    ensures left { result ≢ OK → hook.new ≡ hook.old }
+{
+    if line >= 1 && line <= gateway.lines() {
+        *hook = hook_number(gateway.hook(line));
+        return OK;
+    }
+    NO_SUCH_LINE
+}
+
 /// The hook state of a line, from 1: 0 on hook, 1 off hook.
 #[unsafe(no_mangle)]
 pub extern "C" fn rgw_hook_nonnull(
@@ -61,14 +74,22 @@ pub extern "C" fn rgw_hook_nonnull(
     let Some(instance) = take(handle, alloc) else {
         return NOT_OPEN;
     };
-    let number = if line >= 1 && line <= instance.gateway.lines() {
-        *hook = hook_number(instance.gateway.hook(line));
-        OK
-    } else {
-        NO_SUCH_LINE
-    };
+    let number = tell_hook(&instance.gateway, line, hook);
     put(handle, alloc, instance);
     number
+}
+
+// Tells how many events of a line found no room, if there is such a line.
+fn tell_lost(gateway: &Gateway, line: u16, lost: &mut u64) -> u32
+    ensures number { result ≡ line_number_in gateway.now.setup line }
+    ensures lost { result ≡ OK → TellsOf gateway.now (λ _ m. lost_of m line ≡ Some lost.new) }
+    ensures left { result ≢ OK → lost.new ≡ lost.old }
+{
+    if line >= 1 && line <= gateway.lines() {
+        *lost = gateway.lost(line);
+        return OK;
+    }
+    NO_SUCH_LINE
 }
 
 /// How many events of a line, from 1, found no room in its quarantine (RFC 3435, 4.4.1).
@@ -87,12 +108,7 @@ pub extern "C" fn rgw_lost_nonnull(
     let Some(instance) = take(handle, alloc) else {
         return NOT_OPEN;
     };
-    let number = if line >= 1 && line <= instance.gateway.lines() {
-        *lost = instance.gateway.lost(line);
-        OK
-    } else {
-        NO_SUCH_LINE
-    };
+    let number = tell_lost(&instance.gateway, line, lost);
     put(handle, alloc, instance);
     number
 }

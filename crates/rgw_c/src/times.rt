@@ -8,6 +8,7 @@ ghost use Rattle.rgw_c.specs.Telling.{open_number, due_number};
 
 use crate::handle::{Handle, put, take};
 use crate::numbers::{NOT_OPEN, NOTHING_DUE, OK};
+use gateway_core::Gateway;
 use std::alloc::Global;
 
 /// The moment of the last tick that was taken, in ms; 0 before any.
@@ -27,6 +28,23 @@ pub extern "C" fn rgw_now_nonnull(alloc: Global, handle: &mut Handle, moment: &m
     OK
 }
 
+// Tells when something falls due next at a gateway, if anything does.
+fn tell_due(gateway: &Gateway, moment: &mut u64) -> u32
+    ensures number { (events : List GatewayEvent) → Stands gateway.now events →
+        result ≡ due_number (option_map (λ item. item.moment) (first_due (plain gateway.now.setup events).endpoints)) }
+    ensures due { result ≡ OK → (events : List GatewayEvent) → Stands gateway.now events →
+        option_map (λ item. item.moment) (first_due (plain gateway.now.setup events).endpoints) ≡ Some moment.new }
+    ensures left { result ≢ OK → moment.new ≡ moment.old }
+{
+    match gateway.next_due() {
+        Some(due) => {
+            *moment = due;
+            OK
+        }
+        None => NOTHING_DUE,
+    }
+}
+
 /// The moment, in ms, at which something falls due next. Until then no tick does anything but move the clock.
 #[unsafe(no_mangle)]
 pub extern "C" fn rgw_next_due_nonnull(alloc: Global, handle: &mut Handle, moment: &mut u64) -> u32
@@ -41,13 +59,7 @@ pub extern "C" fn rgw_next_due_nonnull(alloc: Global, handle: &mut Handle, momen
     let Some(instance) = take(handle, alloc) else {
         return NOT_OPEN;
     };
-    let number = match instance.gateway.next_due() {
-        Some(due) => {
-            *moment = due;
-            OK
-        }
-        None => NOTHING_DUE,
-    };
+    let number = tell_due(&instance.gateway, moment);
     put(handle, alloc, instance);
     number
 }
