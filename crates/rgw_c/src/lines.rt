@@ -6,7 +6,7 @@ ghost use Rattle.plain_machine.specs.Lists.{plain};
 ghost use Rattle.gateway_core.specs.Stands.{Stands};
 ghost use Rattle.connections.specs.Codecs.{listed};
 ghost use Rattle.rgw_c.specs.LineTelling.{TellsOf, Tells, at_index, hook_number, signal_number, signal_of, mode_number};
-ghost use Rattle.rgw_c.specs.LineTelling.{first_payload, last_payload, local_port, connection_of};
+ghost use Rattle.rgw_c.specs.LineTelling.{first_payload, last_payload, local_port, remote_known, remote_host, remote_port, connection_of};
 ghost use Rattle.rgw_c.specs.Telling.{open_number, line_number_in, line_number};
 
 use crate::handle::{Handle, put, take};
@@ -17,6 +17,7 @@ use gateway_core::Gateway;
 use mg_line::Hook;
 use mg_packages::Signal;
 use plain_machine::Setup;
+use sdp_subset::Session;
 use signals::ActiveSignal;
 use std::alloc::Global;
 
@@ -235,16 +236,25 @@ fn port_of(setup: &Setup, line: u16, place: u16) -> u16
     (port % 65_536) as u16
 }
 
+// Whether it is known where a connection sends, the host and the port.
+fn remote_of(remote: &Option<Session>) -> (u16, u32, u16)
+    ensures known { result.0 ≡ remote_known remote.now }
+    ensures host { result.1 ≡ remote_host remote.now }
+    ensures port { result.2 ≡ remote_port remote.now }
+{
+    match remote {
+        Some(session) => (1, session.address.to_bits(), session.port),
+        None => (0, 0, 0),
+    }
+}
+
 // The connection at a place of a line.
 fn connection_of(setup: &Setup, line: u16, place: u16, connection: &Connection) -> ConnectionTold
     requires { 1 ≤ line }
     ensures { result ≡ connection_of setup.now line place connection.now }
 {
     let (payloads, first_payload, last_payload) = payloads_of(connection.codecs.in_force);
-    let (is_remote_known, remote_host, remote_port) = match &connection.remote {
-        Some(session) => (1, session.address.to_bits(), session.port),
-        None => (0, 0, 0),
-    };
+    let (is_remote_known, remote_host, remote_port) = remote_of(&connection.remote);
     ConnectionTold {
         number: connection.number,
         local_host: setup.media_address.to_bits(),
