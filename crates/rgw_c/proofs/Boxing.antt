@@ -78,6 +78,14 @@ lets_heap = impl ("rgw_c::Destruct++none::drop" ∷ []) (tcons (layout Z') tnil)
 abbrev pub lets_instance : Dict
 lets_instance = impl ("rgw_c::rgw_c++instance++Instance+Destruct::drop" ∷ []) tnil dnil
 
+-- what a call asks of the lifetimes of two types: these reach nothing, and are alive always
+module _ {M : Type 1} {𝓤 : Ura M} where
+  abbrev Within : Item 𝓤 → Item 𝓤
+  Within P = raw (fact 𝓤 ([] ⊑ [])) ⊛ raw (fact 𝓤 ([] ⊑ [])) ⊛ P
+
+  abbrev Alive : Item 𝓤
+  Alive = ‵ (flft [] full_share) ⊛ ‵ (flft [] full_share) ⊛ ‵ ftrue
+
 module _ {M : Type 1} {𝓤 : Ura M} {𝓛 : Logic 𝓤} {K : Type 0} {Γ : List (Item 𝓤)} {G : Goal 𝓤 𝓛.H} where
   pub one_value : K → (X : RattleType) → Laws X → (x : X.Denot) (vs : List Val)
       → ((v : Val) → vs ≡ v ∷ [] → Good (layout X) v → Seq K 𝓛 (‵ (X.own_val x (v ∷ [])) ∷ Γ) G)
@@ -85,16 +93,9 @@ module _ {M : Type 1} {𝓤 : Ura M} {𝓛 : Logic 𝓤} {K : Type 0} {Γ : List
   one_value t X L = let some_dict : Dict = impl [] tnil dnil in
       handle_tells (record { row = X; laws = L; g = record { dealloc_token = λ a τ p. ftrue }; d = some_dict; drops = some_dict }) t
 
-  -- both types live as long as anything
-  abbrev pub Within : Item 𝓤 → Item 𝓤
-  Within P = raw (fact 𝓤 ([] ⊑ [])) ⊛ raw (fact 𝓤 ([] ⊑ [])) ⊛ P
-
   within : K → (P : Item 𝓤) → Step K 𝓛 (Within P ∷ Γ) G (P ∷ Γ) G
   within t P = step (λ s. let always = fact_i 𝓤 ([] ⊑ []) (emp 𝓤) (⊑_refl []) in
       use0 𝓛 (raw (fact 𝓤 ([] ⊑ []))) always $ join t $ use0 𝓛 (raw (fact 𝓤 ([] ⊑ []))) always $ join t $ s)
-
-  abbrev pub Alive : Item 𝓤
-  Alive = ‵ (flft [] full_share) ⊛ ‵ (flft [] full_share) ⊛ ‵ ftrue
 
   alive : K → Step K 𝓛 (Alive ∷ Γ) G Γ G
   alive t = step (λ s. let token = 𝓛.lfts.lft-nil full_share in

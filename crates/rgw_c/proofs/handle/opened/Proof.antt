@@ -4,7 +4,7 @@ use mir.Val.{Val, vptr}
 use base.Logic.{SProp, emp}
 use base.Fml.{ftrue}
 use prog.Wp.{WpFn}
-use types.Kit.{‵, raw, ◌⊛◌, some, later, given, prop, ◌$◌, ◌∵◌, !, qed, by, move, keep, split, fsplit, fjoin, regoal, use0, use1}
+use types.Kit.{Item, ‵, raw, ◌⊛◌, some, later, given, prop, ◌$◌, ◌∵◌, !, qed, by, move, keep, split, fsplit, fjoin, regoal, use0, use1}
 use types.Kit.{pick, learn, await}
 use types.Run.{of_opd, no_more, and_then, returns, enter}
 use types.ByLocal.{alloc_all, pass_all, free_all, look_at, get, sets, lands_as}
@@ -56,7 +56,7 @@ opened_spec {M = M} 𝓤 𝓛 𝓜 𝓡 wired =
     (heap_goes 𝓤 𝓛 𝓜 𝓡 (code.calls-rgw_c::Destruct++none::drop 𝓡.env wired))
     (instance_goes 𝓤 𝓛 𝓜 𝓡 (code.calls-rgw_c::rgw_c++instance++Instance+Destruct::drop 𝓡.env wired)))
     y (and_then ! (get ! refl) (no_more !)) (λ v.
-    let there = λ b o. ‵ (held_at (block_ptr b o) (Some d.value)) in
+    let there : ℕ → ℕ → Item 𝓤 = λ b o. ‵ (held_at (block_ptr b o) (Some d.value)) in
     use1 𝓛 (later (some (λ (b : ℕ). some (λ (o : ℕ). given (v ≡ vptr b o) (there b o))))) (raw_tells 𝓛 𝓜.mem 𝓡.returns d w v) $
     await ! tt $ pick ! (λ b. pick ! (λ o. learn ! (λ at. lands_as ! at refl (tt, tt) $ sets ! (of_opd ! (get ! refl)) refl (tt, tt) $
     sets ! (agg ! (and_then ! (get ! refl) (no_more !))) refl (tt, (tt, tt)) $ held_in ! (block_ptr b o) (Some d.value) $
