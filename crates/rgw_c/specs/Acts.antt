@@ -1,5 +1,5 @@
 -- The acts at a telephone, as C numbers them: three of the hook, and each key by its sign.
-use Rattle.std.specs.Prelude.{ℕ, ◌==◌, if◌then◌else◌, Option, Some, None, option_map}
+use Rattle.std.specs.Prelude.{ℕ, ◌==◌, if◌then◌else◌, Option, Some, option_map}
 use Rattle.mg_line.specs.declared.phone.Act.{Act}
 use Rattle.mg_line.specs.declared.phone.Act.TheVariants as acts
 use Rattle.rgw_scripts.specs.Script.{key_with}

@@ -1,5 +1,5 @@
 -- What is told of a line, in numbers.
-use Rattle.std.specs.Prelude.{◌≡◌, ℕ, ◌+◌, ◌*◌, ◌%◌, List, length, Option, Some, None, option_map, slice_get, ⊤}
+use Rattle.std.specs.Prelude.{ℕ, ◌+◌, ◌*◌, ◌%◌, List, length, Option, Some, None, slice_get, ⊤}
 use Rattle.std.specs.Net.Addr.{ipv4_bits}
 use Rattle.mg_packages.specs.declared.hook.Hook.{Hook}
 use Rattle.mg_packages.specs.declared.hook.Hook.TheVariants.{OnHook, OffHook}
@@ -7,7 +7,6 @@ use Rattle.mg_packages.specs.declared.signal.Signal.{Signal}
 use Rattle.mg_packages.specs.declared.signal.Signal.TheVariants.{DialTone, Busy, Reorder, Ringing, RingSplash, MessageWaiting, Ringback, Congestion, Confirm}
 use Rattle.signals.specs.declared.active.ActiveSignal.{ActiveSignal}
 use Rattle.sdp_subset.specs.declared.session.Session.{Session}
-use Rattle.connections.specs.declared.codec.Codec.{Codec}
 use Rattle.connections.specs.declared.codec.Codecs.{Codecs}
 use Rattle.connections.specs.declared.codec.Codecs.TheVariants.{Only, Both}
 use Rattle.connections.specs.declared.mode.Mode.{Mode}
