@@ -79,6 +79,8 @@ def scenarios_of(text: str) -> list[tuple[str, list[str]]]:
         title, *lines = part.split("\n")
         lines = [out for line in lines[:-1] for out in put_in(line)]
         if title.startswith("piece "):
+            while lines and not lines[-1]:
+                lines.pop()
             pieces[title[6:]] = lines
         else:
             found.append((title, lines))
