@@ -7,7 +7,13 @@ from scenarios import play_folder
 DATA = Path(__file__).resolve().parent.parent.parent / "crates" / "cases" / "data"
 
 
+def titles() -> int:
+    """How many scenarios the files of this kind have."""
+    lines = [path.read_text().split("\n") for path in DATA.glob("*.txt")]
+    return sum(line.startswith("= ") and not line.startswith("= piece ") for text in lines if text[0] == "scripts" for line in text)
+
+
 def test_all_are_as_told() -> None:
     played, left, failures = play_folder(DATA)
     assert failures == []
-    assert played > 800 and sum(left.values()) < 10
+    assert played + sum(left.values()) == titles() and sum(left.values()) < 10
