@@ -2,6 +2,7 @@
 ghost use Rattle.std.specs.Prelude.{◌≡◌, ◌≢◌, ◌≤◌, length, take, nat_lt, if◌then◌else◌};
 
 use crate::numbers::{OK, SMALL_BUFFER};
+use c_buffers::lacks_room;
 
 /// Copies a text to the start of a buffer, if it fits, and says how long it is, also where it doesn't: then the buffer is as it was.
 pub fn copy_out(text: &[u8], buffer: &mut [u8], needed: &mut usize) -> u32
@@ -12,10 +13,9 @@ pub fn copy_out(text: &[u8], buffer: &mut [u8], needed: &mut usize) -> u32
     ensures copied { result ≡ OK → take (length text.now) buffer.new ≡ text.now }
     ensures left { result ≢ OK → buffer.new ≡ buffer.old }
 {
-    *needed = text.len();
-    if text.len() > buffer.len() {
-        return SMALL_BUFFER;
+    if lacks_room(text, buffer, needed) {
+        SMALL_BUFFER
+    } else {
+        OK
     }
-    buffer[..text.len()].copy_from_slice(text);
-    OK
 }
