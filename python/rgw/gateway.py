@@ -188,6 +188,7 @@ class Gateway:
             self.close()
 
     def _call(self, name: str, *words: object) -> int:
+        """The number that an export answers: 0 where it went well, since it is false."""
         if threading.get_ident() != self._thread:
             raise Closed(Number.NOT_OPEN, "it is another thread's")
         number: int = CALLS[name](self._at, *words)
@@ -195,7 +196,7 @@ class Gateway:
 
     def _ask(self, name: str, *words: object) -> None:
         number = self._call(name, *words)
-        if number != Number.OK:
+        if number:
             raise raised(number)
 
     def _finds(self, name: str, *words: object) -> bool:
@@ -270,8 +271,8 @@ class Gateway:
         info, needed = OutputInfo(), self._needed
         while True:
             number = self._call("output", index, byref(info), self._buffer, len(self._buffer), byref(needed))
-            if number == Number.OK:
-                return Output(info.moment, Address(_host(info.host), info.port), self._buffer.raw[: needed.value])
+            if not number:
+                return Output(info.moment, Address(_host(info.host), info.port), self._buffer[: needed.value])
             if number != Number.SMALL_BUFFER:
                 raise raised(number)
             self._buffer = create_string_buffer(needed.value)
