@@ -206,6 +206,7 @@ impl Site {
         ensures accepting { self.new.may_accept ≡ self.old.may_accept }
         ensures address { self.new.address ≡ self.old.address }
         ensures listener { self.new.listener ≡ self.old.listener }
+        ensures names { self.new.names ≡ self.old.names }
     {
         for place in self.places.iter_mut() {
             if is_late(place, now) {
