@@ -1,4 +1,5 @@
 //! What the log says of a network that spoils what goes over it, or takes nothing.
+ghost use Rattle.std.specs.Prelude.{◌≡◌};
 ghost use Rattle.exchange_log.specs.Pausing.{pause_line};
 ghost use Rattle.live_journal.specs.Recording.{Records};
 
@@ -54,7 +55,10 @@ impl Log {
     /// The program was stopped and went on so much later than it was to, in ms, and so many datagrams had come, where that is known.
     #[tactic(auto, using(crate::proofs::RecordLemmas::puts_text, crate::proofs::RecordLemmas::puts_nothing, crate::proofs::RecordLemmas::refuses))]
     pub fn pause(&mut self, now: Now, lateness: u64, read: Option<u64>)
-        ensures { Records self.old.record (pause_line now.time lateness read) self.new.record }
+        ensures puts { Records self.old.record (pause_line now.time lateness read) self.new.record }
+        ensures moments { (self.new.sent ≡ self.old.sent) × (self.new.came ≡ self.old.came) × (self.new.arrival ≡ self.old.arrival) }
+        ensures rest { (self.new.domain ≡ self.old.domain) × (self.new.own ≡ self.old.own)
+            × (self.new.messages ≡ self.old.messages) × (self.new.quiet ≡ self.old.quiet) }
     {
         if !self.record.is_on() {
             return;
