@@ -126,7 +126,7 @@ fn exchange_of(
     boxed(alloc, Exchange::new(around, network, journal, now))
 }
 
-// Who may speak to a gateway, and who may type.
+// Whom a gateway hears, and who may type.
 fn admission_of(
     alloc: Global,
     words: &mut Words,
@@ -138,6 +138,7 @@ fn admission_of(
     };
     Ok(Admission {
         speakers,
+        own: words.own,
         are_phones_open: words.are_phones_open,
     })
 }

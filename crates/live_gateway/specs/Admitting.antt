@@ -1,13 +1,16 @@
--- Who may speak to a gateway where no word says it, and who types.
-use Rattle.std.specs.Prelude.{Bool, ◌&&◌, not, if◌then◌else◌, List}
-use Rattle.std.specs.List.{fold}
+-- Who may speak to a gateway where no word says it, whom it hears, and who types.
+use Rattle.std.specs.Prelude.{ℕ, Bool, ◌&&◌, ◌||◌, ◌==◌, not, if◌then◌else◌, List, [], ◌∷◌, nat_eq, bytes_eq}
+use Rattle.std.specs.List.{fold, list_any, starts_with}
+use Rattle.std.specs.Net.Addr.{ipv4_octets}
 use Rattle.std.specs.declared.net.ipv4_addr.Ipv4Addr.{Ipv4Addr}
 use Rattle.std.specs.declared.net.socket_addr.SocketAddrV4.{SocketAddrV4}
 use Rattle.endpoint_names.specs.declared.route.Route.{Route}
 use Rattle.endpoint_names.specs.declared.table.Host.{Host}
 use Rattle.endpoint_names.specs.Route.{addresses, each_with}
 use Rattle.plain_machine.specs.declared.setup.Setup.{Setup}
-use Rattle.surroundings.specs.Speaking.{Admitted, nobody, with_host}
+use Rattle.surroundings.specs.Requests.{is_anywhere}
+use Rattle.surroundings.specs.Speaking.{Admitted, nobody, with_host, admitted_by, may_speak}
+use Rattle.live_gateway.specs.declared.admission.Admission.{Admission}
 use Rattle.live_gateway.specs.declared.telephones.Typist.{Typist}
 use Rattle.live_gateway.specs.declared.telephones.Typist.TheVariants.{Here, Elsewhere, Stranger}
 
@@ -27,6 +30,30 @@ with_named admitted host = with_hosts admitted (addresses host.route)
 -- the agent that it reports to, and all hosts that its configuration names, each with all its addresses, from any port
 unfoldable pub known_to : Setup → Admitted
 known_to setup = fold with_named (with_hosts nobody (addresses (hosts_of setup.agent.route))) setup.names.table
+
+-- Whom it hears
+
+-- no other machine can send from these addresses, 127.0.0.0/8 (RFC 1122, 3.2.1.3)
+abbrev pub is_loopback : List ℕ → Bool
+is_loopback octets = starts_with nat_eq octets (127 ∷ [])
+
+-- the host of a socket is at this address: at its own; or where it listens at each address of its machine, at one that no other machine
+-- has. Whether another address is its machine's can't be told.
+abbrev pub is_at : List ℕ → List ℕ → Bool
+is_at own sender = bytes_eq own sender || (is_anywhere own && is_loopback sender)
+
+-- what has this sender came from the socket here, as far as an address tells
+abbrev pub is_sent_by : SocketAddrV4 → SocketAddrV4 → Bool
+is_sent_by sender own = own.port == sender.port && is_at (ipv4_octets own.ip) (ipv4_octets sender.ip)
+
+-- it came from one of these sockets
+abbrev pub is_its_own : List SocketAddrV4 → SocketAddrV4 → Bool
+is_its_own own sender = list_any (is_sent_by sender) own
+
+-- it hears nothing that came from its own sockets, so that it never answers itself; of others it hears who may speak
+abbrev pub is_heard : Admission → SocketAddrV4 → Bool
+is_heard admission source =
+    not (is_its_own admission.own source) && may_speak (admitted_by admission.speakers) source.ip
 
 -- Who types
 

@@ -1,9 +1,9 @@
-//! Who may speak to a gateway, and who may type.
+//! Who may speak to a gateway, whom it hears, and who may type.
 ghost use Rattle.std.specs.Prelude.{◌≡◌, OnOk, IfOk};
 ghost use Rattle.std.specs.List.{fold};
 ghost use Rattle.endpoint_names.specs.Route.{addresses};
 ghost use Rattle.surroundings.specs.Speaking.{admitted_by};
-ghost use Rattle.live_gateway.specs.Admitting.{with_hosts, hosts_of, with_named, known_to};
+ghost use Rattle.live_gateway.specs.Admitting.{with_hosts, hosts_of, with_named, known_to, is_loopback, is_at, is_sent_by, is_its_own, is_heard};
 
 use endpoint_names::{Host, Route};
 use plain_machine::Setup;
@@ -11,11 +11,58 @@ use std::alloc::{AllocError, Global};
 use std::net::{Ipv4Addr, SocketAddrV4};
 use surroundings::Speakers;
 
-/// Who may speak to a gateway, and whether its telephones are open to other machines.
+/// Whom a gateway hears, and whether its telephones are open to other machines.
 #[derive(Drop)]
 pub struct Admission {
+    /// Who may speak to it.
     pub speakers: Speakers,
+    /// The addresses of its own sockets, from which it hears nothing.
+    pub own: [SocketAddrV4; 2],
     pub are_phones_open: bool,
+}
+
+// Whether no other machine can send from this address, 127.0.0.0/8 (RFC 1122, 3.2.1.3).
+fn is_loopback(octets: &[u8]) -> bool
+    ensures { result ≡ is_loopback octets.now }
+{
+    octets.starts_with([127u8].as_slice())
+}
+
+// Whether the host of a socket here is at this address, as far as that can be told.
+fn is_at(own: &[u8], sender: &[u8]) -> bool
+    ensures { result ≡ is_at own.now sender.now }
+{
+    own == sender || (own == [0u8, 0, 0, 0].as_slice() && is_loopback(sender))
+}
+
+// Whether what has this sender came from the socket here.
+fn is_sent_by(sender: SocketAddrV4, own: SocketAddrV4) -> bool
+    ensures { result ≡ is_sent_by sender own }
+{
+    let here = own.ip().octets();
+    let there = sender.ip().octets();
+    own.port() == sender.port() && is_at(here.as_slice(), there.as_slice())
+}
+
+// Whether what has this sender came from one of these sockets.
+fn is_its_own(own: &[SocketAddrV4], sender: SocketAddrV4) -> bool
+    ensures { result ≡ is_its_own own.now sender }
+{
+    for socket in own {
+        if is_sent_by(sender, *socket) {
+            return true;
+        }
+    }
+    false
+}
+
+impl Admission {
+    /// Whether a datagram that has this sender is heard: who sent it may speak, and it isn't the gateway itself.
+    pub fn hears(&self, source: SocketAddrV4) -> bool
+        ensures { result ≡ is_heard self.now source }
+    {
+        !is_its_own(&self.own, source) && self.speakers.hears(*source.ip())
+    }
 }
 
 // Whoever has one of these addresses may speak too.

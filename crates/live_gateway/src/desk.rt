@@ -33,7 +33,7 @@ pub struct Desk<S, T> {
     pub play: Box<LivePlay<T>>,
     pub exchange: Box<Exchange<S>>,
     pub lines: Box<Lines>,
-    // Who may speak to it, and who may type.
+    // Whom it hears, and who may type.
     admission: Admission,
     // Whether the line that is left is the page's.
     is_of_page: bool,
@@ -193,14 +193,14 @@ impl<S: Surroundings + Drop, T: Teller + Drop> Desk<S, T> {
         }
     }
 
-    // A datagram is taken, if one is there, and who sent it may speak.
+    // A datagram is taken, if one is there, and who sent it is heard.
     #[tactic(auto, using(crate::proofs::DeskLemmas::stays_so, crate::proofs::DeskLemmas::hears))]
     fn datagram(&mut self)
         ensures { GoesOn T.told S.sent self.old self.new }
     {
         let mut room = [0u8; DATAGRAM_ROOM];
-        let speakers = &self.admission.speakers;
-        let Some((source, len)) = self.exchange.receive(speakers, &mut room) else {
+        let admission = &self.admission;
+        let Some((source, len)) = self.exchange.receive(admission, &mut room) else {
             return;
         };
         let done = self

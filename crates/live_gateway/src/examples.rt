@@ -5,12 +5,13 @@ ghost use Rattle.std.specs.Prelude.{◌≡◌, ℕ, codes, true, false, [], ◌�
 ghost use Rattle.endpoint_names.specs.declared.route.Route.TheVariants.{One, Two};
 ghost use Rattle.mg_line.specs.declared.phone.Act.TheVariants.{OffHook};
 ghost use Rattle.live_journal.specs.declared.reporting.Faults.{Faults};
-ghost use Rattle.surroundings.specs.Speaking.{nobody, may_speak};
+ghost use Rattle.surroundings.specs.Speaking.{nobody, may_speak, admitted_by};
 ghost use Rattle.live_gateway.specs.declared.telephones.Typist.TheVariants.{Here, Elsewhere, Stranger};
 ghost use Rattle.live_gateway.specs.declared.telephones.TelephoneRequest.TheVariants.{Act, Show, Counts, Stop, StopFromAfar, Refused, Unknown};
-ghost use Rattle.live_gateway.specs.Admitting.{with_hosts, hosts_of, with_named, typist_of};
+ghost use Rattle.live_gateway.specs.declared.admission.Admission.{Admission};
+ghost use Rattle.live_gateway.specs.Admitting.{with_hosts, hosts_of, with_named, is_its_own, is_heard, typist_of};
 ghost use Rattle.live_gateway.specs.Asking.{request_in};
-ghost use Rattle.live_gateway.specs.Example.{host, at_port};
+ghost use Rattle.live_gateway.specs.Example.{host, at_port, looped, anywhere, sockets};
 ghost use Rattle.live_gateway.specs.declared.exchange.Exchange.{Exchange};
 ghost use Rattle.live_gateway.specs.Exchanging.{faultless, with_refused, with_unreceived, IsSameTurn};
 
@@ -58,6 +59,28 @@ pub fn each_address_of_a_host_may_speak()
     ensures named { may_speak (with_named (with_hosts nobody (host 7 ∷ [])) (record { name = []; route = Two (host 8) (host 9) })) (host 9) ≡ true }
     ensures still { may_speak (with_named (with_hosts nobody (host 7 ∷ [])) (record { name = []; route = One (host 8) })) (host 7) ≡ true }
     ensures portless { hosts_of (Two (at_port 7 2727) (at_port 8 2728)) ≡ Two (host 7) (host 8) }
+{}
+
+/// A gateway never hears itself: what has the address and the port of one of its sockets came from there. Of others it hears who may
+/// speak.
+pub fn a_gateway_never_hears_itself()
+    ensures itself { (admission : Admission) → is_heard (record admission { own = sockets }) (at_port 5 2427) ≡ false }
+    ensures telephones { (admission : Admission) → is_heard (record admission { own = sockets }) (at_port 5 2428) ≡ false }
+    ensures other_port { (admission : Admission) → is_heard (record admission { own = sockets }) (at_port 5 2727)
+        ≡ may_speak (admitted_by admission.speakers) (host 5) }
+    ensures other_host { (admission : Admission) → is_heard (record admission { own = sockets }) (at_port 7 2427)
+        ≡ may_speak (admitted_by admission.speakers) (host 7) }
+    ensures nothing { is_its_own [] (at_port 5 2427) ≡ false }
+{}
+
+/// A socket at each address of a machine has sent what has its port and an address that no other machine has; who has another address
+/// may be an agent at the same port.
+pub fn a_socket_at_each_address_sends_from_the_loopback()
+    ensures first { is_its_own (anywhere 2427 ∷ []) (looped 1 2427) ≡ true }
+    ensures another { is_its_own (anywhere 2427 ∷ []) (looped 9 2427) ≡ true }
+    ensures other_port { is_its_own (anywhere 2427 ∷ []) (looped 1 2727) ≡ false }
+    ensures an_agent { is_its_own (anywhere 2427 ∷ []) (at_port 7 2427) ≡ false }
+    ensures at_one { is_its_own sockets (looped 1 2427) ≡ false }
 {}
 
 /// Who is at this machine may type anything; who isn't is a stranger, unless the telephones are open; nobody is the page.

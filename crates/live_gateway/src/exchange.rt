@@ -2,9 +2,10 @@
 ghost use Rattle.std.specs.Prelude.{◌≡◌, ◌≤◌, ◌∷◌, ◌⊎◌, [], true, false, length, List, Option, IfSome};
 ghost use Rattle.gateway_core.specs.Wire.{counted};
 ghost use Rattle.surroundings.specs.Sending.{Sent, Grows};
-ghost use Rattle.surroundings.specs.Speaking.{admitted_by, may_speak};
+ghost use Rattle.live_gateway.specs.Admitting.{is_heard};
 ghost use Rattle.live_gateway.specs.Exchanging.{handed_by, next_due, faultless, with_refused, with_unreceived, IsSameTurn};
 
+use crate::admission::Admission;
 use crate::spoilt_way::SpoiltWay;
 use crate::visitors::Visitors;
 use bad_network::{Fate, Packet, Way};
@@ -14,7 +15,7 @@ use live_ends::{NEXT_OFFER, Now};
 use live_journal::{Faults, Journal, count};
 use live_play::Outlet;
 use std::net::SocketAddrV4;
-use surroundings::{Fault, Lines, Speakers, Surroundings};
+use surroundings::{Fault, Lines, Surroundings};
 use traces::Mark;
 
 /// The way between a gateway and others, and what is kept of what went over it.
@@ -219,32 +220,36 @@ impl<S: Surroundings + Drop> Exchange<S> {
         len
     }
 
-    // Whether who sent a datagram that has come may speak; one of a stranger's is counted, and told of now and then.
-    fn is_heard(&mut self, speakers: &Speakers, source: SocketAddrV4) -> bool
-        ensures heard { result ≡ may_speak (admitted_by speakers.now) source.ip }
+    // Whether a datagram that has come is heard; another one is a stranger's, which is counted, and told of now and then.
+    fn is_heard(&mut self, admission: &Admission, source: SocketAddrV4) -> bool
+        ensures heard { result ≡ is_heard admission.now source }
         ensures network { self.new.network ≡ self.old.network }
         ensures around { self.new.around ≡ self.old.around }
     {
-        let is_heard = speakers.hears(*source.ip());
-        if !is_heard {
+        let is_taken = admission.hears(source);
+        if !is_taken {
             self.journal.stranger(self.now, source);
         }
-        is_heard
+        is_taken
     }
 
-    // A datagram that the network hands to the gateway now, if there is one, from who may speak. Those that go out now are sent; one that
+    // A datagram that the network hands to the gateway now, if there is one, from who is heard. Those that go out now are sent; one that
     // can't be is lost.
-    fn handed_over(&mut self, speakers: &Speakers, room: &mut [u8]) -> Option<(SocketAddrV4, usize)>
+    fn handed_over(
+        &mut self,
+        admission: &Admission,
+        room: &mut [u8],
+    ) -> Option<(SocketAddrV4, usize)>
         ensures length { length room.new ≡ length room.old }
         ensures within { IfSome result (λ p. p.1 ≤ length room.new) }
-        ensures admitted { IfSome result (λ p. may_speak (admitted_by speakers.now) p.0.ip ≡ true) }
+        ensures admitted { IfSome result (λ p. is_heard admission.now p.0 ≡ true) }
         ensures handed { handed_by self.new.network (S.sent self.new.around) ≡ handed_by self.old.network (S.sent self.old.around) }
     {
         for _ in 0..u16::MAX {
             let packet = self.take_due()?;
             if packet.way == Way::Out {
                 let _ = self.around.send(packet.peer, packet.bytes.as_bytes());
-            } else if self.is_heard(speakers, packet.peer) {
+            } else if self.is_heard(admission, packet.peer) {
                 return Some((packet.peer, self.hand_in(&packet, room)));
             }
         }
@@ -252,16 +257,16 @@ impl<S: Surroundings + Drop> Exchange<S> {
     }
 
     // A datagram has come, and no network is before the socket: whether it is heard.
-    fn come(&mut self, speakers: &Speakers, source: SocketAddrV4, bytes: &[u8]) -> bool
-        ensures heard { result ≡ may_speak (admitted_by speakers.now) source.ip }
+    fn come(&mut self, admission: &Admission, source: SocketAddrV4, bytes: &[u8]) -> bool
+        ensures heard { result ≡ is_heard admission.now source }
         ensures network { self.new.network ≡ self.old.network }
         ensures around { self.new.around ≡ self.old.around }
     {
-        let is_heard = self.is_heard(speakers, source);
-        if is_heard {
+        let is_taken = self.is_heard(admission, source);
+        if is_taken {
             self.journal.came(self.now, source, bytes, 0);
         }
-        is_heard
+        is_taken
     }
 
     // A datagram that has come goes over the network: whether that loses it.
@@ -282,7 +287,7 @@ impl<S: Surroundings + Drop> Exchange<S> {
     // where it comes out.
     fn pass(
         &mut self,
-        speakers: &Speakers,
+        admission: &Admission,
         source: SocketAddrV4,
         len: usize,
         room: &mut [u8],
@@ -290,23 +295,23 @@ impl<S: Surroundings + Drop> Exchange<S> {
         requires { len ≤ length room.old }
         ensures length { length room.new ≡ length room.old }
         ensures within { IfSome result (λ p. p.1 ≤ length room.new) }
-        ensures admitted { IfSome result (λ p. may_speak (admitted_by speakers.now) p.0.ip ≡ true) }
+        ensures admitted { IfSome result (λ p. is_heard admission.now p.0 ≡ true) }
         ensures handed { handed_by self.new.network (S.sent self.new.around) ≡ handed_by self.old.network (S.sent self.old.around) }
     {
         if self.network.is_none() {
-            if self.come(speakers, source, &room[..len]) {
+            if self.come(admission, source, &room[..len]) {
                 return Some((source, len));
             }
             return None;
         }
         if self.is_lost(source, &room[..len]) {
-            if speakers.hears(*source.ip()) {
+            if admission.hears(source) {
                 self.journal
                     .untaken(self.now, source, &room[..len], Note::Lost);
             }
             return None;
         }
-        self.handed_over(speakers, room)
+        self.handed_over(admission, room)
     }
 
     // A datagram of the socket, if one has come. One without a port can't be answered, and doesn't count.
@@ -331,19 +336,23 @@ impl<S: Surroundings + Drop> Exchange<S> {
         }
     }
 
-    /// A datagram for the gateway, put at the start of the room, if one has come from one of those who may speak: from where, and how
-    /// long it is. What comes from others is counted, and told of once a second; it does nothing else.
-    pub fn receive(&mut self, speakers: &Speakers, room: &mut [u8]) -> Option<(SocketAddrV4, usize)>
+    /// A datagram for the gateway, put at the start of the room, if one has come from one of those who are heard: from where, and how
+    /// long it is. What comes from others, or from the gateway's own sockets, is counted, and told of once a second; it does nothing else.
+    pub fn receive(
+        &mut self,
+        admission: &Admission,
+        room: &mut [u8],
+    ) -> Option<(SocketAddrV4, usize)>
         ensures length { length room.new ≡ length room.old }
         ensures within { IfSome result (λ p. p.1 ≤ length room.new) }
-        ensures admitted { IfSome result (λ p. may_speak (admitted_by speakers.now) p.0.ip ≡ true) }
+        ensures admitted { IfSome result (λ p. is_heard admission.now p.0 ≡ true) }
         ensures handed { handed_by self.new.network (S.sent self.new.around) ≡ handed_by self.old.network (S.sent self.old.around) }
     {
-        if let Some(found) = self.handed_over(speakers, room) {
+        if let Some(found) = self.handed_over(admission, room) {
             return Some(found);
         }
         let (source, len) = self.read_socket(room)?;
-        self.pass(speakers, source, len, room)
+        self.pass(admission, source, len, room)
     }
 
     // Sends a datagram, over the network where there is one: what becomes of it.

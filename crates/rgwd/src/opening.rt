@@ -73,11 +73,12 @@ fn open_site<'w, R: Net>(
     }
 }
 
-// Who may speak to this gateway, and who may type.
+// Whom this gateway hears, whose sockets are at these addresses, and who may type.
 fn admission_of<'w>(
     alloc: Global,
     settings: &Settings<'w>,
     gateway: &Gateway,
+    own: [SocketAddrV4; 2],
 ) -> Result<Admission, Ending<'w>> {
     let speakers = match settings.agents {
         Some(text) => speakers_in(alloc, text)?,
@@ -85,6 +86,7 @@ fn admission_of<'w>(
     };
     Ok(Admission {
         speakers,
+        own,
         are_phones_open: settings.phones_open,
     })
 }
@@ -190,7 +192,7 @@ pub fn open<'a, 'w, R: Net + Clock>(
 ) -> Result<Opened<'a, R>, Ending<'w>> {
     let live = open_sockets(rt, alloc, settings)?;
     let visitors = open_site(rt, alloc, settings, &live)?;
-    let admission = admission_of(alloc, settings, &gateway)?;
+    let admission = admission_of(alloc, settings, &gateway, live.own())?;
     let exchange = exchange_of(alloc, settings, &gateway, live)?;
     let desk = desk_of(alloc, settings, config, gateway, exchange, admission)?;
     Ok(Opened { desk, visitors })
