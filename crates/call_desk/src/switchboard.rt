@@ -18,6 +18,7 @@ use plain_machine::{Event, Outputs, Refusal};
 use std::alloc::Global;
 use std::net::SocketAddrV4;
 use transmission::same_address;
+use turns::earlier;
 
 /// The gateways, the lines of all of them, and where calls are routed the exchange.
 pub struct Switchboard {
@@ -86,15 +87,6 @@ fn is_at(gateway: &Gateway, address: SocketAddrV4) -> bool
     ensures { result ≡ is_at address gateway.now }
 {
     same_address(gateway.address, address)
-}
-
-// The least of two moments.
-fn earlier(one: Option<u64>, other: Option<u64>) -> Option<u64> {
-    match (one, other) {
-        (Some(one), Some(other)) => Some(one.min(other)),
-        (Some(one), None) => Some(one),
-        (None, other) => other,
-    }
 }
 
 impl Switchboard {

@@ -13,7 +13,7 @@ use std::alloc::Global;
 use std::net::SocketAddrV4;
 use surroundings::{Fault, Surroundings};
 use transmission::texts;
-use turns::{Schedule, Situation, Turn};
+use turns::{Schedule, Situation, Turn, earlier};
 
 // The room for a datagram: one byte more than any that is taken (RFC 3435, 3.5.4).
 const ROOM: usize = 4001;
@@ -287,15 +287,6 @@ fn tick<S: Surroundings + Drop>(board: &mut Switchboard, wire: &mut Wire<S>, to:
     }
     wire.is_behind = is_behind(moment, to);
     give_up_all(board, wire);
-}
-
-// The earlier of two moments.
-fn earlier(one: Option<u64>, other: Option<u64>) -> Option<u64> {
-    match (one, other) {
-        (Some(one), Some(other)) => Some(one.min(other)),
-        (Some(one), None) => Some(one),
-        (None, other) => other,
-    }
 }
 
 // How things stand. An error is of the clock.

@@ -25,7 +25,7 @@ use live_play::{LivePlay, Teller};
 use std::alloc::{AllocError, Global};
 use std::net::SocketAddrV4;
 use surroundings::{Lines, Surroundings};
-use turns::{Ready, Schedule, Situation, Turn};
+use turns::{Ready, Schedule, Situation, Turn, earlier};
 
 /// A gateway that runs, all that it stands on, and what is kept of it.
 pub struct Desk<S, T> {
@@ -59,15 +59,6 @@ impl<S: Drop, T: Drop> Drop for Desk<S, T> {
         drop(exchange);
         drop(lines);
         drop(admitted);
-    }
-}
-
-// The earlier of two moments.
-fn earlier(one: Option<u64>, other: Option<u64>) -> Option<u64> {
-    match (one, other) {
-        (Some(one), Some(other)) => Some(one.min(other)),
-        (Some(one), None) => Some(one),
-        (None, other) => other,
     }
 }
 

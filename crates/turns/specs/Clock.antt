@@ -17,6 +17,12 @@ longest_wait = 1000
 abbrev pub later : ℕ → ℕ → ℕ
 later moment by = min (moment + by) (2 ^ 64 - 1)
 
+-- the earlier of two moments, if there are any
+abbrev pub earlier : Option ℕ → Option ℕ → Option ℕ
+earlier (Some one) (Some other) = Some (min one other)
+earlier (Some one) None = Some one
+earlier None other = other
+
 abbrev pub has_come : Option ℕ → ℕ → Bool
 has_come None ticked = false
 has_come (Some end) ticked = nat_le end ticked

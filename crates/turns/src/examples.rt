@@ -6,7 +6,7 @@ ghost use Rattle.turns.specs.declared.circle.Source.TheVariants as sources;
 ghost use Rattle.turns.specs.declared.schedule.Mode.TheVariants.{Reading};
 ghost use Rattle.turns.specs.declared.turn.Turn.TheVariants.{End, Look, Wait, Tick, Command, Datagram, Visit, Note};
 ghost use Rattle.turns.specs.Circle.{first_ready};
-ghost use Rattle.turns.specs.Clock.{ticks_behind, wait_until};
+ghost use Rattle.turns.specs.Clock.{earlier, ticks_behind, wait_until};
 ghost use Rattle.turns.specs.Schedule.{opening};
 ghost use Rattle.turns.specs.Runs.{turns_from, schedule_after, reading};
 ghost use Rattle.turns.specs.Example.{ready, nobody, standing, having_read, due_at, ending_at, asleep, wakes_at};
@@ -33,6 +33,15 @@ pub fn an_idle_one_sleeps()
     ensures round { turns_from asleep (standing 7 0 (ready true true true) ∷ []) ≡ Tick 7 ∷ [] }
     ensures round_again { turns_from asleep (standing 7 7 (ready false true false) ∷ standing 7 7 nobody ∷ standing 8 7 (ready true true true) ∷ [])
         ≡ Datagram ∷ Wait 1007 ∷ Tick 8 ∷ [] }
+{}
+
+/// Of two moments the earlier one comes first, whichever it is; where there is one alone that does.
+pub fn the_earlier_moment_comes_first()
+    ensures one { earlier (Some 3) (Some 5) ≡ Some 3 }
+    ensures other { earlier (Some 5) (Some 3) ≡ Some 3 }
+    ensures one_alone { earlier (Some 5) None ≡ Some 5 }
+    ensures other_alone { earlier None (Some 3) ≡ Some 3 }
+    ensures none { earlier None None ≡ None }
 {}
 
 /// Who is ready has a turn after one of each other.

@@ -1,6 +1,6 @@
 //! How things stand when it is asked what comes next.
 ghost use Rattle.std.specs.Prelude.{◌≡◌, ◌<◌};
-ghost use Rattle.turns.specs.Clock.{is_over, tick_to, ticks_behind, wait_until};
+ghost use Rattle.turns.specs.Clock.{earlier, is_over, tick_to, ticks_behind, wait_until};
 
 use crate::circle::Ready;
 
@@ -27,6 +27,17 @@ pub struct Situation {
     /// So many datagrams were read since the start.
     pub read: u64,
     pub ready: Ready,
+}
+
+/// The earlier of two moments, if there are any.
+pub fn earlier(one: Option<u64>, other: Option<u64>) -> Option<u64>
+    ensures { result ≡ earlier one other }
+{
+    match (one, other) {
+        (Some(one), Some(other)) => Some(one.min(other)),
+        (Some(one), None) => Some(one),
+        (None, other) => other,
+    }
 }
 
 // Whether all is over.
