@@ -2,7 +2,7 @@
 use mg_bytes::OutOfMemory;
 use std::net::SocketAddrV4;
 
-/// Why a gateway can't be checked. A reason is what `system_reasons::reason_of` makes of the system's error.
+/// Why a gateway can't be checked. A reason is what `live_ends::reason_of` makes of the system's error.
 #[derive(Clone, Copy)]
 pub enum CheckFault {
     /// No socket can be had there.

@@ -1,6 +1,6 @@
 //! Why a call agent doesn't serve to its end.
 
-/// Why a call agent doesn't serve to its end. A reason is what `system_reasons::reason_of` makes of the system's error.
+/// Why a call agent doesn't serve to its end. A reason is what `live_ends::reason_of` makes of the system's error.
 #[derive(Clone, Copy)]
 pub enum ServeFault {
     /// Memory was refused.

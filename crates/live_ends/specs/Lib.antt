@@ -3,5 +3,6 @@ pub mod Recording
 pub mod Parting
 pub mod Written
 pub mod Looking
+pub mod Reasons
 pub mod Refusing
 pub mod Example

@@ -16,6 +16,7 @@ mod outlets;
 mod parting;
 mod program;
 mod readiness;
+mod reasons;
 mod record;
 mod standing;
 mod stream;
@@ -33,6 +34,7 @@ pub use crate::program::{
     OUT_OF_MEMORY, SystemFault, open_capture, open_outlets, put_pieces, say_last, words_of,
 };
 pub use crate::readiness::{MOST_VISITORS, Readiness, Visit};
+pub use crate::reasons::{reason_of, reason_of_reader};
 pub use crate::record::{Record, RecordState};
 pub use crate::standing::hold_standard;
 pub use crate::stream::{Stream, make_for_owner};

@@ -8,12 +8,12 @@ ghost use Rattle.live_ends.specs.Backlog.{nothing_waits, is_kept, offered, ended
 ghost use Rattle.live_ends.specs.Recording.{is_refused, is_open, faults_of, said, Says, Notes, KeepsLog, given_up, state_given_up};
 
 use crate::backlog::Backlog;
+use crate::reasons::reason_of;
 use crate::record::Record;
 use crate::stream::Stream;
 use exchange_log::{Notice, put_notice};
 use std::alloc::{AllocError, Global};
 use std::io::{ErrorKind, Write};
-use system_reasons::reason_of;
 
 // How it stands with an outlet where memory was refused for what is recorded there.
 const REFUSED: OutletState = OutletState::Failed {

@@ -1,22 +1,22 @@
 //! How a program begins and ends, whichever it is: its words, its outlets, the file of its capture, and what it says at last.
 ghost use Rattle.std.specs.Prelude.{◌≡◌, ◌≢◌};
-ghost use Rattle.system_reasons.specs.Reasons.{reason_of};
+ghost use Rattle.live_ends.specs.Reasons.{reason_of};
 ghost use Rattle.live_ends.specs.Refusing.{IsRefusedFor};
 
 use crate::outlet::Outlet;
 use crate::outlets::Outlets;
+use crate::reasons::reason_of;
 use crate::stream::{Stream, make_for_owner};
 use std::alloc::Global;
 use std::io::{ErrorKind, Write};
 use std::os::fd::AsRawFd;
 use std::rt::{Clock, Env, Files};
 use std::{env, fmt};
-use system_reasons::reason_of;
 
 /// What is said where memory is refused.
 pub const OUT_OF_MEMORY: &[u8] = b"out of memory\n";
 
-/// Why the system doesn't give what is asked of it. A reason is what `system_reasons::reason_of` makes of its error.
+/// Why the system doesn't give what is asked of it. A reason is what `reason_of` makes of its error.
 #[derive(Clone, Copy)]
 pub enum SystemFault {
     /// Memory was refused.

@@ -5,7 +5,8 @@ use crate::words::{Settings, read_words};
 use agent_texts::{AgentConfig, ConfigRefusal, Place, missing, read_config, too_long};
 use live_agent::{ServeFault, WireSettings, check_gateway, serve_agent};
 use live_ends::{
-    OUT_OF_MEMORY, Outlets, SystemFault, hold_standard, open_outlets, say_last, words_of,
+    OUT_OF_MEMORY, Outlets, SystemFault, hold_standard, open_outlets, reason_of_reader, say_last,
+    words_of,
 };
 use rgw_scripts::{LIMIT, PlayFault, read_limited};
 use std::alloc::{AllocError, Global};
@@ -14,7 +15,6 @@ use std::io::Write;
 use std::net::Net;
 use std::os::fd::AsRawFd;
 use std::rt::{Clock, Env, Files};
-use system_reasons::reason_of_reader;
 
 // How the program ends where the system doesn't give it its words.
 fn wordless_ending<'w>(fault: SystemFault) -> Ending<'w> {

@@ -16,7 +16,7 @@ use std::net::SocketAddrV4;
 const NO_LINE: &str =
     ": not the name of one line, as aaln/1: 1 to 64 characters, no blank, *, $ or @\n";
 
-/// How the program ends. A reason is what `system_reasons::reason_of` makes of the system's error.
+/// How the program ends. A reason is what `live_ends::reason_of` makes of the system's error.
 #[derive(Drop)]
 pub enum Ending<'a> {
     /// The call agent served up to the moment that was asked for.

@@ -9,7 +9,7 @@ use crate::words::{Settings, read_words};
 use gateway_core::Gateway;
 use live_ends::{
     CaptureFiles, Live, OUT_OF_MEMORY, Outlets, Parting, SystemFault, hold_standard, open_capture,
-    open_outlets, say_last, words_of,
+    open_outlets, reason_of_reader, say_last, words_of,
 };
 use live_gateway::boxed;
 use live_journal::{Journal, Trace};
@@ -25,7 +25,6 @@ use std::random::RandomSource;
 use std::rt::{Clock, Env, Files};
 use std::thread::sleep;
 use std::time::Duration;
-use system_reasons::reason_of_reader;
 
 // The text of the configuration; one byte more than are taken where it is too long.
 fn config_text<'w, R: Files>(rt: &R, alloc: Global, file: &'w str) -> Result<Vec<u8>, Ending<'w>> {

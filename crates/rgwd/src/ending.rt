@@ -6,13 +6,12 @@ use crate::help::{HELP, USAGE, VERSIONS};
 use crate::parted::{MOST_FILES, MOST_MEGABYTES};
 use bad_network::SpoilingFault;
 use gateway_core::FIRSTS;
-use live_ends::put_pieces;
+use live_ends::{put_pieces, reason_of};
 use new_start::LONGEST_SPREAD;
 use std::alloc::AllocError;
 use std::fmt;
 use std::io::ErrorKind;
 use std::net::SocketAddrV4;
-use system_reasons::reason_of;
 
 // Why there is no page at any address.
 const ANY_ADDRESS: &str =
@@ -32,7 +31,7 @@ const NO_TIME_OF_DAY: &str =
 // The last number with which ids may begin.
 const LAST_FIRST: u32 = FIRSTS - 1;
 
-/// How the program ends. A reason is what `system_reasons::reason_of` makes of the system's error.
+/// How the program ends. A reason is what `live_ends::reason_of` makes of the system's error.
 #[derive(Clone, Copy)]
 pub enum Ending<'a> {
     /// The gateway served up to the moment that was asked for.
