@@ -13,7 +13,8 @@ use mgcp_text::TransactionId;
 use std::alloc::Global;
 use std::net::SocketAddrV4;
 
-fn peer_text(alloc: Global, peer: SocketAddrV4) -> Result<String, OutOfMemory>
+/// An address and a port as text: `10.0.0.7:2727`. Its only error is want of memory.
+pub fn peer_text(alloc: Global, peer: SocketAddrV4) -> Result<String, OutOfMemory>
     ensures { IfOk result (λ text. string_bytes text ≡ socket_v4_text peer) }
 {
     let mut text = String::new(alloc);

@@ -5,4 +5,6 @@ pub mod Written
 pub mod Looking
 pub mod Reasons
 pub mod Refusing
+pub mod Wording
+pub mod Ending
 pub mod Example

@@ -7,7 +7,10 @@
 mod asking;
 mod backlog;
 mod clock;
+mod ending;
+pub mod ending_examples;
 pub mod examples;
+mod files;
 pub mod laws;
 mod live;
 mod now;
@@ -20,22 +23,26 @@ mod reasons;
 mod record;
 mod standing;
 mod stream;
+mod wording;
 mod written;
 
 pub use crate::asking::{AskFault, ask};
 pub use crate::backlog::{Backlog, MOST_KEPT, NOTE_ROOM, TEXT_ROOM, lines_ended};
 pub use crate::clock::{LiveClock, time_of_day};
+pub use crate::ending::{About, CommonEnding};
+pub use crate::files::read_file;
 pub use crate::live::{Live, STOP_FROM_AFAR, bind};
 pub use crate::now::Now;
 pub use crate::outlet::{Outlet, OutletState};
 pub use crate::outlets::{NEXT_OFFER, Outlets};
 pub use crate::parting::{CaptureFiles, Parting};
 pub use crate::program::{
-    OUT_OF_MEMORY, SystemFault, open_capture, open_outlets, put_pieces, say_last, words_of,
+    OUT_OF_MEMORY, SystemFault, end, open_capture, open_outlets, say_last, words_of,
 };
 pub use crate::readiness::{MOST_VISITORS, Readiness, Visit};
-pub use crate::reasons::{reason_of, reason_of_reader};
+pub use crate::reasons::reason_of;
 pub use crate::record::{Record, RecordState};
 pub use crate::standing::hold_standard;
 pub use crate::stream::{Stream, make_for_owner};
+pub use crate::wording::{put_around, put_pieces};
 pub use crate::written::Written;

@@ -1,17 +1,20 @@
 //! How a program begins and ends, whichever it is: its words, its outlets, the file of its capture, and what it says at last.
-ghost use Rattle.std.specs.Prelude.{◌≡◌, ◌≢◌};
+ghost use Rattle.std.specs.Prelude.{◌≡◌, ◌≢◌, ◌⊎◌};
+ghost use Rattle.live_ends.specs.Ending.{status_of};
 ghost use Rattle.live_ends.specs.Reasons.{reason_of};
 ghost use Rattle.live_ends.specs.Refusing.{IsRefusedFor};
 
+use crate::ending::CommonEnding;
 use crate::outlet::Outlet;
 use crate::outlets::Outlets;
 use crate::reasons::reason_of;
 use crate::stream::{Stream, make_for_owner};
+use mg_bytes::OutOfMemory;
 use std::alloc::Global;
+use std::env;
 use std::io::{ErrorKind, Write};
 use std::os::fd::AsRawFd;
 use std::rt::{Clock, Env, Files};
-use std::{env, fmt};
 
 /// What is said where memory is refused.
 pub const OUT_OF_MEMORY: &[u8] = b"out of memory\n";
@@ -102,10 +105,24 @@ pub fn say_last<R: Clock, F: Write + Drop>(
     outlets.output.is_open()
 }
 
-/// Writes the pieces of a text.
-pub fn put_pieces<W: fmt::Write>(f: &mut fmt::Formatter<W>, pieces: &[&str]) -> fmt::Result {
-    for piece in pieces {
-        f.write_str(piece)?;
+/// Says how a program ends (`say_last`), and gives its status: this one, or that of a fault where what its words ask isn't taken. Where
+/// memory was refused for the text, that is said.
+pub fn end<R: Clock, F: Write + Drop>(
+    rt: &R,
+    outlets: &mut Outlets<F>,
+    text: Result<Vec<u8>, OutOfMemory>,
+    status: u8,
+    is_asked: bool,
+) -> u8
+    ensures { (result ≡ status) ⊎ (result ≡ status_of CommonEnding.Write) }
+{
+    let is_taken = match &text {
+        Ok(text) => say_last(rt, outlets, text.as_slice(), is_asked),
+        Err(_) => say_last(rt, outlets, OUT_OF_MEMORY, is_asked),
+    };
+    if is_taken {
+        status
+    } else {
+        CommonEnding::Write.status()
     }
-    Ok(())
 }

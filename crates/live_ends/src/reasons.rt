@@ -2,7 +2,7 @@
 ghost use Rattle.std.specs.Prelude.{◌≡◌};
 ghost use Rattle.live_ends.specs.Reasons.{reason_of};
 
-use std::io::{ErrorKind, Read};
+use std::io::ErrorKind;
 
 /// What a line that tells of a refused socket or file ends with, by the kind of the system's error: as `: address in use`, and
 /// nothing where the kind says no more than that.
@@ -38,13 +38,4 @@ pub fn reason_of(kind: ErrorKind) -> &'static str
         return ": out of memory";
     }
     ""
-}
-
-/// The same for a reader that has failed: it is asked again, and what comes isn't used.
-pub fn reason_of_reader<F: Read>(reader: &mut F) -> &'static str {
-    let mut byte = [0u8; 1];
-    match reader.read(&mut byte) {
-        Ok(_) => "",
-        Err(fault) => reason_of(fault.kind()),
-    }
 }

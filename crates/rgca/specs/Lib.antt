@@ -1,2 +1,3 @@
 pub mod Statuses
 pub mod Endings
+pub mod Texts

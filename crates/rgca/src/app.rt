@@ -1,52 +1,18 @@
 //! The program: reads its words and its configuration, and serves or checks.
 use crate::check_words::read_check_words;
 use crate::ending::{Ending, check_words_ending, config_ending};
+use crate::help::{of_checks, of_program};
 use crate::words::{Settings, read_words};
 use agent_texts::{AgentConfig, ConfigRefusal, Place, missing, read_config, too_long};
 use live_agent::{ServeFault, WireSettings, check_gateway, serve_agent};
-use live_ends::{
-    OUT_OF_MEMORY, Outlets, SystemFault, hold_standard, open_outlets, reason_of_reader, say_last,
-    words_of,
-};
-use rgw_scripts::{LIMIT, PlayFault, read_limited};
-use std::alloc::{AllocError, Global};
-use std::fs::File;
+use live_ends::{CommonEnding, Outlets, end, hold_standard, open_outlets, read_file, words_of};
+use mg_bytes::OutOfMemory;
+use rgw_scripts::LIMIT;
+use std::alloc::Global;
 use std::io::Write;
 use std::net::Net;
 use std::os::fd::AsRawFd;
 use std::rt::{Clock, Env, Files};
-
-// How the program ends where the system doesn't give it its words.
-fn wordless_ending<'w>(fault: SystemFault) -> Ending<'w> {
-    match fault {
-        SystemFault::OutOfMemory => Ending::OutOfMemory,
-        SystemFault::Refused { .. } => Ending::Usage,
-    }
-}
-
-// How it ends where the system doesn't let it read this file.
-fn unreadable<'w>(file: &'w str, fault: SystemFault) -> Ending<'w> {
-    match fault {
-        SystemFault::OutOfMemory => Ending::OutOfMemory,
-        SystemFault::Refused { reason } => Ending::Unreadable { file, reason },
-    }
-}
-
-// The text of the configuration; one byte more than are taken where it is too long.
-fn config_text<'w, R: Files>(rt: &R, alloc: Global, file: &'w str) -> Result<Vec<u8>, Ending<'w>> {
-    let mut reader = match File::open(rt, file) {
-        Ok(reader) => reader,
-        Err(e) => return Err(unreadable(file, SystemFault::of(e.kind()))),
-    };
-    match read_limited(alloc, &mut reader) {
-        Ok(text) => Ok(text),
-        Err(PlayFault::OutOfMemory) => Err(Ending::OutOfMemory),
-        Err(_) => Err(Ending::Unreadable {
-            file,
-            reason: reason_of_reader(&mut reader),
-        }),
-    }
-}
 
 // The configuration that a text writes; where calls are to be routed it has a digit map.
 fn config_of(
@@ -89,22 +55,26 @@ fn listen_word(settings: &Settings<'_>) -> &'static str {
 }
 
 // How the program ends where it doesn't serve to its end.
-fn served_ending<'w>(fault: ServeFault, wire: WireSettings, settings: &Settings<'w>) -> Ending<'w> {
+fn served_ending<'w>(
+    fault: ServeFault,
+    wire: WireSettings,
+    settings: &Settings<'w>,
+) -> CommonEnding<'w> {
     match fault {
-        ServeFault::OutOfMemory => Ending::OutOfMemory,
-        ServeFault::Listen { reason } => Ending::Unbound {
+        ServeFault::OutOfMemory => CommonEnding::OutOfMemory,
+        ServeFault::Listen { reason } => CommonEnding::Unbound {
             word: listen_word(settings),
             address: wire.listen,
             reason,
         },
-        ServeFault::Control { reason } => Ending::Unbound {
+        ServeFault::Control { reason } => CommonEnding::Unbound {
             word: "--control",
             address: wire.control,
             reason,
         },
-        ServeFault::Clock => Ending::Clock,
-        ServeFault::Write => Ending::Write,
-        ServeFault::Capture { reason } => Ending::Unwritable {
+        ServeFault::Clock => CommonEnding::Clock,
+        ServeFault::Write => CommonEnding::Write,
+        ServeFault::Capture { reason } => CommonEnding::Unwritable {
             file: settings.capture.unwrap_or(""),
             reason,
         },
@@ -130,7 +100,7 @@ fn serve_with<'w, R: Files + Net + Clock>(
         outlets,
     ) {
         Ok(()) => Ok(()),
-        Err(fault) => Err(served_ending(fault, wire, settings)),
+        Err(fault) => Err(Ending::Common(served_ending(fault, wire, settings))),
     }
 }
 
@@ -142,7 +112,7 @@ fn perform<'w, R: Files + Net + Clock>(
     outlets: &mut Outlets<R::File>,
 ) -> Result<(), Ending<'w>> {
     let file = settings.config;
-    let text = config_text(rt, alloc, file)?;
+    let text = read_file(rt, alloc, file, LIMIT as u64)?;
     match config_of(alloc, settings, text.as_slice()) {
         Ok(config) => serve_with(rt, alloc, settings, &config, outlets),
         Err(refusal) => Err(config_ending(file, refusal)),
@@ -160,29 +130,16 @@ fn ending_of<'w, R: AllocGlobal + Files + Net + Clock>(
         Err(fault) => return Ending::from(fault),
     };
     match perform(rt, rt.alloc(), &settings, outlets) {
-        Ok(()) => Ending::Served,
+        Ok(()) => Ending::Common(CommonEnding::Served),
         Err(ending) => ending,
     }
 }
 
-// What a program says at its end.
-fn ending_text(alloc: Global, ending: &Ending<'_>) -> Result<String, AllocError> {
-    format!(in alloc; "{ending}")
-}
-
-// Says this at the end, and gives the status: where what its words ask isn't taken, it's a fault.
-fn tell_text<R: Clock, F: Write + Drop>(
-    rt: &R,
-    outlets: &mut Outlets<F>,
-    ending: &Ending<'_>,
-    text: &[u8],
-) -> u8 {
-    let is_asked = matches!(ending, Ending::Help | Ending::CheckHelp | Ending::Version);
-    if say_last(rt, outlets, text, is_asked) {
-        ending.status()
-    } else {
-        Ending::Write.status()
-    }
+// What the program says at its end.
+fn ending_text(alloc: Global, ending: &Ending<'_>) -> Result<Vec<u8>, OutOfMemory> {
+    let mut text = Vec::new(alloc);
+    ending.put_text(alloc, &mut text, of_program(), of_checks())?;
+    Ok(text)
 }
 
 // Says how the program ends, and gives its status.
@@ -191,10 +148,8 @@ fn tell<R: AllocGlobal + Clock, F: Write + Drop>(
     outlets: &mut Outlets<F>,
     ending: &Ending<'_>,
 ) -> u8 {
-    match ending_text(rt.alloc(), ending) {
-        Ok(text) => tell_text(rt, outlets, ending, text.as_bytes()),
-        Err(_) => tell_text(rt, outlets, ending, OUT_OF_MEMORY),
-    }
+    let text = ending_text(rt.alloc(), ending);
+    end(rt, outlets, text, ending.status(), ending.is_asked())
 }
 
 // How the program ends by a check with these words.
@@ -251,7 +206,7 @@ fn run_with<R: AllocGlobal + Env + Files + Net + Clock>(
 ) -> u8 {
     match words_of(rt) {
         Ok(words) => run_by(rt, words.as_slice(), outlets),
-        Err(fault) => tell(rt, outlets, &wordless_ending(fault)),
+        Err(fault) => tell(rt, outlets, &Ending::Common(CommonEnding::wordless(fault))),
     }
 }
 
@@ -263,6 +218,6 @@ where
     let _held = hold_standard(rt, rt.alloc());
     match open_outlets(rt) {
         Some(mut outlets) => run_with(rt, &mut outlets),
-        None => Ending::OutOfMemory.status(),
+        None => CommonEnding::OutOfMemory.status(),
     }
 }

@@ -3,7 +3,7 @@ use crate::help::CHECK_USAGE;
 use crate::words::{WordFault, address_behind, fault_of, flag_word};
 use clap::{Arg, ArgMatches, Command};
 use live_agent::CheckSettings;
-use live_ends::Outlet;
+use live_ends::{CommonEnding, Outlet};
 use std::alloc::{AllocError, Global};
 use std::io::Write;
 use std::net::SocketAddrV4;
@@ -37,7 +37,7 @@ fn address_in(
 ) -> Result<SocketAddrV4, WordFault> {
     match address_behind(matches, name, word)? {
         Some(address) => Ok(address),
-        None => Err(WordFault::Usage),
+        None => Err(WordFault::Common(CommonEnding::Usage)),
     }
 }
 
@@ -75,7 +75,7 @@ fn other_in<'a>(matches: &ArgMatches<'a>, line: &str) -> Result<Option<&'a str>,
 
 fn settings_in<'a>(matches: &ArgMatches<'a>) -> Result<CheckSettings<'a>, WordFault> {
     let (Some(domain), Some(line)) = (matches.get_str("domain"), matches.get_str("line")) else {
-        return Err(WordFault::Usage);
+        return Err(WordFault::Common(CommonEnding::Usage));
     };
     let line = name_behind(line, "--line")?;
     Ok(CheckSettings {

@@ -1,4 +1,5 @@
 //! What the program says of itself: how it is used, and its version.
+use live_ends::About;
 
 /// The version of the program.
 pub const VERSION: &str = "1.0";
@@ -53,8 +54,20 @@ A gateway is checked by rgca check ADDRESS; rgca check --help says how.
 More: the manual page rgca(1).
 ";
 
-/// How the program is used, in pieces.
-pub const HELP: [&str; 5] = ["usage: ", USAGE, ABOVE, CONTROL, BELOW];
+// How the program is used, in pieces.
+static HELP: [&str; 5] = ["usage: ", USAGE, ABOVE, CONTROL, BELOW];
+
+// The version of the program, and of its protocol, in pieces.
+static VERSIONS: [&str; 3] = ["rgca ", VERSION, "\nMGCP 1.0 (RFC 3435)\n"];
+
+/// What the program says of itself.
+pub(crate) fn of_program() -> About {
+    About {
+        usage: USAGE,
+        help: HELP.as_slice(),
+        version: VERSIONS.as_slice(),
+    }
+}
 
 /// The words behind `check`, in a line.
 pub const CHECK_USAGE: &str =
@@ -81,8 +94,14 @@ A check that fails tells what was due. `not supported` is what a gateway may lea
 The status is 0 where none failed, 1 where one did, 2 for other words, 3 where nothing can be checked.
 ";
 
-/// How a check is asked for, in pieces.
-pub const CHECK_HELP: [&str; 3] = ["usage: ", CHECK_USAGE, CHECK_BELOW];
+// How a check is asked for, in pieces.
+static CHECK_HELP: [&str; 3] = ["usage: ", CHECK_USAGE, CHECK_BELOW];
 
-/// The version of the program, and of its protocol, in pieces.
-pub const VERSIONS: [&str; 3] = ["rgca ", VERSION, "\nMGCP 1.0 (RFC 3435)\n"];
+/// What it says of its checks.
+pub(crate) fn of_checks() -> About {
+    About {
+        usage: CHECK_USAGE,
+        help: CHECK_HELP.as_slice(),
+        version: VERSIONS.as_slice(),
+    }
+}

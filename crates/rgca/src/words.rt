@@ -6,10 +6,10 @@ ghost use Rattle.clap.specs.Values.{kind_of};
 ghost use Rattle.clap.specs.declared.error.kind.ErrorKind.TheVariants as kinds;
 
 use crate::help::{CONTROL, USAGE, VERSION};
-use bad_network::{Spoiling, SpoilingFault};
+use bad_network::Spoiling;
 use clap::error::ErrorKind;
 use clap::{Arg, ArgAction, ArgMatches, Command, Error};
-use live_ends::Outlet;
+use live_ends::{CommonEnding, Outlet};
 use std::alloc::{AllocError, Global};
 use std::io::Write;
 use std::net::SocketAddrV4;
@@ -38,20 +38,8 @@ pub struct Settings<'a> {
 /// Why the program doesn't do what the words say.
 #[derive(Clone, Copy)]
 pub enum WordFault {
-    /// Memory was refused.
-    OutOfMemory,
-    /// They are other words.
-    Usage,
-    /// They are other words, and standard error says which.
-    Told,
-    /// They ask how the program is used.
-    Help,
-    /// They ask for its version.
-    Version,
-    /// What stands behind this word isn't an address.
-    BadAddress { word: &'static str },
-    /// What stands behind `--network` says no network.
-    BadNetwork { fault: SpoilingFault },
+    /// As the words of any program may be refused, or ask for something else.
+    Common(CommonEnding<'static>),
     /// What stands behind this word isn't the name of one line.
     BadLine { word: &'static str },
     /// The other line to be checked is the line itself.
@@ -60,7 +48,7 @@ pub enum WordFault {
 
 impl From<AllocError> for WordFault {
     fn from(_refused: AllocError) -> WordFault {
-        WordFault::OutOfMemory
+        WordFault::Common(CommonEnding::OutOfMemory)
     }
 }
 
@@ -124,11 +112,11 @@ fn command<'a>(alloc: Global) -> Result<Command<'a>, AllocError> {
 // The address that a text is, which stands behind a word.
 fn address_of(text: &str, word: &'static str) -> Result<SocketAddrV4, WordFault>
     ensures address { IfOk result (λ address. IsSocketV4Text text.now address) }
-    ensures other { IfErr result (λ fault. fault ≡ WordFault.BadAddress word.entry) }
+    ensures other { IfErr result (λ fault. fault ≡ WordFault.Common (CommonEnding.BadAddress word.entry)) }
 {
     match text.parse::<SocketAddrV4>() {
         Ok(address) => Ok(address),
-        Err(_) => Err(WordFault::BadAddress { word }),
+        Err(_) => Err(WordFault::Common(CommonEnding::BadAddress { word })),
     }
 }
 
@@ -141,7 +129,7 @@ pub fn address_behind(
     ensures stands { IfOk result (λ found. IfSome found (λ address.
         IfSome (first_value (found_of matches.now) name.now) (λ text. IsSocketV4Text text address))) }
     ensures stands_not { IfOk result (λ found. found ≡ None → first_value (found_of matches.now) name.now ≡ None) }
-    ensures other { IfErr result (λ fault. fault ≡ WordFault.BadAddress word.entry) }
+    ensures other { IfErr result (λ fault. fault ≡ WordFault.Common (CommonEnding.BadAddress word.entry)) }
 {
     match matches.get_str(name) {
         Some(text) => match address_of(text, word) {
@@ -159,43 +147,45 @@ fn spoiling_behind(matches: &ArgMatches<'_>) -> Result<Option<Spoiling>, WordFau
     };
     match Spoiling::read(text.as_bytes()) {
         Ok(spoiling) => Ok(Some(spoiling)),
-        Err(fault) => Err(WordFault::BadNetwork { fault }),
+        Err(fault) => Err(WordFault::Common(CommonEnding::BadNetwork {
+            wanted: fault.text(),
+        })),
     }
 }
 
 /// Why no settings are found in words, by clap's error: this outlet says which words are wrong, where memory isn't refused for that.
 pub fn fault_of<F: Write + Drop>(alloc: Global, fault: &Error, said: &mut Outlet<F>) -> WordFault
-    ensures memory { kind_of fault.now ≡ kinds.OutOfMemory → result ≡ WordFault.OutOfMemory }
-    ensures help { kind_of fault.now ≡ kinds.DisplayHelp → result ≡ WordFault.Help }
-    ensures version { kind_of fault.now ≡ kinds.DisplayVersion → result ≡ WordFault.Version }
-    ensures told { kind_of fault.now ≢ kinds.DisplayHelp → kind_of fault.now ≢ kinds.DisplayVersion → result ≢ WordFault.OutOfMemory
-        → result ≡ WordFault.Told }
+    ensures memory { kind_of fault.now ≡ kinds.OutOfMemory → result ≡ WordFault.Common CommonEnding.OutOfMemory }
+    ensures help { kind_of fault.now ≡ kinds.DisplayHelp → result ≡ WordFault.Common CommonEnding.Help }
+    ensures version { kind_of fault.now ≡ kinds.DisplayVersion → result ≡ WordFault.Common CommonEnding.Version }
+    ensures told { kind_of fault.now ≢ kinds.DisplayHelp → kind_of fault.now ≢ kinds.DisplayVersion
+        → result ≢ WordFault.Common CommonEnding.OutOfMemory → result ≡ WordFault.Common CommonEnding.Told }
 {
     let kind = fault.kind();
     if kind == ErrorKind::OutOfMemory {
-        return WordFault::OutOfMemory;
+        return WordFault::Common(CommonEnding::OutOfMemory);
     }
     if kind == ErrorKind::DisplayHelp {
-        return WordFault::Help;
+        return WordFault::Common(CommonEnding::Help);
     }
     if kind == ErrorKind::DisplayVersion {
-        return WordFault::Version;
+        return WordFault::Common(CommonEnding::Version);
     }
     match format!(in alloc; "{fault}") {
         Ok(text) => {
             said.say(text.as_bytes());
-            WordFault::Told
+            WordFault::Common(CommonEnding::Told)
         }
-        Err(_) => WordFault::OutOfMemory,
+        Err(_) => WordFault::Common(CommonEnding::OutOfMemory),
     }
 }
 
 fn settings_in<'a>(matches: &ArgMatches<'a>) -> Result<Settings<'a>, WordFault> {
     let Some(config) = matches.get_str("config") else {
-        return Err(WordFault::Usage);
+        return Err(WordFault::Common(CommonEnding::Usage));
     };
     let Some(control) = address_behind(matches, "control", "--control")? else {
-        return Err(WordFault::Usage);
+        return Err(WordFault::Common(CommonEnding::Usage));
     };
     Ok(Settings {
         config,

@@ -1,2 +1,3 @@
 pub mod Statuses
 pub mod Parting
+pub mod Texts

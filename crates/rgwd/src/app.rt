@@ -1,5 +1,6 @@
 //! The program: reads its words and its configuration, opens its sockets, and serves.
 use crate::ending::Ending;
+use crate::help::of_program;
 use crate::opening::{Opened, open};
 use crate::recording::Recording;
 use crate::replaying::{REPLAY, replay_trace};
@@ -8,15 +9,15 @@ use crate::telling::{TELL, tell_line};
 use crate::words::{Settings, read_words};
 use gateway_core::Gateway;
 use live_ends::{
-    CaptureFiles, Live, OUT_OF_MEMORY, Outlets, Parting, SystemFault, hold_standard, open_capture,
-    open_outlets, reason_of_reader, say_last, words_of,
+    CaptureFiles, CommonEnding, Live, Outlets, Parting, SystemFault, end, hold_standard,
+    open_capture, open_outlets, read_file, words_of,
 };
 use live_gateway::boxed;
 use live_journal::{Journal, Trace};
+use mg_bytes::OutOfMemory;
 use rgw_scenes::{Flaw, flaw_of, gateway_from, told, told_setup};
-use rgw_scripts::{PlayFault, read_limited};
+use rgw_scripts::LIMIT;
 use std::alloc::{AllocError, Global};
-use std::fs::File;
 use std::io;
 use std::io::Write;
 use std::net::Net;
@@ -25,22 +26,6 @@ use std::random::RandomSource;
 use std::rt::{Clock, Env, Files};
 use std::thread::sleep;
 use std::time::Duration;
-
-// The text of the configuration; one byte more than are taken where it is too long.
-fn config_text<'w, R: Files>(rt: &R, alloc: Global, file: &'w str) -> Result<Vec<u8>, Ending<'w>> {
-    let mut reader = match File::open(rt, file) {
-        Ok(reader) => reader,
-        Err(fault) => return Err(Ending::unreadable(file, fault.kind())),
-    };
-    match read_limited(alloc, &mut reader) {
-        Ok(text) => Ok(text),
-        Err(PlayFault::OutOfMemory) => Err(Ending::OutOfMemory),
-        Err(_) => Err(Ending::Unreadable {
-            file,
-            reason: reason_of_reader(&mut reader),
-        }),
-    }
-}
 
 // Where the sockets are, and how it starts, as a line; none where a socket doesn't tell where it is.
 fn start_line<R: Net + Clock>(
@@ -85,12 +70,12 @@ fn served_ending<'w, F: Write + Drop>(
         || journal.log.record.is_refused()
         || journal.capture.record.is_refused()
     {
-        return Ending::OutOfMemory;
+        return Ending::Common(CommonEnding::OutOfMemory);
     }
     if outlets.written().faults() > 0 {
-        return Ending::Write;
+        return Ending::Common(CommonEnding::Write);
     }
-    Ending::Served
+    Ending::Common(CommonEnding::Served)
 }
 
 // Serves until the end, writes what was recorded, and says what was counted.
@@ -130,7 +115,7 @@ fn serve_opened<'w, R: Files + Net + Clock + RandomSource>(
 ) -> Result<Ending<'w>, Ending<'w>> {
     tell_start(alloc, &mut recording.outlets, opened, begun);
     if wait_first(rt, &mut opened.desk.exchange.around, begun).is_err() {
-        return Err(Ending::Clock);
+        return Err(Ending::Common(CommonEnding::Clock));
     }
     let ending = serve_to_end(rt, opened, recording);
     opened.desk.answer_stop();
@@ -167,13 +152,8 @@ fn gateway_of(alloc: Global, text: &[u8], start: &Start) -> Result<Box<Gateway>,
 
 // The capture's file can't be made, for this reason.
 fn unwritable<'w>(settings: &Settings<'w>, fault: SystemFault) -> Ending<'w> {
-    match fault {
-        SystemFault::OutOfMemory => Ending::OutOfMemory,
-        SystemFault::Refused { reason } => {
-            let file = settings.capture.unwrap_or("");
-            Ending::Unwritable { file, reason }
-        }
-    }
+    let file = settings.capture.unwrap_or("");
+    Ending::Common(CommonEnding::unwritable(file, fault))
 }
 
 // The first file of a capture that is parted, whose outlet that is, and what is known of the others.
@@ -265,7 +245,7 @@ fn tell_flaw<'w, F: Write + Drop>(
     let line = str::from_utf8(line.as_slice()).unwrap_or("");
     let said = format!(in alloc; "{file}: {line}\n")?;
     outlets.error.say(said.as_bytes());
-    Ok(Ending::Told)
+    Ok(Ending::Common(CommonEnding::Told))
 }
 
 // Does what the settings ask.
@@ -276,7 +256,7 @@ fn perform<'w, R: Files + Net + Clock + RandomSource + Alloc + Clone + Drop>(
     recording: &mut Recording<R>,
 ) -> Result<Ending<'w>, Ending<'w>> {
     let file = settings.config;
-    let text = config_text(rt, alloc, file)?;
+    let text = read_file(rt, alloc, file, LIMIT as u64)?;
     match flaw_of(alloc, text.as_slice())? {
         None => serve_config(rt, alloc, settings, text.as_slice(), recording),
         Some(flaw) => Ok(tell_flaw(alloc, file, text.as_slice(), flaw, &mut recording.outlets)?),
@@ -309,24 +289,11 @@ fn ending_by<'w, R: AllocGlobal + Files + Net + Clock + RandomSource + Clone + D
     }
 }
 
-// What a program says at its end.
-fn ending_text(alloc: Global, ending: Ending<'_>) -> Result<String, AllocError> {
-    format!(in alloc; "{ending}")
-}
-
-// Says this at the end, and gives the status: where what its words ask isn't taken, it's a fault.
-fn tell_text<R: Files + Clock>(
-    rt: &R,
-    outlets: &mut Outlets<R::File>,
-    ending: Ending<'_>,
-    text: &[u8],
-) -> u8 {
-    let is_asked = matches!(ending, Ending::Help | Ending::Version);
-    if say_last(rt, outlets, text, is_asked) {
-        ending.status()
-    } else {
-        Ending::Write.status()
-    }
+// What the program says at its end.
+fn ending_text(alloc: Global, ending: Ending<'_>) -> Result<Vec<u8>, OutOfMemory> {
+    let mut text = Vec::new(alloc);
+    ending.put_text(alloc, &mut text, of_program())?;
+    Ok(text)
 }
 
 // Says how the program ends, and gives its status.
@@ -335,10 +302,8 @@ fn tell<R: AllocGlobal + Files + Clock>(
     outlets: &mut Outlets<R::File>,
     ending: Ending<'_>,
 ) -> u8 {
-    match ending_text(rt.alloc(), ending) {
-        Ok(text) => tell_text(rt, outlets, ending, text.as_bytes()),
-        Err(_) => tell_text(rt, outlets, ending, OUT_OF_MEMORY),
-    }
+    let text = ending_text(rt.alloc(), ending);
+    end(rt, outlets, text, ending.status(), ending.is_asked())
 }
 
 // Runs the program with these outlets, and gives its exit status.
@@ -348,11 +313,9 @@ fn run_with<R: AllocGlobal + Env + Files + Net + Clock + RandomSource + Clone + 
 ) -> u8 {
     let words = match words_of(rt) {
         Ok(words) => words,
-        Err(SystemFault::OutOfMemory) => {
-            return tell(rt, &mut recording.outlets, Ending::OutOfMemory);
-        }
-        Err(SystemFault::Refused { .. }) => {
-            return tell(rt, &mut recording.outlets, Ending::Usage);
+        Err(fault) => {
+            let ending = Ending::Common(CommonEnding::wordless(fault));
+            return tell(rt, &mut recording.outlets, ending);
         }
     };
     match ending_by(rt, words.as_slice(), recording) {
@@ -384,6 +347,6 @@ where
     let _held = hold_standard(rt, rt.alloc());
     match recording_of(rt) {
         Some(mut recording) => run_with(rt, &mut recording),
-        None => Ending::OutOfMemory.status(),
+        None => CommonEnding::OutOfMemory.status(),
     }
 }

@@ -1,15 +1,19 @@
 //! How the program ends: its status, and what it says then.
-ghost use Rattle.std.specs.Prelude.{◌≡◌, ◌≢◌};
-ghost use Rattle.rgwd.specs.Statuses.{status_of};
+ghost use Rattle.std.specs.Prelude.{◌≡◌, ◌≢◌, ◌++◌, OnOk};
+ghost use Rattle.live_ends.specs.declared.program.SystemFault.{SystemFault};
+ghost use Rattle.live_ends.specs.Ending.{unreadable, unbound};
+ghost use Rattle.live_ends.specs.Reasons.{reason_of};
+ghost use Rattle.live_ends.specs.Refusing.{IsRefusedFor};
+ghost use Rattle.rgwd.specs.Statuses.{status_of, is_asked};
+ghost use Rattle.rgwd.specs.Texts.{unanswered_text, ending_text};
 
-use crate::help::{HELP, USAGE, VERSIONS};
 use crate::parted::{MOST_FILES, MOST_MEGABYTES};
-use bad_network::SpoilingFault;
+use exchange_log::peer_text;
 use gateway_core::FIRSTS;
-use live_ends::{put_pieces, reason_of};
+use live_ends::{About, CommonEnding, SystemFault, put_around, put_pieces};
+use mg_bytes::OutOfMemory;
 use new_start::LONGEST_SPREAD;
-use std::alloc::AllocError;
-use std::fmt;
+use std::alloc::{AllocError, Global};
 use std::io::ErrorKind;
 use std::net::SocketAddrV4;
 
@@ -28,28 +32,20 @@ const BAD_HOSTS: &str = "--http-host: wanted names, as rgw.example.net,10.0.0.5,
 const NO_TIME_OF_DAY: &str =
     "this machine has no time of day: --first N says with which number ids begin, another at each start\n";
 
+// What may be asked where nobody answers.
+const NO_ANSWER: &str =
+    ": no answer; does a gateway run, with its telephones (--phones) at this address?\n";
+
 // The last number with which ids may begin.
 const LAST_FIRST: u32 = FIRSTS - 1;
 
-/// How the program ends. A reason is what `live_ends::reason_of` makes of the system's error.
+/// How the program ends.
 #[derive(Clone, Copy)]
 pub enum Ending<'a> {
-    /// The gateway served up to the moment that was asked for.
-    Served,
-    /// The words ask how it is used.
-    Help,
-    /// The words ask for its version.
-    Version,
-    /// The words of the command line are other words.
-    Usage,
-    /// They are other words, or the configuration has a flaw, and standard error says which.
-    Told,
+    /// As any program may.
+    Common(CommonEnding<'a>),
     /// The configuration has no flaw, and standard output says what the gateway will be.
     Checked,
-    /// What stands behind this word isn't an address.
-    BadAddress {
-        word: &'static str,
-    },
     /// What stands behind `--agents` doesn't say who may speak.
     BadAgents,
     /// What stands behind `--http-host` is no list of names.
@@ -60,38 +56,12 @@ pub enum Ending<'a> {
     BadFiles,
     /// The page would be at any address of the machine, and so at none that it can tell.
     AnyAddress,
-    /// This part of what stands behind `--network` says nothing of a network.
-    BadNetwork {
-        fault: SpoilingFault,
-    },
     /// What stands behind `--first` is no number with which ids may begin.
     BadFirst,
     /// What stands behind `--spread` is no time that a start may wait.
     BadSpread,
     /// The machine has no time of day, and no word says with which number ids begin.
     NoTimeOfDay,
-    /// This file can't be read.
-    Unreadable {
-        file: &'a str,
-        reason: &'static str,
-    },
-    /// This file can't be written.
-    Unwritable {
-        file: &'a str,
-        reason: &'static str,
-    },
-    /// No socket can be had at the address that this word asks for.
-    Unbound {
-        word: &'static str,
-        address: SocketAddrV4,
-        reason: &'static str,
-    },
-    /// The clock can't be read.
-    Clock,
-    /// What was recorded or asked can't be written, and standard error said so at once.
-    Write,
-    /// Memory was refused.
-    OutOfMemory,
     /// Each line that went out is as its trace tells it, and that is printed.
     Replayed,
     /// One isn't, and that is printed.
@@ -101,9 +71,7 @@ pub enum Ending<'a> {
     /// The telephones answered a line, and the answer is printed.
     Answered,
     /// Nobody answered a line at this address.
-    NoAnswer {
-        address: SocketAddrV4,
-    },
+    NoAnswer { address: SocketAddrV4 },
 }
 
 impl<'a> Ending<'a> {
@@ -113,122 +81,119 @@ impl<'a> Ending<'a> {
         ensures { result ≡ status_of self.entry }
     {
         match self {
-            Ending::Served | Ending::Help | Ending::Version | Ending::Checked => 0,
-            Ending::Answered | Ending::Replayed => 0,
+            Ending::Common(ending) => ending.status(),
+            Ending::Checked | Ending::Answered | Ending::Replayed => 0,
             Ending::NoAnswer { .. } | Ending::Differs => 1,
-            Ending::Usage
-            | Ending::Told
-            | Ending::BadAddress { .. }
-            | Ending::BadAgents
+            Ending::BadAgents
             | Ending::BadHosts
             | Ending::BadSize
             | Ending::BadFiles
             | Ending::AnyAddress
-            | Ending::BadNetwork { .. }
             | Ending::BadFirst
             | Ending::BadSpread
             | Ending::NoTrace => 2,
-            Ending::Unreadable { .. }
-            | Ending::Unwritable { .. }
-            | Ending::Unbound { .. }
-            | Ending::NoTimeOfDay
-            | Ending::Clock
-            | Ending::Write
-            | Ending::OutOfMemory => 3,
+            Ending::NoTimeOfDay => 3,
         }
     }
 
-    /// So; or for want of memory, where that is why the system refused something.
-    pub fn unless_memory(self, kind: ErrorKind) -> Ending<'a>
-        ensures memory { kind ≡ ErrorKind.OutOfMemory → result ≡ Ending.OutOfMemory }
-        ensures other { kind ≢ ErrorKind.OutOfMemory → result ≡ self.entry }
+    /// Whether what is said is what the words ask for.
+    pub fn is_asked(self) -> bool
+        ensures { result ≡ is_asked self.entry }
     {
-        if kind == ErrorKind::OutOfMemory {
-            Ending::OutOfMemory
-        } else {
-            self
+        match self {
+            Ending::Common(ending) => ending.is_asked(),
+            _ => false,
         }
     }
 
-    /// The system lets it read no such file, for this reason.
+    /// The system lets it read no such file, by an error of this kind.
     pub fn unreadable(file: &'a str, kind: ErrorKind) -> Ending<'a>
-        ensures { kind ≡ ErrorKind.OutOfMemory → result ≡ Ending.OutOfMemory }
+        ensures memory { kind ≡ ErrorKind.OutOfMemory → result ≡ Ending.Common CommonEnding.OutOfMemory }
+        ensures told { kind ≢ ErrorKind.OutOfMemory →
+            (fault : SystemFault) × IsRefusedFor (reason_of kind) fault × (result ≡ Ending.Common (unreadable file.entry fault)) }
     {
-        let reason = reason_of(kind);
-        Ending::Unreadable { file, reason }.unless_memory(kind)
+        Ending::Common(CommonEnding::unreadable(file, SystemFault::of(kind)))
     }
 
-    /// The system gives it no socket at the address that this word asks for, for this reason.
+    /// The system gives it no socket at the address that this word asks for, by an error of this kind.
     pub fn unbound(word: &'static str, address: SocketAddrV4, kind: ErrorKind) -> Ending<'a>
-        ensures { kind ≡ ErrorKind.OutOfMemory → result ≡ Ending.OutOfMemory }
+        ensures memory { kind ≡ ErrorKind.OutOfMemory → result ≡ Ending.Common CommonEnding.OutOfMemory }
+        ensures told { kind ≢ ErrorKind.OutOfMemory →
+            (fault : SystemFault) × IsRefusedFor (reason_of kind) fault × (result ≡ Ending.Common (unbound word.entry address fault)) }
     {
-        let reason = reason_of(kind);
-        let unbound = Ending::Unbound {
-            word,
-            address,
-            reason,
-        };
-        unbound.unless_memory(kind)
+        Ending::Common(CommonEnding::unbound(word, address, SystemFault::of(kind)))
+    }
+
+    /// Puts what is said: on standard output what the words ask, else a line on standard error, or nothing where it served or checked,
+    /// an answer is printed, or all was said. Its only error is want of memory.
+    #[tactic(auto, unfolding(crate::specs::Texts::ending_text))]
+    pub fn put_text(self, alloc: Global, out: &mut Vec<u8>, about: About) -> Result<(), OutOfMemory>
+        ensures { OnOk result (out.new.items ≡ out.old.items ++ ending_text about self.entry) }
+    {
+        match self {
+            Ending::Common(ending) => ending.put_text(alloc, out, about),
+            Ending::Checked
+            | Ending::Answered
+            | Ending::Replayed
+            | Ending::Differs
+            | Ending::NoTrace => Ok(()),
+            Ending::BadAgents => put_pieces(out, &[BAD_AGENTS]),
+            Ending::BadHosts => put_pieces(out, &[BAD_HOSTS]),
+            Ending::BadSize => put_around(
+                alloc,
+                out,
+                "--capture-size: wanted 1 to ",
+                MOST_MEGABYTES,
+                " MB, beside --capture\n",
+            ),
+            Ending::BadFiles => put_around(
+                alloc,
+                out,
+                "--capture-files: wanted 1 to ",
+                MOST_FILES,
+                ", beside --capture-size\n",
+            ),
+            Ending::AnyAddress => put_pieces(out, &[ANY_ADDRESS]),
+            Ending::BadFirst => put_around(
+                alloc,
+                out,
+                "--first: wanted a number, 0 to ",
+                u64::from(LAST_FIRST),
+                "\n",
+            ),
+            Ending::BadSpread => put_around(
+                alloc,
+                out,
+                "--spread: wanted 0 to ",
+                u64::from(LONGEST_SPREAD),
+                " ms\n",
+            ),
+            Ending::NoTimeOfDay => put_pieces(out, &[NO_TIME_OF_DAY]),
+            Ending::NoAnswer { address } => put_unanswered(alloc, out, address),
+        }
     }
 }
 
 impl<'a> From<AllocError> for Ending<'a> {
     fn from(_refused: AllocError) -> Ending<'a> {
-        Ending::OutOfMemory
+        Ending::Common(CommonEnding::OutOfMemory)
     }
 }
 
-// What is written of a file that can't be read or written.
-fn put_file<W: fmt::Write>(
-    f: &mut fmt::Formatter<W>,
-    file: &str,
-    fault: &str,
-    reason: &str,
-) -> fmt::Result {
-    put_pieces(f, &[file, fault, reason, "\n"])
+impl<'a> From<CommonEnding<'a>> for Ending<'a> {
+    fn from(ending: CommonEnding<'a>) -> Ending<'a> {
+        Ending::Common(ending)
+    }
 }
 
-// What is written: on standard output what the words ask, else a line on standard error, or nothing
-// where it served or checked or an answer is printed, or where all was said.
-impl<'a> fmt::Display for Ending<'a> {
-    fn fmt<W: fmt::Write>(&self, f: &mut fmt::Formatter<W>) -> fmt::Result {
-        match *self {
-            Ending::Served | Ending::Told | Ending::Checked | Ending::Answered => Ok(()),
-            Ending::Replayed | Ending::Differs | Ending::NoTrace | Ending::Write => Ok(()),
-            Ending::Usage => put_pieces(f, &["usage: ", USAGE, "\n"]),
-            Ending::Help => put_pieces(f, &HELP),
-            Ending::Version => put_pieces(f, &VERSIONS),
-            Ending::BadAddress { word } => put_pieces(f, &[word, ": no address a.b.c.d:port\n"]),
-            Ending::BadAgents => f.write_str(BAD_AGENTS),
-            Ending::BadHosts => f.write_str(BAD_HOSTS),
-            Ending::BadSize => writeln!(
-                f,
-                "--capture-size: wanted 1 to {} MB, beside --capture",
-                MOST_MEGABYTES
-            ),
-            Ending::BadFiles => writeln!(
-                f,
-                "--capture-files: wanted 1 to {}, beside --capture-size",
-                MOST_FILES
-            ),
-            Ending::AnyAddress => f.write_str(ANY_ADDRESS),
-            Ending::BadNetwork { fault } => put_pieces(f, &["--network: ", fault.text(), "\n"]),
-            Ending::BadFirst => writeln!(f, "--first: wanted a number, 0 to {}", LAST_FIRST),
-            Ending::BadSpread => writeln!(f, "--spread: wanted 0 to {} ms", LONGEST_SPREAD),
-            Ending::NoTimeOfDay => f.write_str(NO_TIME_OF_DAY),
-            Ending::Unreadable { file, reason } => put_file(f, file, ": read fault", reason),
-            Ending::Unwritable { file, reason } => put_file(f, file, ": write fault", reason),
-            Ending::Unbound {
-                word,
-                address,
-                reason,
-            } => writeln!(f, "{word} {address}: no socket{reason}"),
-            Ending::Clock => f.write_str("clock fault\n"),
-            Ending::OutOfMemory => f.write_str("out of memory\n"),
-            Ending::NoAnswer { address } => writeln!(
-                f,
-                "{address}: no answer; does a gateway run, with its telephones (--phones) at this address?"
-            ),
-        }
-    }
+// Nobody answered a line at this address.
+fn put_unanswered(
+    alloc: Global,
+    out: &mut Vec<u8>,
+    address: SocketAddrV4,
+) -> Result<(), OutOfMemory>
+    ensures { OnOk result (out.new.items ≡ out.old.items ++ unanswered_text address) }
+{
+    let address = peer_text(alloc, address)?;
+    put_pieces(out, &[address.as_str(), NO_ANSWER])
 }

@@ -1,24 +1,40 @@
 //! Worked examples of the definitions, as theorems.
 #![tactic(auto, unfolding(crate::proofs::Computing::on_examples))]
 
-ghost use Rattle.std.specs.Prelude.{◌≡◌, codes, true, false, [], ◌∷◌, map, Ok, Err, Some, None};
-ghost use Rattle.rgwd.specs.declared.ending.Ending.TheVariants.{Served, Help, Version, Usage, Told, Checked, BadAddress, BadAgents, BadHosts, BadSize, BadFiles, AnyAddress, BadNetwork, BadFirst, BadSpread, NoTimeOfDay, Unreadable, Unwritable, Unbound, Clock, Write, OutOfMemory, Replayed, Differs, NoTrace, Answered, NoAnswer};
+ghost use Rattle.std.specs.Prelude.{◌≡◌, codes, true, false, [], ◌∷◌, ◌++◌, map, Ok, Err, Some, None};
+ghost use Rattle.std.specs.Net.Text.{socket_v4_text};
+ghost use Rattle.std.specs.declared.net.socket_addr.SocketAddrV4.{SocketAddrV4};
+ghost use Rattle.live_ends.specs.declared.ending.About.{About};
+ghost use Rattle.live_ends.specs.declared.ending.CommonEnding.{CommonEnding};
+ghost use Rattle.live_ends.specs.Ending.{status_of as common_status, is_asked as is_commonly_asked, ending_text as common_text};
+ghost use Rattle.rgwd.specs.declared.ending.Ending.TheVariants.{Common, Checked, BadAgents, BadHosts, BadSize, BadFiles, AnyAddress, BadFirst, BadSpread, NoTimeOfDay, Replayed, Differs, NoTrace, Answered, NoAnswer};
 ghost use Rattle.rgwd.specs.Parting.{parting_of};
-ghost use Rattle.rgwd.specs.Statuses.{status_of};
+ghost use Rattle.rgwd.specs.Statuses.{status_of, is_asked};
+ghost use Rattle.rgwd.specs.Texts.{ending_text};
 
 /// What was asked was done, or nobody answered, or words are refused, or the system failed.
 pub fn statuses_tell_what_came_of_it()
-    ensures done { map status_of (Served ∷ Help ∷ Version ∷ Checked ∷ Replayed ∷ Answered ∷ []) ≡ 0 ∷ 0 ∷ 0 ∷ 0 ∷ 0 ∷ 0 ∷ [] }
+    ensures common { (ending : CommonEnding) → status_of (Common ending) ≡ common_status ending }
+    ensures done { map status_of (Checked ∷ Replayed ∷ Answered ∷ []) ≡ 0 ∷ 0 ∷ 0 ∷ [] }
     ensures unlike { status_of Differs ≡ 1 }
-    ensures silent { (address : _) → status_of (NoAnswer address) ≡ 1 }
-    ensures words { map status_of (Usage ∷ Told ∷ AnyAddress ∷ BadFirst ∷ BadSpread ∷ NoTrace ∷ []) ≡ 2 ∷ 2 ∷ 2 ∷ 2 ∷ 2 ∷ 2 ∷ [] }
+    ensures silent { (address : SocketAddrV4) → status_of (NoAnswer address) ≡ 1 }
+    ensures words { map status_of (AnyAddress ∷ BadFirst ∷ BadSpread ∷ NoTrace ∷ []) ≡ 2 ∷ 2 ∷ 2 ∷ 2 ∷ [] }
     ensures admission { map status_of (BadAgents ∷ BadHosts ∷ BadSize ∷ BadFiles ∷ []) ≡ 2 ∷ 2 ∷ 2 ∷ 2 ∷ [] }
-    ensures address { (word : _) → status_of (BadAddress word) ≡ 2 }
-    ensures network { (fault : _) → status_of (BadNetwork fault) ≡ 2 }
-    ensures system { map status_of (NoTimeOfDay ∷ Clock ∷ Write ∷ OutOfMemory ∷ []) ≡ 3 ∷ 3 ∷ 3 ∷ 3 ∷ [] }
-    ensures unread { (file reason : _) → status_of (Unreadable file reason) ≡ 3 }
-    ensures unwritten { (file reason : _) → status_of (Unwritable file reason) ≡ 3 }
-    ensures unbound { (word reason : _) (address : _) → status_of (Unbound word address reason) ≡ 3 }
+    ensures system { status_of NoTimeOfDay ≡ 3 }
+    ensures asked { (ending : CommonEnding) → is_asked (Common ending) ≡ is_commonly_asked ending }
+    ensures own { map is_asked (Checked ∷ BadSize ∷ NoTrace ∷ Answered ∷ []) ≡ false ∷ false ∷ false ∷ false ∷ [] }
+{}
+
+/// An ending says why, in a line; nothing where what was asked for is printed, or where all was said.
+pub fn an_ending_says_why()
+    ensures common { (about : About) (ending : CommonEnding) → ending_text about (Common ending) ≡ common_text about ending }
+    ensures nothing { (about : About) →
+        map (ending_text about) (Checked ∷ Answered ∷ Replayed ∷ Differs ∷ NoTrace ∷ []) ≡ [] ∷ [] ∷ [] ∷ [] ∷ [] ∷ [] }
+    ensures size { (about : About) → ending_text about BadSize ≡ codes "--capture-size: wanted 1 to 100000 MB, beside --capture\n" }
+    ensures files { (about : About) → ending_text about BadFiles ≡ codes "--capture-files: wanted 1 to 10000, beside --capture-size\n" }
+    ensures spread { (about : About) → ending_text about BadSpread ≡ codes "--spread: wanted 0 to 600000 ms\n" }
+    ensures silent { (about : About) (address : SocketAddrV4) → ending_text about (NoAnswer address)
+        ≡ socket_v4_text address ++ codes ": no answer; does a gateway run, with its telephones (--phones) at this address?\n" }
 {}
 
 /// A capture is parted into files of 1 to 100,000 MB, of which 1 to 10,000 are kept; ten where nothing is said.

@@ -1,4 +1,6 @@
 //! What the program says of itself: how it is used, and its version.
+use live_ends::About;
+
 /// The version of the program.
 pub const VERSION: &str = "1.0";
 
@@ -50,8 +52,17 @@ With --replay it starts none either: what went out in the file TRACE is compared
 More: the manual page rgwd(8), and docs/OPERATING.md.
 ";
 
-/// How the program is used, in pieces.
-pub const HELP: [&str; 7] = ["usage: ", USAGE, ABOVE, LISTEN, BETWEEN, PHONES, BELOW];
+// How the program is used, in pieces.
+static HELP: [&str; 7] = ["usage: ", USAGE, ABOVE, LISTEN, BETWEEN, PHONES, BELOW];
 
-/// The version of the program, and of its protocol, in pieces.
-pub const VERSIONS: [&str; 3] = ["rgwd ", VERSION, "\nMGCP 1.0 (RFC 3435)\n"];
+// The version of the program, and of its protocol, in pieces.
+static VERSIONS: [&str; 3] = ["rgwd ", VERSION, "\nMGCP 1.0 (RFC 3435)\n"];
+
+/// What the program says of itself.
+pub(crate) fn of_program() -> About {
+    About {
+        usage: USAGE,
+        help: HELP.as_slice(),
+        version: VERSIONS.as_slice(),
+    }
+}

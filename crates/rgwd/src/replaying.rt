@@ -1,7 +1,7 @@
 //! Replays a trace, and says whether each line that went out is what the gateway sends for the lines before it.
 use crate::ending::Ending;
 use crate::words::unless_help;
-use live_ends::Outlets;
+use live_ends::{CommonEnding, Outlets};
 use std::alloc::{AllocError, Global};
 use std::fs::File;
 use std::io::{BufReader, Write};
@@ -25,7 +25,7 @@ fn verdict_of<'w, R: Files>(rt: &R, alloc: Global, file: &'w str) -> Result<Verd
     };
     match replay(alloc, trace) {
         Ok(verdict) => Ok(verdict),
-        Err(ReplayFault::OutOfMemory) => Err(Ending::OutOfMemory),
+        Err(ReplayFault::OutOfMemory) => Err(Ending::Common(CommonEnding::OutOfMemory)),
         Err(ReplayFault::Read { kind }) => Err(Ending::unreadable(file, kind)),
     }
 }
@@ -60,7 +60,7 @@ pub fn replay_trace<'w, R: AllocGlobal + Files>(
     outlets: &mut Outlets<R::File>,
 ) -> Result<Ending<'w>, Ending<'w>> {
     let [file] = words else {
-        return Err(Ending::Usage);
+        return Err(Ending::Common(CommonEnding::Usage));
     };
     let file = unless_help(file.as_str())?;
     let verdict = verdict_of(rt, rt.alloc(), file)?;

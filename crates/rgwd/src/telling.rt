@@ -1,7 +1,7 @@
 //! Sends a line to a gateway's telephones, and prints what they answer.
 use crate::ending::Ending;
 use crate::words::{address_behind, unless_help};
-use live_ends::{AskFault, Outlet, ask};
+use live_ends::{AskFault, CommonEnding, Outlet, ask};
 use std::alloc::Global;
 use std::io::Write;
 use std::net::{Net, SocketAddrV4};
@@ -23,15 +23,15 @@ struct Telling {
 // What the words behind `--tell` say: an address, where no socket has port 0, and the words of a line.
 fn telling_of<'w>(alloc: Global, words: &'w [String]) -> Result<Telling, Ending<'w>> {
     let (Some(word), Some(line)) = (words.first(), words.get(1..)) else {
-        return Err(Ending::Usage);
+        return Err(Ending::Common(CommonEnding::Usage));
     };
     let address = address_behind(TELL, unless_help(word.as_str())?)?;
     if address.port() == 0 {
-        return Err(Ending::BadAddress { word: TELL });
+        return Err(Ending::Common(CommonEnding::BadAddress { word: TELL }));
     }
     let line = line.join(alloc, " ")?;
     if line.as_str().trim_ascii().is_empty() {
-        return Err(Ending::Usage);
+        return Err(Ending::Common(CommonEnding::Usage));
     }
     Ok(Telling { address, line })
 }
@@ -40,7 +40,7 @@ fn telling_of<'w>(alloc: Global, words: &'w [String]) -> Result<Telling, Ending<
 fn ending_by<'w>(address: SocketAddrV4, fault: AskFault) -> Ending<'w> {
     match fault {
         AskFault::NoAnswer => Ending::NoAnswer { address },
-        AskFault::Clock => Ending::Clock,
+        AskFault::Clock => Ending::Common(CommonEnding::Clock),
         AskFault::Refused { kind } => Ending::unbound(TELL, address, kind),
     }
 }

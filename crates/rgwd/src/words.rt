@@ -10,7 +10,7 @@ use crate::parted::parting_of;
 use bad_network::Spoiling;
 use clap::error::ErrorKind;
 use clap::{Arg, ArgAction, ArgMatches, Command, Error};
-use live_ends::{Outlet, Parting};
+use live_ends::{CommonEnding, Outlet, Parting};
 use live_page::HostNames;
 use new_start::{FirstNumber, spread_in};
 use std::alloc::{AllocError, Global};
@@ -100,23 +100,23 @@ fn command<'a>(alloc: Global) -> Result<Command<'a>, AllocError> {
 /// The address that stands behind a word.
 pub fn address_behind<'w>(word: &'static str, text: &str) -> Result<SocketAddrV4, Ending<'w>>
     ensures address { IfOk result (λ address. IsSocketV4Text text.now address) }
-    ensures other { IfErr result (λ ending. ending ≡ Ending.BadAddress word.entry) }
+    ensures other { IfErr result (λ ending. ending ≡ Ending.Common (CommonEnding.BadAddress word.entry)) }
 {
     match text.parse::<SocketAddrV4>() {
         Ok(address) => Ok(address),
-        Err(_) => Err(Ending::BadAddress { word }),
+        Err(_) => Err(Ending::Common(CommonEnding::BadAddress { word })),
     }
 }
 
 /// A word that doesn't ask how the program is used.
 pub fn unless_help<'w>(word: &'w str) -> Result<&'w str, Ending<'w>>
     ensures itself { IfOk result (λ text. text.now ≡ word.now) }
-    ensures help { IfErr result (λ ending. ending ≡ Ending.Help) }
+    ensures help { IfErr result (λ ending. ending ≡ Ending.Common CommonEnding.Help) }
     ensures asks { IfErr result (λ ending. (word.now ≡ codes "--help") ⊎ (word.now ≡ codes "-h")) }
     ensures asks_not { IfOk result (λ text. (word.now ≢ codes "--help") × (word.now ≢ codes "-h")) }
 {
     if word == "--help" || word == "-h" {
-        return Err(Ending::Help);
+        return Err(Ending::Common(CommonEnding::Help));
     }
     Ok(word)
 }
@@ -197,7 +197,9 @@ fn network_in<'a>(matches: &ArgMatches<'a>) -> Result<Option<Spoiling>, Ending<'
     };
     match Spoiling::read(text.as_bytes()) {
         Ok(spoiling) => Ok(Some(spoiling)),
-        Err(fault) => Err(Ending::BadNetwork { fault }),
+        Err(fault) => Err(Ending::Common(CommonEnding::BadNetwork {
+            wanted: fault.text(),
+        })),
     }
 }
 
@@ -219,7 +221,7 @@ fn longest_wait_in<'a>(matches: &ArgMatches<'a>) -> Result<Option<u32>, Ending<'
 
 fn settings_in<'a>(alloc: Global, matches: &ArgMatches<'a>) -> Result<Settings<'a>, Ending<'a>> {
     let Some(config) = matches.get_str("config") else {
-        return Err(Ending::Usage);
+        return Err(Ending::Common(CommonEnding::Usage));
     };
     let first = first_in(matches);
     if first.is_none() && matches.get_str("first").is_some() {
@@ -252,13 +254,13 @@ fn ending_by<'a, F: Write + Drop>(
     said: &mut Outlet<F>,
 ) -> Result<Ending<'a>, AllocError> {
     match fault.kind() {
-        ErrorKind::OutOfMemory => Ok(Ending::OutOfMemory),
-        ErrorKind::DisplayHelp => Ok(Ending::Help),
-        ErrorKind::DisplayVersion => Ok(Ending::Version),
+        ErrorKind::OutOfMemory => Ok(Ending::Common(CommonEnding::OutOfMemory)),
+        ErrorKind::DisplayHelp => Ok(Ending::Common(CommonEnding::Help)),
+        ErrorKind::DisplayVersion => Ok(Ending::Common(CommonEnding::Version)),
         _ => {
             let text = format!(in alloc; "{fault}")?;
             said.say(text.as_bytes());
-            Ok(Ending::Told)
+            Ok(Ending::Common(CommonEnding::Told))
         }
     }
 }
