@@ -22,7 +22,7 @@ use crate::stories::{
 use crate::titled::Titled;
 use bad_network::BadNetwork;
 use gateway_core::Gateway;
-use live_ends::{Now, Written};
+use live_ends::{Now, TEXT_ROOM, Written};
 use live_gateway::{Admission, Desk, Exchange, Recorder, SpoiltWay, boxed, speakers_of};
 use live_journal::{Capture, Journal, Log, MessageTally, Trace};
 use live_page::HostNames;
@@ -43,6 +43,7 @@ pub struct Live;
 impl Recorder<Trace> for Records {
     fn write(&mut self, journal: &mut Journal, trace: &mut Trace, time: u64) {
         self.keep_trace(time, &mut trace.record);
+        trace.give_room(TEXT_ROOM);
         self.keep(time, b"log ", &mut journal.log.record);
         self.keep_capture(time, &mut journal.capture.record);
         journal.written = self.written;

@@ -1,11 +1,11 @@
 -- What is kept of texts that are offered one behind the other.
 use Rattle.std.proofs.Common.{◌≡◌, ℕ, zero, suc, ◌+◌, ◌-◌, ◌≤◌, ◌&&◌, List, [], ◌∷◌, ◌++◌, length, take, drop, refl, sym, ap, ◌∙◌, arith, ⊎_elim}
-use Rattle.std.specs.Prelude.{Bool, true, false, not, min, nat_le, if◌then◌else◌, ◌^◌}
+use Rattle.std.specs.Prelude.{Bool, true, false, not, ◌||◌, min, nat_le, if◌then◌else◌, ◌^◌}
 use Rattle.std.specs.List.{concat}
-use Rattle.std.proofs.lemmas.Bool.{cases_Bool}
+use Rattle.std.proofs.lemmas.Bool.{cases_Bool, le-leb}
 use Rattle.std.proofs.lemmas.Bool.Decides.{nat_tests}
 use Rattle.std.proofs.lemmas.List.{append-nil, append_assoc, length-append}
-use Rattle.live_ends.specs.Backlog.{BacklogState, sum_within, lines_ended, is_kept, with_text, without_text, offered, offered_all, kept_of, lines_of_all}
+use Rattle.live_ends.specs.Backlog.{BacklogState, sum_within, lines_ended, is_kept, room_left, with_text, without_text, offered, offered_all, kept_of, lines_of_all}
 
 -- where a text is kept
 kept_step : (room : ℕ) (backlog : BacklogState) (text : List ℕ) (texts : List (List ℕ)) → is_kept room backlog text ≡ true
@@ -88,3 +88,17 @@ few room backlog (text ∷ texts) h = ⊎_elim
     (λ (is : is_kept room backlog text ≡ false). rw (dropped_step room backlog text texts is)
     (few room (without_text backlog text) texts h))
     (cases_Bool (is_kept room backlog text))
+
+-- what has room is kept
+kept_within : (full over : Bool) (room waiting count : ℕ) → suc count ≤ (if full || over then 0 else room - waiting)
+    → (not full && not over && nat_le (waiting + suc count) room) ≡ true
+kept_within true over room waiting count within = let none : suc count ≤ 0 = within in absurd (omega (arith, none))
+kept_within false true room waiting count within = let none : suc count ≤ 0 = within in absurd (omega (arith, none))
+kept_within false false room waiting count within =
+    let few : suc count ≤ room - waiting = within in
+    le-leb (waiting + suc count) room (omega (arith, few))
+
+pub room_is_kept : (room byte : ℕ) (text : List ℕ) (backlog : BacklogState) → length (byte ∷ text) ≤ room_left room backlog
+    → is_kept room backlog (byte ∷ text) ≡ true
+room_is_kept room byte text backlog within =
+    kept_within backlog.is_full backlog.is_over room (length backlog.waiting) (length text) within

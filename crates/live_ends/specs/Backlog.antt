@@ -1,5 +1,5 @@
 -- What waits for somebody who takes it later: whole texts of lines, one behind the other, and no more bytes than there is room for.
-use Rattle.std.specs.Prelude.{ℕ, suc, ◌+◌, ◌-◌, ◌^◌, ◌==◌, ◌&&◌, Bool, true, false, not, min, nat_le, if◌then◌else◌, List, [], ◌∷◌, ◌++◌, length, drop, fold}
+use Rattle.std.specs.Prelude.{ℕ, suc, ◌+◌, ◌-◌, ◌^◌, ◌==◌, ◌&&◌, ◌||◌, Bool, true, false, not, min, nat_le, if◌then◌else◌, List, [], ◌∷◌, ◌++◌, length, drop, fold}
 
 -- the bytes that wait; whether a text found no room, so that none is kept until that is noted; whether nothing is kept any more; and
 -- how many lines weren't kept since that was noted, and in all
@@ -29,6 +29,10 @@ lines_ended text = fold with_byte 0 text
 -- a text is kept where none before it found no room, and so many bytes, those that wait and its own, are at most
 abbrev pub is_kept : ℕ → BacklogState → List ℕ → Bool
 is_kept room backlog text = not backlog.is_full && not backlog.is_over && nat_le (length backlog.waiting + length text) room
+
+-- a text of so many bytes more is kept
+abbrev pub room_left : ℕ → BacklogState → ℕ
+room_left room backlog = if backlog.is_full || backlog.is_over then 0 else room - length backlog.waiting
 
 -- it stands behind what waits
 abbrev pub with_text : BacklogState → List ℕ → BacklogState

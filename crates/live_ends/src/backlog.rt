@@ -1,7 +1,7 @@
 //! What waits for somebody who takes it later, up to a bound.
 ghost use Rattle.std.specs.Prelude.{◌≡◌, ◌<◌, ◌≤◌, ◌+◌, IfOk, length, drop, true, false};
 ghost use Rattle.std.specs.Vec.{vec_capacity};
-ghost use Rattle.live_ends.specs.Backlog.{nothing_waits, lines_ended, is_kept, with_text, offered, may_note, noted, ended_within, taken, closed};
+ghost use Rattle.live_ends.specs.Backlog.{nothing_waits, lines_ended, is_kept, room_left, with_text, offered, may_note, noted, ended_within, taken, closed};
 
 use std::alloc::{AllocError, Global};
 use std::marker::Model;
@@ -135,6 +135,16 @@ impl Backlog {
     {
         let length = self.waiting().len();
         !self.is_full && !self.is_over && length <= TEXT_ROOM && text.len() <= TEXT_ROOM - length
+    }
+
+    /// So many bytes a text has at most that is kept.
+    pub fn room_left(&self) -> usize
+        ensures { result ≡ room_left TEXT_ROOM self.now }
+    {
+        if self.is_full || self.is_over {
+            return 0;
+        }
+        TEXT_ROOM.saturating_sub(self.waiting().len())
     }
 
     /// Keeps a text, which is whole lines, behind what waits: whether there is room for it. Where there isn't, none is kept from then on

@@ -3,7 +3,7 @@
 
 ghost use Rattle.std.specs.Prelude.{◌≡◌, codes, true, false, [], ◌∷◌, Some, None};
 ghost use Rattle.std.specs.declared.io.ErrorKind.{ErrorKind};
-ghost use Rattle.live_ends.specs.Backlog.{nothing_waits, lines_ended, is_kept, offered, offered_all, may_note, noted, ended, ended_within, taken, closed, kept_of, lines_of_all};
+ghost use Rattle.live_ends.specs.Backlog.{nothing_waits, lines_ended, is_kept, room_left, offered, offered_all, may_note, noted, ended, ended_within, taken, closed, kept_of, lines_of_all};
 ghost use Rattle.live_ends.specs.Recording.{state_when, is_told, is_refused, is_open, faults_of, said, given_up, state_given_up, offer_left};
 ghost use Rattle.live_ends.specs.Parting.{number_behind, numbered, is_old, is_full};
 ghost use Rattle.live_ends.specs.Written.{written_line};
@@ -21,6 +21,15 @@ pub fn texts_are_kept_in_their_order()
     ensures many { offered_all 6 nothing_waits (codes "ab\n" ∷ codes "cdef\ng\n" ∷ codes "c\n" ∷ []) ≡ full (codes "ab\n") 3 3 }
     ensures end { is_kept 6 (over []) (codes "c\n") ≡ false }
     ensures behind_end { offered 6 (over []) (codes "c\n") ≡ record (over []) { is_full = true; unnoted = 1; dropped = 1 } }
+{}
+
+/// There is room for what waits to be as much as may, and for nothing where a text found none, or all is over.
+pub fn room_is_what_isnt_taken()
+    ensures all { room_left 6 nothing_waits ≡ 6 }
+    ensures half { room_left 6 (waits (codes "ab\n")) ≡ 3 }
+    ensures none { room_left 2 (waits (codes "ab\n")) ≡ 0 }
+    ensures full { room_left 6 (full (codes "ab\n") 1 1) ≡ 0 }
+    ensures over { room_left 6 (over []) ≡ 0 }
 {}
 
 /// A line ends by LF.

@@ -1,7 +1,7 @@
 //! Laws of the definitions. Each function has an empty body: its clauses are the theorems.
-ghost use Rattle.std.specs.Prelude.{◌≡◌, ◌≤◌, ◌+◌, ◌-◌, ◌^◌, ◌++◌, ℕ, List, length, take, drop};
+ghost use Rattle.std.specs.Prelude.{◌≡◌, ◌≤◌, ◌+◌, ◌-◌, ◌^◌, ◌++◌, ◌∷◌, ℕ, true, List, length, take, drop};
 ghost use Rattle.std.specs.List.{concat};
-ghost use Rattle.live_ends.specs.Backlog.{BacklogState, sum_within, offered_all, kept_of, lines_of_all};
+ghost use Rattle.live_ends.specs.Backlog.{BacklogState, is_kept, room_left, sum_within, offered_all, kept_of, lines_of_all};
 ghost use Rattle.live_ends.specs.declared.backlog.TheConstants.{MOST_KEPT, NOTE_ROOM, TEXT_ROOM};
 
 /// Of texts that are offered one behind the other the first are kept, whole and in their order, and all others are dropped, whose lines
@@ -16,4 +16,10 @@ pub fn the_first_texts_are_kept_whole()
         length (offered_all room backlog texts).waiting ≤ room }
     ensures rooms { TEXT_ROOM + NOTE_ROOM ≡ MOST_KEPT }
     ensures mebibyte { MOST_KEPT ≡ 2 ^ 20 }
+{}
+
+/// A text that has no more bytes than there is room left for is kept.
+pub fn what_has_room_is_kept()
+    ensures { (room byte : ℕ) (text : List ℕ) (backlog : BacklogState) → length (byte ∷ text) ≤ room_left room backlog →
+        is_kept room backlog (byte ∷ text) ≡ true }
 {}

@@ -4,7 +4,7 @@ ghost use Rattle.mg_bytes.specs.Lists.{is_empty};
 ghost use Rattle.live_ends.specs.declared.outlet.OutletState.TheVariants.{Open, BrokenOff, Failed};
 ghost use Rattle.live_ends.specs.declared.record.RecordState.TheVariants.{Off};
 ghost use Rattle.live_ends.specs.declared.backlog.TheConstants.{NOTE_ROOM, TEXT_ROOM};
-ghost use Rattle.live_ends.specs.Backlog.{nothing_waits, is_kept, offered, ended_within, closed};
+ghost use Rattle.live_ends.specs.Backlog.{nothing_waits, is_kept, room_left, offered, ended_within, closed};
 ghost use Rattle.live_ends.specs.Recording.{is_refused, is_open, faults_of, said, Says, Notes, KeepsLog, given_up, state_given_up};
 
 use crate::backlog::Backlog;
@@ -121,6 +121,13 @@ impl<F: Write + Drop> Outlet<F> {
         self.backlog.waiting().is_empty()
     }
 
+    /// So many bytes of what is recorded next are kept whole.
+    pub fn room_left(&self) -> usize
+        ensures { result ≡ room_left TEXT_ROOM self.now.backlog }
+    {
+        self.backlog.room_left()
+    }
+
     /// How many lines weren't kept.
     pub fn dropped(&self) -> u64
         ensures { result ≡ self.now.backlog.dropped }
@@ -213,6 +220,16 @@ impl<F: Write + Drop> Outlet<F> {
             return;
         }
         record.end();
+        self.break_off(last);
+    }
+
+    /// There is no room for what is recorded next: behind what waits it is broken off, with this last line, where it is open.
+    pub fn break_off(&mut self, last: &[u8])
+        ensures broken_off { is_open self.old.state ≡ true → self.new.state ≡ BrokenOff }
+        ensures last { is_open self.old.state ≡ true → self.new.backlog ≡ ended_within NOTE_ROOM TEXT_ROOM self.old.backlog last.now }
+        ensures not_open { is_open self.old.state ≡ false → (self.new.state ≡ self.old.state) × (self.new.backlog ≡ self.old.backlog) }
+        ensures rest { self.new ≡ record self.old { backlog = self.new.backlog; state = self.new.state } }
+    {
         if self.is_open() {
             self.state = OutletState::BrokenOff;
             self.backlog.end(last);

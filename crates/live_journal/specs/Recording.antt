@@ -1,11 +1,12 @@
--- What is put into a record, and what a trace begins with.
-use Rattle.std.specs.Prelude.{◌≡◌, ◌⊎◌, ℕ, Bool, ◌==◌, ◌||◌, nat_eq, codes, if◌then◌else◌, List, [], ◌∷◌, ◌++◌}
+-- What is put into a record, what a trace begins with, and what it is told.
+use Rattle.std.specs.Prelude.{◌≡◌, ◌⊎◌, ℕ, ◌+◌, Bool, ◌==◌, ◌&&◌, ◌||◌, not, length, nat_eq, codes, if◌then◌else◌, List, [], ◌∷◌, ◌++◌}
 use Rattle.std.specs.List.{ends_with}
 use Rattle.mg_bytes.specs.Lists.{is_empty}
 use Rattle.live_ends.specs.declared.record.Record.{Record}
 use Rattle.live_ends.specs.declared.record.RecordState.{RecordState}
 use Rattle.live_ends.specs.declared.record.RecordState.TheVariants.{Off, On, OutOfMemory}
-use Rattle.live_ends.specs.Recording.{state_when}
+use Rattle.live_ends.specs.Recording.{state_when, is_told}
+use Rattle.live_journal.specs.declared.trace.Trace.{Trace}
 use Rattle.traces.specs.Telling.{told_first}
 
 -- a record that is told all has this text behind what it had, or nothing from then on, where memory was refused; any other has what it had
@@ -32,3 +33,15 @@ first_line first = if first == 0 then [] else told_first first
 -- a trace begins with the configuration, `%%`, and with which number ids begin
 abbrev pub trace_head : List ℕ → ℕ → List ℕ
 trace_head config first = whole_lines config ++ codes "%%\n" ++ first_line first
+
+-- more is told to a trace
+abbrev pub is_telling : Trace → Bool
+is_telling trace = is_told trace.record.state && not trace.is_broken_off
+
+-- what it was told has its place in what is kept, out of the room that was left there; or memory was refused, and nothing is told from
+-- then on
+abbrev pub HasPlace : Trace → List ℕ → Trace → Type 0
+HasPlace was text is =
+    ((is.record.out.items ≡ was.record.out.items ++ text) × (is.record.state ≡ was.record.state)
+    × (is.room + length text ≡ was.room) × (is.is_broken_off ≡ was.is_broken_off))
+    ⊎ ((is.record.state ≡ OutOfMemory) × (is.record.out.items ≡ []))

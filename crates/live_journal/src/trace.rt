@@ -1,17 +1,23 @@
 //! The trace, as a record keeps it until it is written.
-ghost use Rattle.std.specs.Prelude.{◌≡◌, ◌++◌, OnOk, None};
-ghost use Rattle.live_journal.specs.Recording.{whole_lines, trace_head, Begins};
+ghost use Rattle.std.specs.Prelude.{◌≡◌, ◌≤◌, ◌<◌, ◌-◌, ◌++◌, length, true, false, OnOk, None};
+ghost use Rattle.live_journal.specs.Recording.{whole_lines, trace_head, Begins, is_telling, HasPlace};
 
-use live_ends::Record;
+use live_ends::{Outlet, Record, TEXT_ROOM};
 use live_play::Teller;
 use mg_bytes::OutOfMemory;
 use std::alloc::Global;
-use traces::put_first;
+use std::io::Write;
+use traces::{broken_off_line, put_first};
 
-/// The trace of a gateway.
+/// The trace of a gateway. What it is told has its place in what is kept for its outlet at once, and so before anything goes out that
+/// it tells: where there is no room for it, the trace is broken off there.
 #[derive(Drop)]
 pub struct Trace {
     pub record: Record,
+    // So much room is left in what is kept, in bytes, behind what waits and what it was told since.
+    room: usize,
+    // It was told more than there was room for.
+    is_broken_off: bool,
 }
 
 // Puts the configuration, whose last line has its end.
@@ -37,6 +43,20 @@ fn put_head(alloc: Global, out: &mut Vec<u8>, config: &[u8], first: u32) -> Resu
     put_first(alloc, out, first)
 }
 
+// The trace of this record, of which nothing is kept yet: so all the room is left that it doesn't take itself.
+fn with_room(told: Record) -> Trace
+    ensures told { result.record ≡ told }
+    ensures room { result.room ≡ TEXT_ROOM - length told.out.items }
+    ensures broken_off { result.is_broken_off ≡ false }
+{
+    let room = TEXT_ROOM.saturating_sub(told.out.len());
+    Trace {
+        record: told,
+        room,
+        is_broken_off: false,
+    }
+}
+
 impl Trace {
     /// A trace that has its head, where one is asked for: the text of the configuration, and the number with which ids begin.
     #[tactic(auto, using(crate::proofs::RecordLemmas::puts_text, crate::proofs::RecordLemmas::puts_nothing, crate::proofs::RecordLemmas::refuses))]
@@ -45,13 +65,56 @@ impl Trace {
     {
         let mut record = Record::new(alloc, is_on);
         if !is_on {
-            return Trace { record };
+            return with_room(record);
         }
         match put_head(alloc, &mut record.out, config, first) {
             Ok(()) => {}
             Err(_) => record.refuse(),
         }
-        Trace { record }
+        with_room(record)
+    }
+
+    /// So much room is left in what is kept, in bytes.
+    pub fn give_room(&mut self, room: usize)
+        ensures { self.new ≡ record self.old { room = room } }
+    {
+        self.room = room;
+    }
+
+    // Whether it is told more.
+    fn takes_more(&self) -> bool
+        ensures { result ≡ is_telling self.now }
+    {
+        self.record.is_on() && !self.is_broken_off
+    }
+
+    // It is told this, which has its place; or it is broken off before it.
+    fn put(&mut self, text: &[u8])
+        ensures quiet { is_telling self.old ≡ false → self.new ≡ self.old }
+        ensures placed { is_telling self.old ≡ true → length text.now ≤ self.old.room → HasPlace self.old text.now self.new }
+        ensures no_room { is_telling self.old ≡ true → self.old.room < length text.now → self.new ≡ record self.old { is_broken_off = true } }
+    {
+        if !self.takes_more() {
+            return;
+        }
+        if text.len() > self.room {
+            self.is_broken_off = true;
+            return;
+        }
+        match self.record.out.extend_from_slice(text) {
+            Ok(()) => self.room -= text.len(),
+            Err(_) => self.record.refuse(),
+        }
+    }
+
+    /// What it was told is kept by its outlet, which ends with a last line where the trace was broken off.
+    pub(crate) fn keep<F: Write + Drop>(&mut self, output: &mut Outlet<F>) {
+        output.keep_whole(&mut self.record, broken_off_line());
+        if self.is_broken_off && self.record.is_on() {
+            self.record.end();
+            output.break_off(broken_off_line());
+        }
+        output.end_refused(&self.record, broken_off_line());
     }
 }
 
@@ -62,13 +125,11 @@ impl Teller for Trace {
     ghost told = { λ trace. None };
 
     fn is_telling(&self) -> bool {
-        self.record.is_on()
+        self.takes_more()
     }
 
     fn tell(&mut self, text: &[u8]) {
-        if self.record.is_on() && self.record.out.extend_from_slice(text).is_err() {
-            self.record.refuse();
-        }
+        self.put(text);
     }
 
     fn break_off(&mut self) {
