@@ -1,5 +1,6 @@
 //! How a program ends, as far as programs have that in common: the status, and what is said then.
-ghost use Rattle.std.specs.Prelude.{◌≡◌, ◌++◌, OnOk};
+ghost use Rattle.std.specs.Prelude.{◌≡◌, ◌++◌, OnOk, IfOk, IfErr};
+ghost use Rattle.std.specs.Net.Grammar.{IsSocketV4Text};
 ghost use Rattle.live_ends.specs.Ending.{status_of, is_asked, wordless, unreadable, unwritable, unbound, unbound_text, ending_text};
 
 use crate::program::SystemFault;
@@ -183,6 +184,17 @@ impl<'a> CommonEnding<'a> {
             CommonEnding::Clock => put_pieces(out, &["clock fault\n"]),
             CommonEnding::OutOfMemory => put_pieces(out, &["out of memory\n"]),
         }
+    }
+}
+
+/// The address that a text is, which stands behind a word, or by a key of a configuration.
+pub fn address_in<'a>(word: &'static str, text: &str) -> Result<SocketAddrV4, CommonEnding<'a>>
+    ensures address { IfOk result (λ address. IsSocketV4Text text.now address) }
+    ensures other { IfErr result (λ ending. ending ≡ CommonEnding.BadAddress word.entry) }
+{
+    match text.parse::<SocketAddrV4>() {
+        Ok(address) => Ok(address),
+        Err(_) => Err(CommonEnding::BadAddress { word }),
     }
 }
 

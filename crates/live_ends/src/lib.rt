@@ -29,7 +29,7 @@ mod written;
 pub use crate::asking::{AskFault, ask};
 pub use crate::backlog::{Backlog, MOST_KEPT, NOTE_ROOM, TEXT_ROOM, lines_ended};
 pub use crate::clock::{LiveClock, time_of_day};
-pub use crate::ending::{About, CommonEnding};
+pub use crate::ending::{About, CommonEnding, address_in};
 pub use crate::files::read_file;
 pub use crate::live::{Live, STOP_FROM_AFAR, bind};
 pub use crate::now::Now;

@@ -9,7 +9,7 @@ use crate::help::{CONTROL, USAGE, VERSION};
 use bad_network::Spoiling;
 use clap::error::ErrorKind;
 use clap::{Arg, ArgAction, ArgMatches, Command, Error};
-use live_ends::{CommonEnding, Outlet};
+use live_ends::{CommonEnding, Outlet, address_in};
 use std::alloc::{AllocError, Global};
 use std::io::Write;
 use std::net::SocketAddrV4;
@@ -109,17 +109,6 @@ fn command<'a>(alloc: Global) -> Result<Command<'a>, AllocError> {
     Ok(command)
 }
 
-// The address that a text is, which stands behind a word.
-fn address_of(text: &str, word: &'static str) -> Result<SocketAddrV4, WordFault>
-    ensures address { IfOk result (λ address. IsSocketV4Text text.now address) }
-    ensures other { IfErr result (λ fault. fault ≡ WordFault.Common (CommonEnding.BadAddress word.entry)) }
-{
-    match text.parse::<SocketAddrV4>() {
-        Ok(address) => Ok(address),
-        Err(_) => Err(WordFault::Common(CommonEnding::BadAddress { word })),
-    }
-}
-
 /// The address behind a word, if that stands there.
 pub fn address_behind(
     matches: &ArgMatches<'_>,
@@ -132,9 +121,9 @@ pub fn address_behind(
     ensures other { IfErr result (λ fault. fault ≡ WordFault.Common (CommonEnding.BadAddress word.entry)) }
 {
     match matches.get_str(name) {
-        Some(text) => match address_of(text, word) {
+        Some(text) => match address_in(word, text) {
             Ok(address) => Ok(Some(address)),
-            Err(fault) => Err(fault),
+            Err(ending) => Err(WordFault::Common(ending)),
         },
         None => Ok(None),
     }

@@ -1,7 +1,7 @@
 //! Sends a line to a gateway's telephones, and prints what they answer.
 use crate::ending::Ending;
-use crate::words::{address_behind, unless_help};
-use live_ends::{AskFault, CommonEnding, Outlet, ask};
+use crate::words::unless_help;
+use live_ends::{AskFault, CommonEnding, Outlet, address_in, ask};
 use std::alloc::Global;
 use std::io::Write;
 use std::net::{Net, SocketAddrV4};
@@ -25,7 +25,7 @@ fn telling_of<'w>(alloc: Global, words: &'w [String]) -> Result<Telling, Ending<
     let (Some(word), Some(line)) = (words.first(), words.get(1..)) else {
         return Err(Ending::Common(CommonEnding::Usage));
     };
-    let address = address_behind(TELL, unless_help(word.as_str())?)?;
+    let address = address_in(TELL, unless_help(word.as_str())?)?;
     if address.port() == 0 {
         return Err(Ending::Common(CommonEnding::BadAddress { word: TELL }));
     }

@@ -1,6 +1,5 @@
 //! Reads the words of the command line.
 ghost use Rattle.std.specs.Prelude.{◌≡◌, ◌≢◌, ◌⊎◌, Some, IfOk, IfErr, codes};
-ghost use Rattle.std.specs.Net.Grammar.{IsSocketV4Text};
 ghost use Rattle.live_page.specs.Naming.{names_in, names_of};
 ghost use Rattle.surroundings.specs.Speaking.{admitted_by, admitted_in};
 
@@ -10,7 +9,7 @@ use crate::parted::parting_of;
 use bad_network::Spoiling;
 use clap::error::ErrorKind;
 use clap::{Arg, ArgAction, ArgMatches, Command, Error};
-use live_ends::{CommonEnding, Outlet, Parting};
+use live_ends::{CommonEnding, Outlet, Parting, address_in};
 use live_page::HostNames;
 use new_start::{FirstNumber, spread_in};
 use std::alloc::{AllocError, Global};
@@ -97,17 +96,6 @@ fn command<'a>(alloc: Global) -> Result<Command<'a>, AllocError> {
     with_names(alloc, with_flags(alloc, command)?)
 }
 
-/// The address that stands behind a word.
-pub fn address_behind<'w>(word: &'static str, text: &str) -> Result<SocketAddrV4, Ending<'w>>
-    ensures address { IfOk result (λ address. IsSocketV4Text text.now address) }
-    ensures other { IfErr result (λ ending. ending ≡ Ending.Common (CommonEnding.BadAddress word.entry)) }
-{
-    match text.parse::<SocketAddrV4>() {
-        Ok(address) => Ok(address),
-        Err(_) => Err(Ending::Common(CommonEnding::BadAddress { word })),
-    }
-}
-
 /// A word that doesn't ask how the program is used.
 pub fn unless_help<'w>(word: &'w str) -> Result<&'w str, Ending<'w>>
     ensures itself { IfOk result (λ text. text.now ≡ word.now) }
@@ -127,7 +115,7 @@ fn site_in<'a>(matches: &ArgMatches<'a>) -> Result<Option<SocketAddrV4>, Ending<
     let Some(text) = matches.get_str("http") else {
         return Ok(None);
     };
-    let address = address_behind("--http", text)?;
+    let address = address_in("--http", text)?;
     if address.ip().is_unspecified() && matches.get_str("http-host").is_none() {
         return Err(Ending::AnyAddress);
     }
@@ -230,8 +218,8 @@ fn settings_in<'a>(alloc: Global, matches: &ArgMatches<'a>) -> Result<Settings<'
     Ok(Settings {
         config,
         check: matches.get_flag("check"),
-        listen: address_behind("--listen", matches.get_str("listen").unwrap_or(LISTEN))?,
-        phones: address_behind("--phones", matches.get_str("phones").unwrap_or(PHONES))?,
+        listen: address_in("--listen", matches.get_str("listen").unwrap_or(LISTEN))?,
+        phones: address_in("--phones", matches.get_str("phones").unwrap_or(PHONES))?,
         agents: agents_in(alloc, matches)?,
         phones_open: matches.get_flag("phones-open"),
         http: site_in(matches)?,
