@@ -18,6 +18,10 @@ is_marked line = starts_with nat_eq line (codes "?") || starts_with nat_eq line 
 abbrev pub tells_outcome : List ℕ → Bool
 tells_outcome word = bytes_eq word (codes "done") || bytes_eq word (codes "issued") || bytes_eq word (codes "line")
 
+-- somebody watches, or is told what changed
+abbrev pub tells_watcher : List ℕ → Bool
+tells_watcher word = bytes_eq word (codes "watching") || bytes_eq word (codes "change")
+
 -- the counts of messages
 abbrev pub tells_messages : List ℕ → Bool
 tells_messages word =
@@ -32,7 +36,7 @@ tells_losses word =
 
 -- a line of an answer begins with this word
 abbrev pub is_answer_word : List ℕ → Bool
-is_answer_word word = tells_outcome word || tells_messages word || tells_losses word
+is_answer_word word = tells_outcome word || tells_watcher word || tells_messages word || tells_losses word
 
 abbrev pub begins_answer : List (List ℕ) → Bool
 begins_answer [] = false

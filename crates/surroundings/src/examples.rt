@@ -12,7 +12,7 @@ ghost use Rattle.surroundings.specs.Typing.{behind};
 /// Each answer of `rgwd` is known by its beginning, and each line of its counts.
 pub fn answers_of_a_gateway_are_known()
     ensures done { is_answer (codes "done") ≡ true }
-    ensures unknown { is_answer (codes "? phone LINE off|on|flash|KEY, show LINE, counts, or stop") ≡ true }
+    ensures unknown { is_answer (codes "? phone LINE off|on|flash|KEY, show LINE|*, watch SECONDS, counts, or stop") ≡ true }
     ensures refused { is_answer (codes "! 4 NoSuchLine") ≡ true }
     ensures from_afar { is_answer (codes "! stop is taken from a loopback address alone, 127.0.0.0/8") ≡ true }
     ensures shown { is_answer (codes "line 1 on") ≡ true }
@@ -26,6 +26,16 @@ pub fn answers_of_a_gateway_are_known()
     ensures faults { is_answer (codes "faults receive 0 send 0") ≡ true }
     ensures strangers { is_answer (codes "strangers 0 lost commands 0") ≡ true }
     ensures records { is_answer (codes "records dropped 0 write faults 0") ≡ true }
+{}
+
+/// So is what who watches is told.
+pub fn what_watchers_are_told_is_known()
+    ensures begun { is_answer (codes "watching from 17 at 5000") ≡ true }
+    ensures change { is_answer (codes "change 17 at 5020 line 1 off") ≡ true }
+    ensures full { is_answer (codes "! 8 watch already") ≡ true }
+    ensures asked { is_request (codes "watch 60") ≡ true }
+    ensures all { is_request (codes "show *") ≡ true }
+    ensures longer { is_request (codes "changes 17") ≡ true }
 {}
 
 /// So is each of `rgca`.

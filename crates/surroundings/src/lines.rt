@@ -7,13 +7,13 @@ ghost use Rattle.mg_bytes.specs.Lines.{cut, TakesLine};
 ghost use Rattle.mg_bytes.specs.Lists.{is_empty};
 ghost use Rattle.surroundings.specs.Requests.{requests_from};
 ghost use Rattle.surroundings.specs.declared.lines.TheConstants.{ROOM};
-ghost use Rattle.surroundings.specs.Typing.{left_of, behind, EndsWith};
+ghost use Rattle.surroundings.specs.Typing.{left_of, behind, EndsWith, v4_of};
 
 use crate::requests::{from_request, is_own};
 use crate::surroundings::Surroundings;
 use mg_bytes::lines;
 use std::alloc::{AllocError, Global};
-use std::net::SocketAddr;
+use std::net::{SocketAddr, SocketAddrV4};
 
 // The room for a datagram of lines. What is longer is cut off.
 const ROOM: usize = 4096;
@@ -44,6 +44,16 @@ fn is_afar(sender: Option<SocketAddr>) -> bool
     match sender {
         Some(sender) => !sender.ip().is_loopback(),
         None => false,
+    }
+}
+
+// An address of the kind that sockets here have.
+fn v4_of(sender: Option<SocketAddr>) -> Option<SocketAddrV4>
+    ensures { result ≡ v4_of sender }
+{
+    match sender {
+        Some(SocketAddr::V4(sender)) => Some(sender),
+        Some(SocketAddr::V6(_)) | None => None,
     }
 }
 
@@ -151,6 +161,13 @@ impl Lines {
         ensures { IsTrue result ↔ IsSomeAnd self.now.sender (λ s. MatchIp (socket_ip s) IsLoopbackV4 IsLoopbackV6 → ⊥) }
     {
         is_afar(self.sender)
+    }
+
+    /// Who typed the line, if anybody did whose address is of the kind that sockets here have.
+    pub fn sender(&self) -> Option<SocketAddrV4>
+        ensures { result ≡ v4_of self.now.sender }
+    {
+        v4_of(self.sender)
     }
 
     /// Whether no line is left.

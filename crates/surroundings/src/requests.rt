@@ -4,7 +4,7 @@ ghost use Rattle.std.specs.Prelude.{◌≡◌};
 ghost use Rattle.std.specs.declared.net.socket_addr.SocketAddr.{SocketAddr};
 ghost use Rattle.mg_bytes.specs.Lines.{cut};
 ghost use Rattle.mg_bytes.specs.Words.{words as words_of};
-ghost use Rattle.surroundings.specs.Requests.{is_marked, tells_outcome, tells_messages, tells_losses, is_answer_word, begins_answer, is_answer, is_request, requests_from, is_host, is_from, is_from_any, is_own};
+ghost use Rattle.surroundings.specs.Requests.{is_marked, tells_outcome, tells_watcher, tells_messages, tells_losses, is_answer_word, begins_answer, is_answer, is_request, requests_from, is_host, is_from, is_from_any, is_own};
 ghost use Rattle.surroundings.specs.Typing.{EndsWith};
 
 use mg_bytes::{lines, words};
@@ -20,6 +20,12 @@ fn tells_outcome(word: &[u8]) -> bool
     ensures { result ≡ tells_outcome word.now }
 {
     word == b"done".as_slice() || word == b"issued".as_slice() || word == b"line".as_slice()
+}
+
+fn tells_watcher(word: &[u8]) -> bool
+    ensures { result ≡ tells_watcher word.now }
+{
+    word == b"watching".as_slice() || word == b"change".as_slice()
 }
 
 fn tells_messages(word: &[u8]) -> bool
@@ -48,7 +54,7 @@ fn tells_losses(word: &[u8]) -> bool
 fn is_answer_word(word: &[u8]) -> bool
     ensures { result ≡ is_answer_word word.now }
 {
-    tells_outcome(word) || tells_messages(word) || tells_losses(word)
+    tells_outcome(word) || tells_watcher(word) || tells_messages(word) || tells_losses(word)
 }
 
 fn begins_answer(line: &[u8]) -> bool
