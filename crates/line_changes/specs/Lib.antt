@@ -1,0 +1,5 @@
+pub mod Seen
+pub mod Changes
+pub mod Telling
+pub mod Watching
+pub mod Example

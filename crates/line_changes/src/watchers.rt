@@ -1,0 +1,170 @@
+//! Who is told what changes: a few at a time, each as long as it asked for that last.
+ghost use Rattle.std.specs.Prelude.{◌≡◌, ◌<◌, ◌≤◌, ◌^◌, length, true, false, None, IfSome, Some};
+ghost use Rattle.line_changes.specs.Watching.{longest_watch, nobody, is_of, is_watching, is_free, is_watched, place_where, place_for, with_watcher, told_at};
+
+use crate::address::is_same_address;
+use std::net::SocketAddrV4;
+
+/// So many watch at a time.
+pub const MOST_WATCHERS: usize = 8;
+
+/// So long it is watched at most, in s, where that isn't asked for again.
+pub const LONGEST_WATCH: u64 = 60;
+
+// Milliseconds in a second.
+const SECOND: u64 = 1000;
+
+/// Who watches, and the moment at which that ends, in ms.
+#[derive(Clone, Copy)]
+pub struct Watcher {
+    pub address: SocketAddrV4,
+    pub end: u64,
+}
+
+/// All who watch, each in its place.
+#[derive(Clone, Copy)]
+pub struct Watchers {
+    pub places: [Option<Watcher>; MOST_WATCHERS],
+}
+
+fn is_of(address: SocketAddrV4, held: Option<Watcher>) -> bool
+    ensures { result ≡ is_of address held }
+{
+    match held {
+        None => false,
+        Some(watcher) => is_same_address(watcher.address, address),
+    }
+}
+
+fn is_watching(now: u64, held: Option<Watcher>) -> bool
+    ensures { result ≡ is_watching now held }
+{
+    match held {
+        None => false,
+        Some(watcher) => now < watcher.end,
+    }
+}
+
+fn is_free(now: u64, held: Option<Watcher>) -> bool
+    ensures { result ≡ is_free now held }
+{
+    !is_watching(now, held)
+}
+
+// Whether somebody watches.
+fn is_watched(now: u64, places: &[Option<Watcher>]) -> bool
+    ensures { result ≡ is_watched now places.now }
+{
+    for held in places {
+        if is_watching(now, *held) {
+            return true;
+        }
+    }
+    false
+}
+
+// The place of who watches from this address.
+#[tactic(auto, unfolding(crate::specs::Watching::place_where))]
+fn own_place(places: &[Option<Watcher>], address: SocketAddrV4) -> Option<usize>
+    ensures place { result ≡ place_where (is_of address) 0 places.now }
+    ensures within { IfSome result (λ place. place < length places.now) }
+{
+    for (place, held) in places.iter().enumerate() {
+        if is_of(address, *held) {
+            return Some(place);
+        }
+    }
+    None
+}
+
+// The first free place.
+#[tactic(auto, unfolding(crate::specs::Watching::place_where))]
+fn free_place(now: u64, places: &[Option<Watcher>]) -> Option<usize>
+    ensures place { result ≡ place_where (is_free now) 0 places.now }
+    ensures within { IfSome result (λ place. place < length places.now) }
+{
+    for (place, held) in places.iter().enumerate() {
+        if is_free(now, *held) {
+            return Some(place);
+        }
+    }
+    None
+}
+
+fn place_for(now: u64, places: &[Option<Watcher>], address: SocketAddrV4) -> Option<usize>
+    ensures place { result ≡ place_for now places.now address }
+    ensures within { IfSome result (λ place. place < length places.now) }
+{
+    match own_place(places, address) {
+        Some(place) => Some(place),
+        None => free_place(now, places),
+    }
+}
+
+// Where it is told what changes, if the place's time isn't over.
+fn told_at(now: u64, held: Option<Watcher>) -> Option<SocketAddrV4>
+    ensures { result ≡ told_at now held }
+{
+    match held {
+        None => None,
+        Some(watcher) => {
+            if now < watcher.end {
+                Some(watcher.address)
+            } else {
+                None
+            }
+        }
+    }
+}
+
+impl Watchers {
+    /// Nobody watches.
+    pub fn none() -> Watchers
+        ensures { result.places ≡ nobody }
+    {
+        Watchers {
+            places: [None; MOST_WATCHERS],
+        }
+    }
+
+    /// Whether somebody watches at this moment, in ms.
+    pub fn is_watched(&self, now: u64) -> bool
+        ensures { result ≡ is_watched now self.now.places }
+    {
+        is_watched(now, &self.places)
+    }
+
+    /// Somebody asks to be told what changes, from this moment on, in ms, for so many seconds, where 0 ends it: whether it is; where as many
+    /// watch as may, it isn't. Who watches already does so for so long from now.
+    pub fn watch(&mut self, address: SocketAddrV4, now: u64, seconds: u64) -> bool
+        requires clock { now < 2 ^ 62 }
+        requires time { seconds ≤ longest_watch }
+        ensures watches { result ≡ true → with_watcher self.old.places address now seconds ≡ Some self.new.places }
+        ensures full { result ≡ false → with_watcher self.old.places address now seconds ≡ None }
+        ensures kept { result ≡ false → self.new ≡ self.old }
+    {
+        let Some(place) = place_for(now, &self.places, address) else {
+            return false;
+        };
+        self.places[place] = Some(Watcher {
+            address,
+            end: now + seconds * SECOND,
+        });
+        true
+    }
+
+    /// Where it is told at this moment, in ms, what changes, of who has this place, below `MOST_WATCHERS`.
+    pub fn told_at(&self, place: usize, now: u64) -> Option<SocketAddrV4> {
+        match self.places.get(place) {
+            Some(held) => told_at(now, *held),
+            None => None,
+        }
+    }
+
+    /// Nobody watches any more.
+    pub fn clear(&mut self)
+        ensures { self.new.places ≡ nobody }
+    {
+        self.places = [None; MOST_WATCHERS];
+    }
+}
