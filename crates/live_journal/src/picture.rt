@@ -4,22 +4,22 @@ ghost use Rattle.std.specs.Prelude.{◌≤◌};
 use crate::journal::Journal;
 use crate::message_tally::MessageTally;
 use crate::reporting::Faults;
-use connections::{Connection, mode_text};
+use crate::seeing::seen_line;
+use connections::mode_text;
 use gateway_core::Gateway;
+use line_changes::{SeenConnection, SeenLine};
 use mg_packages::{Hook, signal_name};
 use mgcp_text::Verb;
 use page_answers::{
     CodeCount, ConnectionView, FileCount, LineView, Picture, SignalView, VerbCount,
 };
 use sent_counts::place_of;
+use signals::ActiveSignal;
 use std::alloc::{AllocError, Global};
 
-fn signals_of(alloc: Global, gateway: &Gateway, line: u16) -> Result<Vec<SignalView>, AllocError>
-    requires low { 1 ≤ line }
-    requires high { line ≤ gateway.now.setup.names.lines }
-{
+fn signals_of(alloc: Global, signals: &[ActiveSignal]) -> Result<Vec<SignalView>, AllocError> {
     let mut views = Vec::new(alloc);
-    for active in gateway.signals(line).iter() {
+    for active in signals {
         views.push(SignalView {
             name: signal_name(active.signal),
             end: active.end,
@@ -30,30 +30,34 @@ fn signals_of(alloc: Global, gateway: &Gateway, line: u16) -> Result<Vec<SignalV
 
 fn connections_of(
     alloc: Global,
-    connections: &[Option<Connection>],
+    connections: &[SeenConnection],
 ) -> Result<Vec<ConnectionView>, AllocError> {
     let mut views = Vec::new(alloc);
-    for place in connections {
-        if let Some(connection) = place {
-            views.push(ConnectionView {
-                number: connection.number,
-                mode: mode_text(connection.mode),
-            })?;
-        }
+    for connection in connections {
+        views.push(ConnectionView {
+            number: connection.number,
+            mode: mode_text(connection.mode),
+        })?;
     }
     Ok(views)
+}
+
+// A line as it is shown, by what is seen of it, and by how many of its events were lost.
+fn view_of(alloc: Global, seen: &SeenLine, lost: u64) -> Result<LineView, AllocError> {
+    Ok(LineView {
+        is_off_hook: seen.hook == Hook::OffHook,
+        signals: signals_of(alloc, seen.signals.as_slice())?,
+        connections: connections_of(alloc, seen.connections.as_slice())?,
+        lost,
+    })
 }
 
 fn line_view(alloc: Global, gateway: &Gateway, line: u16) -> Result<LineView, AllocError>
     requires low { 1 ≤ line }
     requires high { line ≤ gateway.now.setup.names.lines }
 {
-    Ok(LineView {
-        is_off_hook: gateway.hook(line) == Hook::OffHook,
-        signals: signals_of(alloc, gateway, line)?,
-        connections: connections_of(alloc, gateway.connections(line))?,
-        lost: gateway.lost(line),
-    })
+    let seen = seen_line(alloc, gateway, line)?;
+    view_of(alloc, &seen, gateway.lost(line))
 }
 
 fn put_commands(views: &mut Vec<VerbCount>, tally: &MessageTally) -> Result<(), AllocError> {

@@ -1,0 +1,43 @@
+//! What is seen of a line of a gateway.
+ghost use Rattle.std.specs.Prelude.{◌≡◌, ◌≤◌, List, Some, IfOk};
+ghost use Rattle.plain_machine.specs.Event.{GatewayEvent};
+ghost use Rattle.plain_machine.specs.Lists.{plain};
+ghost use Rattle.plain_machine.specs.Machine.{port_of};
+ghost use Rattle.plain_machine.specs.Setup.{most_lines, highest_media_base};
+ghost use Rattle.gateway_core.specs.Stands.{Stands};
+ghost use Rattle.live_journal.specs.Seeing.{seen_of};
+
+use gateway_core::Gateway;
+use line_changes::{SeenLine, seen_connections};
+use mg_bytes::OutOfMemory;
+use plain_machine::Setup;
+use std::alloc::Global;
+
+// The port at which the first connection of a line is received.
+fn first_port(setup: &Setup, line: u16) -> u16
+    requires base { setup.now.media_base ≤ highest_media_base }
+    requires low { 1 ≤ line }
+    requires high { line ≤ most_lines }
+    ensures { result ≡ port_of setup.now line }
+{
+    (setup.media_base + 8 * (u32::from(line) - 1)) as u16
+}
+
+/// What is seen of a line, from 1 to the number of lines. Its only error is want of memory.
+#[tactic(auto, using(crate::proofs::SeeingLemmas::ports_fit))]
+pub fn seen_line(alloc: Global, gateway: &Gateway, line: u16) -> Result<SeenLine, OutOfMemory>
+    requires low { 1 ≤ line }
+    requires high { line ≤ gateway.now.setup.names.lines }
+    ensures { (events : List GatewayEvent) → Stands gateway.now events → IfOk result (λ seen.
+        seen_of gateway.now.setup (plain gateway.now.setup events) line ≡ Some seen) }
+{
+    let setup = gateway.setup();
+    let port = first_port(setup, line);
+    let places = gateway.connections(line);
+    let connections = seen_connections(alloc, setup.media_address, port, places)?;
+    Ok(SeenLine {
+        hook: gateway.hook(line),
+        signals: gateway.signals(line),
+        connections,
+    })
+}
