@@ -1,7 +1,10 @@
 -- What lines for the telephones ask for.
-use Rattle.std.specs.Prelude.{◌≡◌, ⊤, ℕ, Bool, true, false, codes, if◌then◌else◌, List, Option, Some, None}
+use Rattle.std.specs.Prelude.{◌≡◌, ◌≤◌, ⊤, ℕ, Bool, true, false, nat_le, codes, if◌then◌else◌, List, [], ◌∷◌, Option, Some, None}
 use Rattle.std.specs.Str.{bytes_eq}
+use Rattle.mg_bytes.specs.Option.{◌>>=◌}
 use Rattle.mg_bytes.specs.Words.{words}
+use Rattle.mg_bytes.specs.Numbers.{decimal_of}
+use Rattle.line_changes.specs.Watching.{longest_watch}
 use Rattle.rgw_scripts.specs.declared.step.ScriptStep.{ScriptStep}
 use Rattle.rgw_scripts.specs.declared.step.ScriptLine.{ScriptLine}
 use Rattle.rgw_scripts.specs.declared.step.ScriptLine.TheVariants.{Empty, From, Whole}
@@ -10,12 +13,14 @@ use Rattle.rgw_scripts.specs.Script.{line_in}
 use Rattle.live_gateway.specs.declared.telephones.Typist.{Typist}
 use Rattle.live_gateway.specs.declared.telephones.Typist.TheVariants.{Here, Elsewhere, Stranger}
 use Rattle.live_gateway.specs.declared.telephones.TelephoneRequest.{TelephoneRequest}
-use Rattle.live_gateway.specs.declared.telephones.TelephoneRequest.TheVariants.{Act, Show, Counts, Stop, StopFromAfar, Refused, Unknown, OutOfMemory}
+use Rattle.live_gateway.specs.declared.telephones.TelephoneRequest.TheVariants.{Act, Show, ShowAll, Watch, Counts, Stop, StopFromAfar, Refused, Unknown, OutOfMemory}
 
--- an act and a question are what a script says by the line
+-- an act and a question are what a script says by the line; it is watched no longer than it may be
 abbrev pub AsksFor : TelephoneRequest → Option ScriptLine → Type 0
 AsksFor (Act line act) said = said ≡ Some (Whole (steps.Phone line act))
 AsksFor (Show line) said = said ≡ Some (Whole (steps.Show line))
+AsksFor ShowAll said = ⊤
+AsksFor (Watch seconds) said = seconds ≤ longest_watch
 AsksFor Counts said = ⊤
 AsksFor Stop said = ⊤
 AsksFor StopFromAfar said = ⊤
@@ -42,12 +47,31 @@ request_by (Some (Whole step)) = request_of step
 abbrev pub stop_request : Bool → TelephoneRequest
 stop_request is_near = if is_near then Stop else StopFromAfar
 
--- what a line asks for: `counts`, `stop`, or what a script says by it
+-- how long it is watched, in s
+abbrev pub seconds_from : ℕ → Option ℕ
+seconds_from n = if nat_le n longest_watch then Some n else None
+
+abbrev pub seconds_of : List ℕ → Option ℕ
+seconds_of text = decimal_of text >>= seconds_from
+
+-- `watch SECONDS`
+unfoldable pub watch_in : List (List ℕ) → Option ℕ
+watch_in [] = None
+watch_in (word ∷ []) = None
+watch_in (word ∷ time ∷ []) = if bytes_eq word (codes "watch") then seconds_of time else None
+watch_in (word ∷ time ∷ other ∷ more) = None
+
+abbrev pub watch_or : Option ℕ → TelephoneRequest → TelephoneRequest
+watch_or None request = request
+watch_or (Some seconds) request = Watch seconds
+
+-- what a line asks for: `counts`, `stop`, `show *`, `watch` for a time, or what a script says by it
 unfoldable pub line_request : Bool → List ℕ → TelephoneRequest
 line_request is_near line =
     if bytes_eq line (codes "counts") then Counts
     else if bytes_eq line (codes "stop") then stop_request is_near
-    else request_by (line_in (words line))
+    else if bytes_eq line (codes "show *") then ShowAll
+    else watch_or (watch_in (words line)) (request_by (line_in (words line)))
 
 -- what a line asks for by who typed it: anything, anything but the end, or nothing at all
 abbrev pub request_in : Typist → List ℕ → TelephoneRequest

@@ -3,4 +3,5 @@ pub mod Exchanging
 pub mod Asking
 pub mod Admitting
 pub mod Desk
+pub mod Watching
 pub mod Example

@@ -1,9 +1,12 @@
 //! What lines for the telephones are answered.
-ghost use Rattle.std.specs.Prelude.{◌≡◌, ◌≢◌, codes, IfOk, IfErr, Err};
+ghost use Rattle.std.specs.Prelude.{◌≡◌, ◌≢◌, ◌≤◌, ◌++◌, ℕ, List, codes, IfOk, IfErr, OnOk, Err};
+ghost use Rattle.live_play.specs.Running.{IsAnswer};
 
 use gateway_core::{Gateway, Refusal};
 use live_journal::{Faults, Journal, picture_of};
 use mg_bytes::OutOfMemory;
+use rgw_scenes::status_of;
+use rgw_scripts::put_line;
 use std::alloc::Global;
 use surroundings::Lines;
 
@@ -11,14 +14,43 @@ use surroundings::Lines;
 pub const DONE: &[u8] = b"done\n";
 
 /// The answer to a line that says nothing that can be done.
-pub const UNKNOWN: &[u8] = b"? phone LINE off|on|flash|KEY, show LINE, counts, or stop\n";
+pub const UNKNOWN: &[u8] =
+    b"? phone LINE off|on|flash|KEY, show LINE|*, watch SECONDS, counts, or stop\n";
 
 /// The answer to whatever comes from another machine, where the telephones aren't open to that.
 pub const PHONES_FROM_AFAR: &[u8] =
     b"! the telephones are for a loopback address alone, 127.0.0.0/8, but with --phones-open\n";
 
-/// The answer where memory is refused for any other.
+/// The answer to who would be the ninth to watch.
+pub const FULL: &[u8] = b"! 8 watch already\n";
+
+/// The answer where memory is refused for any other, and what who watches is told then.
 pub const OUT_OF_MEMORY: &[u8] = b"! 1 OutOfMemory\n";
+
+// Puts what a line is.
+fn put_shown(
+    alloc: Global,
+    gateway: &Gateway,
+    line: u16,
+    out: &mut Vec<u8>,
+) -> Result<(), OutOfMemory>
+    requires low { 1 ≤ line }
+    requires high { line ≤ gateway.now.setup.names.lines }
+    ensures { OnOk result ((shown : List ℕ) × IsAnswer gateway.now line shown × (out.new.items ≡ out.old.items ++ shown)) }
+{
+    let status = status_of(gateway, line);
+    put_line(alloc, out, &status)?;
+    Ok(())
+}
+
+/// What each line is, from the first.
+pub(crate) fn all_shown(alloc: Global, gateway: &Gateway) -> Result<Vec<u8>, OutOfMemory> {
+    let mut text = Vec::new(alloc);
+    for before in 0..gateway.lines() {
+        put_shown(alloc, gateway, before + 1, &mut text)?;
+    }
+    Ok(text)
+}
 
 /// What is answered to an act: what was printed, where it was refused and not for want of memory.
 pub fn act_answer(done: Result<(), Refusal>, printed: &[u8]) -> &[u8]

@@ -1,22 +1,25 @@
 //! The loop: it asks what comes next, and does that.
 #![tactic(auto, using(crate::proofs::DeskLemmas::stays_so))]
 
-ghost use Rattle.std.specs.Prelude.{◌≡◌, Bool, List, IfOk};
+ghost use Rattle.std.specs.Prelude.{◌≡◌, ◌≤◌, Bool, List, IfOk};
 ghost use Rattle.plain_machine.specs.Event.{GatewayEvent};
 ghost use Rattle.plain_machine.specs.Lists.{plain};
 ghost use Rattle.gateway_core.specs.Stands.{Stands};
+ghost use Rattle.line_changes.specs.Watching.{longest_watch};
 ghost use Rattle.live_journal.specs.Reporting.{counts_text};
 ghost use Rattle.live_gateway.specs.Admitting.{typist_of};
 ghost use Rattle.live_gateway.specs.Desk.{at_desk, GoesOn};
 
 use crate::admission::Admission;
 use crate::answering::{
-    DONE, OUT_OF_MEMORY, PHONES_FROM_AFAR, UNKNOWN, act_answer, question_answer, show, take_act,
+    DONE, OUT_OF_MEMORY, PHONES_FROM_AFAR, UNKNOWN, act_answer, all_shown, question_answer, show,
+    take_act,
 };
 use crate::exchange::Exchange;
 use crate::recorder::Recorder;
 use crate::telephones::{TelephoneRequest, Typist, request_in, typist_of};
 use crate::visitors::Visitors;
+use crate::watch::Watch;
 use exchange_log::Note;
 use gateway_core::{DATAGRAM_ROOM, Refusal};
 use live_ends::STOP_FROM_AFAR;
@@ -37,6 +40,8 @@ pub struct Desk<S, T> {
     admission: Admission,
     // Whether the line that is left is the page's.
     is_of_page: bool,
+    // Who is told what changes at the lines.
+    watch: Watch,
     schedule: Schedule,
     // The moment at which nothing comes any more.
     end: Option<u64>,
@@ -52,6 +57,7 @@ impl<S: Drop, T: Drop> Drop for Desk<S, T> {
             lines,
             admission: admitted,
             is_of_page: _,
+            watch,
             schedule: _,
             end: _,
         } = self;
@@ -59,6 +65,7 @@ impl<S: Drop, T: Drop> Drop for Desk<S, T> {
         drop(exchange);
         drop(lines);
         drop(admitted);
+        drop(watch);
     }
 }
 
@@ -85,6 +92,7 @@ impl<S: Surroundings + Drop, T: Teller + Drop> Desk<S, T> {
             lines,
             admission,
             is_of_page: false,
+            watch: Watch::new(alloc),
             schedule: Schedule::starting_at(0),
             end,
         }
@@ -261,6 +269,48 @@ impl<S: Surroundings + Drop, T: Teller + Drop> Desk<S, T> {
         }
     }
 
+    // What each line is is answered.
+    fn answer_all_shown(&mut self)
+        ensures { GoesOn T.told S.sent self.old self.new }
+    {
+        match all_shown(self.alloc, &self.play.gateway) {
+            Ok(text) => self.answer(text.as_slice()),
+            Err(_) => self.answer(OUT_OF_MEMORY),
+        }
+    }
+
+    // Somebody asks to be told what changes for so long, in s: the answer.
+    fn watch_answer(&mut self, seconds: u64) -> Result<Vec<u8>, AllocError>
+        requires { seconds ≤ longest_watch }
+        ensures play { at_desk T.told S.sent self.new ≡ at_desk T.told S.sent self.old }
+        ensures admission { self.new.admission ≡ self.old.admission }
+    {
+        let sender = self.lines.sender();
+        self.watch
+            .ask(self.alloc, &self.play.gateway, sender, seconds)
+    }
+
+    // That is answered.
+    #[tactic(auto, using(crate::proofs::DeskLemmas::stays_so, crate::proofs::DeskLemmas::goes_on_then))]
+    fn answer_watch(&mut self, seconds: u64)
+        requires { seconds ≤ longest_watch }
+        ensures { GoesOn T.told S.sent self.old self.new }
+    {
+        match self.watch_answer(seconds) {
+            Ok(text) => self.answer(text.as_slice()),
+            Err(_) => self.answer(OUT_OF_MEMORY),
+        }
+    }
+
+    // Who watches is told what changed at the lines.
+    fn tell_watchers(&mut self)
+        ensures play { at_desk T.told S.sent self.new ≡ at_desk T.told S.sent self.old }
+        ensures admission { self.new.admission ≡ self.old.admission }
+    {
+        self.watch
+            .tell(self.alloc, &mut self.exchange.around, &self.play.gateway);
+    }
+
     // What the line asks for that is to be answered next is done.
     #[tactic(auto, using(crate::proofs::DeskLemmas::stays_so, crate::proofs::DeskLemmas::stays, crate::proofs::DeskLemmas::ticks))]
     fn take_line(&mut self)
@@ -282,6 +332,8 @@ impl<S: Surroundings + Drop, T: Teller + Drop> Desk<S, T> {
                 let answer = question_answer(asked, self.play.printed());
                 self.lines.answer(&mut self.exchange.around, answer);
             }
+            TelephoneRequest::ShowAll => self.answer_all_shown(),
+            TelephoneRequest::Watch { seconds } => self.answer_watch(seconds),
             TelephoneRequest::Counts => self.answer_counts(),
             // Who asks for that is answered when the gateway has ended.
             TelephoneRequest::Stop => self.end = Some(0),
@@ -352,7 +404,7 @@ impl<S: Surroundings + Drop, T: Teller + Drop> Desk<S, T> {
         }
     }
 
-    /// Asks what comes next and does that: whether the end hasn't come.
+    /// Asks what comes next and does that, and who watches is told what changed: whether the end hasn't come.
     #[tactic(auto, using(crate::proofs::DeskLemmas::stays_so, crate::proofs::DeskLemmas::goes_on_then))]
     pub fn turn<V: Visitors<S>>(&mut self, visitors: &mut Option<Box<V>>) -> bool
         ensures { GoesOn T.told S.sent self.old self.new }
@@ -361,6 +413,7 @@ impl<S: Surroundings + Drop, T: Teller + Drop> Desk<S, T> {
         let turn = self.schedule.next(at);
         self.exchange.begin(at.ticked);
         self.do_turn(turn, visitors, at.moment);
+        self.tell_watchers();
         !matches!(turn, Turn::End)
     }
 

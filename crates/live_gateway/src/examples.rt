@@ -7,7 +7,7 @@ ghost use Rattle.mg_line.specs.declared.phone.Act.TheVariants.{OffHook};
 ghost use Rattle.live_journal.specs.declared.reporting.Faults.{Faults};
 ghost use Rattle.surroundings.specs.Speaking.{nobody, may_speak, admitted_by};
 ghost use Rattle.live_gateway.specs.declared.telephones.Typist.TheVariants.{Here, Elsewhere, Stranger};
-ghost use Rattle.live_gateway.specs.declared.telephones.TelephoneRequest.TheVariants.{Act, Show, Counts, Stop, StopFromAfar, Refused, Unknown};
+ghost use Rattle.live_gateway.specs.declared.telephones.TelephoneRequest.TheVariants.{Act, Show, ShowAll, Watch, Counts, Stop, StopFromAfar, Refused, Unknown};
 ghost use Rattle.live_gateway.specs.declared.admission.Admission.{Admission};
 ghost use Rattle.live_gateway.specs.Admitting.{with_hosts, hosts_of, with_named, is_its_own, is_heard, typist_of};
 ghost use Rattle.live_gateway.specs.Asking.{request_in};
@@ -15,7 +15,7 @@ ghost use Rattle.live_gateway.specs.Example.{host, at_port, looped, anywhere, so
 ghost use Rattle.live_gateway.specs.declared.exchange.Exchange.{Exchange};
 ghost use Rattle.live_gateway.specs.Exchanging.{faultless, with_refused, with_unreceived, IsSameTurn};
 
-/// A line has one of five words, or asks for nothing that can be done: other steps of a script can't be asked for.
+/// A line has one of six words, or asks for nothing that can be done: other steps of a script can't be asked for.
 pub fn lines_ask_for_this()
     ensures act { request_in Elsewhere (codes "phone 1 off") ≡ Act 1 OffHook }
     ensures show { request_in Elsewhere (codes "show 2") ≡ Show 2 }
@@ -29,7 +29,18 @@ pub fn lines_ask_for_this()
     ensures raw { request_in Here (codes "raw 10.0.0.1:2427 30") ≡ Unknown }
     ensures sender { request_in Here (codes "from 10.0.0.1:2427") ≡ Unknown }
     ensures nothing { request_in Here [] ≡ Unknown }
+    ensures all { request_in Elsewhere (codes "show *") ≡ ShowAll }
+    ensures watch { request_in Elsewhere (codes "watch 60") ≡ Watch 60 }
+    ensures watch_no_more { request_in Here (codes "watch  0") ≡ Watch 0 }
+    ensures too_long { request_in Here (codes "watch 61") ≡ Unknown }
+    ensures no_time { request_in Here (codes "watch") ≡ Unknown }
+    ensures no_number { request_in Here (codes "watch 1s") ≡ Unknown }
+    ensures more { request_in Here (codes "watch 60 1") ≡ Unknown }
+    ensures other { request_in Here (codes "watches 60") ≡ Unknown }
+    ensures all_and_more { request_in Here (codes "show *1") ≡ Unknown }
     ensures stranger { request_in Stranger (codes "counts") ≡ Refused }
+    ensures stranger_watches { request_in Stranger (codes "watch 60") ≡ Refused }
+    ensures stranger_shows { request_in Stranger (codes "show *") ≡ Refused }
 {}
 
 /// Inputs that were refused are counted, and no other ones.

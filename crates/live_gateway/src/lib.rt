@@ -15,6 +15,7 @@ mod recorder;
 mod spoilt_way;
 mod telephones;
 mod visitors;
+mod watch;
 
 pub use crate::admission::{Admission, speakers_of};
 pub use crate::boxing::boxed;
@@ -23,3 +24,4 @@ pub use crate::exchange::Exchange;
 pub use crate::recorder::Recorder;
 pub use crate::spoilt_way::SpoiltWay;
 pub use crate::visitors::Visitors;
+pub use crate::watch::Watch;

@@ -5,8 +5,10 @@ ghost use Rattle.rgw_scripts.specs.declared.step.ScriptLine.TheVariants.{Whole};
 ghost use Rattle.rgw_scripts.specs.Script.{line_in};
 ghost use Rattle.live_gateway.specs.declared.telephones.TelephoneRequest.TheVariants.{OutOfMemory};
 ghost use Rattle.live_gateway.specs.Admitting.{typist_of};
-ghost use Rattle.live_gateway.specs.Asking.{AsksFor, request_of, request_by, line_request, request_in};
+ghost use Rattle.live_gateway.specs.Asking.{AsksFor, request_of, request_by, seconds_of, watch_in, watch_or, line_request, request_in};
 
+use line_changes::LONGEST_WATCH;
+use mg_bytes::{decimal, words};
 use mg_line::Act;
 use rgw_scripts::{ScriptLine, ScriptStep, line_in};
 use std::alloc::Global;
@@ -29,6 +31,10 @@ pub enum TelephoneRequest {
     Act { line: u16, act: Act },
     /// What a line is, is asked.
     Show { line: u16 },
+    /// What each line is, is asked.
+    ShowAll,
+    /// What changes at the lines is to be told for so long, in s.
+    Watch { seconds: u64 },
     /// What was counted so far is asked.
     Counts,
     /// The gateway is to end; this stays the next line until it has ended.
@@ -72,6 +78,50 @@ fn telephone_request(alloc: Global, line: &[u8]) -> TelephoneRequest
     }
 }
 
+// For how long it is watched, in s.
+fn seconds_of(text: &[u8]) -> Option<u64>
+    ensures { result ≡ seconds_of text.now }
+{
+    let seconds = decimal(text)?;
+    if seconds > LONGEST_WATCH {
+        return None;
+    }
+    Some(seconds)
+}
+
+// For how long a line asks to be told what changes, in s.
+#[tactic(auto, unfolding(crate::specs::Asking::watch_in))]
+fn watch_in(line: &[u8]) -> Option<u64>
+    ensures { result ≡ watch_in (words_of line.now) }
+{
+    let mut rest = words(line);
+    let Some(word) = rest.next() else {
+        return None;
+    };
+    let Some(time) = rest.next() else {
+        return None;
+    };
+    if rest.next().is_some() {
+        return None;
+    }
+    if word == b"watch".as_slice() {
+        seconds_of(time)
+    } else {
+        None
+    }
+}
+
+// What a line asks for that is no word alone.
+fn watch_or(alloc: Global, line: &[u8]) -> TelephoneRequest
+    ensures said { AsksFor result (line_in (words_of line.now)) }
+    ensures request { (result ≡ watch_or (watch_in (words_of line.now)) (request_by (line_in (words_of line.now)))) ⊎ (result ≡ OutOfMemory) }
+{
+    match watch_in(line) {
+        Some(seconds) => TelephoneRequest::Watch { seconds },
+        None => telephone_request(alloc, line),
+    }
+}
+
 // What a line asks for, which came from this machine or from another one.
 #[tactic(auto, unfolding(crate::specs::Asking::line_request))]
 fn line_request(alloc: Global, line: &[u8], is_from_loopback: bool) -> TelephoneRequest
@@ -84,8 +134,10 @@ fn line_request(alloc: Global, line: &[u8], is_from_loopback: bool) -> Telephone
         TelephoneRequest::Stop
     } else if line == b"stop".as_slice() {
         TelephoneRequest::StopFromAfar
+    } else if line == b"show *".as_slice() {
+        TelephoneRequest::ShowAll
     } else {
-        telephone_request(alloc, line)
+        watch_or(alloc, line)
     }
 }
 

@@ -1,0 +1,5 @@
+use Rattle.std.proofs.Common.{◌≡◌}
+use Rattle.live_gateway.proofs.watch.Watch.tell_lines.Given as goal
+
+abbrev pub invariant-loop-before : goal.invariant-loop-before
+invariant-loop-before g l = g.S.Surroundings.sent l.around ≡ g.S.Surroundings.sent l.fn.around
