@@ -1,0 +1,9 @@
+pub mod Connected
+pub mod Telephones
+pub mod Expecting
+pub mod Grammar
+pub mod Faults
+pub mod Pushed
+pub mod Blocks
+pub mod Numbering
+pub mod Example

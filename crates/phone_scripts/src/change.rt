@@ -1,0 +1,223 @@
+//! Reads what a gateway's telephones tell who watches.
+ghost use Rattle.std.specs.Prelude.{◌≡◌, IfOk, option_map};
+ghost use Rattle.mg_bytes.specs.Words.{words as words_of};
+ghost use Rattle.phone_scripts.specs.Pushed.{signal_named, hook_in, connection_in, changed_in, what_in, numbers_in, telling_by, is_telling, telling_in, is_watching, watching_of, watching_in};
+
+use crate::telephone::{Connected, What};
+use crate::words::line_of;
+use connections::read_mode;
+use mg_bytes::{OutOfMemory, Text, Words, decimal, words};
+use mg_packages::{Signal, signal_of};
+use std::alloc::Global;
+
+/// That a line changed: the number of the change, the gateway's moment, in ms, and how.
+#[derive(Drop)]
+pub struct Telling {
+    pub number: u64,
+    pub moment: u64,
+    pub line: u16,
+    pub what: What,
+}
+
+/// That it is watched: the number that the next change will have, and the gateway's moment, in ms.
+#[derive(Clone, Copy)]
+pub struct Watching {
+    pub next: u64,
+    pub moment: u64,
+}
+
+fn signal_named(word: &[u8]) -> Option<Signal>
+    ensures { result ≡ signal_named word.now }
+{
+    match signal_of(word) {
+        Ok(signal) => Some(signal),
+        Err(_) => None,
+    }
+}
+
+fn hook_in(word: &[u8]) -> Option<What>
+    ensures { result ≡ hook_in word.now }
+{
+    if word == b"off".as_slice() {
+        Some(What::Hook { is_off_hook: true })
+    } else if word == b"on".as_slice() {
+        Some(What::Hook { is_off_hook: false })
+    } else {
+        None
+    }
+}
+
+fn begins_in(name: &[u8]) -> Option<What>
+    ensures { result ≡ option_map What.Begins (signal_named name.now) }
+{
+    let signal = signal_named(name)?;
+    Some(What::Begins { signal })
+}
+
+fn ends_in(name: &[u8]) -> Option<What>
+    ensures { result ≡ option_map What.Ends (signal_named name.now) }
+{
+    let signal = signal_named(name)?;
+    Some(What::Ends { signal })
+}
+
+fn text_of(alloc: Global, word: &[u8]) -> Result<Text, OutOfMemory>
+    ensures { IfOk result (λ text. text ≡ word.now) }
+{
+    Ok(Text::of(Vec::from_slice(alloc, word)?))
+}
+
+fn connection_in(
+    alloc: Global,
+    id: &[u8],
+    rest: &mut Words<'_>,
+) -> Result<Option<What>, OutOfMemory>
+    ensures { IfOk result (λ found. found ≡ connection_in id.now rest.old) }
+{
+    let Some(word) = rest.next() else {
+        return Ok(None);
+    };
+    if word == b"over".as_slice() {
+        let id = text_of(alloc, id)?;
+        return Ok(Some(What::Over { id }));
+    }
+    let Some(mode) = read_mode(word) else {
+        return Ok(None);
+    };
+    let id = text_of(alloc, id)?;
+    let connection = Connected { id, mode };
+    Ok(Some(What::Stands { connection }))
+}
+
+fn changed_in(
+    alloc: Global,
+    word: &[u8],
+    name: &[u8],
+    rest: &mut Words<'_>,
+) -> Result<Option<What>, OutOfMemory>
+    ensures { IfOk result (λ found. found ≡ changed_in word.now name.now rest.old) }
+{
+    if word == b"begins".as_slice() {
+        Ok(begins_in(name))
+    } else if word == b"ends".as_slice() {
+        Ok(ends_in(name))
+    } else if word == b"connection".as_slice() {
+        connection_in(alloc, name, rest)
+    } else {
+        Ok(None)
+    }
+}
+
+// What changed.
+#[tactic(auto, unfolding(crate::specs::Pushed::what_in))]
+fn what_in(alloc: Global, rest: &mut Words<'_>) -> Result<Option<What>, OutOfMemory>
+    ensures { IfOk result (λ found. found ≡ what_in rest.old) }
+{
+    let Some(word) = rest.next() else {
+        return Ok(None);
+    };
+    let Some(name) = rest.next() else {
+        return Ok(hook_in(word));
+    };
+    changed_in(alloc, word, name, rest)
+}
+
+// The numbers of a change, of its moment and of its line.
+fn numbers_in(number: &[u8], moment: &[u8], line: &[u8]) -> Option<(u64, u64, u16)>
+    ensures { result ≡ numbers_in number.now moment.now line.now }
+{
+    Some((decimal(number)?, decimal(moment)?, line_of(line)?))
+}
+
+fn telling_of(
+    alloc: Global,
+    numbers: Option<(u64, u64, u16)>,
+    rest: &mut Words<'_>,
+) -> Result<Option<Telling>, OutOfMemory>
+    ensures { IfOk result (λ found. found ≡ telling_by numbers rest.old) }
+{
+    let Some((number, moment, line)) = numbers else {
+        return Ok(None);
+    };
+    let Some(what) = what_in(alloc, rest)? else {
+        return Ok(None);
+    };
+    Ok(Some(Telling {
+        number,
+        moment,
+        line,
+        what,
+    }))
+}
+
+fn is_telling(a: &[u8], b: &[u8], c: &[u8]) -> bool
+    ensures { result ≡ is_telling a.now b.now c.now }
+{
+    a == b"change".as_slice() && b == b"at".as_slice() && c == b"line".as_slice()
+}
+
+/// What a line tells of a change, if it does.
+#[tactic(auto, unfolding(crate::specs::Pushed::telling_in))]
+pub fn telling_in(alloc: Global, line: &[u8]) -> Result<Option<Telling>, OutOfMemory>
+    ensures { IfOk result (λ found. found ≡ telling_in (words_of line.now)) }
+{
+    let mut rest = words(line);
+    let Some(a) = rest.next() else {
+        return Ok(None);
+    };
+    let Some(n) = rest.next() else {
+        return Ok(None);
+    };
+    let Some(b) = rest.next() else {
+        return Ok(None);
+    };
+    let Some(m) = rest.next() else {
+        return Ok(None);
+    };
+    let Some(c) = rest.next() else {
+        return Ok(None);
+    };
+    let Some(l) = rest.next() else {
+        return Ok(None);
+    };
+    if is_telling(a, b, c) {
+        telling_of(alloc, numbers_in(n, m, l), &mut rest)
+    } else {
+        Ok(None)
+    }
+}
+
+fn is_watching(a: &[u8], b: &[u8], c: &[u8]) -> bool
+    ensures { result ≡ is_watching a.now b.now c.now }
+{
+    a == b"watching".as_slice() && b == b"from".as_slice() && c == b"at".as_slice()
+}
+
+fn watching_of(number: &[u8], moment: &[u8]) -> Option<Watching>
+    ensures { result ≡ watching_of number.now moment.now }
+{
+    let next = decimal(number)?;
+    let moment = decimal(moment)?;
+    Some(Watching { next, moment })
+}
+
+/// From which number on it is told what changes, and at which moment, if a line says that.
+#[tactic(auto, unfolding(crate::specs::Pushed::watching_in))]
+pub fn watching_in(line: &[u8]) -> Option<Watching>
+    ensures { result ≡ watching_in (words_of line.now) }
+{
+    let mut rest = words(line);
+    let a = rest.next()?;
+    let b = rest.next()?;
+    let n = rest.next()?;
+    let c = rest.next()?;
+    let m = rest.next()?;
+    if rest.next().is_some() {
+        return None;
+    }
+    if is_watching(a, b, c) {
+        watching_of(n, m)
+    } else {
+        None
+    }
+}

@@ -1,0 +1,144 @@
+//! What is known of the gateways whose telephones a script works.
+ghost use Rattle.std.specs.Prelude.{◌≡◌};
+ghost use Rattle.std.specs.Option.{unwrap_or};
+ghost use Rattle.phone_scripts.specs.Numbering.{number_says};
+
+use crate::telephone::{Telephone, What};
+use mg_bytes::OutOfMemory;
+use std::alloc::Global;
+use std::collections::VecDeque;
+
+/// A telephone of a gateway: which line, what is known of it, and the gateway's moment at which it changed last, in ms, if it was told.
+#[derive(Drop)]
+pub(crate) struct Known {
+    pub(crate) line: u16,
+    pub(crate) telephone: Telephone,
+    pub(crate) since: Option<u64>,
+}
+
+/// Who asked something of a gateway: a runner, or the player itself; and when, in ms of this machine's clock. Answers come in the order of
+/// the questions.
+#[derive(Clone, Copy)]
+pub(crate) struct Question {
+    pub(crate) runner: Option<usize>,
+    pub(crate) asked: u64,
+}
+
+/// What the number of a change says.
+#[derive(Clone, Copy)]
+pub(crate) enum Numbered {
+    /// It was told before.
+    Told,
+    /// It is the next.
+    Next,
+    /// One before it, with this number, was never told.
+    Lost { number: u64 },
+}
+
+/// A gateway that is watched: its telephones, the number that the next change will have, once it is known, whether its lines were shown, who
+/// waits for an answer, and when it was asked last to tell what changes.
+#[derive(Drop)]
+pub(crate) struct Watched {
+    pub(crate) telephones: Vec<Known>,
+    pub(crate) next: Option<u64>,
+    pub(crate) is_shown: bool,
+    pub(crate) questions: VecDeque<Question>,
+    pub(crate) renewed: u64,
+}
+
+// What the number of a change says, where the next was to have the first of these.
+fn number_says(next: u64, number: u64) -> Numbered
+    ensures { result ≡ number_says next number }
+{
+    if number < next {
+        Numbered::Told
+    } else if next < number {
+        Numbered::Lost { number: next }
+    } else {
+        Numbered::Next
+    }
+}
+
+impl Watched {
+    /// One of which nothing is known.
+    pub(crate) fn new(alloc: Global) -> Watched {
+        Watched {
+            telephones: Vec::new(alloc),
+            next: None,
+            is_shown: false,
+            questions: VecDeque::new(alloc),
+            renewed: 0,
+        }
+    }
+
+    /// A change of this number is told: what that says. The first that is told of at all is the next.
+    pub(crate) fn take_number(&mut self, number: u64) -> Numbered
+        ensures { result ≡ number_says (unwrap_or self.old.next number) number }
+    {
+        let said = number_says(self.next.unwrap_or(number), number);
+        if matches!(said, Numbered::Next) {
+            self.next = Some(number.saturating_add(1));
+        }
+        said
+    }
+
+    /// All changes before this number were told: the first of those that wasn't, if there is one.
+    pub(crate) fn missing_before(&mut self, number: u64) -> Option<u64> {
+        let next = self.next.unwrap_or(number);
+        self.next = Some(next);
+        if next < number { Some(next) } else { None }
+    }
+
+    // The place of a telephone.
+    fn place_of(&self, line: u16) -> Option<usize> {
+        self.telephones.iter().position(|known| known.line == line)
+    }
+
+    /// The telephone of a line; one of which nothing was told is at rest.
+    pub(crate) fn telephone(
+        &mut self,
+        alloc: Global,
+        line: u16,
+    ) -> Result<Option<&mut Known>, OutOfMemory> {
+        if self.place_of(line).is_none() {
+            self.telephones.push(Known {
+                line,
+                telephone: Telephone::new(alloc),
+                since: None,
+            })?;
+        }
+        match self.place_of(line) {
+            Some(place) => Ok(self.telephones.get_mut(place)),
+            None => Ok(None),
+        }
+    }
+
+    /// A line changed at this moment, in ms.
+    pub(crate) fn change(
+        &mut self,
+        alloc: Global,
+        moment: u64,
+        line: u16,
+        what: What,
+    ) -> Result<(), OutOfMemory> {
+        if let Some(known) = self.telephone(alloc, line)? {
+            known.since = Some(moment);
+            known.telephone.change(what)?;
+        }
+        Ok(())
+    }
+
+    /// A line is so, as it was shown.
+    pub(crate) fn show(
+        &mut self,
+        alloc: Global,
+        line: u16,
+        telephone: Telephone,
+    ) -> Result<(), OutOfMemory> {
+        if let Some(known) = self.telephone(alloc, line)? {
+            known.telephone = telephone;
+        }
+        self.is_shown = true;
+        Ok(())
+    }
+}

@@ -1,0 +1,31 @@
+//! Scripts of telephones: what they say, what they expect, and how they are played.
+//!
+//! A script is done here by itself: it asks for lines to be sent, and is told what comes and what time it is. Nothing here knows a socket or a
+//! file.
+#![tactic(auto)]
+
+mod act;
+mod change;
+pub mod examples;
+mod expecting;
+mod gateways;
+pub mod laws;
+mod player;
+mod runner;
+mod said;
+mod script;
+mod shown;
+mod statement;
+mod telephone;
+mod wording;
+mod words;
+
+pub use crate::act::PhoneAct;
+pub use crate::change::{Telling, Watching, telling_in, watching_in};
+pub use crate::expecting::{Expected, Open, Verdict};
+pub use crate::player::{Failure, Next, Player};
+pub use crate::said::{Said, SaidFault};
+pub use crate::script::{Placed, Reader, Script, ScriptFault, Wanted};
+pub use crate::statement::{Phone, Place, Statement};
+pub use crate::telephone::{Connected, Telephone, What};
+pub use crate::wording::{failure_text, file_fault_text, script_fault_text};

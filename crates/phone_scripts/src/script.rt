@@ -1,0 +1,344 @@
+//! Reads a script, file by file, and what its files say into one list of statements.
+ghost use Rattle.std.specs.Prelude.{◌≡◌, ◌++◌, ◌<◌, map, length, OnOk};
+ghost use Rattle.std.specs.List.{flat_map};
+ghost use Rattle.phone_scripts.specs.Blocks.{pressed};
+
+use crate::act::PhoneAct;
+use crate::said::{Said, SaidFault};
+use crate::statement::{Phone, Place, Statement};
+use crate::words::said_in;
+use mg_bytes::{OutOfMemory, Text, lines};
+use std::alloc::Global;
+
+// So many blocks stand in one another at most.
+const MOST_DEPTH: usize = 16;
+
+// So many files bring one another at most.
+const DEEPEST_INCLUDE: usize = 8;
+
+// So many statements has a script at most.
+const MOST_STATEMENTS: usize = 65_536;
+
+/// A statement, and where it stands.
+#[derive(Clone, Copy)]
+pub struct Placed {
+    pub place: Place,
+    pub statement: Statement,
+}
+
+/// A script: the names of its files, in the order in which they were begun, and what they say.
+#[derive(Drop)]
+pub struct Script {
+    pub files: Vec<Text>,
+    pub statements: Vec<Placed>,
+}
+
+/// Why a script can't be played.
+#[derive(Clone, Copy)]
+pub enum ScriptFault {
+    OutOfMemory,
+    /// What stands there says nothing that can be done.
+    Said { place: Place, fault: SaidFault },
+    /// No block is open that would end there.
+    NoBlock { place: Place },
+    /// The block that begins there has no end.
+    Endless { place: Place },
+    /// Too many blocks stand in one another, or files bring one another.
+    TooDeep { place: Place },
+    /// It has too many statements.
+    TooLong { place: Place },
+}
+
+impl From<OutOfMemory> for ScriptFault {
+    ghost from_gives = { λ refused fault. fault ≡ ScriptFault.OutOfMemory };
+
+    fn from(_refused: OutOfMemory) -> ScriptFault {
+        ScriptFault::OutOfMemory
+    }
+}
+
+/// What a reader wants.
+#[derive(Clone, Copy)]
+pub enum Wanted {
+    /// The text of the file that was named last.
+    File,
+    /// Nothing: all is read.
+    Nothing,
+}
+
+// A file that is being read: which it is, its text, where its next line begins and which line that is, and how many blocks were open
+// before it.
+#[derive(Drop)]
+struct Level {
+    file: u16,
+    text: Text,
+    begin: usize,
+    line: u64,
+    depth: usize,
+}
+
+/// Reads a script. Gateways have these names.
+#[derive(Drop)]
+pub struct Reader {
+    alloc: Global,
+    names: Vec<Text>,
+    script: Script,
+    levels: Vec<Level>,
+    // Where blocks began that are open.
+    begun: Vec<Place>,
+    // Where the file was named that was named last; the script itself is named nowhere.
+    wanted: Option<Place>,
+}
+
+// Puts a key that is pressed.
+fn put_key(
+    out: &mut Vec<Placed>,
+    place: Place,
+    phone: Phone,
+    sign: u8,
+    gap: u64,
+) -> Result<(), OutOfMemory>
+    ensures { OnOk result (map (λ placed. placed.statement) out.new.items
+        ≡ map (λ placed. placed.statement) out.old.items ++ pressed phone gap sign) }
+{
+    let act = PhoneAct::Key { sign };
+    out.push(Placed {
+        place,
+        statement: Statement::Act { phone, act },
+    })?;
+    out.push(Placed {
+        place,
+        statement: Statement::Wait { ms: gap },
+    })?;
+    Ok(())
+}
+
+// Puts keys, one after the other.
+fn put_keys(
+    out: &mut Vec<Placed>,
+    place: Place,
+    phone: Phone,
+    keys: &[u8],
+    gap: u64,
+) -> Result<(), OutOfMemory>
+    ensures { OnOk result (map (λ placed. placed.statement) out.new.items
+        ≡ map (λ placed. placed.statement) out.old.items ++ flat_map (pressed phone gap) keys.now) }
+{
+    for sign in keys {
+        put_key(out, place, phone, *sign, gap)?;
+    }
+    Ok(())
+}
+
+// The first line of what is left of a text, and where the one behind it begins.
+fn line_at(text: &[u8], begin: usize) -> Option<(&[u8], usize)> {
+    let left = text.get(begin..)?;
+    let mut rest = lines(left);
+    let line = rest.next()?;
+    Some((line, text.len().saturating_sub(rest.rest().len())))
+}
+
+impl Reader {
+    /// Reads a script whose gateways have these names; the first is meant where none is said.
+    pub fn new(alloc: Global, names: Vec<Text>) -> Reader {
+        Reader {
+            alloc,
+            names,
+            script: Script {
+                files: Vec::new(alloc),
+                statements: Vec::new(alloc),
+            },
+            levels: Vec::new(alloc),
+            begun: Vec::new(alloc),
+            wanted: None,
+        }
+    }
+
+    /// The names of the files so far, of which the last is wanted where one is.
+    pub fn files(&self) -> &[Text] {
+        self.script.files.as_slice()
+    }
+
+    /// Where the file was named that was named last, but for the script itself.
+    pub fn wanted_at(&self) -> Option<Place> {
+        self.wanted
+    }
+
+    // A file is wanted.
+    fn name(&mut self, place: Place, file: Text) -> Result<(), ScriptFault> {
+        if self.levels.len() > DEEPEST_INCLUDE {
+            return Err(ScriptFault::TooDeep { place });
+        }
+        self.script.files.push(file)?;
+        Ok(())
+    }
+
+    /// The script itself is in this file.
+    pub fn begin(&mut self, file: Text) -> Result<(), ScriptFault> {
+        self.name(Place { file: 0, line: 0 }, file)
+    }
+
+    /// The file that was named last has this text.
+    pub fn give(&mut self, text: Text) -> Result<(), ScriptFault> {
+        let last = self.script.files.len().saturating_sub(1);
+        let file = u16::try_from(last).unwrap_or(u16::MAX);
+        let depth = self.begun.len();
+        self.levels.push(Level {
+            file,
+            text,
+            begin: 0,
+            line: 0,
+            depth,
+        })?;
+        Ok(())
+    }
+
+    // Puts a statement.
+    fn put(&mut self, place: Place, statement: Statement) -> Result<(), ScriptFault> {
+        if self.script.statements.len() >= MOST_STATEMENTS {
+            return Err(ScriptFault::TooLong { place });
+        }
+        self.script.statements.push(Placed { place, statement })?;
+        Ok(())
+    }
+
+    // A block begins.
+    fn begin_block(&mut self, place: Place, begin: Statement) -> Result<(), ScriptFault> {
+        if self.begun.len() >= MOST_DEPTH {
+            return Err(ScriptFault::TooDeep { place });
+        }
+        self.begun.push(place)?;
+        self.put(place, begin)
+    }
+
+    // A block ends that this file began.
+    fn end_block(&mut self, place: Place, depth: usize) -> Result<(), ScriptFault> {
+        if self.begun.len() <= depth {
+            return Err(ScriptFault::NoBlock { place });
+        }
+        let _ = self.begun.pop();
+        self.put(place, Statement::End)
+    }
+
+    // Keys are dialled, as a block.
+    fn dial(
+        &mut self,
+        place: Place,
+        phone: Phone,
+        keys: &[u8],
+        gap: u64,
+    ) -> Result<(), ScriptFault> {
+        self.put(place, Statement::Repeat { times: 1 })?;
+        put_keys(&mut self.script.statements, place, phone, keys, gap)?;
+        self.put(place, Statement::End)
+    }
+
+    // A file is included, as a block.
+    fn include(&mut self, place: Place, file: Text) -> Result<Wanted, ScriptFault> {
+        self.name(place, file)?;
+        self.wanted = Some(place);
+        self.put(place, Statement::Repeat { times: 1 })?;
+        Ok(Wanted::File)
+    }
+
+    // What a line says is put, where so many blocks were open before its file.
+    fn take(&mut self, place: Place, depth: usize, said: Said) -> Result<Wanted, ScriptFault> {
+        match said {
+            Said::Nothing => {}
+            Said::Act { phone, act } => self.put(place, Statement::Act { phone, act })?,
+            Said::Dial { phone, keys, gap } => self.dial(place, phone, keys.as_bytes(), gap)?,
+            Said::Wait { ms } => self.put(place, Statement::Wait { ms })?,
+            Said::Expect {
+                phone,
+                expected,
+                within,
+            } => self.put(
+                place,
+                Statement::Expect {
+                    phone,
+                    expected,
+                    within,
+                },
+            )?,
+            Said::Repeat { times } => self.begin_block(place, Statement::Repeat { times })?,
+            Said::Beside => self.begin_block(place, Statement::Beside)?,
+            Said::End => self.end_block(place, depth)?,
+            Said::Include { file } => return self.include(place, file),
+        }
+        Ok(Wanted::Nothing)
+    }
+
+    // A file is read to its end: its blocks are closed, and where another one brought it, that block ends.
+    fn leave(&mut self, level: Level) -> Result<(), ScriptFault> {
+        if self.begun.len() > level.depth {
+            if let Some(place) = self.begun.pop() {
+                return Err(ScriptFault::Endless { place });
+            }
+        }
+        if self.levels.is_empty() {
+            return Ok(());
+        }
+        let place = Place {
+            file: level.file,
+            line: level.line,
+        };
+        self.put(place, Statement::End)
+    }
+
+    // What a line says.
+    fn said(&self, place: Place, line: &[u8]) -> Result<Said, ScriptFault> {
+        if line.starts_with(b"#") {
+            return Ok(Said::Nothing);
+        }
+        match said_in(self.alloc, self.names.as_slice(), line) {
+            Ok(Ok(said)) => Ok(said),
+            Ok(Err(fault)) => Err(ScriptFault::Said { place, fault }),
+            Err(_) => Err(ScriptFault::OutOfMemory),
+        }
+    }
+
+    // Reads the next line of this file.
+    fn read_line(&mut self, mut level: Level) -> Result<Wanted, ScriptFault> {
+        let Some((line, next)) = line_at(level.text.as_bytes(), level.begin) else {
+            self.leave(level)?;
+            return Ok(Wanted::Nothing);
+        };
+        level.line = level.line.saturating_add(1);
+        let place = Place {
+            file: level.file,
+            line: level.line,
+        };
+        let said = self.said(place, line)?;
+        level.begin = next;
+        let depth = level.depth;
+        self.levels.push(level)?;
+        self.take(place, depth, said)
+    }
+
+    /// Reads on until a file is wanted or all is read.
+    pub fn go_on(&mut self) -> Result<Wanted, ScriptFault> {
+        for _ in 0..u64::MAX {
+            let Some(level) = self.levels.pop() else {
+                return Ok(Wanted::Nothing);
+            };
+            match self.read_line(level)? {
+                Wanted::File => return Ok(Wanted::File),
+                Wanted::Nothing => {}
+            }
+        }
+        Ok(Wanted::Nothing)
+    }
+
+    /// What was read.
+    pub fn into_script(self) -> Script {
+        let Reader {
+            alloc: _,
+            names: _,
+            script,
+            levels: _,
+            begun: _,
+            wanted: _,
+        } = self;
+        script
+    }
+}

@@ -1,0 +1,391 @@
+//! Reads the words of a line of a script.
+ghost use Rattle.std.specs.Prelude.{◌≡◌, IfOk, MatchResult, option_map, Ok, Err, Some};
+ghost use Rattle.std.specs.Option.{ok_or};
+ghost use Rattle.mg_bytes.specs.Words.{words as words_of};
+ghost use Rattle.phone_scripts.specs.declared.said.SaidFault.TheVariants as faults;
+ghost use Rattle.phone_scripts.specs.Grammar.{line_of, named_from, phone_at, phone_of, time_of, times_of, expected_of, connection_of, signals, modes, is_side_by_side, is_connection_within, waits, acts_on, dials, expects, line_of_one, line_of_two, line_of_three, line_of_four, line_of_five, line_of_six, said_in};
+
+use crate::act::{act_of, are_keys};
+use crate::expecting::Expected;
+use crate::said::{Said, SaidFault};
+use crate::statement::Phone;
+use connections::read_mode;
+use mg_bytes::{OutOfMemory, Text, decimal, split_once, words};
+use mg_packages::signal_of;
+use std::alloc::Global;
+
+// So long it is waited or expected at most, in ms.
+const LONGEST_TIME: u64 = 10_000_000;
+
+// So often a block is repeated at most.
+const MOST_TIMES: u64 = 1_000_000;
+
+// So long keys are apart where nothing is said, in ms.
+const USUAL_GAP: u64 = 100;
+
+/// The number of a line, from 1.
+pub(crate) fn line_of(text: &[u8]) -> Option<u16>
+    ensures { result ≡ line_of text.now }
+{
+    let number = decimal(text)?;
+    if number < 1 || number > 65535 {
+        return None;
+    }
+    Some(number as u16)
+}
+
+// The place of the first gateway that is named so.
+#[tactic(auto, unfolding(crate::specs::Grammar::named_from))]
+fn named(name: &[u8], names: &[Text]) -> Option<usize>
+    ensures { result ≡ named_from 0 name.now names.now }
+{
+    for (place, other) in names.iter().enumerate() {
+        if other.as_bytes() == name {
+            return Some(place);
+        }
+    }
+    None
+}
+
+fn phone_at(line: &[u8], gateway: usize) -> Option<Phone>
+    ensures { result ≡ phone_at line.now gateway }
+{
+    if gateway > 65535 {
+        return None;
+    }
+    let line = line_of(line)?;
+    Some(Phone {
+        gateway: gateway as u16,
+        line,
+    })
+}
+
+fn phone_of(names: &[Text], word: &[u8]) -> Option<Phone>
+    ensures { result ≡ phone_of names.now word.now }
+{
+    match split_once(word, b':') {
+        None => phone_at(word, 0),
+        Some((name, line)) => phone_at(line, named(name, names)?),
+    }
+}
+
+fn time_of(text: &[u8]) -> Option<u64>
+    ensures { result ≡ time_of text.now }
+{
+    let time = decimal(text)?;
+    if time > LONGEST_TIME {
+        return None;
+    }
+    Some(time)
+}
+
+fn times_of(text: &[u8]) -> Option<u64>
+    ensures { result ≡ times_of text.now }
+{
+    let times = decimal(text)?;
+    if times < 1 || times > MOST_TIMES {
+        return None;
+    }
+    Some(times)
+}
+
+fn expected_of(word: &[u8]) -> Option<Expected>
+    ensures { result ≡ expected_of word.now }
+{
+    if word == b"silent".as_slice() {
+        return Some(Expected::Silent);
+    }
+    match signal_of(word) {
+        Ok(signal) => Some(Expected::Signal { signal }),
+        Err(_) => None,
+    }
+}
+
+fn connection_of(word: &[u8]) -> Option<Expected>
+    ensures { result ≡ connection_of word.now }
+{
+    let mode = read_mode(word)?;
+    Some(Expected::Connection { mode })
+}
+
+fn signals(word: &[u8]) -> Result<Expected, SaidFault>
+    ensures { result ≡ signals word.now }
+{
+    match expected_of(word) {
+        Some(expected) => Ok(expected),
+        None => Err(SaidFault::Expected),
+    }
+}
+
+fn modes(word: &[u8]) -> Result<Expected, SaidFault>
+    ensures { result ≡ modes word.now }
+{
+    match connection_of(word) {
+        Some(expected) => Ok(expected),
+        None => Err(SaidFault::Mode),
+    }
+}
+
+fn phone_in(names: &[Text], word: &[u8]) -> Result<Phone, SaidFault>
+    ensures { result ≡ ok_or (phone_of names.now word.now) faults.Phone }
+{
+    match phone_of(names, word) {
+        Some(phone) => Ok(phone),
+        None => Err(SaidFault::Phone),
+    }
+}
+
+fn time_in(time: Option<u64>) -> Result<u64, SaidFault>
+    ensures { result ≡ ok_or time faults.Time }
+{
+    match time {
+        Some(time) => Ok(time),
+        None => Err(SaidFault::Time),
+    }
+}
+
+fn waits(text: &[u8]) -> Result<Said, SaidFault>
+    ensures { result ≡ waits text.now }
+{
+    match time_of(text) {
+        Some(ms) => Ok(Said::Wait { ms }),
+        None => Err(SaidFault::Time),
+    }
+}
+
+fn repeats(text: &[u8]) -> Result<Said, SaidFault>
+    ensures { result ≡ ok_or (option_map Said.Repeat (times_of text.now)) faults.Times }
+{
+    match times_of(text) {
+        Some(times) => Ok(Said::Repeat { times }),
+        None => Err(SaidFault::Times),
+    }
+}
+
+fn acts_on(names: &[Text], phone: &[u8], word: &[u8]) -> Result<Said, SaidFault>
+    ensures { result ≡ acts_on names.now phone.now word.now }
+{
+    let phone = phone_in(names, phone)?;
+    match act_of(word) {
+        Some(act) => Ok(Said::Act { phone, act }),
+        None => Err(SaidFault::Act),
+    }
+}
+
+fn expects(
+    names: &[Text],
+    phone: &[u8],
+    what: Result<Expected, SaidFault>,
+    within: Option<u64>,
+) -> Result<Said, SaidFault>
+    ensures { result ≡ expects names.now phone.now what within }
+{
+    let phone = phone_in(names, phone)?;
+    let expected = what?;
+    let within = time_in(within)?;
+    Ok(Said::Expect {
+        phone,
+        expected,
+        within,
+    })
+}
+
+// Which telephone dials, and how long the keys are apart, where the keys are keys.
+fn dialling(
+    names: &[Text],
+    phone: &[u8],
+    keys: &[u8],
+    gap: Option<u64>,
+) -> Result<(Phone, u64), SaidFault>
+    ensures { MatchResult result (λ p. dials names.now phone.now keys.now gap ≡ Ok (Said.Dial p.0 keys.now p.1))
+        (λ fault. dials names.now phone.now keys.now gap ≡ Err fault) }
+{
+    let phone = phone_in(names, phone)?;
+    let gap = time_in(gap)?;
+    if are_keys(keys) {
+        Ok((phone, gap))
+    } else {
+        Err(SaidFault::Keys)
+    }
+}
+
+fn dials(
+    alloc: Global,
+    names: &[Text],
+    phone: &[u8],
+    keys: &[u8],
+    gap: Option<u64>,
+) -> Result<Result<Said, SaidFault>, OutOfMemory>
+    ensures { IfOk result (λ said. said ≡ dials names.now phone.now keys.now gap) }
+{
+    match dialling(names, phone, keys, gap) {
+        Ok((phone, gap)) => {
+            let keys = Text::of(Vec::from_slice(alloc, keys)?);
+            Ok(Ok(Said::Dial { phone, keys, gap }))
+        }
+        Err(fault) => Ok(Err(fault)),
+    }
+}
+
+fn includes(alloc: Global, file: &[u8]) -> Result<Result<Said, SaidFault>, OutOfMemory>
+    ensures { IfOk result (λ said. said ≡ Ok (Said.Include file.now)) }
+{
+    let file = Text::of(Vec::from_slice(alloc, file)?);
+    Ok(Ok(Said::Include { file }))
+}
+
+#[tactic(auto, unfolding(crate::specs::Grammar::line_of_one))]
+fn line_of_one(a: &[u8]) -> Result<Said, SaidFault>
+    ensures { result ≡ line_of_one a.now }
+{
+    if a == b"end".as_slice() {
+        Ok(Said::End)
+    } else {
+        Err(SaidFault::Line)
+    }
+}
+
+#[tactic(auto, unfolding(crate::specs::Grammar::line_of_two))]
+fn line_of_two(
+    alloc: Global,
+    names: &[Text],
+    a: &[u8],
+    b: &[u8],
+) -> Result<Result<Said, SaidFault>, OutOfMemory>
+    ensures { IfOk result (λ said. said ≡ line_of_two names.now a.now b.now) }
+{
+    if a == b"wait".as_slice() {
+        Ok(waits(b))
+    } else if a == b"include".as_slice() {
+        includes(alloc, b)
+    } else {
+        Ok(acts_on(names, a, b))
+    }
+}
+
+// `side by side`
+fn is_side_by_side(a: &[u8], b: &[u8], c: &[u8]) -> bool
+    ensures { result ≡ is_side_by_side a.now b.now c.now }
+{
+    a == b"side".as_slice() && b == b"by".as_slice() && c == b"side".as_slice()
+}
+
+#[tactic(auto, unfolding(crate::specs::Grammar::line_of_three))]
+fn line_of_three(
+    alloc: Global,
+    names: &[Text],
+    a: &[u8],
+    b: &[u8],
+    c: &[u8],
+) -> Result<Result<Said, SaidFault>, OutOfMemory>
+    ensures { IfOk result (λ said. said ≡ line_of_three names.now a.now b.now c.now) }
+{
+    if b == b"dial".as_slice() {
+        dials(alloc, names, a, c, Some(USUAL_GAP))
+    } else if a == b"expect".as_slice() {
+        Ok(expects(names, b, signals(c), Some(0)))
+    } else if a == b"repeat".as_slice() && c == b"times".as_slice() {
+        Ok(repeats(b))
+    } else if is_side_by_side(a, b, c) {
+        Ok(Ok(Said::Beside))
+    } else {
+        Ok(Err(SaidFault::Line))
+    }
+}
+
+#[tactic(auto, unfolding(crate::specs::Grammar::line_of_four))]
+fn line_of_four(
+    alloc: Global,
+    names: &[Text],
+    a: &[u8],
+    b: &[u8],
+    c: &[u8],
+    d: &[u8],
+) -> Result<Result<Said, SaidFault>, OutOfMemory>
+    ensures { IfOk result (λ said. said ≡ line_of_four names.now a.now b.now c.now d.now) }
+{
+    if b == b"dial".as_slice() {
+        dials(alloc, names, a, c, time_of(d))
+    } else if a == b"expect".as_slice() && c == b"connection".as_slice() {
+        Ok(expects(names, b, modes(d), Some(0)))
+    } else {
+        Ok(Err(SaidFault::Line))
+    }
+}
+
+#[tactic(auto, unfolding(crate::specs::Grammar::line_of_five))]
+fn line_of_five(
+    names: &[Text],
+    a: &[u8],
+    b: &[u8],
+    c: &[u8],
+    d: &[u8],
+    e: &[u8],
+) -> Result<Said, SaidFault>
+    ensures { result ≡ line_of_five names.now a.now b.now c.now d.now e.now }
+{
+    if a == b"expect".as_slice() && d == b"within".as_slice() {
+        expects(names, b, signals(c), time_of(e))
+    } else {
+        Err(SaidFault::Line)
+    }
+}
+
+fn is_connection_within(a: &[u8], c: &[u8], e: &[u8]) -> bool
+    ensures { result ≡ is_connection_within a.now c.now e.now }
+{
+    a == b"expect".as_slice() && c == b"connection".as_slice() && e == b"within".as_slice()
+}
+
+#[tactic(auto, unfolding(crate::specs::Grammar::line_of_six))]
+fn line_of_six(
+    names: &[Text],
+    a: &[u8],
+    b: &[u8],
+    c: &[u8],
+    d: &[u8],
+    e: &[u8],
+    f: &[u8],
+) -> Result<Said, SaidFault>
+    ensures { result ≡ line_of_six names.now a.now b.now c.now d.now e.now f.now }
+{
+    if is_connection_within(a, c, e) {
+        expects(names, b, modes(d), time_of(f))
+    } else {
+        Err(SaidFault::Line)
+    }
+}
+
+/// What the words of a line say, where gateways have these names; or why it says nothing that can be done.
+#[tactic(auto, unfolding(crate::specs::Grammar::said_in))]
+pub(crate) fn said_in(
+    alloc: Global,
+    names: &[Text],
+    line: &[u8],
+) -> Result<Result<Said, SaidFault>, OutOfMemory>
+    ensures { IfOk result (λ said. said ≡ said_in names.now (words_of line.now)) }
+{
+    let mut rest = words(line);
+    let Some(a) = rest.next() else {
+        return Ok(Ok(Said::Nothing));
+    };
+    let Some(b) = rest.next() else {
+        return Ok(line_of_one(a));
+    };
+    let Some(c) = rest.next() else {
+        return line_of_two(alloc, names, a, b);
+    };
+    let Some(d) = rest.next() else {
+        return line_of_three(alloc, names, a, b, c);
+    };
+    let Some(e) = rest.next() else {
+        return line_of_four(alloc, names, a, b, c, d);
+    };
+    let Some(f) = rest.next() else {
+        return Ok(line_of_five(names, a, b, c, d, e));
+    };
+    if rest.next().is_some() {
+        return Ok(Err(SaidFault::Line));
+    }
+    Ok(line_of_six(names, a, b, c, d, e, f))
+}
