@@ -2,7 +2,8 @@
 //!
 //! Behind one socket is an agent for each gateway, which issues what is typed at a socket for commands. Where that is asked for,
 //! calls are routed between the lines of all gateways, and a bad network lies between. What all that means is in `call_desk`, and
-//! what is asked of a gateway in `gateway_checks`; here are the loop, which asks what comes next and does that, and the ends of a check.
+//! what is asked of a gateway in `gateway_checks`; here are the loop, which asks what comes next and does that, the ends of a check, and the
+//! play of a script of telephones (`phone_scripts`).
 #![tactic(auto)]
 
 mod check_fault;
@@ -10,6 +11,7 @@ mod checking;
 mod ends;
 mod json;
 mod kept_records;
+mod phones;
 mod recorder;
 mod serve_fault;
 mod serving;
@@ -19,6 +21,7 @@ mod wire;
 pub use crate::check_fault::CheckFault;
 pub use crate::checking::{CheckSettings, check_gateway};
 pub use crate::kept_records::KeptRecords;
+pub use crate::phones::{Played, play_phones};
 pub use crate::recorder::Recorder;
 pub use crate::serve_fault::ServeFault;
 pub use crate::serving::{WireSettings, serve_agent};
