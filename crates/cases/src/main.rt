@@ -3,6 +3,7 @@
 //! - `scripts`: scripts of the program, with what is printed beside what causes it.
 //! - `program`: a row a call of the program: its name, its values, and what it answers.
 //! - `live`, `desk`: what comes to `rgwd`, and to `rgca`, that runs in memory, and what it gives.
+//! - `phones`: scripts of telephones, what gateways' telephones say, and how the play ends.
 //! - `streams`: an input whose streams give and take little at a time, and fail.
 //!
 //! What is told otherwise than it happens is printed under its title. `docs/SCENARIOS.md` says how scenarios are written.
@@ -11,6 +12,7 @@
 mod calls;
 mod desk;
 mod live;
+mod phones;
 mod played;
 mod scripts;
 mod stories;
@@ -20,6 +22,7 @@ mod titled;
 use crate::calls::Calls;
 use crate::desk::CallAgent;
 use crate::live::Live;
+use crate::phones::Phones;
 use crate::scripts::Scripts;
 use crate::streams::StreamScenario;
 use rows::Rows;
@@ -44,6 +47,7 @@ impl Kinds for All {
             "program" => scenario_files::told::<Calls, R>(rt, text),
             "desk" => titled::told::<CallAgent, R>(rt, text),
             "live" => titled::told::<Live, R>(rt, text),
+            "phones" => titled::told::<Phones, R>(rt, text),
             "streams" => scenario_files::told::<StreamScenario, R>(rt, text),
             _ => return told_below(rt, kind, text),
         };

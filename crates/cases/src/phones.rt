@@ -1,0 +1,126 @@
+//! Stories of `rgca phones`: a script of telephones, what two gateways' telephones say, and what it sends them and says at its end.
+//!
+//! Their lines are those of `live`, but for these:
+//!
+//! - `set 1 off` a line of the script, which is called `script`.
+//! - `<`, `>` lines come from the telephones of gateway gw1, 127.0.0.1:2428, or go there, or from and to the address behind them: those of
+//!   gw2 are at 127.0.0.2:2428.
+//! - `print ..` a line that it says at its end; `print status 1` its exit status.
+use crate::stories::{Place, Program, Story, Transcript, is_told, put_given};
+use crate::titled::Titled;
+use live_agent::{Played, play_phones};
+use mg_bytes::Text;
+use phone_scripts::{
+    Failure, Player, Reader, Script, ScriptFault, Wanted, failure_text, script_fault_text,
+};
+use scenario_files::refused;
+use std::alloc::{AllocError, Global};
+use std::net::{Ipv4Addr, Net, SocketAddrV4};
+use std::{io, mem};
+use surroundings::{Scripted, Surroundings};
+
+/// The play of a script by the program `rgca`.
+pub struct Phones;
+
+// The telephones of the two gateways.
+const GATEWAYS: [SocketAddrV4; 2] = [
+    SocketAddrV4::new(Ipv4Addr::LOCALHOST, 2428),
+    SocketAddrV4::new(Ipv4Addr::new(127, 0, 0, 2), 2428),
+];
+
+fn text_of(alloc: Global, bytes: &[u8]) -> Result<Text, AllocError> {
+    Ok(Text::of(Vec::from_slice(alloc, bytes)?))
+}
+
+// The names of the gateways.
+fn names_of(alloc: Global) -> Result<Vec<Text>, AllocError> {
+    let mut names = Vec::new(alloc);
+    names.push(text_of(alloc, b"gw1")?)?;
+    names.push(text_of(alloc, b"gw2")?)?;
+    Ok(names)
+}
+
+// Reads a script of one file.
+fn read(reader: &mut Reader, name: Text, script: Text) -> Result<Wanted, ScriptFault> {
+    reader.begin(name)?;
+    reader.give(script)?;
+    reader.go_on()
+}
+
+// Says how it ends: lines, and the exit status.
+fn say(given: &mut Transcript, moment: u64, text: &[u8], status: &[u8]) {
+    given.tell(moment, b"print ", text);
+    given.tell(moment, b"print ", status);
+}
+
+// Says why a script wasn't played to its end.
+fn say_failure(
+    alloc: Global,
+    given: &mut Transcript,
+    moment: u64,
+    player: &Player,
+    failure: &Failure,
+) -> io::Result<()> {
+    let names = names_of(alloc)?;
+    let text = failure_text(alloc, player.files(), names.as_slice(), failure)?;
+    let status: &[u8] = match failure {
+        Failure::Unmet { .. } => b"status 1",
+        _ => b"status 3",
+    };
+    say(given, moment, text.as_slice(), status);
+    Ok(())
+}
+
+// Plays a script over what a story has of sockets and a clock, and says how it ends.
+fn play_script(
+    alloc: Global,
+    script: Script,
+    story: &mut Story,
+    given: &mut Transcript,
+) -> io::Result<()> {
+    let mut around = mem::replace(&mut story.around, Scripted::new(alloc, Phones::place().own));
+    let mut player = Player::new(alloc, script, 2, 0)?;
+    let played = play_phones(alloc, &mut around, &mut player, &GATEWAYS)?;
+    put_given(alloc, given, &around);
+    let moment = around.moment().unwrap_or(0);
+    match played {
+        Played::Done => say(given, moment, b"", b"status 0"),
+        Played::Failed { failure } => say_failure(alloc, given, moment, &player, &failure)?,
+        Played::Clock => say(given, moment, b"", b"status 3"),
+    }
+    Ok(())
+}
+
+impl Program for Phones {
+    fn place() -> Place {
+        Place {
+            own: [
+                SocketAddrV4::new(Ipv4Addr::LOCALHOST, 40000),
+                SocketAddrV4::new(Ipv4Addr::LOCALHOST, 40001),
+            ],
+            peer: GATEWAYS[0],
+        }
+    }
+
+    fn play(alloc: Global, story: &mut Story, given: &mut Transcript) -> io::Result<bool> {
+        let mut reader = Reader::new(alloc, names_of(alloc)?);
+        let name = text_of(alloc, b"script")?;
+        let script = text_of(alloc, story.settings.as_bytes())?;
+        match read(&mut reader, name, script) {
+            Ok(Wanted::Nothing) => play_script(alloc, reader.into_script(), story, given)?,
+            Ok(Wanted::File) => return Ok(false),
+            Err(ScriptFault::OutOfMemory) => return Err(refused()),
+            Err(fault) => {
+                let text = script_fault_text(alloc, reader.files(), fault)?;
+                say(given, 0, text.as_slice(), b"status 2");
+            }
+        }
+        Ok(true)
+    }
+}
+
+impl Titled for Phones {
+    fn is_told<R: AllocGlobal + Net + Print>(rt: &R, title: &str, lines: &str) -> io::Result<bool> {
+        is_told::<Phones, R>(rt, title, lines)
+    }
+}
