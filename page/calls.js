@@ -70,18 +70,15 @@ class Calls {
     }
   }
 
-  // A connection was made or changed: the answer has its local description, where it has a new one.
+  // A connection was made or changed.
   take(asked, answer) {
     const line = answer.named || asked.line;
     const key = `${line} ${answer.connection || asked.connection}`;
-    const held = this.connections.get(key) ?? { call: this.callOf(asked), codec: "", packetTime: null, remote: "" };
+    const held = this.connections.get(key) ?? { call: this.callOf(asked) };
     if (!held.call) {
       return;
     }
     held.call.lines.add(line);
-    held.codec = answer.description?.codec ?? held.codec;
-    held.packetTime = answer.description?.packetTime ?? held.packetTime;
-    held.remote = asked.description?.address ?? held.remote;
     this.connections.set(key, held);
     forget(this.connections, 1000);
   }
@@ -99,18 +96,13 @@ class Calls {
     }
   }
 
-  // What is known of a connection, in words.
+  // What is known of a connection, in words: its call as far as its messages were heard, all else as the gateway has it.
   tell(line, held) {
     const connection = held.number.toString(16).toUpperCase();
     const known = this.connections.get(`${line} ${connection}`);
-    const head = `connection ${connection} ${held.mode}`;
-    if (!known) {
-      return head;
-    }
-    const time = known.packetTime === null ? "" : ` ${known.packetTime} ms`;
-    const codec = known.codec === "" ? "" : `, ${known.codec}${time}`;
-    const remote = known.remote === "" ? ", no remote address yet" : ` to ${known.remote}`;
-    return `${head}, call ${known.call.name}${codec}${remote}`;
+    const call = known ? `, call ${known.call.name}` : "";
+    const remote = held.remote === "" ? ", no remote address yet" : ` to ${held.remote}`;
+    return `connection ${connection} ${held.mode}${call}, ${held.codec} ${held.ptime} ms${remote}`;
   }
 }
 

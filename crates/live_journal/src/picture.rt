@@ -7,7 +7,7 @@ use crate::reporting::Faults;
 use crate::seeing::seen_line;
 use connections::mode_text;
 use gateway_core::Gateway;
-use line_changes::{SeenConnection, SeenLine};
+use line_changes::{SeenConnection, SeenLine, codec_text};
 use mg_packages::{Hook, signal_name};
 use mgcp_text::Verb;
 use page_answers::{
@@ -16,6 +16,7 @@ use page_answers::{
 use sent_counts::place_of;
 use signals::ActiveSignal;
 use std::alloc::{AllocError, Global};
+use std::net::SocketAddrV4;
 
 fn signals_of(alloc: Global, signals: &[ActiveSignal]) -> Result<Vec<SignalView>, AllocError> {
     let mut views = Vec::new(alloc);
@@ -28,16 +29,38 @@ fn signals_of(alloc: Global, signals: &[ActiveSignal]) -> Result<Vec<SignalView>
     Ok(views)
 }
 
+// An address as text.
+fn address_text(alloc: Global, address: SocketAddrV4) -> Result<Vec<u8>, AllocError> {
+    let text = format!(in alloc; "{address}")?;
+    Ok(text.into_bytes())
+}
+
+// Where media go, as text; nothing where that isn't known.
+fn remote_text(alloc: Global, remote: Option<SocketAddrV4>) -> Result<Vec<u8>, AllocError> {
+    match remote {
+        Some(address) => address_text(alloc, address),
+        None => Ok(Vec::new(alloc)),
+    }
+}
+
+fn connection_of(alloc: Global, connection: SeenConnection) -> Result<ConnectionView, AllocError> {
+    Ok(ConnectionView {
+        number: connection.number,
+        mode: mode_text(connection.mode),
+        codec: codec_text(connection.codec),
+        packet_time: connection.packet_time,
+        local: address_text(alloc, connection.local)?,
+        remote: remote_text(alloc, connection.remote)?,
+    })
+}
+
 fn connections_of(
     alloc: Global,
     connections: &[SeenConnection],
 ) -> Result<Vec<ConnectionView>, AllocError> {
     let mut views = Vec::new(alloc);
     for connection in connections {
-        views.push(ConnectionView {
-            number: connection.number,
-            mode: mode_text(connection.mode),
-        })?;
+        views.push(connection_of(alloc, *connection)?)?;
     }
     Ok(views)
 }

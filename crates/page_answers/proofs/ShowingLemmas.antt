@@ -53,18 +53,55 @@ signal_Decides a b =
     Decides-like _ (signal_same a b) (signal_parts a b)
     (Decides-and _ _ (bytes_eq-Decides a.name.now b.name.now) (over_Decides a.end b.end))
 
-connection_same : (a b : ConnectionView) → (a.number ≡ b.number) × (a.mode.now ≡ b.mode.now)
-    → connection_shown a ≡ connection_shown b
-connection_same a b h = λ i. record { number = h.0 i; mode = h.1 i }
+-- `==` at two lists says whether they are the same, where it does so at their elements
+same_Decides : {A : Type 0} (E : A → A → Bool) → ((a b : A) → Decides (E a b) (a ≡ b)) → (xs ys : List A)
+    → Decides (pointwise E xs ys) (xs ≡ ys)
+same_Decides E decides [] [] = (λ e. refl, λ e. refl)
+same_Decides E decides [] (y ∷ ys) = (λ e. absurd (true≢false (sym e)), λ e. absurd cc)
+same_Decides E decides (x ∷ xs) [] = (λ e. absurd (true≢false (sym e)), λ e. absurd cc)
+same_Decides E decides (x ∷ xs) (y ∷ ys) =
+    Decides-like _ (cons_same x y xs ys) (cons_parts x y xs ys) (Decides-and (E x y) (pointwise E xs ys) (decides x y) (same_Decides E decides xs ys))
 
-connection_parts : (a b : ConnectionView) → connection_shown a ≡ connection_shown b
-    → (a.number ≡ b.number) × (a.mode.now ≡ b.mode.now)
-connection_parts a b e = (ap (λ (c : ConnectionShown). c.number) e, ap (λ (c : ConnectionShown). c.mode) e)
+-- what two connections show, part by part
+abbrev AlikeConnections : ConnectionShown → ConnectionShown → Type 0
+AlikeConnections a b =
+    (a.number ≡ b.number) × ((a.mode ≡ b.mode) × ((a.codec ≡ b.codec) × ((a.packet_time ≡ b.packet_time)
+    × ((a.local ≡ b.local) × (a.remote ≡ b.remote)))))
+
+connection_same : (a b : ConnectionShown) → AlikeConnections a b → a ≡ b
+connection_same a b h = λ i. record {
+  number = h.0 i;
+  mode = h.1.0 i;
+  codec = h.1.1.0 i;
+  packet_time = h.1.1.1.0 i;
+  local = h.1.1.1.1.0 i;
+  remote = h.1.1.1.1.1 i;
+}
+
+connection_parts : (a b : ConnectionShown) → a ≡ b → AlikeConnections a b
+connection_parts a b e = (
+  ap (λ (c : ConnectionShown). c.number) e,
+  (
+    ap (λ (c : ConnectionShown). c.mode) e,
+    (
+      ap (λ (c : ConnectionShown). c.codec) e,
+      (
+        ap (λ (c : ConnectionShown). c.packet_time) e,
+        (ap (λ (c : ConnectionShown). c.local) e, ap (λ (c : ConnectionShown). c.remote) e),
+      ),
+    ),
+  ),
+)
 
 connection_Decides : (a b : ConnectionView) → Decides ((connections.ghosts).eq a b) (connection_shown a ≡ connection_shown b)
 connection_Decides a b =
-    Decides-like _ (connection_same a b) (connection_parts a b)
-    (Decides-and _ _ (Decides-eqb a.number b.number) (bytes_eq-Decides a.mode.now b.mode.now))
+    Decides-like _ (connection_same (connection_shown a) (connection_shown b)) (connection_parts (connection_shown a) (connection_shown b))
+    (Decides-and _ _ (Decides-eqb a.number b.number)
+    (Decides-and _ _ (bytes_eq-Decides a.mode.now b.mode.now)
+    (Decides-and _ _ (bytes_eq-Decides a.codec.now b.codec.now)
+    (Decides-and _ _ (Decides-eqb a.packet_time b.packet_time)
+    (Decides-and _ _ (same_Decides _ Decides-eqb a.local.items b.local.items)
+    (same_Decides _ Decides-eqb a.remote.items b.remote.items))))))
 
 -- what two lines show, part by part
 abbrev Alike : LineShown → LineShown → Type 0

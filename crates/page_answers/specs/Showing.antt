@@ -14,10 +14,14 @@ pub record SignalShown : Type 0 where
   pub name : List ℕ
   pub over : Option ℕ
 
--- a connection by its number and its mode
+-- a connection by its number and its mode, its codec and packet time, and where its media are received and where they go
 pub record ConnectionShown : Type 0 where
   pub number : ℕ
   pub mode : List ℕ
+  pub codec : List ℕ
+  pub packet_time : ℕ
+  pub local : List ℕ
+  pub remote : List ℕ
 
 -- a line by its hook, what is heard, its connections, and how many of its events were lost
 pub record LineShown : Type 0 where
@@ -30,7 +34,14 @@ abbrev pub signal_shown : SignalView → SignalShown
 signal_shown s = record { name = s.name.now; over = s.end }
 
 abbrev pub connection_shown : ConnectionView → ConnectionShown
-connection_shown c = record { number = c.number; mode = c.mode.now }
+connection_shown c = record {
+  number = c.number;
+  mode = c.mode.now;
+  codec = c.codec.now;
+  packet_time = c.packet_time;
+  local = c.local.items;
+  remote = c.remote.items;
+}
 
 abbrev pub line_shown : LineView → LineShown
 line_shown l = record {

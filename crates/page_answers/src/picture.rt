@@ -16,12 +16,20 @@ pub struct SignalView {
 }
 
 /// A connection of a line.
-#[derive(Clone, Copy, PartialEq)]
+#[derive(PartialEq, Drop)]
 pub struct ConnectionView {
     /// Its number, which is its identifier in hexadecimal digits.
     pub number: u32,
     /// As it is written: `sendrecv`.
     pub mode: &'static [u8],
+    /// Its codec by name: `PCMU`.
+    pub codec: &'static [u8],
+    /// The time of a packet in ms.
+    pub packet_time: u16,
+    /// Where its media are received: `127.0.0.1:3000`.
+    pub local: Vec<u8>,
+    /// Where they go; empty where that isn't known yet.
+    pub remote: Vec<u8>,
 }
 
 /// A line: its hook, what is heard, its connections, and how many of its events were lost.

@@ -31,11 +31,16 @@ fn signal_value(alloc: Global, signal: SignalView) -> Result<Value, AllocError>
     Ok(Value::from(map))
 }
 
-fn connection_value(alloc: Global, connection: ConnectionView) -> Result<Value, AllocError>
-    ensures { IfOk result (λ value. view value ≡ connection_data connection) }
+fn connection_value(alloc: Global, connection: &ConnectionView) -> Result<Value, AllocError>
+    ensures { IfOk result (λ value. view value ≡ connection_data connection.now) }
 {
     let mut map = Map::new(alloc);
     put_name(alloc, &mut map, "mode", connection.mode)?;
+    put_name(alloc, &mut map, "codec", connection.codec)?;
+    put_name(alloc, &mut map, "local", connection.local.as_slice())?;
+    put_name(alloc, &mut map, "remote", connection.remote.as_slice())?;
+    let time = u64::from(connection.packet_time);
+    put(&mut map, alloc, "ptime", Value::from(time))?;
     put(&mut map, alloc, "number", Value::from(connection.number))?;
     Ok(Value::from(map))
 }
@@ -55,7 +60,7 @@ fn connections_value(alloc: Global, connections: &[ConnectionView]) -> Result<Va
 {
     let mut list = Vec::new(alloc);
     for connection in connections {
-        put_item(&mut list, connection_value(alloc, *connection)?)?;
+        put_item(&mut list, connection_value(alloc, connection)?)?;
     }
     Ok(Value::from(list))
 }

@@ -79,6 +79,22 @@ fn end_of(row: &mut Row<'_>, value: &[u8]) -> Option<u64> {
     }
 }
 
+// A connection of the line that was begun last, whose media come to 127.0.0.1:3000, and go nowhere yet: whether memory is there.
+fn put_connection(row: &Row<'_>, line: &mut LineView, number: u32) -> bool {
+    let Ok(local) = Vec::from_slice(row.alloc, b"127.0.0.1:3000") else {
+        return false;
+    };
+    let connection = ConnectionView {
+        number,
+        mode: b"sendrecv",
+        codec: b"PCMU",
+        packet_time: 20,
+        local,
+        remote: Vec::new(row.alloc),
+    };
+    line.connections.push(connection).is_ok()
+}
+
 // What a word tells of the line that was begun last.
 fn tell_line(row: &mut Row<'_>, line: &mut LineView, key: &str, value: &[u8]) {
     let is_told = match key {
@@ -89,11 +105,7 @@ fn tell_line(row: &mut Row<'_>, line: &mut LineView, key: &str, value: &[u8]) {
         }
         "connection" => {
             let number = u32::from(small_number_of(row, value));
-            let connection = ConnectionView {
-                number,
-                mode: b"sendrecv",
-            };
-            line.connections.push(connection).is_ok()
+            put_connection(row, line, number)
         }
         _ => return row.unread(),
     };
