@@ -134,8 +134,8 @@ impl Watchers {
         is_watched(now, &self.places)
     }
 
-    /// Somebody asks to be told what changes, from this moment on, in ms, for so many seconds, where 0 ends it: whether it is; where as many
-    /// watch as may, it isn't. Who watches already does so for so long from now.
+    /// Somebody asks to be told what changes, from this moment on, in ms, for so many seconds, where 0 ends it: whether it is; where as
+    /// many watch as may, it isn't. Who watches already does so for so long from now.
     pub fn watch(&mut self, address: SocketAddrV4, now: u64, seconds: u64) -> bool
         requires clock { now < 2 ^ 62 }
         requires time { seconds ≤ longest_watch }

@@ -2,8 +2,8 @@
 //!
 //! Behind one socket is an agent for each gateway, which issues what is typed at a socket for commands. Where that is asked for,
 //! calls are routed between the lines of all gateways, and a bad network lies between. What all that means is in `call_desk`, and
-//! what is asked of a gateway in `gateway_checks`; here are the loop, which asks what comes next and does that, the ends of a check, and the
-//! play of a script of telephones (`phone_scripts`).
+//! what is asked of a gateway in `gateway_checks`; here are the loop, which asks what comes next and does that, the ends of a check, and
+//! the play of a script of telephones (`phone_scripts`).
 #![tactic(auto)]
 
 mod check_fault;

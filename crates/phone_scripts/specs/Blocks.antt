@@ -1,5 +1,5 @@
--- The statements that lines stand for. A block is its begin, what stands in it, and `End`; keys that are dialled are a block too, and so is what
--- a file brings.
+-- The statements that lines stand for. A block is its begin, what stands in it, and `End`; keys that are dialled are a block too, and
+-- so is what a file brings.
 use Rattle.std.specs.Prelude.{ℕ, ◌+◌, ◌-◌, ◌==◌, suc, if◌then◌else◌, List, [], ◌∷◌, ◌++◌}
 use Rattle.std.specs.List.{flat_map}
 use Rattle.phone_scripts.specs.declared.act.PhoneAct.TheVariants.{Key}

@@ -35,8 +35,8 @@ pub(crate) enum Numbered {
     Lost { number: u64 },
 }
 
-/// A gateway that is watched: its telephones, the number that the next change will have, once it is known, whether its lines were shown, who
-/// waits for an answer, and when it was asked last to tell what changes.
+/// A gateway that is watched: its telephones, the number that the next change will have, once it is known, whether its lines were shown,
+/// who waits for an answer, and when it was asked last to tell what changes.
 #[derive(Drop)]
 pub(crate) struct Watched {
     pub(crate) telephones: Vec<Known>,

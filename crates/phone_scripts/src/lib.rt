@@ -1,7 +1,7 @@
 //! Scripts of telephones: what they say, what they expect, and how they are played.
 //!
-//! A script is done here by itself: it asks for lines to be sent, and is told what comes and what time it is. Nothing here knows a socket or a
-//! file.
+//! A script is played here by itself: it asks for lines to be sent, and is told what comes and what time it is. Nothing here knows a
+//! socket or a file.
 #![tactic(auto)]
 
 mod act;

@@ -132,8 +132,8 @@ fn is_silent(watched: &Watched, now: u64) -> bool {
 }
 
 impl Player {
-    /// Plays a script at so many gateways, from this moment of this machine's clock on, in ms. First each is asked to tell what changes, and
-    /// how its lines are.
+    /// Plays a script at so many gateways, from this moment of this machine's clock on, in ms. First each is asked to tell what changes,
+    /// and how its lines are.
     pub fn new(
         alloc: Global,
         script: Script,
@@ -553,8 +553,8 @@ impl Player {
         }
     }
 
-    // It is told of a change: under which number, of which line, when and how. One whose number was told before is passed over; where one is
-    // missing the script can't go on.
+    // It is told of a change: under which number, of which line, when and how. One whose number was told before is passed over; where one
+    // is missing the script can't go on.
     fn hear_change(&mut self, gateway: u16, telling: Telling) -> Result<(), OutOfMemory> {
         let Telling {
             number,
