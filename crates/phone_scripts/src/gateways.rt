@@ -94,23 +94,18 @@ impl Watched {
         self.telephones.iter().position(|known| known.line == line)
     }
 
-    /// The telephone of a line; one of which nothing was told is at rest.
-    pub(crate) fn telephone(
-        &mut self,
-        alloc: Global,
-        line: u16,
-    ) -> Result<Option<&mut Known>, OutOfMemory> {
-        if self.place_of(line).is_none() {
-            self.telephones.push(Known {
-                line,
-                telephone: Telephone::new(alloc),
-                since: None,
-            })?;
+    /// The place of a line's telephone; one of which nothing was told is at rest.
+    pub(crate) fn place(&mut self, alloc: Global, line: u16) -> Result<usize, OutOfMemory> {
+        if let Some(place) = self.place_of(line) {
+            return Ok(place);
         }
-        match self.place_of(line) {
-            Some(place) => Ok(self.telephones.get_mut(place)),
-            None => Ok(None),
-        }
+        let place = self.telephones.len();
+        self.telephones.push(Known {
+            line,
+            telephone: Telephone::new(alloc),
+            since: None,
+        })?;
+        Ok(place)
     }
 
     /// A line changed at this moment, in ms.
@@ -121,7 +116,8 @@ impl Watched {
         line: u16,
         what: What,
     ) -> Result<(), OutOfMemory> {
-        if let Some(known) = self.telephone(alloc, line)? {
+        let place = self.place(alloc, line)?;
+        if let Some(known) = self.telephones.get_mut(place) {
             known.since = Some(moment);
             known.telephone.change(what)?;
         }
@@ -135,7 +131,8 @@ impl Watched {
         line: u16,
         telephone: Telephone,
     ) -> Result<(), OutOfMemory> {
-        if let Some(known) = self.telephone(alloc, line)? {
+        let place = self.place(alloc, line)?;
+        if let Some(known) = self.telephones.get_mut(place) {
             known.telephone = telephone;
         }
         self.is_shown = true;

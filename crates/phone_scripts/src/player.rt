@@ -497,7 +497,8 @@ impl Player {
         let Some(watched) = self.gateways.get_mut(usize::from(phone.gateway)) else {
             return Ok(());
         };
-        let Some(known) = watched.telephone(self.alloc, phone.line)? else {
+        let at = watched.place(self.alloc, phone.line)?;
+        let Some(known) = watched.telephones.get(at) else {
             return Ok(());
         };
         let was = words_of(self.alloc, &known.telephone)?;
@@ -599,7 +600,8 @@ impl Player {
         {
             if expects.gateway == phone.gateway && expects.line == phone.line {
                 if let Some(watched) = self.gateways.get_mut(usize::from(phone.gateway)) {
-                    if let Some(known) = watched.telephone(self.alloc, phone.line)? {
+                    let at = watched.place(self.alloc, phone.line)?;
+                    if let Some(known) = watched.telephones.get(at) {
                         so_far.told(moment, &known.telephone);
                     }
                 }
@@ -630,7 +632,8 @@ impl Player {
         } = runner.waits
         {
             if let Some(watched) = self.gateways.get_mut(usize::from(phone.gateway)) {
-                if let Some(known) = watched.telephone(self.alloc, phone.line)? {
+                let at = watched.place(self.alloc, phone.line)?;
+                if let Some(known) = watched.telephones.get(at) {
                     let so_far = Open::begin(expected, moment, within, &known.telephone);
                     let ask = now.saturating_add(within).saturating_add(ASKED_AGAIN);
                     self.settle(&mut runner, phone, within, so_far, ask)?;
