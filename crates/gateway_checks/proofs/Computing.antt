@@ -4,7 +4,8 @@ use Rattle.mgcp_text.proofs.Computing.{on_examples as text_examples}
 use Rattle.gateway_checks.specs.Hearing.{kept_in}
 use Rattle.gateway_checks.specs.Judging.{judged, settled, verdict_of}
 use Rattle.gateway_checks.specs.Matching.{first_text, is_among}
+use Rattle.gateway_checks.specs.Unasked.{first_meant}
 
 unfoldable pub on_examples : ⊤
-unfolding text_examples kept_in judged settled verdict_of first_text is_among
+unfolding text_examples kept_in judged settled verdict_of first_text is_among first_meant
 on_examples = tt

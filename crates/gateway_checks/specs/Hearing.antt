@@ -51,6 +51,12 @@ awaits_answer (Some (steps.Has code value)) = true
 awaits_answer (Some (steps.Unlike code value)) = true
 awaits_answer (Some (steps.Tells text)) = true
 awaits_answer (Some (steps.Keep name code)) = true
+awaits_answer (Some (steps.Differ first second)) = true
+awaits_answer (Some (steps.Notified at name due)) = true
+awaits_answer (Some (steps.Announced name method)) = true
+awaits_answer (Some (steps.Again times grows)) = true
+awaits_answer (Some (steps.Quiet ms)) = true
+awaits_answer (Some (steps.Act act)) = true
 awaits_answer (Some steps.Unknown) = true
 
 -- what is no message counts as an answer to nothing

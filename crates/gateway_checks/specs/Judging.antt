@@ -35,8 +35,9 @@ fault_of steps = fold settled None steps
 abbrev pub AreMet : List (Option Fault) → Type 0
 AreMet steps = AllByRecursion (λ step. step ≡ None) steps
 
--- what comes of a check; whether the RFC leaves open what is right
+-- what comes of a check: something that may be left out isn't supported, and where the RFC leaves open what is right nothing else is
+-- at fault
 unfoldable pub verdict_of : Bool → Option Fault → Verdict
 verdict_of is_open None = verdicts.Passed
 verdict_of is_open (Some NotSupported) = verdicts.NotSupported
-verdict_of is_open (Some Otherwise) = if is_open then verdicts.NotSupported else verdicts.Failed
+verdict_of is_open (Some Otherwise) = if is_open then verdicts.LeftOpen else verdicts.Failed

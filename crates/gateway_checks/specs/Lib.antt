@@ -3,3 +3,4 @@ pub mod Matching
 pub mod Hearing
 pub mod Waiting
 pub mod Reporting
+pub mod Unasked

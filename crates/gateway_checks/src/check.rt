@@ -1,5 +1,6 @@
 //! A check, as its text says it.
 use crate::checks::{CHECKS, UNDO_BOTH, UNDO_CALL, UNDO_REQUEST};
+use crate::notices::{NOTICES, TELEPHONES};
 
 /// A check: what is asked of a gateway, and what is right.
 #[derive(Clone, Copy)]
@@ -45,16 +46,24 @@ pub fn check_of(block: &str) -> Check<'_> {
     }
 }
 
-/// All checks as text: a block for each, behind a first one that is none.
-pub fn all_checks() -> &'static str {
-    CHECKS
+/// All checks as texts, each with a block for each of its checks, behind a first one that is none.
+pub const ALL_CHECKS: [&str; 3] = [CHECKS, NOTICES, TELEPHONES];
+
+// The check with this name among those of a text.
+fn named_in(text: &'static str, name: &str) -> Option<Check<'static>> {
+    for block in text.split("\n= ") {
+        let check = check_of(block);
+        if check.name == name {
+            return Some(check);
+        }
+    }
+    None
 }
 
 /// The check with this name, if there is one.
 pub fn check_named(name: &str) -> Option<Check<'static>> {
-    for block in all_checks().split("\n= ") {
-        let check = check_of(block);
-        if check.name == name {
+    for text in ALL_CHECKS.iter() {
+        if let Some(check) = named_in(*text, name) {
             return Some(check);
         }
     }
@@ -75,5 +84,25 @@ impl<'a> Check<'a> {
     /// Whether it needs a second line.
     pub fn needs_other_line(&self) -> bool {
         self.steps.contains("{other}")
+    }
+
+    /// Whether its steps answer what the gateway notifies: that needs the address of the gateway's call agent.
+    pub fn hears(&self) -> bool {
+        self.steps.contains("notified") || self.steps.contains("quiet ") || self.announces()
+    }
+
+    /// Whether its steps answer what the gateway announces.
+    pub fn announces(&self) -> bool {
+        self.steps.contains("announced ")
+    }
+
+    /// Whether it needs someone at the line's telephone.
+    pub fn needs_telephone(&self) -> bool {
+        self.steps.contains("act ")
+    }
+
+    /// Whether it needs someone who starts the gateway anew.
+    pub fn needs_restart(&self) -> bool {
+        self.steps.contains("restart\n")
     }
 }

@@ -1,7 +1,7 @@
 //! Worked examples of the definitions, as theorems: each sentence of a definition has one that a slip in it breaks.
 #![tactic(auto, unfolding(crate::proofs::Computing::on_examples))]
 
-ghost use Rattle.std.specs.Prelude.{◌≡◌, [], ◌∷◌, true, false, Some, None, codes};
+ghost use Rattle.std.specs.Prelude.{◌≡◌, ◌+◌, [], ◌∷◌, true, false, Some, None, codes};
 ghost use Rattle.gateway_checks.specs.declared.judging.Fault.TheVariants.{NotSupported, Otherwise};
 ghost use Rattle.gateway_checks.specs.declared.judging.Verdict.TheVariants as verdicts;
 ghost use Rattle.gateway_checks.specs.declared.socket.Socket.TheVariants.{First, Second};
@@ -14,6 +14,9 @@ ghost use Rattle.gateway_checks.specs.Matching.{is_among, code_fault, has_value,
 ghost use Rattle.gateway_checks.specs.Reporting.{word_of, greatest_count, one_more, with_verdict};
 ghost use Rattle.gateway_checks.specs.declared.report.Tally.{Tally};
 ghost use Rattle.gateway_checks.specs.Waiting.{greatest_moment, waited_until, is_prolonged};
+ghost use Rattle.gateway_checks.specs.declared.unasked.Unasked.{Unasked};
+ghost use Rattle.gateway_checks.specs.declared.unasked.Likeness.TheVariants as likes;
+ghost use Rattle.gateway_checks.specs.Unasked.{notified_by, announced_by, is_for_check, is_copy, is_quiet, likeness_at, first_meant, none_since, with_coming, with_copy, gaps_of, has_grown};
 
 /// A code that is due is right; by one from 500 to 599 something that may be left out isn't supported.
 pub fn codes_are_due_or_not()
@@ -73,7 +76,7 @@ pub fn the_first_fault_decides()
     ensures passed { verdict_of false None ≡ verdicts.Passed }
     ensures open_passed { verdict_of true None ≡ verdicts.Passed }
     ensures failed { verdict_of false (Some Otherwise) ≡ verdicts.Failed }
-    ensures left_open { verdict_of true (Some Otherwise) ≡ verdicts.NotSupported }
+    ensures left_open { verdict_of true (Some Otherwise) ≡ verdicts.LeftOpen }
     ensures left_out { verdict_of false (Some NotSupported) ≡ verdicts.NotSupported }
     ensures both { verdict_of true (Some NotSupported) ≡ verdicts.NotSupported }
 {}
@@ -121,13 +124,69 @@ pub fn each_wait_ends()
 pub fn verdicts_are_told_and_counted()
     ensures passed { word_of (Some verdicts.Passed) ≡ codes "pass" }
     ensures failed { word_of (Some verdicts.Failed) ≡ codes "FAIL" }
+    ensures left_open { word_of (Some verdicts.LeftOpen) ≡ codes "left open" }
     ensures not_supported { word_of (Some verdicts.NotSupported) ≡ codes "not supported" }
     ensures not_played { word_of None ≡ codes "not played" }
     ensures most { one_more greatest_count ≡ greatest_count }
     ensures more { one_more 4294967294 ≡ greatest_count }
     ensures count_passed { (tally : Tally) → (with_verdict tally (Some verdicts.Passed)).passed ≡ one_more tally.passed }
     ensures count_failed { (tally : Tally) → (with_verdict tally (Some verdicts.Failed)).failed ≡ one_more tally.failed }
+    ensures count_left_open { (tally : Tally) → (with_verdict tally (Some verdicts.LeftOpen)).left_open ≡ one_more tally.left_open }
+    ensures open_alone { (tally : Tally) → (with_verdict tally (Some verdicts.LeftOpen)).not_supported ≡ tally.not_supported }
     ensures count_left_out { (tally : Tally) → (with_verdict tally (Some verdicts.NotSupported)).not_supported ≡ one_more tally.not_supported }
     ensures count_not_played { (tally : Tally) → (with_verdict tally None).not_played ≡ one_more tally.not_played }
     ensures failed_alone { (tally : Tally) → (with_verdict tally (Some verdicts.Failed)).passed ≡ tally.passed }
+{}
+
+/// A notification is meant by its endpoint, and right by its X and its O; an announcement by its method.
+pub fn what_is_said_unasked_is_as_due_or_not()
+    ensures due { notified_by (codes "aaln/1@gw1") (codes "7") (codes "L/oc(L/rg)|oc(rg)")
+        (read_text (codes "NTFY 5 AALN/1@gw1 MGCP 1.0\nX: 7\nO: L/oc(L/rg)\n")) ≡ likes.AsDue }
+    ensures second { notified_by (codes "aaln/1@gw1") (codes "7") (codes "L/oc(L/rg)|oc(rg)")
+        (read_text (codes "NTFY 5 aaln/1@gw1 MGCP 1.0\nX: 7\nO: OC(rg)\n")) ≡ likes.AsDue }
+    ensures other_events { notified_by (codes "aaln/1@gw1") (codes "7") (codes "L/oc(L/rg)|oc(rg)")
+        (read_text (codes "NTFY 5 aaln/1@gw1 MGCP 1.0\nX: 7\nO: L/hd\n")) ≡ likes.Otherwise }
+    ensures other_request { notified_by (codes "*") (codes "7") (codes "*")
+        (read_text (codes "NTFY 5 aaln/1@gw1 MGCP 1.0\nX: 8\nO: L/hd\n")) ≡ likes.Otherwise }
+    ensures no_request { notified_by (codes "*") (codes "7") (codes "*")
+        (read_text (codes "NTFY 5 aaln/1@gw1 MGCP 1.0\nO: L/hd\n")) ≡ likes.Otherwise }
+    ensures any_request { notified_by (codes "*") (codes "*") (codes "L/hd")
+        (read_text (codes "NTFY 5 aaln/1@gw1 MGCP 1.0\nO: L/hd\n")) ≡ likes.AsDue }
+    ensures other_endpoint { notified_by (codes "aaln/1@gw1") (codes "*") (codes "*")
+        (read_text (codes "NTFY 5 aaln/2@gw1 MGCP 1.0\nX: 7\nO: L/hd\n")) ≡ likes.Another }
+    ensures other_verb { notified_by (codes "*") (codes "*") (codes "*") (read_text (codes "RSIP 5 *@gw1 MGCP 1.0\nRM: restart\n")) ≡ likes.Another }
+    ensures response { notified_by (codes "*") (codes "*") (codes "*") (read_text (codes "200 5 OK\n")) ≡ likes.Another }
+    ensures announcement { announced_by (codes "restart") (read_text (codes "RSIP 5 *@gw1 MGCP 1.0\nRM: Restart\n")) ≡ likes.AsDue }
+    ensures other_method { announced_by (codes "restart") (read_text (codes "RSIP 5 *@gw1 MGCP 1.0\nRM: graceful\n")) ≡ likes.Otherwise }
+    ensures notification { announced_by (codes "*") (read_text (codes "NTFY 5 aaln/1@gw1 MGCP 1.0\nX: 7\nO: L/hd\n")) ≡ likes.Another }
+{}
+
+/// A check's steps answer a notification under one of its own identifiers or under none, and an announcement where they take these.
+pub fn steps_answer_what_is_for_them()
+    ensures first { is_for_check 3000 false (read_text (codes "NTFY 5 a@gw1 MGCP 1.0\nX: 3001\nO: L/hd\n")) ≡ true }
+    ensures last { is_for_check 3000 false (read_text (codes "NTFY 5 a@gw1 MGCP 1.0\nX: 3009\nO: L/hd\n")) ≡ true }
+    ensures call { is_for_check 3000 false (read_text (codes "NTFY 5 a@gw1 MGCP 1.0\nX: 3000\nO: L/hd\n")) ≡ false }
+    ensures behind { is_for_check 3000 false (read_text (codes "NTFY 5 a@gw1 MGCP 1.0\nX: 3010\nO: L/hd\n")) ≡ false }
+    ensures no_number { is_for_check 3000 false (read_text (codes "NTFY 5 a@gw1 MGCP 1.0\nX: A\nO: L/hd\n")) ≡ false }
+    ensures none { is_for_check 3000 false (read_text (codes "NTFY 5 a@gw1 MGCP 1.0\nO: L/hd\n")) ≡ true }
+    ensures announced { is_for_check 3000 true (read_text (codes "RSIP 5 *@gw1 MGCP 1.0\nRM: restart\n")) ≡ true }
+    ensures unheard { is_for_check 3000 false (read_text (codes "RSIP 5 *@gw1 MGCP 1.0\nRM: restart\n")) ≡ false }
+    ensures other { is_for_check 3000 true (read_text (codes "DLCX 5 a@gw1 MGCP 1.0\n")) ≡ false }
+{}
+
+/// A copy has the same id and the same bytes. A silence is broken by anything new, and by a copy that came since it began.
+pub fn a_silence_is_broken_by_what_comes()
+    ensures copy { (told : Unasked) → is_copy (told ∷ []) told ≡ true → is_quiet (told ∷ []) (told ∷ []) (told.moment + 1) ≡ true }
+    ensures nothing { is_quiet [] [] 0 ≡ true }
+    ensures new { (told : Unasked) → is_quiet [] (told ∷ []) 0 ≡ false }
+{}
+
+/// The first gap and the last are counted, and the last is to be half as long again.
+pub fn gaps_are_counted_and_grow()
+    ensures once { with_coming (none_since 100) 600 ≡ record { count = 1; first = 500; last = 500; previous = 600 } }
+    ensures twice { with_coming (with_coming (none_since 100) 600) 1600 ≡ record { count = 2; first = 500; last = 1000; previous = 1600 } }
+    ensures thrice { with_coming (with_coming (with_coming (none_since 100) 600) 1600) 3600
+        ≡ record { count = 3; first = 500; last = 2000; previous = 3600 } }
+    ensures grown { has_grown (record { count = 3; first = 500; last = 750; previous = 0 }) ≡ true }
+    ensures fixed { has_grown (record { count = 3; first = 500; last = 749; previous = 0 }) ≡ false }
 {}

@@ -6,7 +6,6 @@ ghost use Rattle.gateway_checks.specs.Judging.{is_provisional};
 
 use mg_bytes::OutOfMemory;
 use mgcp_text::{Message, TextFault, param_at, read_message};
-use piggyback::parts;
 use std::alloc::{AllocError, Global};
 
 /// What a text is.
@@ -80,15 +79,10 @@ pub(crate) fn value_of(
     }
 }
 
-/// Puts the responses to the commands of a datagram: a gateway that announces itself waits for one.
-pub fn put_responses(alloc: Global, out: &mut String, datagram: &[u8]) -> Result<(), OutOfMemory> {
-    for text in parts(datagram) {
-        if let Heard::Command { id } = hear_text(alloc, text)? {
-            if !out.is_empty() {
-                out.push_str(".\r\n")?;
-            }
-            write!(out, "200 {id} OK\r\n")?;
-        }
+/// Puts the response to a command of the gateway's, behind those that stand there.
+pub(crate) fn put_response(out: &mut String, id: u32) -> Result<(), OutOfMemory> {
+    if !out.is_empty() {
+        out.push_str(".\r\n")?;
     }
-    Ok(())
+    write!(out, "200 {id} OK\r\n")
 }

@@ -1,4 +1,4 @@
-//! The answers that came.
+//! The answers that came. What the gateway said by itself stands in `mailbox.rt`.
 ghost use Rattle.std.specs.Prelude.{◌≡◌, ◌++◌, ◌∷◌, [], OnOk, position};
 ghost use Rattle.gateway_checks.specs.Matching.{is_of, answer_at, left_at, first_text};
 

@@ -14,8 +14,13 @@ pub enum Fault {
 /// What comes of a check.
 #[derive(Clone, Copy)]
 pub enum Verdict {
+    /// Each step was met.
     Passed,
+    /// The gateway does otherwise than the check has it, where RFC 3435 leaves open what is right.
+    LeftOpen,
+    /// It doesn't do what it may leave out.
     NotSupported,
+    /// It does otherwise than RFC 3435 asks.
     Failed,
 }
 
@@ -62,7 +67,7 @@ pub(crate) fn verdict_of(is_open: bool, fault: Option<Fault>) -> Verdict
         Some(Fault::NotSupported) => Verdict::NotSupported,
         Some(Fault::Otherwise) => {
             if is_open {
-                Verdict::NotSupported
+                Verdict::LeftOpen
             } else {
                 Verdict::Failed
             }

@@ -16,32 +16,36 @@ struct Kept<'a> {
     value: String,
 }
 
+/// Where a check is played.
+#[derive(Clone, Copy)]
+pub struct Places<'a> {
+    /// The domain of the gateway's endpoints.
+    pub domain: &'a str,
+    /// The local name of the line.
+    pub local: &'a str,
+    /// That of another one; empty where there is none.
+    pub other: &'a str,
+    /// The entities that the two sockets are.
+    pub here: &'a str,
+    pub there: &'a str,
+}
+
 /// What the names of a check stand for.
 #[derive(Drop)]
 pub struct Names<'a> {
     alloc: Global,
-    domain: &'a str,
-    local: &'a str,
-    other: &'a str,
+    places: Places<'a>,
     // The number before its first transaction id, which is that of its call.
     base: u32,
     kept: Vec<Kept<'a>>,
 }
 
 impl<'a> Names<'a> {
-    /// The names of a check at this line of a domain, with another line; its transaction ids are the nine behind `base`.
-    pub fn new(
-        alloc: Global,
-        domain: &'a str,
-        local: &'a str,
-        other: &'a str,
-        base: u32,
-    ) -> Names<'a> {
+    /// The names of a check at these places; its transaction ids are the nine behind `base`.
+    pub fn new(alloc: Global, places: &Places<'a>, base: u32) -> Names<'a> {
         Names {
             alloc,
-            domain,
-            local,
-            other,
+            places: *places,
             base,
             kept: Vec::new(alloc),
         }
@@ -52,6 +56,13 @@ impl<'a> Names<'a> {
         ensures { result ≡ is_own self.now.base id }
     {
         id >= self.base || id < self.base.saturating_sub(1000)
+    }
+
+    /// The number before its ids and its request identifiers.
+    pub(crate) fn base(&self) -> u32
+        ensures { result ≡ self.now.base }
+    {
+        self.base
     }
 
     /// Gives a value a name.
@@ -72,11 +83,11 @@ impl<'a> Names<'a> {
 
     // Puts the line's name in upper case.
     fn put_upper(&self, out: &mut String) -> Result<(), OutOfMemory> {
-        for letter in self.local.chars() {
+        for letter in self.places.local.chars() {
             out.push(letter.to_ascii_uppercase())?;
         }
         out.push('@')?;
-        for letter in self.domain.chars() {
+        for letter in self.places.domain.chars() {
             out.push(letter.to_ascii_uppercase())?;
         }
         Ok(())
@@ -88,12 +99,15 @@ impl<'a> Names<'a> {
             let id = self.base.saturating_add(digit);
             return write!(out, "{id}");
         }
+        let places = &self.places;
         match name {
-            "line" => write!(out, "{}@{}", self.local, self.domain),
+            "line" => write!(out, "{}@{}", places.local, places.domain),
             "LINE" => self.put_upper(out),
-            "other" => write!(out, "{}@{}", self.other, self.domain),
-            "local" => out.push_str(self.local),
-            "domain" => out.push_str(self.domain),
+            "other" => write!(out, "{}@{}", places.other, places.domain),
+            "local" => out.push_str(places.local),
+            "domain" => out.push_str(places.domain),
+            "here" => out.push_str(places.here),
+            "there" => out.push_str(places.there),
             "call" => write!(out, "{}", self.base),
             "sdp" => out.push_str(SDP),
             _ => self.put_kept(out, name),

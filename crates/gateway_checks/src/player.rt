@@ -7,14 +7,16 @@ ghost use Rattle.gateway_checks.specs.Waiting.{waited_until};
 
 use crate::check::Check;
 use crate::dialogue::put_said;
-use crate::hearing::{Heard, hear_text, value_of};
+use crate::hearing::{Heard, hear_text, put_response, value_of};
 use crate::inbox::{Arrived, Inbox};
 use crate::judging::{Fault, Verdict, judged, settled, verdict_of};
+use crate::mailbox::Mailbox;
 use crate::matching::{code_fault, has_another, has_value};
 use crate::names::Names;
 use crate::socket::Socket;
 use crate::step::{Step, step_of};
-use crate::waiting::{is_prolonged, waited_until};
+use crate::unasked::{Unasked, is_for_check};
+use crate::waiting::{UNASKED_TIME, is_prolonged, waited_until};
 use mg_bytes::OutOfMemory;
 use piggyback::parts;
 use std::alloc::Global;
@@ -29,6 +31,8 @@ pub enum Turn {
     Send { from: Socket },
     /// What comes until this moment is to be given to it, in ms.
     Wait { until: u64 },
+    /// What `act` gives is to be done at the line's telephone, or with the gateway; whether it was is to be told to it.
+    Act,
     /// The check is over.
     Over,
 }
@@ -39,6 +43,9 @@ pub struct Player<'a> {
     alloc: Global,
     names: Names<'a>,
     is_open: bool,
+    // Whether its steps answer what the gateway notifies, and what it announces.
+    hears: bool,
+    announces: bool,
     // The lines that are left, those that undo it, and whether these are played.
     lines: &'a str,
     undo: &'a str,
@@ -52,6 +59,13 @@ pub struct Player<'a> {
     sent: Vec<u8>,
     from: Socket,
     inbox: Inbox,
+    // What the gateway said by itself.
+    mailbox: Mailbox,
+    // The datagrams that came since something was sent last, but for what undoes the check.
+    came: Vec<Vec<u8>>,
+    // What is to be done at a telephone, and whether it was.
+    act: &'a str,
+    acted: Option<bool>,
     // What is at fault, and what was said.
     fault: Option<Fault>,
     said: String,
@@ -73,6 +87,8 @@ impl<'a> Player<'a> {
             alloc,
             names,
             is_open: check.is_open(),
+            hears: check.hears(),
+            announces: check.announces(),
             lines: check.steps,
             undo: check.undo,
             is_undoing: false,
@@ -83,6 +99,10 @@ impl<'a> Player<'a> {
             sent: Vec::new(alloc),
             from: Socket::First,
             inbox: Inbox::new(alloc),
+            mailbox: Mailbox::new(alloc),
+            came: Vec::new(alloc),
+            act: "",
+            acted: None,
             fault: None,
             said: String::new(alloc),
             due: String::new(alloc),
@@ -92,6 +112,18 @@ impl<'a> Player<'a> {
     /// What is to be sent.
     pub fn sent(&self) -> &[u8] {
         self.sent.as_slice()
+    }
+
+    /// What is to be done: `off`, `on`, `flash` or a key at the line's telephone, or `restart`.
+    pub fn act(&self) -> &'a str {
+        self.act
+    }
+
+    /// What was to be done was done, or can't be.
+    pub fn acted(&mut self, is_done: bool)
+        ensures { self.new ≡ record self.old { acted = Some is_done } }
+    {
+        self.acted = Some(is_done);
     }
 
     /// What comes of the check, as far as it has been played.
@@ -111,6 +143,11 @@ impl<'a> Player<'a> {
         self.due.as_str()
     }
 
+    /// The datagrams that came since something was sent last.
+    pub fn came(&self) -> &[Vec<u8>] {
+        self.came.as_slice()
+    }
+
     /// Whether the gateway has answered what was asked.
     pub fn has_answer(&self) -> bool {
         !self.inbox.last().is_empty()
@@ -124,6 +161,19 @@ impl<'a> Player<'a> {
             return Ok(());
         }
         put_said(&mut self.said, mark, bytes)
+    }
+
+    // Notes that a datagram came.
+    fn note_came(&mut self, mark: &str, datagram: &[u8]) -> Result<(), OutOfMemory>
+        ensures { self.new ≡ record self.old { said = self.new.said; came = self.new.came } }
+    {
+        self.note(mark, datagram)?;
+        if self.is_undoing {
+            return Ok(());
+        }
+        let datagram = Vec::from_slice(self.alloc, datagram)?;
+        self.came.push(datagram)?;
+        Ok(())
     }
 
     // The step is done, with this fault in it or none. The first fault is told; those of steps that undo the check don't
@@ -206,7 +256,21 @@ impl<'a> Player<'a> {
             Step::Unlike { code, value } => self.unlike(code, value),
             Step::Tells { text } => self.tells(text),
             Step::Keep { name, code } => self.keep(name, code),
+            Step::Differ { first, second } => self.differ(first, second),
             Step::Unknown => self.finish_met(false),
+            _ => self.play_unasked(step, now),
+        }
+    }
+
+    // Plays a step that speaks of what the gateway says by itself, or of what is done at a telephone.
+    fn play_unasked(&mut self, step: Step<'a>, now: u64) -> Result<Option<Turn>, OutOfMemory> {
+        match step {
+            Step::Notified { at, name, due } => self.notified(at, name, due, now),
+            Step::Announced { name, method } => self.announced(name, method, now),
+            Step::Again { times, grows } => self.came_again(times, grows, now),
+            Step::Quiet { ms } => self.quiet(ms, now),
+            Step::Act { act } => self.ask_for(act),
+            _ => self.finish_met(false),
         }
     }
 
@@ -216,6 +280,7 @@ impl<'a> Player<'a> {
         let mark = if from.is_second() { ">> " } else { "> " };
         if !self.is_undoing {
             put_said(&mut self.said, mark, self.sent.as_slice())?;
+            self.came = Vec::new(self.alloc);
         }
         self.finish(None)?;
         Ok(Some(Turn::Send { from }))
@@ -354,6 +419,117 @@ impl<'a> Player<'a> {
         }
     }
 
+    // Two names stand for different values.
+    fn differ(&mut self, first: &str, second: &str) -> Result<Option<Turn>, OutOfMemory> {
+        let first = self.names.filled(first)?;
+        let second = self.names.filled(second)?;
+        let is_met = first.as_str() != second.as_str();
+        self.finish_met(is_met)
+    }
+
+    // Waits for what the gateway says by itself; where nothing comes in time the step isn't met.
+    fn await_unasked(&mut self, now: u64) -> Result<Option<Turn>, OutOfMemory> {
+        let until = self.deadline(UNASKED_TIME, now);
+        if now < until {
+            return Ok(Some(Turn::Wait { until }));
+        }
+        self.finish_met(false)
+    }
+
+    // A step has found what it asks for at this place, as due or not: its id has this name from here on.
+    fn found(
+        &mut self,
+        found: Option<(usize, bool)>,
+        name: &'a str,
+        now: u64,
+    ) -> Result<Option<Turn>, OutOfMemory> {
+        let Some((place, is_due)) = found else {
+            return self.await_unasked(now);
+        };
+        if let Some(id) = self.mailbox.ask(place)? {
+            let id = format!(in self.alloc; "{id}")?;
+            self.names.keep(name, id)?;
+        }
+        self.finish_met(is_due)
+    }
+
+    // A notification is to come to a socket: the endpoint, X and O that are due have blanks between them.
+    fn notified(
+        &mut self,
+        at: Socket,
+        name: &'a str,
+        due: &str,
+        now: u64,
+    ) -> Result<Option<Turn>, OutOfMemory> {
+        let due = self.names.filled(due)?;
+        let (endpoint, rest) = due.as_str().split_once(' ').unwrap_or((due.as_str(), ""));
+        let (x, events) = rest.split_once(' ').unwrap_or((rest, ""));
+        let found = self
+            .mailbox
+            .notified(at, endpoint.as_bytes(), x.as_bytes(), events.as_bytes())?;
+        self.found(found, name, now)
+    }
+
+    // An announcement with this method is to come.
+    fn announced(
+        &mut self,
+        name: &'a str,
+        method: &str,
+        now: u64,
+    ) -> Result<Option<Turn>, OutOfMemory> {
+        let found = self.mailbox.announced(method.as_bytes())?;
+        self.found(found, name, now)
+    }
+
+    // What a step asked for last is to come so often again, each time within a time of its own.
+    fn came_again(
+        &mut self,
+        times: u64,
+        grows: bool,
+        now: u64,
+    ) -> Result<Option<Turn>, OutOfMemory> {
+        let Some(gaps) = self.mailbox.gaps() else {
+            return self.finish_met(false);
+        };
+        if u64::from(gaps.count) >= times {
+            let is_met = !grows || gaps.has_grown();
+            return self.finish_met(is_met);
+        }
+        let until = gaps.previous.saturating_add(UNASKED_TIME);
+        if now < until {
+            return Ok(Some(Turn::Wait { until }));
+        }
+        self.finish_met(false)
+    }
+
+    // The gateway is to say nothing by itself for so long.
+    fn quiet(&mut self, ms: u64, now: u64) -> Result<Option<Turn>, OutOfMemory> {
+        let until = self.deadline(ms, now);
+        let is_quiet = self.mailbox.is_quiet(until.saturating_sub(ms));
+        if now < until && is_quiet {
+            return Ok(Some(Turn::Wait { until }));
+        }
+        if is_quiet {
+            self.note("(nothing comes)", &[])?;
+        }
+        self.finish_met(is_quiet)
+    }
+
+    // This is to be done at the line's telephone, or with the gateway.
+    fn ask_for(&mut self, act: &'a str) -> Result<Option<Turn>, OutOfMemory> {
+        match self.acted {
+            None => {
+                self.act = act;
+                self.note("@ ", act.as_bytes())?;
+                Ok(Some(Turn::Act))
+            }
+            Some(is_done) => {
+                self.acted = None;
+                self.finish_met(is_done)
+            }
+        }
+    }
+
     // Whether an answer is waited for, and not silence.
     fn awaits_answer(&self) -> bool
         ensures { result ≡ awaits_answer self.now.step }
@@ -383,19 +559,64 @@ impl<'a> Player<'a> {
         Ok(())
     }
 
-    // A text has come to a socket. What is no message counts as an answer to nothing.
-    fn hear(&mut self, at: Socket, text: &[u8]) -> Result<(), OutOfMemory>
+    // Whether the steps of the check answer a command of the gateway's.
+    fn is_for_steps(&self, text: &[u8]) -> Result<bool, OutOfMemory> {
+        if !self.hears || self.is_undoing {
+            return Ok(false);
+        }
+        is_for_check(self.alloc, text, self.names.base(), self.announces)
+    }
+
+    /// Puts the responses to the commands of a datagram that the gateway says by itself, but to those that steps answer: a gateway that
+    /// announces itself waits for one.
+    pub fn put_responses(&self, out: &mut String, datagram: &[u8]) -> Result<(), OutOfMemory> {
+        for text in parts(datagram) {
+            if let Heard::Command { id } = hear_text(self.alloc, text)? {
+                if !self.is_for_steps(text)? {
+                    put_response(out, id)?;
+                }
+            }
+        }
+        Ok(())
+    }
+
+    // The gateway has said this by itself, at this moment: it waits for a step where one may answer it.
+    fn hear_unasked(
+        &mut self,
+        at: Socket,
+        moment: u64,
+        id: u32,
+        text: &[u8],
+    ) -> Result<(), OutOfMemory>
+        ensures { self.new ≡ record self.old { mailbox = self.new.mailbox } }
+    {
+        if !self.is_for_steps(text)? {
+            return Ok(());
+        }
+        let text = Vec::from_slice(self.alloc, text)?;
+        self.mailbox.put(Unasked {
+            at,
+            moment,
+            id,
+            text,
+        })
+    }
+
+    // A text has come to a socket at this moment. What is no message counts as an answer to nothing.
+    fn hear(&mut self, at: Socket, text: &[u8], moment: u64) -> Result<(), OutOfMemory>
         ensures waiting { OnOk result (map came_as self.new.inbox.waiting.items
             ≡ map came_as self.old.inbox.waiting.items ++ kept_of self.old.names.base (awaits_answer self.old.step) at text.now) }
         ensures until { (self.new.until ≡ self.old.until) ⊎ (self.new.until ≡ None) }
         ensures rest { self.new ≡ record self.old {
           inbox = record self.old.inbox { waiting = self.new.inbox.waiting };
+          mailbox = self.new.mailbox;
           until = self.new.until;
         } }
     {
         let (id, code) = match hear_text(self.alloc, text)? {
             Heard::Answer { id, code } if self.names.is_own(id) => (id, code),
-            Heard::Answer { .. } | Heard::Command { .. } => return Ok(()),
+            Heard::Answer { .. } => return Ok(()),
+            Heard::Command { id } => return self.hear_unasked(at, moment, id, text),
             Heard::Provisional { id } if self.awaits_answer() => return self.prolong(at, id),
             Heard::Provisional { .. } | Heard::Nothing => (0, 0),
         };
@@ -403,23 +624,25 @@ impl<'a> Player<'a> {
         self.inbox.put(Arrived { at, id, code, text })
     }
 
-    /// A datagram has come to a socket. Whatever it is, the step that waits began when it began.
+    /// A datagram has come to a socket at this moment, in ms. Whatever it is, the step that waits began when it began.
     #[tactic(auto, unfolding(crate::specs::Hearing::kept_in))]
-    pub fn take(&mut self, at: Socket, datagram: &[u8]) -> Result<(), OutOfMemory>
+    pub fn take(&mut self, at: Socket, datagram: &[u8], moment: u64) -> Result<(), OutOfMemory>
         ensures begun { self.new.begun ≡ self.old.begun }
         ensures waiting { OnOk result (map came_as self.new.inbox.waiting.items ≡ map came_as self.old.inbox.waiting.items
             ++ kept_in self.old.names.base (awaits_answer self.old.step) at (parts_of datagram.now)) }
         ensures until { (self.new.until ≡ self.old.until) ⊎ (self.new.until ≡ None) }
         ensures rest { self.new ≡ record self.old {
           inbox = record self.old.inbox { waiting = self.new.inbox.waiting };
+          mailbox = self.new.mailbox;
           until = self.new.until;
           said = self.new.said;
+          came = self.new.came;
         } }
     {
         let mark = if at.is_second() { "<< " } else { "< " };
-        self.note(mark, datagram)?;
+        self.note_came(mark, datagram)?;
         for text in parts(datagram) {
-            self.hear(at, text)?;
+            self.hear(at, text, moment)?;
         }
         Ok(())
     }

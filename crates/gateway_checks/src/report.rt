@@ -11,6 +11,7 @@ use mg_bytes::OutOfMemory;
 pub struct Tally {
     pub passed: u32,
     pub failed: u32,
+    pub left_open: u32,
     pub not_supported: u32,
     pub not_played: u32,
 }
@@ -27,6 +28,7 @@ impl Tally {
     pub const NONE: Tally = Tally {
         passed: 0,
         failed: 0,
+        left_open: 0,
         not_supported: 0,
         not_played: 0,
     };
@@ -38,6 +40,7 @@ impl Tally {
         match verdict {
             Some(Verdict::Passed) => self.passed = one_more(self.passed),
             Some(Verdict::Failed) => self.failed = one_more(self.failed),
+            Some(Verdict::LeftOpen) => self.left_open = one_more(self.left_open),
             Some(Verdict::NotSupported) => self.not_supported = one_more(self.not_supported),
             None => self.not_played = one_more(self.not_played),
         }
@@ -58,6 +61,7 @@ pub fn word_of(verdict: Option<Verdict>) -> &'static str
     match verdict {
         Some(Verdict::Passed) => "pass",
         Some(Verdict::Failed) => "FAIL",
+        Some(Verdict::LeftOpen) => "left open",
         Some(Verdict::NotSupported) => "not supported",
         None => "not played",
     }
@@ -84,10 +88,19 @@ pub fn put_check(
 
 /// Puts how many checks have come to what.
 pub fn put_tally(out: &mut String, tally: &Tally) -> Result<(), OutOfMemory> {
-    write!(out, "{} pass, {} fail, ", tally.passed, tally.failed)?;
+    write!(
+        out,
+        "{} pass, {} fail, {} left open, ",
+        tally.passed, tally.failed, tally.left_open
+    )?;
     write!(
         out,
         "{} not supported, {} not played\n",
         tally.not_supported, tally.not_played
     )
+}
+
+/// Puts a check in a list of them: its name, the sections of its rule, and the rule.
+pub fn put_entry(out: &mut String, check: &Check<'_>) -> Result<(), OutOfMemory> {
+    write!(out, "{} ({}): {}\n", check.name, check.sections, check.rule)
 }

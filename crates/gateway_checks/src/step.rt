@@ -1,4 +1,4 @@
-//! A step of a check, as a line of its text says it. The head of `checks.rt` has them all.
+//! A step of a check, as a line of its text says it. The heads of `checks.rt` and `notices.rt` have them all.
 use crate::socket::Socket;
 
 /// A step.
@@ -50,6 +50,35 @@ pub(crate) enum Step<'a> {
         name: &'a str,
         code: &'a str,
     },
+    /// This name and that one stand for other values.
+    Differ {
+        first: &'a str,
+        second: &'a str,
+    },
+    /// A notification of this endpoint comes to that socket, with this X and this O, and its id has this name from here on.
+    Notified {
+        at: Socket,
+        name: &'a str,
+        due: &'a str,
+    },
+    /// An announcement with this method comes, and its id has this name from here on.
+    Announced {
+        name: &'a str,
+        method: &'a str,
+    },
+    /// What a step asked for last comes so often again, and in growing gaps or in any.
+    Again {
+        times: u64,
+        grows: bool,
+    },
+    /// The gateway says nothing by itself for so long, in ms.
+    Quiet {
+        ms: u64,
+    },
+    /// This is done at the line's telephone, or with the gateway.
+    Act {
+        act: &'a str,
+    },
     /// The line is no step.
     Unknown,
 }
@@ -67,6 +96,33 @@ fn so_long(digits: &str) -> u64 {
     digits.parse::<u64>().unwrap_or(0)
 }
 
+// The step that a line is which speaks of what the gateway says by itself.
+fn unasked_step<'a>(line: &'a str, word: &str, first: &'a str, second: &'a str) -> Step<'a> {
+    match word {
+        "notified" | "notified-there" => Step::Notified {
+            at: if word == "notified" {
+                Socket::First
+            } else {
+                Socket::Second
+            },
+            name: first,
+            due: second,
+        },
+        "announced" => Step::Announced {
+            name: first,
+            method: second,
+        },
+        "again" | "slower" => Step::Again {
+            times: so_long(first),
+            grows: word == "slower",
+        },
+        "quiet" => Step::Quiet { ms: so_long(first) },
+        "act" => Step::Act { act: first },
+        "restart" => Step::Act { act: line },
+        _ => Step::Unknown,
+    }
+}
+
 /// The step that a line is.
 pub(crate) fn step_of(line: &str) -> Step<'_> {
     let (word, rest) = line.split_once(' ').unwrap_or((line, ""));
@@ -81,7 +137,7 @@ pub(crate) fn step_of(line: &str) -> Step<'_> {
         },
         "same" => Step::Same { id: rest },
         "silence" => Step::Silence { ms: so_long(rest) },
-        "wait" => Step::Wait { ms: so_long(rest) },
+        "wait" | "pause" => Step::Wait { ms: so_long(rest) },
         "has" => Step::Has {
             code: first,
             value: second,
@@ -95,6 +151,7 @@ pub(crate) fn step_of(line: &str) -> Step<'_> {
             name: first,
             code: second,
         },
-        _ => Step::Unknown,
+        "differ" => Step::Differ { first, second },
+        _ => unasked_step(line, word, first, second),
     }
 }

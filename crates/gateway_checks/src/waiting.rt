@@ -10,6 +10,9 @@ pub(crate) const ANSWER_TIME: u64 = 2000;
 /// No longer than this since the step began, in ms: so long a gateway keeps a command (RFC 3435, 3.5.1).
 pub(crate) const LONGEST_ANSWER_TIME: u64 = 30_000;
 
+/// So long what a gateway says by itself is waited for, in ms, and behind each time that it comes so long anew.
+pub(crate) const UNASKED_TIME: u64 = 4000;
+
 /// Until when an answer is waited for from now on, where the step began at this moment.
 pub(crate) fn waited_until(begun: u64, now: u64) -> u64
     ensures until { result ≡ waited_until begun now }

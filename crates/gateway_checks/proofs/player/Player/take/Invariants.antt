@@ -11,7 +11,9 @@ invariant-loop-text l = record {
   until : (l.self.until ≡ l.fn.self.until) ⊎ (l.self.until ≡ None);
   rest : l.self ≡ record l.fn.self {
     inbox = record l.fn.self.inbox { waiting = l.self.inbox.waiting };
+    mailbox = l.self.mailbox;
     until = l.self.until;
     said = l.self.said;
+    came = l.self.came;
   };
 }

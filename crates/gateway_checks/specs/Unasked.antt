@@ -1,0 +1,178 @@
+-- What a gateway says by itself: which of it is for a check, what of it a step expects, and how what isn't answered comes again.
+use Rattle.std.specs.Prelude.{ℕ, ◌+◌, ◌-◌, ◌*◌, Bool, true, false, not, ◌&&◌, ◌||◌, ◌==◌, nat_le, nat_lt, if◌then◌else◌, codes, List, [], ◌∷◌, fold, Option, Some, None}
+use Rattle.std.specs.List.{list_any}
+use Rattle.mg_bytes.specs.Case.{same_but_case}
+use Rattle.mg_bytes.specs.Numbers.{decimal_of}
+use Rattle.mg_bytes.specs.Words.{split_once}
+use Rattle.mgcp_text.specs.declared.message.Verb.{Verb}
+use Rattle.mgcp_text.specs.declared.message.Verb.TheVariants.{Epcf, Rqnt, Ntfy, Crcx, Mdcx, Dlcx, Auep, Aucx, Rsip, Other}
+use Rattle.mgcp_text.specs.declared.message.Param.{Param}
+use Rattle.mgcp_text.specs.declared.message.Message.TheVariants.{Command, Response}
+use Rattle.mgcp_text.specs.Message.{param_at}
+use Rattle.mgcp_text.specs.Reading.{Outcome, message, no_header, bad_version, bad_body, read_text}
+use Rattle.gateway_checks.specs.declared.socket.Socket.{Socket}
+use Rattle.gateway_checks.specs.declared.unasked.Unasked.{Unasked}
+use Rattle.gateway_checks.specs.declared.unasked.Likeness.{Likeness}
+use Rattle.gateway_checks.specs.declared.unasked.Likeness.TheVariants.{Another, AsDue, Otherwise}
+use Rattle.gateway_checks.specs.declared.unasked.TheConstants.{OWN_NUMBERS}
+use Rattle.gateway_checks.specs.declared.gaps.Gaps.{Gaps}
+use Rattle.gateway_checks.specs.Matching.{is_same_socket}
+use Rattle.gateway_checks.specs.Reporting.{one_more}
+
+-- Kinds
+
+abbrev pub is_notify : Verb → Bool
+is_notify Epcf = false
+is_notify Rqnt = false
+is_notify Ntfy = true
+is_notify Crcx = false
+is_notify Mdcx = false
+is_notify Dlcx = false
+is_notify Auep = false
+is_notify Aucx = false
+is_notify Rsip = false
+is_notify Other = false
+
+abbrev pub is_restart : Verb → Bool
+is_restart Epcf = false
+is_restart Rqnt = false
+is_restart Ntfy = false
+is_restart Crcx = false
+is_restart Mdcx = false
+is_restart Dlcx = false
+is_restart Auep = false
+is_restart Aucx = false
+is_restart Rsip = true
+is_restart Other = false
+
+-- Values
+
+abbrev pub value_at : Option Param → Option (List ℕ)
+value_at None = None
+value_at (Some param) = Some param.value
+
+-- the value of the first parameter with this code
+abbrev pub value_in : List ℕ → List Param → Option (List ℕ)
+value_in code params = value_at (param_at code params)
+
+-- whatever is there is right, or nothing
+abbrev pub is_any : List ℕ → Bool
+is_any wanted = same_but_case wanted (codes "*")
+
+-- of two texts that a bar parts either is right, up to the case of letters
+abbrev pub is_one_of : Option (List ℕ × List ℕ) → List ℕ → List ℕ → Bool
+is_one_of None wanted value = same_but_case value wanted
+is_one_of (Some sides) wanted value = same_but_case value sides.0 || same_but_case value sides.1
+
+abbrev pub is_either : List ℕ → List ℕ → Bool
+is_either wanted value = is_one_of (split_once 124 wanted) wanted value
+
+abbrev pub is_written : List ℕ → Option (List ℕ) → Bool
+is_written wanted None = is_any wanted
+is_written wanted (Some value) = is_any wanted || is_either wanted value
+
+-- What a step expects
+
+-- of the text that is meant it is judged whether it is right; any other is passed over
+abbrev pub likeness : Bool → Bool → Likeness
+likeness is_meant is_right = if not is_meant then Another else if is_right then AsDue else Otherwise
+
+-- a notification (RFC 3435, 2.3.4) is meant by its endpoint's name, and right by its request's identifier and its observed events
+abbrev pub notified_by : List ℕ → List ℕ → List ℕ → Outcome → Likeness
+notified_by name x events (message (Command verb id endpoint params body)) =
+    if is_notify verb
+    then likeness (is_written name (Some endpoint))
+    (is_written x (value_in (codes "X") params) && is_written events (value_in (codes "O") params))
+    else Another
+notified_by name x events (message (Response code id params body)) = Another
+notified_by name x events no_header = Another
+notified_by name x events (bad_version id) = Another
+notified_by name x events (bad_body id) = Another
+
+-- an announcement (RFC 3435, 2.3.12) is right by its method
+abbrev pub announced_by : List ℕ → Outcome → Likeness
+announced_by method (message (Command verb id endpoint params body)) =
+    if is_restart verb then likeness true (is_written method (value_in (codes "RM") params)) else Another
+announced_by method (message (Response code id params body)) = Another
+announced_by method no_header = Another
+announced_by method (bad_version id) = Another
+announced_by method (bad_body id) = Another
+
+-- Which of it is for a check
+
+abbrev pub is_own_number : ℕ → Option ℕ → Bool
+is_own_number base None = false
+is_own_number base (Some number) = nat_lt base number && nat_le number (base + OWN_NUMBERS)
+
+-- under one of the check's own request identifiers, or under none
+abbrev pub is_own_request : ℕ → Option (List ℕ) → Bool
+is_own_request base None = true
+is_own_request base (Some x) = is_own_number base (decimal_of x)
+
+-- a notification under an identifier of the check's own, or under none; an announcement, where the check takes these
+abbrev pub is_for_check : ℕ → Bool → Outcome → Bool
+is_for_check base announces (message (Command verb id name params body)) =
+    if is_notify verb then is_own_request base (value_in (codes "X") params) else announces && is_restart verb
+is_for_check base announces (message (Response code id params body)) = false
+is_for_check base announces no_header = false
+is_for_check base announces (bad_version id) = false
+is_for_check base announces (bad_body id) = false
+
+-- What comes again
+
+-- the same text again: the same bytes, under the same id (RFC 3435, 3.5.1)
+abbrev pub is_same_text : Unasked → Unasked → Bool
+is_same_text left right = left.id == right.id && left.text.items == right.text.items
+
+-- a copy of one that a step has asked for
+abbrev pub is_copy : List Unasked → Unasked → Bool
+is_copy heard unasked = list_any (λ before. is_same_text before unasked) heard
+
+-- it breaks a silence that began at this moment: anything new does, and a copy that came since
+abbrev pub disturbs : List Unasked → ℕ → Unasked → Bool
+disturbs heard since unasked = nat_le since unasked.moment || not (is_copy heard unasked)
+
+-- nothing of what waits breaks it
+abbrev pub is_quiet : List Unasked → List Unasked → ℕ → Bool
+is_quiet heard waiting since = not (list_any (disturbs heard since) waiting)
+
+-- what one that waits is to a step: it came to this socket, and is no copy
+abbrev pub likeness_at : List Unasked → Socket → (List ℕ → Likeness) → Unasked → Likeness
+likeness_at heard at like unasked =
+    if is_same_socket unasked.at at && not (is_copy heard unasked) then like unasked.text.items else Another
+
+abbrev pub chosen : Likeness → ℕ → Option (ℕ × Bool) → Option (ℕ × Bool)
+chosen Another place later = later
+chosen AsDue place later = Some (place, true)
+chosen Otherwise place later = Some (place, false)
+
+-- the first that is meant: its place, and whether it is as due
+unfoldable pub first_meant : (Unasked → Likeness) → ℕ → List Unasked → Option (ℕ × Bool)
+first_meant like place [] = None
+first_meant like place (unasked ∷ more) = chosen (like unasked) place (first_meant like (place + 1) more)
+
+-- Gaps, in ms, between the comings of one text
+
+-- it came once, at this moment
+abbrev pub none_since : ℕ → Gaps
+none_since moment = record { count = 0; first = 0; last = 0; previous = moment }
+
+-- it came once more
+abbrev pub with_coming : Gaps → ℕ → Gaps
+with_coming gaps moment = record {
+  count = one_more gaps.count;
+  first = if gaps.count == 0 then moment - gaps.previous else gaps.first;
+  last = moment - gaps.previous;
+  previous = moment;
+}
+
+abbrev pub with_copy : Unasked → Gaps → Unasked → Gaps
+with_copy text gaps unasked = if is_same_text text unasked then with_coming gaps unasked.moment else gaps
+
+-- how a text that came at its moment comes again among these
+abbrev pub gaps_of : Unasked → List Unasked → Gaps
+gaps_of text waiting = fold (with_copy text) (none_since text.moment) waiting
+
+-- the last gap is at least half as long again as the first (RFC 3435, 3.5.3: gaps grow)
+abbrev pub has_grown : Gaps → Bool
+has_grown gaps = nat_le (gaps.first * 3) (gaps.last * 2)
