@@ -128,9 +128,9 @@ is_same_text left right = left.id == right.id && left.text.items == right.text.i
 abbrev pub is_copy : List Unasked → Unasked → Bool
 is_copy heard unasked = list_any (λ before. is_same_text before unasked) heard
 
--- it breaks a silence that began at this moment: anything new does, and a copy that came since
+-- it breaks a silence that began at this moment: anything new does, and a copy that came later
 abbrev pub disturbs : List Unasked → ℕ → Unasked → Bool
-disturbs heard since unasked = nat_le since unasked.moment || not (is_copy heard unasked)
+disturbs heard since unasked = nat_lt since unasked.moment || not (is_copy heard unasked)
 
 -- nothing of what waits breaks it
 abbrev pub is_quiet : List Unasked → List Unasked → ℕ → Bool

@@ -1,7 +1,7 @@
 //! Worked examples of the definitions, as theorems: each sentence of a definition has one that a slip in it breaks.
 #![tactic(auto, unfolding(crate::proofs::Computing::on_examples))]
 
-ghost use Rattle.std.specs.Prelude.{◌≡◌, ◌+◌, [], ◌∷◌, true, false, Some, None, codes};
+ghost use Rattle.std.specs.Prelude.{◌≡◌, [], ◌∷◌, true, false, Some, None, codes};
 ghost use Rattle.gateway_checks.specs.declared.judging.Fault.TheVariants.{NotSupported, Otherwise};
 ghost use Rattle.gateway_checks.specs.declared.judging.Verdict.TheVariants as verdicts;
 ghost use Rattle.gateway_checks.specs.declared.socket.Socket.TheVariants.{First, Second};
@@ -176,7 +176,7 @@ pub fn steps_answer_what_is_for_them()
 
 /// A copy has the same id and the same bytes. A silence is broken by anything new, and by a copy that came since it began.
 pub fn a_silence_is_broken_by_what_comes()
-    ensures copy { (told : Unasked) → is_copy (told ∷ []) told ≡ true → is_quiet (told ∷ []) (told ∷ []) (told.moment + 1) ≡ true }
+    ensures copy { (told : Unasked) → is_copy (told ∷ []) told ≡ true → is_quiet (told ∷ []) (told ∷ []) told.moment ≡ true }
     ensures nothing { is_quiet [] [] 0 ≡ true }
     ensures new { (told : Unasked) → is_quiet [] (told ∷ []) 0 ≡ false }
 {}

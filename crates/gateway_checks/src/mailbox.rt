@@ -50,7 +50,7 @@ impl Mailbox {
     fn disturbs(&self, since: u64, unasked: &Unasked) -> bool
         ensures { result ≡ disturbs self.now.heard.items since unasked.now }
     {
-        since <= unasked.moment || !self.is_copy(unasked)
+        since < unasked.moment || !self.is_copy(unasked)
     }
 
     /// Whether nothing that waits breaks a silence that began at this moment, in ms.

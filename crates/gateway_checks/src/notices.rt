@@ -6,7 +6,7 @@
 //! - `announced NAME METHOD` an announcement (RSIP) comes, with this method.
 //! - `again N` what was asked for last comes N times again, byte for byte; `slower N` so, and its last gap is at least half as
 //!   long again as its first. It is waited for 4 s each time, as for the first.
-//! - `quiet MS` the gateway says nothing by itself for so long, in ms; copies of what was asked for count from its beginning on.
+//! - `quiet MS` the gateway says nothing by itself for so long, in ms; copies of what was asked for count once it has begun.
 //! - `differ A B` two names stand for different values; `pause MS` so long passes.
 //! - `act off`, `act on`, `act flash`, `act 5` this is done at the line's telephone; `restart` the gateway is started anew.
 //!

@@ -1,11 +1,22 @@
 //! Calls about the checks of a gateway: `check NAME`, what comes, and what comes of it.
 //!
 //! A value is the datagrams that come, with `|` between them, one for each time that the check waits: `-` where none comes,
-//! `B 200 1 OK¶` where one comes to the second socket, `W 1500` where so many ms pass. Transaction ids are 1 to 9, the call is 0, the lines are aaln/1 and
-//! aaln/2 at rgw.example.net. The answer is `pass`, or `fail: ` or `not supported: ` with the step that isn't met.
-use gateway_checks::{Names, Player, Socket, Turn, Verdict, check_named};
+//! `B 200 1 OK¶` where one comes to the second socket, `W 1500` where so many ms pass, `!` anywhere where nothing can be done at the
+//! telephone. Transaction ids are 1 to 9, the call is 0, the lines are aaln/1 and aaln/2 at rgw.example.net, the sockets
+//! ca@[10.0.0.1]:2727 and ca@[10.0.0.1]:2728. The answer is `pass`, or `fail: `, `left open: ` or `not supported: ` with the step
+//! that isn't met.
+use gateway_checks::{Names, Places, Player, Socket, Turn, Verdict, check_named};
 use mg_bytes::{OutOfMemory, decimal};
 use scenario_files::Row;
+
+// Where the checks are played.
+const PLACES: Places<'static> = Places {
+    domain: "rgw.example.net",
+    local: "aaln/1",
+    other: "aaln/2",
+    here: "ca@[10.0.0.1]:2727",
+    there: "ca@[10.0.0.1]:2728",
+};
 
 // No check has more turns.
 const MOST_TURNS: u32 = 100;
@@ -29,7 +40,7 @@ fn come(player: &mut Player<'_>, item: &[u8], now: u64) -> Result<u64, OutOfMemo
         return Ok(now.saturating_add(ms));
     }
     let (at, datagram) = arrival_of(item);
-    player.take(at, datagram)?;
+    player.take(at, datagram, now)?;
     Ok(now)
 }
 
@@ -44,6 +55,8 @@ fn play(player: &mut Player<'_>, came: &[u8]) -> Result<(), OutOfMemory> {
                 Some(b"-") | None => now = until,
                 Some(item) => now = come(player, item, now)?,
             },
+            // What is to be done at a telephone is done, unless a `!` says that it can't be.
+            Turn::Act => player.acted(!came.contains(&b'!')),
             Turn::Over => return Ok(()),
         }
     }
@@ -56,7 +69,7 @@ fn put_verdict(row: &mut Row<'_>, name: &str, came: &[u8]) {
         row.unread();
         return;
     };
-    let names = Names::new(row.alloc, "rgw.example.net", "aaln/1", "aaln/2", 0);
+    let names = Names::new(row.alloc, &PLACES, 0);
     let mut player = Player::new(row.alloc, &check, names);
     if play(&mut player, came).is_err() {
         row.refuse();
@@ -65,6 +78,7 @@ fn put_verdict(row: &mut Row<'_>, name: &str, came: &[u8]) {
     let word = match player.verdict() {
         Verdict::Passed => b"pass".as_slice(),
         Verdict::Failed => b"fail: ".as_slice(),
+        Verdict::LeftOpen => b"left open: ".as_slice(),
         Verdict::NotSupported => b"not supported: ".as_slice(),
     };
     row.put(word);
