@@ -51,7 +51,7 @@ pub const ALL_CHECKS: [&str; 3] = [CHECKS, NOTICES, TELEPHONES];
 
 // The check with this name among those of a text.
 fn named_in(text: &'static str, name: &str) -> Option<Check<'static>> {
-    for block in text.split("\n= ") {
+    for block in text.split("\n= ").skip(1) {
         let check = check_of(block);
         if check.name == name {
             return Some(check);

@@ -1,17 +1,16 @@
 //! Plays all checks at a gateway, and reports.
 use crate::check_fault::CheckFault;
 use crate::ends::Ends;
-use crate::json::{check_value, report_text};
+use crate::json::{check_text, tally_text};
+use crate::telephone::Telephone;
 use gateway_checks::{
-    Check, IN_USE, Names, Player, SERVES, Tally, UNKNOWN, Verdict, all_checks, check_of, put_check,
-    put_tally,
+    ALL_CHECKS, Check, IN_USE, Names, Places, Player, SERVES, Tally, UNKNOWN, Verdict, check_named,
+    check_of, put_case, put_check, put_entry, put_suite, put_tally,
 };
 use live_ends::Outlet;
 use mg_bytes::OutOfMemory;
-use serde_json::Value;
 use std::alloc::Global;
 use std::io::Write;
-use std::mem;
 use std::net::{Net, SocketAddrV4};
 use std::rt::Clock;
 use std::time::SystemTime;
@@ -38,8 +37,14 @@ pub struct CheckSettings<'a> {
     pub other: Option<&'a str>,
     /// Whether checks that take long are played too.
     pub is_slow: bool,
+    /// The names of the checks that are played, with commas between them; else all.
+    pub only: Option<&'a str>,
+    /// Who works the line's telephone, if someone does.
+    pub telephone: Option<Telephone<'a>>,
     /// Whether the report is JSON.
     pub is_json: bool,
+    /// Whether it is wanted as JUnit's XML too.
+    pub is_junit: bool,
     /// The address of the first socket, which is that of the gateway's call agent.
     pub own: SocketAddrV4,
 }
@@ -52,8 +57,20 @@ struct Checking<'a> {
     // The number before the ids of the next check.
     base: u32,
     tally: Tally,
-    // What came of checks, for a report in JSON.
-    values: Vec<Value>,
+    // The entities that the two sockets are.
+    here: &'a str,
+    there: &'a str,
+    // What came of checks, for a report as JUnit's XML.
+    cases: String,
+}
+
+/// What came of a check of a gateway.
+#[derive(Drop)]
+pub struct Checked {
+    /// The exit status: 0 where no check failed, 1 where one did.
+    pub status: u8,
+    /// The report as JUnit's XML, where that is wanted.
+    pub junit: String,
 }
 
 // A number of at most seven digits, which no session of the last two hours has begun with.
@@ -79,49 +96,109 @@ fn put_out<F: Write + Drop>(said: &mut Outlet<F>, text: &str) -> Result<(), Chec
     }
 }
 
+// Whether a name is among these, which have commas between them.
+fn is_among(names: &str, name: &str) -> bool {
+    names.split(',').any(|it| it.trim() == name)
+}
+
+// Whether the means are there that a check needs: another line, the address of the gateway's call agent, someone at the
+// telephone, and who starts the gateway anew.
+fn is_possible(settings: &CheckSettings<'_>, check: &Check<'_>) -> bool {
+    let has_hook = match settings.telephone {
+        Some(telephone) => telephone.is_hook,
+        None => false,
+    };
+    (settings.other.is_some() || !check.needs_other_line())
+        && (settings.own.port() > 0 || !check.hears())
+        && (settings.telephone.is_some() || !check.needs_telephone())
+        && (has_hook || !check.needs_restart())
+}
+
 impl<'a> Checking<'a> {
     // The player of the next check, at this line.
     fn player(&mut self, check: &Check<'static>, line: &'a str) -> Player<'a> {
-        let settings = self.settings;
-        let other = settings.other.unwrap_or("");
-        let names = Names::new(self.alloc, settings.domain, line, other, self.base);
+        let places = Places {
+            domain: self.settings.domain,
+            local: line,
+            other: self.settings.other.unwrap_or(""),
+            here: self.here,
+            there: self.there,
+        };
+        let names = Names::new(self.alloc, &places, self.base);
         self.base = self.base.saturating_add(IDS);
         Player::new(self.alloc, check, names)
     }
 
-    // Whether a check is asked for.
-    fn is_asked(&self, check: &Check<'_>) -> bool {
-        (self.settings.is_slow || !check.is_slow())
-            && (self.settings.other.is_some() || !check.needs_other_line())
+    // Whether a check is named, where some are.
+    fn is_named(&self, check: &Check<'_>) -> bool {
+        match self.settings.only {
+            Some(names) => is_among(names, check.name),
+            None => true,
+        }
     }
 
-    // Keeps what came of a check, for a report in JSON.
-    fn note(
+    // Whether a check is played: one that takes long is asked for, by its name or with all that do.
+    fn is_played(&self, check: &Check<'_>) -> bool {
+        let is_asked = self.settings.only.is_some() || self.settings.is_slow || !check.is_slow();
+        is_asked && is_possible(&self.settings, check)
+    }
+
+    // Keeps what came of a check, for a report as JUnit's XML.
+    fn keep_case(
         &mut self,
         check: &Check<'_>,
         verdict: Option<Verdict>,
+        due: &str,
         said: &str,
     ) -> Result<(), OutOfMemory> {
-        let value = check_value(self.alloc, check, verdict, said)?;
-        self.values.push(value)?;
+        if self.settings.is_junit {
+            put_case(&mut self.cases, check, verdict, due, said)?;
+        }
         Ok(())
     }
 
-    // Reports a check, with what was said in it.
+    // Reports a check that isn't played.
+    fn pass_over<F: Write + Drop>(
+        &mut self,
+        out: &mut Outlet<F>,
+        check: &Check<'_>,
+    ) -> Result<(), CheckFault> {
+        self.tally.count(None);
+        self.keep_case(check, None, "", "")?;
+        let mut text = String::new(self.alloc);
+        if self.settings.is_json {
+            text = check_text(self.alloc, check, None, "", "", &[])?;
+            text.push('\n')?;
+        } else {
+            put_check(&mut text, check, None, "")?;
+        }
+        put_out(out, text.as_str())
+    }
+
+    // Reports a check that was played.
     fn report<F: Write + Drop>(
         &mut self,
         out: &mut Outlet<F>,
         check: &Check<'_>,
-        verdict: Option<Verdict>,
-        said: &str,
+        player: &Player<'_>,
     ) -> Result<(), CheckFault> {
+        let verdict = Some(player.verdict());
         self.tally.count(verdict);
-        if self.settings.is_json {
-            self.note(check, verdict, said)?;
-            return Ok(());
-        }
+        self.keep_case(check, verdict, player.due(), player.said())?;
         let mut text = String::new(self.alloc);
-        put_check(&mut text, check, verdict, said)?;
+        if self.settings.is_json {
+            text = check_text(
+                self.alloc,
+                check,
+                verdict,
+                player.said(),
+                player.due(),
+                player.came(),
+            )?;
+            text.push('\n')?;
+        } else {
+            put_check(&mut text, check, verdict, player.said())?;
+        }
         put_out(out, text.as_str())
     }
 
@@ -129,13 +206,21 @@ impl<'a> Checking<'a> {
     fn report_all<F: Write + Drop>(&mut self, out: &mut Outlet<F>) -> Result<(), CheckFault> {
         let mut text = String::new(self.alloc);
         if self.settings.is_json {
-            let values = mem::replace(&mut self.values, Vec::new(self.alloc));
-            text = report_text(self.alloc, values, &self.tally)?;
+            text = tally_text(self.alloc, &self.tally)?;
             text.push('\n')?;
         } else {
             put_tally(&mut text, &self.tally)?;
         }
         put_out(out, text.as_str())
+    }
+
+    // The report as JUnit's XML, where that is wanted.
+    fn junit(&self) -> Result<String, OutOfMemory> {
+        let mut out = String::new(self.alloc);
+        if self.settings.is_junit {
+            put_suite(&mut out, self.cases.as_str(), &self.tally)?;
+        }
+        Ok(out)
     }
 }
 
@@ -160,7 +245,7 @@ fn ask<R: Net + Clock>(
             ends.rest(1000)?;
             Ok(Found::NotServing)
         }
-        Verdict::NotSupported | Verdict::Failed => Ok(Found::Serving),
+        Verdict::LeftOpen | Verdict::NotSupported | Verdict::Failed => Ok(Found::Serving),
     }
 }
 
@@ -242,7 +327,7 @@ fn play_one<R: Net + Clock, F: Write + Drop>(
     player: &mut Player<'_>,
 ) -> Result<(), CheckFault> {
     ends.play(player)?;
-    checking.report(out, check, Some(player.verdict()), player.said())
+    checking.report(out, check, player)
 }
 
 // Plays a check, where it is asked for.
@@ -252,12 +337,28 @@ fn check_one<R: Net + Clock, F: Write + Drop>(
     ends: &mut Ends<'_, R>,
     check: &Check<'static>,
 ) -> Result<(), CheckFault> {
-    if !checking.is_asked(check) {
-        return checking.report(out, check, None, "");
+    if !checking.is_named(check) {
+        return Ok(());
+    }
+    if !checking.is_played(check) {
+        return checking.pass_over(out, check);
     }
     let line = checking.settings.line;
     let mut player = checking.player(check, line);
     play_one(out, checking, ends, check, &mut player)
+}
+
+// Plays the checks of a text that are asked for.
+fn check_each<R: Net + Clock, F: Write + Drop>(
+    out: &mut Outlet<F>,
+    checking: &mut Checking<'_>,
+    ends: &mut Ends<'_, R>,
+    text: &'static str,
+) -> Result<(), CheckFault> {
+    for block in text.split("\n= ").skip(1) {
+        check_one(out, checking, ends, &check_of(block))?;
+    }
+    Ok(())
 }
 
 // Plays all checks that are asked for, and gives the exit status.
@@ -265,33 +366,74 @@ fn check_all<R: Net + Clock, F: Write + Drop>(
     out: &mut Outlet<F>,
     checking: &mut Checking<'_>,
     ends: &mut Ends<'_, R>,
-) -> Result<u8, CheckFault> {
+) -> Result<Checked, CheckFault> {
     find(checking, ends)?;
     find_lines(checking, ends)?;
-    for block in all_checks().split("\n= ").skip(1) {
-        check_one(out, checking, ends, &check_of(block))?;
+    for text in ALL_CHECKS.iter() {
+        check_each(out, checking, ends, *text)?;
     }
     checking.report_all(out)?;
-    Ok(checking.tally.status())
+    Ok(Checked {
+        status: checking.tally.status(),
+        junit: checking.junit()?,
+    })
 }
 
-/// Checks a gateway as the settings ask, reports by this outlet, and gives the exit status: 0 where no check failed, 1 where one did. An error says why
-/// nothing can be checked.
-pub fn check_gateway<R: AllocGlobal + Net + Clock, F: Write + Drop>(
+// Plays all, where the second socket has this port.
+fn check_by<R: AllocGlobal + Net + Clock, F: Write + Drop>(
     rt: &R,
     settings: CheckSettings<'_>,
+    ends: &mut Ends<'_, R>,
     out: &mut Outlet<F>,
-) -> Result<u8, CheckFault> {
+) -> Result<Checked, CheckFault> {
     let alloc = rt.alloc();
+    let own = settings.own;
+    let here = format!(in alloc; "ca@[{}]:{}", own.ip(), own.port())?;
+    let there = format!(in alloc; "ca@[{}]:{}", own.ip(), ends.second_port())?;
     let mut checking = Checking {
         alloc,
         settings,
         base: first_base(rt),
         tally: Tally::NONE,
-        values: Vec::new(alloc),
+        here: here.as_str(),
+        there: there.as_str(),
+        cases: String::new(alloc),
     };
-    match Ends::open(rt, alloc, settings.gateway, settings.own) {
-        Ok(mut ends) => check_all(out, &mut checking, &mut ends),
+    check_all(out, &mut checking, ends)
+}
+
+/// Checks a gateway as the settings ask, and reports by this outlet, a check at a time: what came of it. An error says why nothing
+/// can be checked.
+pub fn check_gateway<R: AllocGlobal + Net + Clock, F: Write + Drop>(
+    rt: &R,
+    settings: CheckSettings<'_>,
+    out: &mut Outlet<F>,
+) -> Result<Checked, CheckFault> {
+    let telephone = settings.telephone;
+    match Ends::open(rt, rt.alloc(), settings.gateway, settings.own, telephone) {
+        Ok(mut ends) => check_by(rt, settings, &mut ends, out),
         Err(fault) => Err(fault),
     }
+}
+
+// Puts the checks of a text in a list.
+fn put_entries(out: &mut String, text: &'static str) -> Result<(), OutOfMemory> {
+    for block in text.split("\n= ").skip(1) {
+        put_entry(out, &check_of(block))?;
+    }
+    Ok(())
+}
+
+/// All checks, a line each: the name, the sections of its rule, and the rule.
+pub fn check_list(alloc: Global) -> Result<String, OutOfMemory> {
+    let mut out = String::new(alloc);
+    for text in ALL_CHECKS.iter() {
+        put_entries(&mut out, *text)?;
+    }
+    Ok(out)
+}
+
+/// Whether there is a check with this name.
+pub fn is_check(name: &str) -> bool {
+    check_named(name).is_some()
 }

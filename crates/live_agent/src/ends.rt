@@ -1,6 +1,7 @@
-//! The two sockets of a check, and the clock.
+//! The two sockets of a check, the one by which telephones are worked, and the clock.
 use crate::check_fault::CheckFault;
-use gateway_checks::{Player, SOCKETS, Socket, Turn, put_responses};
+use crate::telephone::Telephone;
+use gateway_checks::{Player, SOCKETS, Socket, Turn};
 use live_ends::SystemFault;
 use mio::net::UdpSocket;
 use mio::{Events, Interest, Poll, Token};
@@ -13,6 +14,9 @@ use std::time::{Duration, Instant};
 // The room for a datagram; what is longer is cut off.
 const ROOM: usize = 4096;
 
+// So long it is waited for what is done at a telephone, in ms: a gateway may start anew then.
+const LONGEST_ACT: u64 = 30_000;
+
 /// The ends of a talk with a gateway.
 #[derive(Drop)]
 pub(crate) struct Ends<'a, R> {
@@ -21,9 +25,12 @@ pub(crate) struct Ends<'a, R> {
     gateway: SocketAddrV4,
     first: UdpSocket,
     second: UdpSocket,
+    third: UdpSocket,
     poll: Poll,
     events: Events,
     start: Instant,
+    // Who works the line's telephone, if someone does.
+    telephone: Option<Telephone<'a>>,
 }
 
 // A socket at this address, of which the poll tells under this token.
@@ -39,18 +46,32 @@ fn watched<R: Net>(
     Ok(socket)
 }
 
-// Two sockets, of which the first has this address, and what tells of them.
-fn opened<R: Net>(
-    rt: &R,
-    alloc: Global,
-    own: SocketAddrV4,
-) -> io::Result<(UdpSocket, UdpSocket, Poll, Events)> {
+// Three sockets, of which the first has this address, the second its host, and the third any.
+#[derive(Drop)]
+struct Opened {
+    first: UdpSocket,
+    second: UdpSocket,
+    third: UdpSocket,
+    poll: Poll,
+    events: Events,
+}
+
+// The sockets, and what tells of them.
+fn opened<R: Net>(rt: &R, alloc: Global, own: SocketAddrV4) -> io::Result<Opened> {
+    let other = SocketAddrV4::new(*own.ip(), 0);
     let any = SocketAddrV4::new(Ipv4Addr::UNSPECIFIED, 0);
-    let events = Events::with_capacity(alloc, 2)?;
+    let events = Events::with_capacity(alloc, 3)?;
     let poll = Poll::new(rt)?;
     let first = watched(rt, &poll, own, Token(0))?;
-    let second = watched(rt, &poll, any, Token(1))?;
-    Ok((first, second, poll, events))
+    let second = watched(rt, &poll, other, Token(1))?;
+    let third = watched(rt, &poll, any, Token(2))?;
+    Ok(Opened {
+        first,
+        second,
+        third,
+        poll,
+        events,
+    })
 }
 
 // Why there is no socket at this address.
@@ -68,8 +89,15 @@ impl<'a, R: Net + Clock> Ends<'a, R> {
         alloc: Global,
         gateway: SocketAddrV4,
         own: SocketAddrV4,
+        telephone: Option<Telephone<'a>>,
     ) -> Result<Ends<'a, R>, CheckFault> {
-        let (first, second, poll, events) = match opened(rt, alloc, own) {
+        let Opened {
+            first,
+            second,
+            third,
+            poll,
+            events,
+        } = match opened(rt, alloc, own) {
             Ok(sockets) => sockets,
             Err(e) => return Err(unbound(own, e.kind())),
         };
@@ -82,10 +110,20 @@ impl<'a, R: Net + Clock> Ends<'a, R> {
             gateway,
             first,
             second,
+            third,
             poll,
             events,
             start,
+            telephone,
         })
+    }
+
+    /// The port of the second socket; 0 where the system doesn't tell.
+    pub(crate) fn second_port(&self) -> u16 {
+        match self.second.local_addr() {
+            Ok(address) => address.port(),
+            Err(_) => 0,
+        }
     }
 
     fn socket(&self, which: Socket) -> &UdpSocket {
@@ -120,11 +158,11 @@ impl<'a, R: Net + Clock> Ends<'a, R> {
     // Gives the player a datagram that has come to a socket, and answers the gateway's commands in it.
     fn give(&self, player: &mut Player<'_>, at: Socket, datagram: &[u8]) -> Result<(), CheckFault> {
         let mut responses = String::new(self.alloc);
-        put_responses(self.alloc, &mut responses, datagram)?;
+        player.put_responses(&mut responses, datagram)?;
         if !responses.is_empty() {
             self.send(at, responses.as_bytes())?;
         }
-        player.take(at, datagram)?;
+        player.take(at, datagram, self.now()?)?;
         Ok(())
     }
 
@@ -166,6 +204,47 @@ impl<'a, R: Net + Clock> Ends<'a, R> {
         self.wait(until)
     }
 
+    // What was answered to what is to be done, if that has come: whether it was done. Others aren't heard.
+    fn done(&self, telephone: Telephone<'_>) -> Option<bool> {
+        let mut room = [0u8; ROOM];
+        match self.third.recv_from(&mut room) {
+            Ok((len, source)) if source == SocketAddr::V4(telephone.address) => {
+                Some(room[..len].trim_ascii() == b"done")
+            }
+            Ok(_) | Err(_) => None,
+        }
+    }
+
+    // Waits until it is told whether something was done, but no longer than until this moment.
+    fn await_done(&mut self, telephone: Telephone<'_>, until: u64) -> Result<bool, CheckFault> {
+        for _ in 0..u64::MAX {
+            if let Some(is_done) = self.done(telephone) {
+                return Ok(is_done);
+            }
+            if self.now()? >= until {
+                return Ok(false);
+            }
+            self.wait(until)?;
+        }
+        Ok(false)
+    }
+
+    // Has this done at the line's telephone, or with the gateway; whether it was.
+    fn act(&mut self, act: &str) -> Result<bool, CheckFault> {
+        let Some(telephone) = self.telephone else {
+            return Ok(false);
+        };
+        let text = telephone.text(self.alloc, act)?;
+        let until = self.now()?.saturating_add(LONGEST_ACT);
+        match self
+            .third
+            .send_to(text.as_bytes(), SocketAddr::V4(telephone.address))
+        {
+            Ok(_) => self.await_done(telephone, until),
+            Err(_) => Ok(false),
+        }
+    }
+
     /// Plays a check to its end.
     pub(crate) fn play(&mut self, player: &mut Player<'_>) -> Result<(), CheckFault> {
         for _ in 0..u64::MAX {
@@ -173,6 +252,10 @@ impl<'a, R: Net + Clock> Ends<'a, R> {
             match player.turn(now)? {
                 Turn::Send { from } => self.send(from, player.sent())?,
                 Turn::Wait { until } => self.hear(player, until)?,
+                Turn::Act => {
+                    let is_done = self.act(player.act())?;
+                    player.acted(is_done);
+                }
                 Turn::Over => return Ok(()),
             }
         }

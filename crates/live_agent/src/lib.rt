@@ -16,14 +16,17 @@ mod recorder;
 mod serve_fault;
 mod serving;
 mod session;
+mod telephone;
 mod wire;
 
 pub use crate::check_fault::CheckFault;
-pub use crate::checking::{CheckSettings, check_gateway};
+pub use crate::checking::{CheckSettings, Checked, check_gateway, check_list, is_check};
+pub use crate::json::fault_text;
 pub use crate::kept_records::KeptRecords;
 pub use crate::phones::{Played, play_phones};
 pub use crate::recorder::Recorder;
 pub use crate::serve_fault::ServeFault;
 pub use crate::serving::{WireSettings, serve_agent};
 pub use crate::session::serve;
+pub use crate::telephone::Telephone;
 pub use crate::wire::Wire;
