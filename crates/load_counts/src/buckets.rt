@@ -1,0 +1,45 @@
+//! The buckets: each of a millisecond below a tenth of a second, and of a tenth of its power of ten above.
+ghost use Rattle.std.specs.Prelude.{◌≡◌, ◌<◌};
+ghost use Rattle.load_counts.specs.Buckets.{bucket_of, greatest_in};
+
+/// There are so many buckets: 100, three times 90, and one.
+pub const BUCKETS: usize = 371;
+
+/// From here on all times share the last bucket, in ms.
+pub const LONGEST: u64 = 100_000;
+
+/// The place of the bucket that a time of so many ms falls into.
+pub(crate) fn bucket_of(ms: u64) -> usize
+    ensures place { result ≡ bucket_of ms }
+    ensures within { result < BUCKETS }
+{
+    if ms < 100 {
+        ms as usize
+    } else if ms < 1_000 {
+        (100 + (ms - 100) / 10) as usize
+    } else if ms < 10_000 {
+        (190 + (ms - 1_000) / 100) as usize
+    } else if ms < LONGEST {
+        (280 + (ms - 10_000) / 1_000) as usize
+    } else {
+        370
+    }
+}
+
+/// The greatest time of the bucket at a place, in ms; that of the last is the last below it.
+pub(crate) fn greatest_in(place: usize) -> u64
+    ensures { result ≡ greatest_in place }
+{
+    let place = place as u64;
+    if place < 100 {
+        place
+    } else if place < 190 {
+        109 + (place - 100) * 10
+    } else if place < 280 {
+        1_099 + (place - 190) * 100
+    } else if place < 370 {
+        10_999 + (place - 280) * 1_000
+    } else {
+        LONGEST - 1
+    }
+}
