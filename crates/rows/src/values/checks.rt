@@ -4,8 +4,12 @@
 //! `B 200 1 OK¶` where one comes to the second socket, `W 1500` where so many ms pass, `!` anywhere where nothing can be done at the
 //! telephone. Transaction ids are 1 to 9, the call is 0, the lines are aaln/1 and aaln/2 at rgw.example.net, the sockets
 //! ca@[10.0.0.1]:2727 and ca@[10.0.0.1]:2728. The answer is `pass`, or `fail: `, `left open: ` or `not supported: ` with the step
-//! that isn't met.
-use gateway_checks::{Names, Places, Player, Socket, Turn, Verdict, check_named};
+//! that isn't met. `report NAME` and `case NAME` are the same, with what is printed of the check, for people or as JUnit's XML;
+//! `entry NAME` is how it stands in the list of all, whatever the value is.
+use gateway_checks::{
+    Check, Names, Places, Player, Socket, Turn, Verdict, check_named, put_case, put_check,
+    put_entry,
+};
 use mg_bytes::{OutOfMemory, decimal};
 use scenario_files::Row;
 
@@ -63,33 +67,81 @@ fn play(player: &mut Player<'_>, came: &[u8]) -> Result<(), OutOfMemory> {
     Ok(())
 }
 
-// Puts what comes of a check. Where there is none of this name there is no such row.
-fn put_verdict(row: &mut Row<'_>, name: &str, came: &[u8]) {
-    let Some(check) = check_named(name) else {
-        row.unread();
-        return;
-    };
-    let names = Names::new(row.alloc, &PLACES, 0);
-    let mut player = Player::new(row.alloc, &check, names);
-    if play(&mut player, came).is_err() {
-        row.refuse();
-        return;
-    }
-    let word = match player.verdict() {
-        Verdict::Passed => b"pass".as_slice(),
-        Verdict::Failed => b"fail: ".as_slice(),
-        Verdict::LeftOpen => b"left open: ".as_slice(),
-        Verdict::NotSupported => b"not supported: ".as_slice(),
-    };
-    row.put(word);
-    row.put(player.due().as_bytes());
+// What is told of a check.
+#[derive(Clone, Copy)]
+enum Form {
+    Verdict,
+    Report,
+    Case,
+    Entry,
 }
 
-/// Puts what a call gives, and says whether there is such a call here.
+// The form that a call asks for, and the name of its check.
+fn asked(call: &str) -> Option<(Form, &str)> {
+    let (word, name) = call.split_once(' ')?;
+    match word {
+        "check" => Some((Form::Verdict, name)),
+        "report" => Some((Form::Report, name)),
+        "case" => Some((Form::Case, name)),
+        "entry" => Some((Form::Entry, name)),
+        _ => None,
+    }
+}
+
+// Puts the verdict, with the step that isn't met.
+fn put_verdict(out: &mut String, player: &Player<'_>) -> Result<(), OutOfMemory> {
+    out.push_str(match player.verdict() {
+        Verdict::Passed => "pass",
+        Verdict::Failed => "fail: ",
+        Verdict::LeftOpen => "left open: ",
+        Verdict::NotSupported => "not supported: ",
+    })?;
+    out.push_str(player.due())
+}
+
+// Puts what is told of a check that was played.
+fn put_form(
+    out: &mut String,
+    form: Form,
+    check: &Check<'_>,
+    player: &Player<'_>,
+) -> Result<(), OutOfMemory> {
+    let verdict = Some(player.verdict());
+    match form {
+        Form::Verdict => put_verdict(out, player),
+        Form::Report => put_check(out, check, verdict, player.said()),
+        Form::Case => put_case(out, check, verdict, player.due(), player.said()),
+        Form::Entry => put_entry(out, check),
+    }
+}
+
+// What is told of a check in which this comes.
+fn told(
+    row: &Row<'_>,
+    form: Form,
+    check: &Check<'static>,
+    came: &[u8],
+) -> Result<String, OutOfMemory> {
+    let names = Names::new(row.alloc, &PLACES, 0);
+    let mut player = Player::new(row.alloc, check, names);
+    play(&mut player, came)?;
+    let mut out = String::new(row.alloc);
+    put_form(&mut out, form, check, &player)?;
+    Ok(out)
+}
+
+/// Puts what a call gives, and says whether there is such a call here. Where there is no check of this name there is no such row.
 pub fn put_answer(row: &mut Row<'_>, call: &str, value: &[u8]) -> bool {
-    let Some(name) = call.strip_prefix("check ") else {
+    let Some((form, name)) = asked(call) else {
         return false;
     };
-    put_verdict(row, name, value);
+    let Some(check) = check_named(name) else {
+        row.unread();
+        return true;
+    };
+    match told(row, form, &check, value) {
+        Ok(text) => row.put(text.as_bytes()),
+        Err(_) => row.refuse(),
+    }
     true
 }
