@@ -57,10 +57,11 @@ impl Mailbox {
     pub(crate) fn is_quiet(&self, since: u64) -> bool
         ensures { result ≡ is_quiet self.now.heard.items self.now.waiting.items since }
     {
-        !self
+        let is_disturbed = self
             .waiting
             .iter()
-            .any(|unasked| self.disturbs(since, unasked))
+            .any(|unasked| self.disturbs(since, unasked));
+        !is_disturbed
     }
 
     // Whether it came to this socket, and is no copy.

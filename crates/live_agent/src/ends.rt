@@ -74,6 +74,11 @@ fn opened<R: Net>(rt: &R, alloc: Global, own: SocketAddrV4) -> io::Result<Opened
     })
 }
 
+// Whether an answer says that something was done.
+fn is_done(answer: &[u8]) -> bool {
+    answer.strip_suffix(b"\n").unwrap_or(answer) == b"done".as_slice()
+}
+
 // Why there is no socket at this address.
 fn unbound(address: SocketAddrV4, kind: io::ErrorKind) -> CheckFault {
     match SystemFault::of(kind) {
@@ -208,8 +213,8 @@ impl<'a, R: Net + Clock> Ends<'a, R> {
     fn done(&self, telephone: Telephone<'_>) -> Option<bool> {
         let mut room = [0u8; ROOM];
         match self.third.recv_from(&mut room) {
-            Ok((len, source)) if source == SocketAddr::V4(telephone.address) => {
-                Some(room[..len].trim_ascii() == b"done")
+            Ok((len, SocketAddr::V4(source))) if source == telephone.address => {
+                Some(is_done(&room[..len]))
             }
             Ok(_) | Err(_) => None,
         }

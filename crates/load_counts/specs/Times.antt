@@ -1,6 +1,6 @@
 -- Times that were recorded: how many fell into each bucket, and the percentiles of them.
 use Rattle.std.specs.Prelude.{ℕ, ◌+◌, ◌-◌, ◌*◌, ◌/◌, min, max, nat_le, ◌==◌, if◌then◌else◌, List, [], ◌∷◌, fold, replicate, Option, Some, None, slice_set, slice_index_or}
-use Rattle.load_counts.specs.declared.buckets.TheConstants.{BUCKETS}
+use Rattle.load_counts.specs.declared.buckets.TheConstants.{BUCKETS, LAST}
 use Rattle.load_counts.specs.Buckets.{bucket_of, greatest_in}
 
 -- counts go up to here
@@ -45,7 +45,7 @@ place_from place missing (count ∷ more) = if nat_le missing count then place e
 
 -- the greatest time of that bucket, and never more than the greatest of all: in the last bucket that one itself
 abbrev pub time_at : TimesState → ℕ → ℕ
-time_at times place = if nat_le 370 place then times.most else min (greatest_in place) times.most
+time_at times place = if nat_le LAST place then times.most else min (greatest_in place) times.most
 
 unfoldable pub percentile_of : ℕ → TimesState → Option ℕ
 percentile_of percent times =

@@ -5,6 +5,9 @@ ghost use Rattle.load_counts.specs.Buckets.{bucket_of, greatest_in};
 /// There are so many buckets: 100, three times 90, and one.
 pub const BUCKETS: usize = 371;
 
+/// The place of the last, of all that is longer.
+pub(crate) const LAST: usize = 370;
+
 /// From here on all times share the last bucket, in ms.
 pub const LONGEST: u64 = 100_000;
 
@@ -22,7 +25,7 @@ pub(crate) fn bucket_of(ms: u64) -> usize
     } else if ms < LONGEST {
         (280 + (ms - 10_000) / 1_000) as usize
     } else {
-        370
+        LAST
     }
 }
 
@@ -30,15 +33,14 @@ pub(crate) fn bucket_of(ms: u64) -> usize
 pub(crate) fn greatest_in(place: usize) -> u64
     ensures { result ≡ greatest_in place }
 {
-    let place = place as u64;
     if place < 100 {
-        place
+        place as u64
     } else if place < 190 {
-        109 + (place - 100) * 10
+        109 + (place as u64 - 100) * 10
     } else if place < 280 {
-        1_099 + (place - 190) * 100
-    } else if place < 370 {
-        10_999 + (place - 280) * 1_000
+        1_099 + (place as u64 - 190) * 100
+    } else if place < LAST {
+        10_999 + (place as u64 - 280) * 1_000
     } else {
         LONGEST - 1
     }

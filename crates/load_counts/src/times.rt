@@ -2,7 +2,7 @@
 ghost use Rattle.std.specs.Prelude.{◌≡◌, ◌≤◌, IfOk};
 ghost use Rattle.load_counts.specs.Times.{no_times, with_one, with_time, rank, place_from, time_at, percentile_of, one_more};
 
-use crate::buckets::{BUCKETS, bucket_of, greatest_in};
+use crate::buckets::{BUCKETS, LAST, bucket_of, greatest_in};
 use mg_bytes::OutOfMemory;
 use std::alloc::Global;
 use std::marker::Model;
@@ -96,7 +96,7 @@ impl Times {
     fn time_at(&self, place: usize) -> u64
         ensures { result ≡ time_at self.now place }
     {
-        if place >= 370 {
+        if place >= LAST {
             self.most
         } else {
             greatest_in(place).min(self.most)
