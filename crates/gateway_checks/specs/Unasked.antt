@@ -18,6 +18,8 @@ use Rattle.gateway_checks.specs.declared.unasked.TheConstants.{OWN_NUMBERS}
 use Rattle.gateway_checks.specs.declared.gaps.Gaps.{Gaps}
 use Rattle.gateway_checks.specs.Matching.{is_same_socket}
 use Rattle.gateway_checks.specs.Reporting.{one_more}
+use Rattle.gateway_checks.specs.declared.waiting.TheConstants.{CROSSING}
+use Rattle.gateway_checks.specs.Waiting.{so_long_behind}
 
 -- Kinds
 
@@ -128,9 +130,12 @@ is_same_text left right = left.id == right.id && left.text.items == right.text.i
 abbrev pub is_copy : List Unasked → Unasked → Bool
 is_copy heard unasked = list_any (λ before. is_same_text before unasked) heard
 
--- it breaks a silence that began at this moment: anything new does, and a copy that came later
+-- it breaks a silence that began at this moment: anything new does, and a copy that can't have crossed the answer
+abbrev pub breaks : Bool → ℕ → ℕ → Bool
+breaks copied since moment = nat_lt (so_long_behind since CROSSING) moment || not copied
+
 abbrev pub disturbs : List Unasked → ℕ → Unasked → Bool
-disturbs heard since unasked = nat_lt since unasked.moment || not (is_copy heard unasked)
+disturbs heard since unasked = breaks (is_copy heard unasked) since unasked.moment
 
 -- nothing of what waits breaks it
 abbrev pub is_quiet : List Unasked → List Unasked → ℕ → Bool

@@ -14,9 +14,8 @@ ghost use Rattle.gateway_checks.specs.Matching.{is_among, code_fault, has_value,
 ghost use Rattle.gateway_checks.specs.Reporting.{word_of, greatest_count, one_more, with_verdict};
 ghost use Rattle.gateway_checks.specs.declared.report.Tally.{Tally};
 ghost use Rattle.gateway_checks.specs.Waiting.{greatest_moment, waited_until, is_prolonged};
-ghost use Rattle.gateway_checks.specs.declared.unasked.Unasked.{Unasked};
 ghost use Rattle.gateway_checks.specs.declared.unasked.Likeness.TheVariants as likes;
-ghost use Rattle.gateway_checks.specs.Unasked.{notified_by, announced_by, is_for_check, is_copy, is_quiet, likeness_at, first_meant, none_since, with_coming, with_copy, gaps_of, has_grown};
+ghost use Rattle.gateway_checks.specs.Unasked.{notified_by, announced_by, is_for_check, breaks, is_quiet, none_since, with_coming, has_grown};
 
 /// A code that is due is right; by one from 500 to 599 something that may be left out isn't supported.
 pub fn codes_are_due_or_not()
@@ -174,11 +173,13 @@ pub fn steps_answer_what_is_for_them()
     ensures other { is_for_check 3000 true (read_text (codes "DLCX 5 a@gw1 MGCP 1.0\n")) ≡ false }
 {}
 
-/// A copy has the same id and the same bytes. A silence is broken by anything new, and by a copy that came since it began.
+/// A silence is broken by anything new, and by a copy that can't have crossed the answer.
 pub fn a_silence_is_broken_by_what_comes()
-    ensures copy { (told : Unasked) → is_copy (told ∷ []) told ≡ true → is_quiet (told ∷ []) (told ∷ []) told.moment ≡ true }
+    ensures crossing { breaks true 1000 1200 ≡ false }
+    ensures later { breaks true 1000 1201 ≡ true }
+    ensures before { breaks true 1000 500 ≡ false }
+    ensures new { breaks false 1000 500 ≡ true }
     ensures nothing { is_quiet [] [] 0 ≡ true }
-    ensures new { (told : Unasked) → is_quiet [] (told ∷ []) 0 ≡ false }
 {}
 
 /// The first gap and the last are counted, and the last is to be half as long again.

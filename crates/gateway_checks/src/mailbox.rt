@@ -9,6 +9,7 @@ ghost use Rattle.gateway_checks.specs.Unasked.{gaps_of};
 use crate::gaps::Gaps;
 use crate::socket::Socket;
 use crate::unasked::{Likeness, Unasked, announced_by, notified_by};
+use crate::waiting::CROSSING;
 use mg_bytes::OutOfMemory;
 use std::alloc::Global;
 
@@ -50,7 +51,7 @@ impl Mailbox {
     fn disturbs(&self, since: u64, unasked: &Unasked) -> bool
         ensures { result ≡ disturbs self.now.heard.items since unasked.now }
     {
-        since < unasked.moment || !self.is_copy(unasked)
+        since.saturating_add(CROSSING) < unasked.moment || !self.is_copy(unasked)
     }
 
     /// Whether nothing that waits breaks a silence that began at this moment, in ms.

@@ -6,7 +6,8 @@
 //! - `announced NAME METHOD` an announcement (RSIP) comes, with this method.
 //! - `again N` what was asked for last comes N times again, byte for byte; `slower N` so, and its last gap is at least half as
 //!   long again as its first. It is waited for 4 s each time, as for the first.
-//! - `quiet MS` the gateway says nothing by itself for so long, in ms; copies of what was asked for count once it has begun.
+//! - `quiet MS` the gateway says nothing by itself for so long, in ms; copies of what was asked for count from 200 ms on, since
+//!   one may cross the answer.
 //! - `differ A B` two names stand for different values; `pause MS` so long passes.
 //! - `act off`, `act on`, `act flash`, `act 5` this is done at the line's telephone; `restart` the gateway is started anew.
 //!
@@ -134,7 +135,7 @@ undo
 notified one {line} {1} *
 > RQNT {2} {line} MGCP 1.0 / X: {2} / R: L/oc(N) / S: L/rg(to=100)
 < 200 {2}
-pause 500
+pause 300
 > RQNT {3} {line} MGCP 1.0 / X: {3} / R: L/oc(N)
 < 200 {3}
 > 200 {one} OK
@@ -148,7 +149,7 @@ undo request
 notified one {line} {1} *
 > RQNT {2} {line} MGCP 1.0 / X: {2} / R: L/oc(N) / S: L/rg(to=100)
 < 200 {2}
-pause 500
+pause 300
 > RQNT {3} {line} MGCP 1.0 / X: {3} / R: L/oc(N) / Q: discard
 < 200 {3}
 > 200 {one} OK
@@ -161,10 +162,10 @@ undo request
 notified one {line} {1} *
 > RQNT {2} {line} MGCP 1.0 / X: {2} / R: L/oc(N) / S: L/rg(to=100)
 < 200 {2}
-pause 500
+pause 300
 > RQNT {3} {line} MGCP 1.0 / X: {3} / R: L/oc(N) / S: L/rg(to=100)
 < 200 {3}
-pause 500
+pause 300
 > 200 {one} OK
 notified two {line} {3} *
 > 200 {two} OK
@@ -181,10 +182,10 @@ undo request
 notified one {line} {1} *
 > RQNT {2} {line} MGCP 1.0 / X: {2} / R: L/oc(N) / S: L/rg(to=100)
 < 200 {2}
-pause 500
+pause 300
 > RQNT {3} {line} MGCP 1.0 / X: {3} / R: L/oc(N) / S: L/rg(to=100) / Q: loop
 < 200 {3}
-pause 500
+pause 300
 > 200 {one} OK
 notified two {line} {3} *
 > 200 {two} OK

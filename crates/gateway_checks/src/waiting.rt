@@ -13,6 +13,9 @@ pub(crate) const LONGEST_ANSWER_TIME: u64 = 30_000;
 /// So long what a gateway says by itself is waited for, in ms, and behind each time that it comes so long anew.
 pub(crate) const UNASKED_TIME: u64 = 4000;
 
+/// So long after an answer what it answers may still come again, in ms: the two cross.
+pub(crate) const CROSSING: u64 = 200;
+
 /// Until when an answer is waited for from now on, where the step began at this moment.
 pub(crate) fn waited_until(begun: u64, now: u64) -> u64
     ensures until { result ≡ waited_until begun now }
