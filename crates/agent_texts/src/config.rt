@@ -14,7 +14,7 @@ use toml::{Table, Value};
 
 const KEYS: [&str; 3] = ["own", "digit_map", "gateways"];
 
-const GATEWAY_KEYS: [&str; 2] = ["address", "numbers"];
+const GATEWAY_KEYS: [&str; 3] = ["address", "numbers", "phones"];
 
 /// A gateway that a call agent works with.
 #[derive(Drop)]
@@ -22,6 +22,8 @@ pub struct GatewayConfig {
     /// What stands behind the `@` of its endpoints' names.
     pub domain: Text,
     pub address: SocketAddrV4,
+    /// The address at which its telephones are worked and watched, where that is known.
+    pub phones: Option<SocketAddrV4>,
     /// The number of each of its lines, in their order.
     pub numbers: Vec<Text>,
 }
@@ -87,6 +89,21 @@ fn address_at(
     match found {
         Some(address) => Ok(address),
         None => Err(refused(alloc, place, value, ValueFault::NoAddress)?),
+    }
+}
+
+// The address at a key, where that is there.
+fn address_if(
+    alloc: Global,
+    table: &Table,
+    place: Place<'_>,
+) -> Result<Option<SocketAddrV4>, ConfigRefusal> {
+    if table.get(place.key).is_none() {
+        return Ok(None);
+    }
+    match address_at(alloc, table, place) {
+        Ok(address) => Ok(Some(address)),
+        Err(refusal) => Err(refusal),
     }
 }
 
@@ -189,9 +206,11 @@ fn gateway_of(
         return Err(unknown(alloc, key_of(domain, other))?);
     }
     let address = address_at(alloc, table, key_of(domain, "address"))?;
+    let phones = address_if(alloc, table, key_of(domain, "phones"))?;
     Ok(GatewayConfig {
         domain: copied(alloc, domain.as_bytes())?,
         address,
+        phones,
         numbers: numbers_at(alloc, seen, table, key_of(domain, "numbers"))?,
     })
 }
