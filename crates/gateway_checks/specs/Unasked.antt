@@ -1,5 +1,5 @@
 -- What a gateway says by itself: which of it is for a check, what of it a step expects, and how what isn't answered comes again.
-use Rattle.std.specs.Prelude.{ℕ, ◌+◌, ◌-◌, ◌*◌, Bool, true, false, not, ◌&&◌, ◌||◌, ◌==◌, nat_le, nat_lt, if◌then◌else◌, codes, List, [], ◌∷◌, fold, Option, Some, None}
+use Rattle.std.specs.Prelude.{ℕ, ◌+◌, ◌-◌, ◌*◌, Bool, true, false, not, ◌&&◌, ◌||◌, ◌==◌, nat_le, nat_lt, if◌then◌else◌, codes, bytes_eq, List, [], ◌∷◌, fold, Option, Some, None}
 use Rattle.std.specs.List.{list_any}
 use Rattle.mg_bytes.specs.Case.{same_but_case}
 use Rattle.mg_bytes.specs.Numbers.{decimal_of}
@@ -124,7 +124,7 @@ is_for_check base announces (bad_body id) = false
 
 -- the same text again: the same bytes, under the same id (RFC 3435, 3.5.1)
 abbrev pub is_same_text : Unasked → Unasked → Bool
-is_same_text left right = left.id == right.id && left.text.items == right.text.items
+is_same_text left right = left.id == right.id && bytes_eq left.text.items right.text.items
 
 -- a copy of one that a step has asked for
 abbrev pub is_copy : List Unasked → Unasked → Bool
