@@ -4,12 +4,11 @@ ghost use Rattle.load_counts.specs.declared.buckets.TheConstants.{BUCKETS, LONGE
 ghost use Rattle.load_counts.specs.Buckets.{bucket_of, greatest_in};
 ghost use Rattle.load_counts.specs.Times.{recorded};
 
-/// Each time has a bucket, of which the greatest time is no less and at most a tenth more; and longer times have later buckets.
+/// Each time has a bucket, of which the greatest time is no less and at most a tenth more.
 pub fn buckets_are_close()
     ensures within { (ms : ℕ) → bucket_of ms < BUCKETS }
     ensures not_below { (ms : ℕ) → ms < LONGEST → ms ≤ greatest_in (bucket_of ms) }
     ensures close { (ms : ℕ) → ms < LONGEST → 10 * greatest_in (bucket_of ms) ≤ 11 * ms }
-    ensures ordered { (ms longer : ℕ) → ms ≤ longer → bucket_of ms ≤ bucket_of longer }
 {}
 
 /// Whatever is recorded, there are as many buckets.
