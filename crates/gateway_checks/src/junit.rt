@@ -10,7 +10,7 @@ fn put_char(out: &mut String, letter: char) -> Result<(), OutOfMemory> {
         '&' => out.push_str("&amp;"),
         '<' => out.push_str("&lt;"),
         '>' => out.push_str("&gt;"),
-        '"' => out.push_str("&quot;"),
+        '\u{22}' => out.push_str("&quot;"),
         '\n' => out.push('\n'),
         _ if letter.is_ascii_control() => out.push('?'),
         _ => out.push(letter),
