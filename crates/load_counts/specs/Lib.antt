@@ -1,2 +1,3 @@
 pub mod Buckets
 pub mod Times
+pub mod Series

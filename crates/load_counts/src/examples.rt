@@ -3,6 +3,7 @@
 
 ghost use Rattle.std.specs.Prelude.{◌≡◌, [], ◌∷◌, map, Some, None};
 ghost use Rattle.load_counts.specs.Buckets.{bucket_of, greatest_in};
+ghost use Rattle.load_counts.specs.Series.{interval_seconds, interval_of};
 ghost use Rattle.load_counts.specs.Times.{no_times, recorded, rank, place_from, percentile_of};
 
 /// Buckets are of a millisecond, of ten, of a hundred and of a thousand, and one has all that is longer.
@@ -37,4 +38,16 @@ pub fn percentiles_are_told()
     ensures greatest { percentile_of 100 (recorded (123 ∷ [])) ≡ Some 123 }
     ensures longest { percentile_of 100 (recorded (1 ∷ 250000 ∷ [])) ≡ Some 250000 }
     ensures rare { percentile_of 95 (recorded (1 ∷ 1 ∷ 1 ∷ 900 ∷ [])) ≡ Some 900 }
+{}
+
+/// At most 600 intervals have one length of whole seconds, and a moment lies in one of them.
+pub fn a_load_has_few_intervals()
+    ensures short { interval_seconds 60 ≡ 1 }
+    ensures most { interval_seconds 600 ≡ 1 }
+    ensures more { interval_seconds 601 ≡ 2 }
+    ensures none { interval_seconds 0 ≡ 1 }
+    ensures first { interval_of 1 999 ≡ 0 }
+    ensures second { interval_of 1 1000 ≡ 1 }
+    ensures longer { interval_of 2 3999 ≡ 1 }
+    ensures late { interval_of 1 700000 ≡ 599 }
 {}
