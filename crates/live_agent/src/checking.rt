@@ -157,47 +157,31 @@ impl<'a> Checking<'a> {
         Ok(())
     }
 
-    // Reports a check that isn't played.
-    fn pass_over<F: Write + Drop>(
-        &mut self,
-        out: &mut Outlet<F>,
-        check: &Check<'_>,
-    ) -> Result<(), CheckFault> {
-        self.tally.count(None);
-        self.keep_case(check, None, "", "")?;
-        let mut text = String::new(self.alloc);
-        if self.settings.is_json {
-            text = check_text(self.alloc, check, None, "", "", &[])?;
-            text.push('\n')?;
-        } else {
-            put_check(&mut text, check, None, "")?;
-        }
-        put_out(out, text.as_str())
-    }
-
-    // Reports a check that was played.
+    // Reports a check: with what its player has, if it was played.
     fn report<F: Write + Drop>(
         &mut self,
         out: &mut Outlet<F>,
         check: &Check<'_>,
-        player: &Player<'_>,
+        player: Option<&Player<'_>>,
     ) -> Result<(), CheckFault> {
-        let verdict = Some(player.verdict());
-        self.tally.count(verdict);
-        self.keep_case(check, verdict, player.due(), player.said())?;
-        let mut text = String::new(self.alloc);
-        if self.settings.is_json {
-            text = check_text(
-                self.alloc,
-                check,
-                verdict,
+        let nothing: &[Vec<u8>] = &[];
+        let (verdict, said, due, came) = match player {
+            Some(player) => (
+                Some(player.verdict()),
                 player.said(),
                 player.due(),
                 player.came(),
-            )?;
+            ),
+            None => (None, "", "", nothing),
+        };
+        self.tally.count(verdict);
+        self.keep_case(check, verdict, due, said)?;
+        let mut text = String::new(self.alloc);
+        if self.settings.is_json {
+            text = check_text(self.alloc, check, verdict, said, due, came)?;
             text.push('\n')?;
         } else {
-            put_check(&mut text, check, verdict, player.said())?;
+            put_check(&mut text, check, verdict, said)?;
         }
         put_out(out, text.as_str())
     }
@@ -327,7 +311,7 @@ fn play_one<R: Net + Clock, F: Write + Drop>(
     player: &mut Player<'_>,
 ) -> Result<(), CheckFault> {
     ends.play(player)?;
-    checking.report(out, check, player)
+    checking.report(out, check, Some(player))
 }
 
 // Plays a check, where it is asked for.
@@ -341,7 +325,7 @@ fn check_one<R: Net + Clock, F: Write + Drop>(
         return Ok(());
     }
     if !checking.is_played(check) {
-        return checking.pass_over(out, check);
+        return checking.report(out, check, None);
     }
     let line = checking.settings.line;
     let mut player = checking.player(check, line);
