@@ -15,7 +15,7 @@ ghost use Rattle.gateway_checks.specs.Reporting.{word_of, greatest_count, one_mo
 ghost use Rattle.gateway_checks.specs.declared.report.Tally.{Tally};
 ghost use Rattle.gateway_checks.specs.Waiting.{greatest_moment, waited_until, is_prolonged};
 ghost use Rattle.gateway_checks.specs.declared.unasked.Likeness.TheVariants as likes;
-ghost use Rattle.gateway_checks.specs.Unasked.{notified_by, announced_by, is_for_check, breaks, is_quiet, none_since, with_coming, has_grown};
+ghost use Rattle.gateway_checks.specs.Unasked.{notified_by, announced_by, is_for_check, breaks, is_quiet, likeness, chosen, none_since, with_coming, has_grown};
 
 /// A code that is due is right; by one from 500 to 599 something that may be left out isn't supported.
 pub fn codes_are_due_or_not()
@@ -180,6 +180,16 @@ pub fn a_silence_is_broken_by_what_comes()
     ensures before { breaks true 1000 500 ≡ false }
     ensures new { breaks false 1000 500 ≡ true }
     ensures nothing { is_quiet [] [] 0 ≡ true }
+{}
+
+/// The first that is meant is the one that counts, whether it is as due or not.
+pub fn the_first_that_is_meant_counts()
+    ensures another { chosen likes.Another 0 (Some (3, true)) ≡ Some (3, true) }
+    ensures due { chosen likes.AsDue 2 (Some (3, false)) ≡ Some (2, true) }
+    ensures otherwise { chosen likes.Otherwise 2 (Some (3, true)) ≡ Some (2, false) }
+    ensures passed_over { likeness false true ≡ likes.Another }
+    ensures right { likeness true true ≡ likes.AsDue }
+    ensures wrong { likeness true false ≡ likes.Otherwise }
 {}
 
 /// The first gap and the last are counted, and the last is to be half as long again.
