@@ -15,7 +15,7 @@ use mg_bytes::{OutOfMemory, Sequence};
 use rgw_play::{Task, WordFault, asked, gateway_of};
 use rgw_scenes::{flaw_of, told, told_setup};
 use scenario_files::{
-    Row, Scenario, WrittenScenario, input_of, number_in, put_line, read_scenario, value_of,
+    Outcome, Row, Scenario, WrittenScenario, input_of, number_in, put_line, read_scenario, value_of,
 };
 use std::alloc::{AllocError, Global};
 use std::io;
@@ -23,16 +23,16 @@ use std::io;
 const REQUEST: &str = "RQNT 1 aaln/1@rgw.example.net MGCP 1.0\nX: 1\n";
 
 // Puts what words ask for.
-fn put_task(row: &mut Row<'_>, line: &str) -> io::Result<()> {
-    let line = value_of(row.alloc, line)?;
-    match asked(row.alloc, Ok(words_of(row.alloc, line.as_str())?)) {
-        Ok(Task::Simulate) => row.put(b"simulate"),
+fn put_task(given: &mut Outcome, line: &str) -> io::Result<()> {
+    let line = value_of(given.alloc, line)?;
+    match asked(given.alloc, Ok(words_of(given.alloc, line.as_str())?)) {
+        Ok(Task::Simulate) => given.put(b"simulate"),
         Ok(Task::Loopback { port }) => {
-            row.put(b"loopback ");
-            row.put_shown(port);
+            given.put(b"loopback ");
+            given.put_shown(port);
         }
-        Err(WordFault::Usage) => row.put(b"usage"),
-        Err(WordFault::OutOfMemory) => row.refuse(),
+        Err(WordFault::Usage) => given.put(b"usage"),
+        Err(WordFault::OutOfMemory) => given.refuse(),
     }
     Ok(())
 }
@@ -47,11 +47,11 @@ fn numbers(alloc: Global, count: u64) -> Result<Sequence<u64>, OutOfMemory> {
 }
 
 // Puts how long a list is that grew by so many values, and then by a list of so many.
-fn put_length(row: &mut Row<'_>, fields: &str) -> io::Result<()> {
+fn put_length(given: &mut Outcome, fields: &str) -> io::Result<()> {
     let (count, more) = fields.split_once("  ").unwrap_or((fields, ""));
-    let mut all = numbers(row.alloc, number_in(count))?;
-    all.append(numbers(row.alloc, number_in(more))?)?;
-    row.put_shown(all.into_items().len());
+    let mut all = numbers(given.alloc, number_in(count))?;
+    all.append(numbers(given.alloc, number_in(more))?)?;
+    given.put_shown(all.into_items().len());
     Ok(())
 }
 
@@ -65,14 +65,14 @@ fn settings_with(alloc: Global, changes: &str) -> io::Result<String> {
 }
 
 // Puts what is told of settings with these changes.
-fn put_flaw(row: &mut Row<'_>, changes: &str) -> io::Result<()> {
-    let settings = settings_with(row.alloc, changes)?;
-    let Some(flaw) = flaw_of(row.alloc, settings.as_bytes())? else {
-        row.put(b"ok");
+fn put_flaw(given: &mut Outcome, changes: &str) -> io::Result<()> {
+    let settings = settings_with(given.alloc, changes)?;
+    let Some(flaw) = flaw_of(given.alloc, settings.as_bytes())? else {
+        given.put(b"ok");
         return Ok(());
     };
-    let line = told(row.alloc, settings.as_bytes(), flaw)?;
-    row.put(&line);
+    let line = told(given.alloc, settings.as_bytes(), flaw)?;
+    given.put(&line);
     Ok(())
 }
 
@@ -85,11 +85,11 @@ fn setup_told(alloc: Global, config: &[u8]) -> Result<Vec<u8>, OutOfMemory> {
 }
 
 // Puts what is told of a gateway of settings with these changes.
-fn put_setup(row: &mut Row<'_>, changes: &str) -> io::Result<()> {
-    let settings = settings_with(row.alloc, changes)?;
-    match setup_told(row.alloc, settings.as_bytes()) {
-        Ok(lines) => row.put(&lines),
-        Err(_) => row.refuse(),
+fn put_setup(given: &mut Outcome, changes: &str) -> io::Result<()> {
+    let settings = settings_with(given.alloc, changes)?;
+    match setup_told(given.alloc, settings.as_bytes()) {
+        Ok(lines) => given.put(&lines),
+        Err(_) => given.refuse(),
     }
     Ok(())
 }
@@ -138,17 +138,17 @@ fn answer_in(printed: &str) -> &str {
 }
 
 // Puts what is printed of the scenario that a call is.
-fn put_printed(row: &mut Row<'_>, call: &str, fields: &str) -> io::Result<()> {
-    let lines = fields.replace(row.alloc, "  ", "\n")?;
-    let text = value_of(row.alloc, lines.as_str())?;
-    let mut scenario = read_scenario(row.alloc, "", false)?;
+fn put_printed(given: &mut Outcome, call: &str, fields: &str) -> io::Result<()> {
+    let lines = fields.replace(given.alloc, "  ", "\n")?;
+    let text = value_of(given.alloc, lines.as_str())?;
+    let mut scenario = read_scenario(given.alloc, "", false)?;
     if !put_scenario(&mut scenario, call, lines.as_str(), text.as_str())? {
-        row.unread();
+        given.unread();
         return Ok(());
     }
-    let printed = simulated(row.alloc, &scenario)?;
-    let text = String::from_utf8_lossy(row.alloc, &printed)?;
-    row.put(answer_in(text.as_str()).as_bytes());
+    let printed = simulated(given.alloc, &scenario)?;
+    let text = String::from_utf8_lossy(given.alloc, &printed)?;
+    given.put(answer_in(text.as_str()).as_bytes());
     Ok(())
 }
 
@@ -165,12 +165,13 @@ impl Scenario for Calls {
         let (rest, wanted) = row.rsplit_once("  ").unwrap_or((row, ""));
         let (call, values) = rest.split_once("  ").unwrap_or((rest, ""));
         let mut row = Row::of(alloc, wanted);
+        let given = &mut row.given;
         let done = match call {
-            "words" => put_task(&mut row, values),
-            "sequence" => put_length(&mut row, values),
-            "fault" => put_flaw(&mut row, values),
-            "setup" => put_setup(&mut row, values),
-            _ => put_printed(&mut row, call, values),
+            "words" => put_task(given, values),
+            "sequence" => put_length(given, values),
+            "fault" => put_flaw(given, values),
+            "setup" => put_setup(given, values),
+            _ => put_printed(given, call, values),
         };
         done?;
         row.unlike_bytes()

@@ -8,7 +8,7 @@
 //! - `replayed  1 line, all as told\n` the input is replayed as a trace; `replay 3  read fault` where this call of the reader fails;
 //! - `write 2  write fault  line 1\s` this call of the writer fails, and all behind it.
 use rgw_play::{Ending, PlayFault, Played, play};
-use scenario_files::{Row, SETTINGS, Scenario, bytes_of, range_in};
+use scenario_files::{Outcome, Row, SETTINGS, Scenario, bytes_of, range_in};
 use std::alloc::Global;
 use std::io::{self, BufReader, Read, Write};
 use traces::{ReplayFault, Verdict, put_verdict, replay};
@@ -84,38 +84,38 @@ impl Write for SlowWriter {
 }
 
 // Puts what is said of an input that can't be played, a field each line.
-fn put_fault(row: &mut Row<'_>, fault: PlayFault) -> io::Result<()> {
-    let line = format!(in row.alloc; "{}", Ending::Fault(fault))?;
-    let fields = line.replace(row.alloc, "\n", "  ")?;
-    row.put(fields.as_bytes());
+fn put_fault(given: &mut Outcome, fault: PlayFault) -> io::Result<()> {
+    let line = format!(in given.alloc; "{}", Ending::Fault(fault))?;
+    let fields = line.replace(given.alloc, "\n", "  ")?;
+    given.put(fields.as_bytes());
     Ok(())
 }
 
 // Puts how a play ends.
-fn put_ending(row: &mut Row<'_>, outcome: Result<Played, PlayFault>) -> io::Result<()> {
+fn put_ending(given: &mut Outcome, outcome: Result<Played, PlayFault>) -> io::Result<()> {
     match outcome {
         Ok(Played { commands, refused }) => {
-            row.put_shown(commands);
-            row.put(b" commands, ");
-            row.put_shown(refused);
-            row.put(b" refused  ");
+            given.put_shown(commands);
+            given.put(b" commands, ");
+            given.put_shown(refused);
+            given.put(b" refused  ");
         }
-        Err(PlayFault::OutOfMemory) => row.refuse(),
-        Err(fault) => return put_fault(row, fault),
+        Err(PlayFault::OutOfMemory) => given.refuse(),
+        Err(fault) => return put_fault(given, fault),
     }
     Ok(())
 }
 
 // Puts what a replay finds.
-fn put_found(row: &mut Row<'_>, found: Result<Verdict, ReplayFault>) -> io::Result<()> {
+fn put_found(given: &mut Outcome, found: Result<Verdict, ReplayFault>) -> io::Result<()> {
     match found {
         Ok(verdict) => {
-            let mut text = Vec::new(row.alloc);
-            put_verdict(row.alloc, &mut text, &verdict)?;
-            row.put(&text);
+            let mut text = Vec::new(given.alloc);
+            put_verdict(given.alloc, &mut text, &verdict)?;
+            given.put(&text);
         }
-        Err(ReplayFault::OutOfMemory) => row.refuse(),
-        Err(ReplayFault::Read { .. }) => row.put(b"read fault"),
+        Err(ReplayFault::OutOfMemory) => given.refuse(),
+        Err(ReplayFault::Read { .. }) => given.put(b"read fault"),
     }
     Ok(())
 }
@@ -140,54 +140,54 @@ impl StreamScenario {
     }
 
     // What comes of the input with this fault.
-    fn put_played(&self, row: &mut Row<'_>, fault: Fault) -> io::Result<()> {
+    fn put_played(&self, given: &mut Outcome, fault: Fault) -> io::Result<()> {
         let mut reader = SlowReader {
             text: &self.input,
             calls: 0,
             fault,
         };
         let mut writer = SlowWriter {
-            text: Vec::new(row.alloc),
+            text: Vec::new(given.alloc),
             calls: 0,
             fault,
         };
-        put_ending(row, play(row.alloc, &mut reader, &mut writer))?;
-        row.put(&writer.text);
+        put_ending(given, play(given.alloc, &mut reader, &mut writer))?;
+        given.put(&writer.text);
         Ok(())
     }
 
     // What a replay of it as a trace finds, with this fault.
-    fn put_replayed(&self, row: &mut Row<'_>, fault: Fault) -> io::Result<()> {
+    fn put_replayed(&self, given: &mut Outcome, fault: Fault) -> io::Result<()> {
         let reader = SlowReader {
             text: &self.input,
             calls: 0,
             fault,
         };
-        let buffered = BufReader::new(row.alloc, reader)?;
-        put_found(row, replay(row.alloc, buffered))
+        let buffered = BufReader::new(given.alloc, reader)?;
+        put_found(given, replay(given.alloc, buffered))
     }
 
     // What comes of it where this call of a stream fails.
-    fn put_failed(&self, row: &mut Row<'_>, stream: &str, call: u32) -> io::Result<()> {
+    fn put_failed(&self, given: &mut Outcome, stream: &str, call: u32) -> io::Result<()> {
         let call = u64::from(call);
         let fault = match stream {
             "read" => Fault::Read(call),
-            "replay" => return self.put_replayed(row, Fault::Read(call)),
+            "replay" => return self.put_replayed(given, Fault::Read(call)),
             _ => Fault::Write(call),
         };
-        self.put_played(row, fault)
+        self.put_played(given, fault)
     }
 
     // The same where each of these calls fails in its turn: what comes of the first of which the row doesn't say it, else of
     // the last.
     fn put_all_failed(&self, row: &mut Row<'_>, stream: &str, calls: &str) -> io::Result<()> {
         let Some((first, last)) = range_in(calls) else {
-            row.unread();
+            row.given.unread();
             return Ok(());
         };
         for call in first..=last {
-            row.given.clear();
-            self.put_failed(row, stream, call)?;
+            row.given.bytes.clear();
+            self.put_failed(&mut row.given, stream, call)?;
             if row.unlike_bytes()?.is_some() {
                 return Ok(());
             }
@@ -199,14 +199,14 @@ impl StreamScenario {
         let first = row.before("  ");
         let (word, rest) = first.split_once(' ').unwrap_or((first, ""));
         match word {
-            "script" => self.read(row.alloc, true, rest),
-            "input" => self.read(row.alloc, false, rest),
-            "whole" => self.put_played(row, Fault::Nothing),
-            "interrupted" => self.put_played(row, Fault::Interrupts),
-            "replayed" => self.put_replayed(row, Fault::Nothing),
+            "script" => self.read(row.given.alloc, true, rest),
+            "input" => self.read(row.given.alloc, false, rest),
+            "whole" => self.put_played(&mut row.given, Fault::Nothing),
+            "interrupted" => self.put_played(&mut row.given, Fault::Interrupts),
+            "replayed" => self.put_replayed(&mut row.given, Fault::Nothing),
             "read" | "replay" | "write" => self.put_all_failed(row, word, rest),
             _ => {
-                row.unread();
+                row.given.unread();
                 Ok(())
             }
         }

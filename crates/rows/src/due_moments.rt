@@ -8,7 +8,7 @@
 //! - `keep` and `back`: the table as it was once.
 use crate::keeping::{Kept, Thing};
 use mg_packages::SIGNALS;
-use scenario_files::{Row, range_in};
+use scenario_files::{Outcome, Row, range_in};
 use std::alloc::Global;
 use std::io;
 use timers::{Due, DueItem, DueKind, LineDue, comes_before};
@@ -54,21 +54,21 @@ fn places_of(row: &mut Row<'_>) -> Option<Places> {
 }
 
 // What is due first.
-fn put_least(row: &mut Row<'_>, due: &Due) {
+fn put_least(given: &mut Outcome, due: &Due) {
     let Some(item) = due.least() else {
-        return row.put(b"-");
+        return given.put(b"-");
     };
-    row.put_shown(item.moment);
-    row.put(b" ");
-    row.put_shown(item.line);
+    given.put_shown(item.moment);
+    given.put(b" ");
+    given.put_shown(item.line);
     match item.kind {
-        DueKind::OfLine(LineDue::DigitTimer) => row.put(b" T"),
+        DueKind::OfLine(LineDue::DigitTimer) => given.put(b" T"),
         DueKind::OfLine(LineDue::SignalEnd(signal)) => {
-            row.put(b" signal ");
-            row.put_shown(signal as u8);
+            given.put(b" signal ");
+            given.put_shown(signal as u8);
         }
-        DueKind::Resend => row.put(b" message"),
-        DueKind::Announce => row.put(b" announcement"),
+        DueKind::Resend => given.put(b" message"),
+        DueKind::Announce => given.put(b" announcement"),
     }
 }
 
@@ -95,12 +95,12 @@ fn fallen(due: &mut Due, most: u32) -> u32 {
 }
 
 // A moment for a kind of this line; without a moment it is cleared. There is no such row where the table has no such line.
-fn set(due: &mut Due, row: &mut Row<'_>, line: u32, kind: DueKind, moment: Option<u32>) {
+fn set(due: &mut Due, given: &mut Outcome, line: u32, kind: DueKind, moment: Option<u32>) {
     let Ok(line) = u16::try_from(line) else {
-        return row.unread();
+        return given.unread();
     };
     if !due.has_place(line) {
-        return row.unread();
+        return given.unread();
     }
     match moment {
         Some(moment) => due.set(line, kind, u64::from(moment)),
@@ -111,12 +111,12 @@ fn set(due: &mut Due, row: &mut Row<'_>, line: u32, kind: DueKind, moment: Optio
 // The same for each of these places, as `0-32 signal 8 600` says.
 fn set_all(due: &mut Due, row: &mut Row<'_>, is_cleared: bool) {
     let Some(places) = places_of(row) else {
-        return row.unread();
+        return row.given.unread();
     };
     let moment = if is_cleared { None } else { Some(row.number()) };
     for line in places.first..=places.last {
-        set(due, row, line, places.kind, moment);
-        if row.is_unread {
+        set(due, &mut row.given, line, places.kind, moment);
+        if row.given.is_unread {
             return;
         }
     }
@@ -131,12 +131,12 @@ impl Thing for Due {
         match row.before(" ") {
             "set" => set_all(self, row, false),
             "clear" => set_all(self, row, true),
-            "least" => put_least(row, self),
+            "least" => put_least(&mut row.given, self),
             "falls" => {
                 let most = row.left.parse::<u32>().unwrap_or(0);
-                row.put_shown(fallen(self, most));
+                row.given.put_shown(fallen(self, most));
             }
-            _ => row.unread(),
+            _ => row.given.unread(),
         }
     }
 }

@@ -11,14 +11,14 @@
 use crate::keeping::Thing;
 use history::{History, IdSpan, Look};
 use mg_bytes::{OutOfMemory, Sequence, Text};
-use scenario_files::{Row, again, range_in};
+use scenario_files::{Outcome, Row, again, range_in};
 use std::alloc::Global;
 use std::io;
 
 // `7` or `1-4096`.
-fn ids_of(row: &mut Row<'_>, text: &str) -> IdSpan {
+fn ids_of(given: &mut Outcome, text: &str) -> IdSpan {
     let Some((first, last)) = range_in(text) else {
-        row.unread();
+        given.unread();
         return IdSpan { first: 1, last: 0 };
     };
     IdSpan { first, last }
@@ -39,7 +39,7 @@ struct Run {
 // `1-20000 every 10 holding 3000` or `1-4999 every 100 confirming holding 300`.
 fn run_of(row: &mut Row<'_>) -> Run {
     let first = row.before(" ");
-    let ids = ids_of(row, first);
+    let ids = ids_of(&mut row.given, first);
     let wait = row.number_behind("every");
     let confirming = row.left.starts_with("confirming ");
     if confirming {
@@ -73,26 +73,26 @@ fn keep(history: &mut History, alloc: Global, id: u32, moment: u64) -> Result<()
 // Of several commands each is kept again where memory was refused.
 fn keep_all(history: &mut History, row: &mut Row<'_>) {
     let first = row.before(" ");
-    let ids = ids_of(row, first);
+    let ids = ids_of(&mut row.given, first);
     let moment = u64::from(row.number_behind("at"));
     for id in ids.first..=ids.last {
-        if again!(keep(history, row.alloc, id, moment)).is_err() {
-            return row.refuse();
+        if again!(keep(history, row.given.alloc, id, moment)).is_err() {
+            return row.given.refuse();
         }
     }
 }
 
 // `1-7,9`: a K names these.
 fn confirm(history: &mut History, row: &mut Row<'_>) {
-    let mut spans = Sequence::new(row.alloc);
+    let mut spans = Sequence::new(row.given.alloc);
     for written in row.rest().split(',') {
-        let ids = ids_of(row, written);
+        let ids = ids_of(&mut row.given, written);
         if spans.push(ids).is_err() {
-            return row.refuse();
+            return row.given.refuse();
         }
     }
     if history.confirm(spans).is_err() {
-        row.refuse();
+        row.given.refuse();
     }
 }
 
@@ -104,13 +104,13 @@ fn confirm_all(history: &mut History, alloc: Global, ids: IdSpan) -> Result<(), 
 }
 
 // Puts what commands with these ids are, where one is something else than the row says, and says whether one is.
-fn put_unlike(history: &History, row: &mut Row<'_>, ids: IdSpan, now: u64, wanted: &str) -> bool {
+fn put_unlike(history: &History, given: &mut Outcome, ids: IdSpan, now: u64, wanted: &str) -> bool {
     for id in ids.first..=ids.last {
-        let given = told(history, id, now);
-        if given != wanted {
-            row.put(given.as_bytes());
-            row.put(b" for ");
-            row.put_shown(id);
+        let told = told(history, id, now);
+        if told != wanted {
+            given.put(told.as_bytes());
+            given.put(b" for ");
+            given.put_shown(id);
             return true;
         }
     }
@@ -118,44 +118,44 @@ fn put_unlike(history: &History, row: &mut Row<'_>, ids: IdSpan, now: u64, wante
 }
 
 // A command of a run is kept, and maybe confirms all so far. It is done again where memory was refused.
-fn take(history: &mut History, row: &mut Row<'_>, run: Run, id: u32, now: u64) {
+fn take(history: &mut History, given: &mut Outcome, run: Run, id: u32, now: u64) {
     let first = run.ids.first;
     let so_far = IdSpan { first, last: id };
-    if run.confirming && again!(confirm_all(history, row.alloc, so_far)).is_err() {
-        return row.refuse();
+    if run.confirming && again!(confirm_all(history, given.alloc, so_far)).is_err() {
+        return given.refuse();
     }
-    if again!(keep(history, row.alloc, id, now)).is_err() {
-        row.refuse();
+    if again!(keep(history, given.alloc, id, now)).is_err() {
+        given.refuse();
     }
 }
 
 // One command of a run: it is new, and is kept. Says whether it is otherwise, and puts that.
-fn put_come(history: &mut History, row: &mut Row<'_>, run: Run, id: u32) -> bool {
+fn put_come(history: &mut History, given: &mut Outcome, run: Run, id: u32) -> bool {
     let now = u64::from(id).saturating_mul(u64::from(run.wait));
     history.purge(now);
     let held = history.len();
     if held > run.most as usize {
-        row.put_shown(held);
-        row.put(b" at ");
-        row.put_shown(now);
+        given.put_shown(held);
+        given.put(b" at ");
+        given.put_shown(now);
         return true;
     }
     let alone = IdSpan {
         first: id,
         last: id,
     };
-    if put_unlike(history, row, alone, now, "new") {
+    if put_unlike(history, given, alone, now, "new") {
         return true;
     }
-    take(history, row, run, id, now);
-    row.is_refused
+    take(history, given, run, id, now);
+    given.is_refused
 }
 
 // `run 1-20000 every 10 holding 3000`.
 fn put_run(history: &mut History, row: &mut Row<'_>) {
     let run = run_of(row);
     for id in run.ids.first..=run.ids.last {
-        if put_come(history, row, run, id) {
+        if put_come(history, &mut row.given, run, id) {
             return;
         }
     }
@@ -163,10 +163,10 @@ fn put_run(history: &mut History, row: &mut Row<'_>) {
 
 // `7 at 30999 again`: what commands with these ids are.
 fn put_look(history: &History, row: &mut Row<'_>, ids: &str) {
-    let ids = ids_of(row, ids);
+    let ids = ids_of(&mut row.given, ids);
     let now = u64::from(row.number_behind("at"));
     let wanted = row.rest();
-    put_unlike(history, row, ids, now, wanted);
+    put_unlike(history, &mut row.given, ids, now, wanted);
 }
 
 impl Thing for History {
@@ -181,7 +181,7 @@ impl Thing for History {
             "purge" => self.purge(u64::from(row.number())),
             "undo" => self.undo(),
             "run" => put_run(self, row),
-            "holds" => row.put_shown(self.len()),
+            "holds" => row.given.put_shown(self.len()),
             ids => put_look(self, row, ids),
         }
     }

@@ -21,7 +21,7 @@ use crate::texts::unless_fields;
 use acts::{act_of, due_of};
 use mg_line::Line;
 use parameters::request_of;
-use scenario_files::Row;
+use scenario_files::{Outcome, Row};
 use shown::{put_notice, put_state};
 use std::alloc::Global;
 use std::io;
@@ -34,41 +34,41 @@ fn ask(line: &mut Line, row: &mut Row<'_>, moment: u64)
     requires { moment < 2 ^ 62 }
 {
     let fields = row.parameters();
-    match request_of(row.alloc, fields) {
+    match request_of(row.given.alloc, fields) {
         Ok(request) => match line.check(&request) {
-            Some(code) => row.put_shown(code),
-            None => put_notice(row, line.request(&request, moment)),
+            Some(code) => row.given.put_shown(code),
+            None => put_notice(&mut row.given, line.request(&request, moment)),
         },
-        Err(fault) => row.put_code(fault),
+        Err(fault) => row.given.put_code(fault),
     }
 }
 
 // An act that the hook state allows: it is done, or isn't heeded.
-fn act(line: &mut Line, row: &mut Row<'_>, word: &str, moment: u64, is_heeded: bool)
+fn act(line: &mut Line, given: &mut Outcome, word: &str, moment: u64, is_heeded: bool)
     requires { moment < 2 ^ 62 }
 {
     let Some(act) = act_of(word) else {
-        return row.put(NO_TURN);
+        return given.put(NO_TURN);
     };
     if !line.takes(act) {
-        row.put(NO_TURN);
+        given.put(NO_TURN);
     } else if is_heeded {
-        put_notice(row, line.phone(act, moment));
+        put_notice(given, line.phone(act, moment));
     } else if line.heeds(act) {
-        row.put(NO_TURN);
+        given.put(NO_TURN);
     } else {
         line.pass_over(act);
     }
 }
 
-fn fall(line: &mut Line, row: &mut Row<'_>, word: &str, moment: u64)
+fn fall(line: &mut Line, given: &mut Outcome, word: &str, moment: u64)
     requires { moment < 2 ^ 62 }
 {
     match due_of(word) {
         Some(due) if line.due() == Some((moment, due)) => {
-            put_notice(row, line.fire(due, moment));
+            put_notice(given, line.fire(due, moment));
         }
-        _ => row.put(NO_TURN),
+        _ => given.put(NO_TURN),
     }
 }
 
@@ -80,41 +80,41 @@ fn go_on(line: &mut Line, row: &mut Row<'_>, moment: u64)
     let (word, what) = words.split_once(' ').unwrap_or((words, ""));
     match word {
         "asks" => ask(line, row, moment),
-        "idles" => act(line, row, what, moment, false),
-        "falls" => fall(line, row, what, moment),
-        "answered" => put_notice(row, line.answered(moment)),
-        "opened" => put_notice(row, line.opened(moment)),
-        _ => act(line, row, words, moment, true),
+        "idles" => act(line, &mut row.given, what, moment, false),
+        "falls" => fall(line, &mut row.given, what, moment),
+        "answered" => put_notice(&mut row.given, line.answered(moment)),
+        "opened" => put_notice(&mut row.given, line.opened(moment)),
+        _ => act(line, &mut row.given, words, moment, true),
     }
 }
 
 // What the line says to a question, by its hook state or its request.
-fn put_answer(line: &Line, row: &mut Row<'_>, question: &str) {
+fn put_answer(line: &Line, given: &mut Outcome, question: &str) {
     let (word, act) = question.split_once(' ').unwrap_or((question, ""));
     match act_of(act) {
-        Some(act) if word == "takes" => row.put_judged(line.takes(act)),
-        Some(act) if word == "heeds" => row.put_judged(line.heeds(act)),
-        _ => requests::put_answer(row, line.requests(), question),
+        Some(act) if word == "takes" => given.put_judged(line.takes(act)),
+        Some(act) if word == "heeds" => given.put_judged(line.heeds(act)),
+        _ => requests::put_answer(given, line.requests(), question),
     }
 }
 
 // The line as it opens: a function of its own, since a check pays for a whole line at each step that holds one.
-fn open(line: &mut Line, row: &mut Row<'_>) {
-    match Line::new(row.alloc) {
+fn open(line: &mut Line, given: &mut Outcome) {
+    match Line::new(given.alloc) {
         Ok(new) => *line = new,
-        Err(_) => row.refuse(),
+        Err(_) => given.refuse(),
     }
 }
 
 // A row without a moment.
 fn put_shown(line: &mut Line, row: &mut Row<'_>) {
     match row.before("  ") {
-        "opening" => open(line, row),
+        "opening" => open(line, &mut row.given),
         "is" => {
-            put_state(row, line);
+            put_state(&mut row.given, line);
             unless_fields(row);
         }
-        question => put_answer(line, row, question),
+        question => put_answer(line, &mut row.given, question),
     }
 }
 

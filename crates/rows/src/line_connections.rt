@@ -18,44 +18,44 @@ use crate::texts::{unless_fields, words_of};
 use asked::{change_of, creation_of, deletion_of, identifier_in};
 use connections::{Audited, Connections, Created, Encoding, mode_text, read_encoding};
 use mg_bytes::CodeFault;
-use scenario_files::Row;
+use scenario_files::{Outcome, Row};
 use sdp_subset::{Session, write_sdp};
 use std::alloc::Global;
 use std::io;
 use std::net::Ipv4Addr;
 
 // Puts the lines of a description, a field each.
-fn put_description(row: &mut Row<'_>, description: &Session) {
-    let Ok(text) = write_sdp(row.alloc, description) else {
-        return row.refuse();
+fn put_description(given: &mut Outcome, description: &Session) {
+    let Ok(text) = write_sdp(given.alloc, description) else {
+        return given.refuse();
     };
     let lines = words_of(text.as_bytes()).trim_end();
-    match lines.replace(row.alloc, "\r\n", "  ") {
-        Ok(fields) => row.put(fields.as_bytes()),
-        Err(_) => row.refuse(),
+    match lines.replace(given.alloc, "\r\n", "  ") {
+        Ok(fields) => given.put(fields.as_bytes()),
+        Err(_) => given.refuse(),
     }
 }
 
 // What can be read of a connection, and its description.
-fn put_audited(row: &mut Row<'_>, audited: &Audited) {
+fn put_audited(given: &mut Outcome, audited: &Audited) {
     let connection = &audited.connection;
-    row.put(b"C ");
-    row.put(connection.call.as_slice());
-    row.put(b"  M ");
-    row.put(mode_text(connection.mode));
-    row.put(match &connection.remote {
+    given.put(b"C ");
+    given.put(connection.call.as_slice());
+    given.put(b"  M ");
+    given.put(mode_text(connection.mode));
+    given.put(match &connection.remote {
         Some(_) => b"  RTP known  ".as_slice(),
         None => b"  RTP unknown  ".as_slice(),
     });
-    put_description(row, &audited.description);
+    put_description(given, &audited.description);
 }
 
 // The number of a connection, and its description.
-fn put_created(row: &mut Row<'_>, created: &Created) {
-    row.put(b"I ");
-    row.put_shown(created.number);
-    row.put(b"  ");
-    put_description(row, &created.description);
+fn put_created(given: &mut Outcome, created: &Created) {
+    given.put(b"I ");
+    given.put_shown(created.number);
+    given.put(b"  ");
+    put_description(given, &created.description);
 }
 
 /// The connections of a line, its encoding, and the last answer.
@@ -85,52 +85,52 @@ impl ConnectionsScenario {
         self.line.delete(&deletion_of(fields)?)
     }
 
-    fn put_creation(&mut self, row: &mut Row<'_>, fields: &str) {
-        match self.create(row.alloc, fields) {
-            Ok(created) => put_created(row, &created),
-            Err(fault) => row.put_code(fault),
+    fn put_creation(&mut self, given: &mut Outcome, fields: &str) {
+        match self.create(given.alloc, fields) {
+            Ok(created) => put_created(given, &created),
+            Err(fault) => given.put_code(fault),
         }
     }
 
-    fn put_change(&mut self, row: &mut Row<'_>, fields: &str) {
-        match self.modify(row.alloc, fields) {
-            Ok(Some(description)) => put_description(row, &description),
-            Ok(None) => row.put(b"-"),
-            Err(fault) => row.put_code(fault),
+    fn put_change(&mut self, given: &mut Outcome, fields: &str) {
+        match self.modify(given.alloc, fields) {
+            Ok(Some(description)) => put_description(given, &description),
+            Ok(None) => given.put(b"-"),
+            Err(fault) => given.put_code(fault),
         }
     }
 
-    fn put_audit(&self, row: &mut Row<'_>, fields: &str) {
+    fn put_audit(&self, given: &mut Outcome, fields: &str) {
         match self.audit(fields) {
-            Ok(audited) => put_audited(row, &audited),
-            Err(fault) => row.put_code(fault),
+            Ok(audited) => put_audited(given, &audited),
+            Err(fault) => given.put_code(fault),
         }
     }
 
-    fn put_deletion(&mut self, row: &mut Row<'_>, fields: &str) {
+    fn put_deletion(&mut self, given: &mut Outcome, fields: &str) {
         match self.delete(fields) {
-            Ok(()) => row.put(b"-"),
-            Err(fault) => row.put_code(fault),
+            Ok(()) => given.put(b"-"),
+            Err(fault) => given.put_code(fault),
         }
     }
 
     // The answer to a command, where a row doesn't say fields of it; a return code is always said.
     fn answer(&mut self, row: &mut Row<'_>) {
         self.answer.clear();
-        if self.answer.extend_from_slice(&row.given).is_err() {
-            row.refuse();
+        if self.answer.extend_from_slice(&row.given.bytes).is_err() {
+            row.given.refuse();
         }
-        if row.left.is_empty() && words_of(&row.given).parse::<u32>().is_err() {
-            row.given.clear();
+        if row.left.is_empty() && words_of(&row.given.bytes).parse::<u32>().is_err() {
+            row.given.bytes.clear();
         } else {
             unless_fields(row);
         }
     }
 
-    fn put_places(&self, row: &mut Row<'_>) {
+    fn put_places(&self, given: &mut Outcome) {
         for held in self.line.list() {
-            row.put(b" ");
-            row.put_shown(match held {
+            given.put(b" ");
+            given.put_shown(match held {
                 Some(connection) => connection.number,
                 None => 0,
             });
@@ -140,7 +140,7 @@ impl ConnectionsScenario {
     fn set_encoding(&mut self, row: &mut Row<'_>) {
         match read_encoding(row.rest().as_bytes()) {
             Some(encoding) => self.encoding = encoding,
-            None => row.unread(),
+            None => row.given.unread(),
         }
     }
 }
@@ -158,17 +158,17 @@ impl Thing for ConnectionsScenario {
         let word = row.before(" ");
         match word {
             "encoding" => return self.set_encoding(row),
-            "answer" => return row.put(&self.answer),
-            "places" => return self.put_places(row),
+            "answer" => return row.given.put(&self.answer),
+            "places" => return self.put_places(&mut row.given),
             _ => {}
         }
         let fields = row.parameters();
         match word {
-            "create" => self.put_creation(row, fields),
-            "modify" => self.put_change(row, fields),
-            "audit" => self.put_audit(row, fields),
-            "delete" => self.put_deletion(row, fields),
-            _ => row.unread(),
+            "create" => self.put_creation(&mut row.given, fields),
+            "modify" => self.put_change(&mut row.given, fields),
+            "audit" => self.put_audit(&mut row.given, fields),
+            "delete" => self.put_deletion(&mut row.given, fields),
+            _ => row.given.unread(),
         }
         self.answer(row);
     }

@@ -14,7 +14,7 @@ use crate::keeping::{Kept, Thing};
 use endpoint_names::Route;
 use mgcp_text::TransactionId;
 use outbound::{Pending, Repeat, Reply};
-use scenario_files::{Row, said, value_of};
+use scenario_files::{Outcome, Row, said, value_of};
 use std::alloc::Global;
 use std::io;
 use std::net::{Ipv4Addr, SocketAddrV4};
@@ -22,7 +22,7 @@ use std::net::{Ipv4Addr, SocketAddrV4};
 fn id_in(row: &mut Row<'_>) -> TransactionId {
     let number = row.number();
     if number < 1 || number > 999_999_999 {
-        row.unread();
+        row.given.unread();
         return TransactionId::of(1);
     }
     TransactionId::of(number)
@@ -54,9 +54,9 @@ impl MessageScenario {
     // `10000000 at 1000  TEXT`.
     fn begins(&mut self, row: &mut Row<'_>) -> io::Result<()> {
         let (id, moment) = (id_in(row), u64::from(row.number_behind("at")));
-        let text = value_of(row.alloc, row.rest().trim_start())?;
+        let text = value_of(row.given.alloc, row.rest().trim_start())?;
         let route = route_to(self.hosts);
-        self.message = Pending::begin(row.alloc, id, route, text.as_bytes(), moment)?;
+        self.message = Pending::begin(row.given.alloc, id, route, text.as_bytes(), moment)?;
         Ok(())
     }
 
@@ -87,14 +87,14 @@ impl MessageScenario {
     }
 
     // Its id, where it was sent last, and its text.
-    fn put_state(&self, row: &mut Row<'_>) {
-        row.put_shown(self.message.id().number());
-        row.put(b"  ");
-        row.put_shown(self.message.to());
-        row.put(b"  ");
-        match said(row.alloc, self.message.text()) {
-            Ok(text) => row.put(text.as_bytes()),
-            Err(_) => row.refuse(),
+    fn put_state(&self, given: &mut Outcome) {
+        given.put_shown(self.message.id().number());
+        given.put(b"  ");
+        given.put_shown(self.message.to());
+        given.put(b"  ");
+        match said(given.alloc, self.message.text()) {
+            Ok(text) => given.put(text.as_bytes()),
+            Err(_) => given.refuse(),
         }
     }
 }
@@ -110,21 +110,21 @@ impl Thing for MessageScenario {
             "hosts" => self.hosts = row.number(),
             "begins" => {
                 if self.begins(row).is_err() {
-                    row.refuse();
+                    row.given.refuse();
                 }
             }
             "repeat" => {
                 let becomes = self.repeat(row);
-                row.put(becomes.as_bytes());
+                row.given.put(becomes.as_bytes());
             }
             "answer" => {
                 let reply = self.answer(row);
-                row.put(reply.as_bytes());
+                row.given.put(reply.as_bytes());
             }
-            "due" => row.put_shown(self.message.due()),
-            "to" => row.put_shown(self.message.to()),
-            "is" => self.put_state(row),
-            _ => row.unread(),
+            "due" => row.given.put_shown(self.message.due()),
+            "to" => row.given.put_shown(self.message.to()),
+            "is" => self.put_state(&mut row.given),
+            _ => row.given.unread(),
         }
     }
 }

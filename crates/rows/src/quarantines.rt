@@ -12,24 +12,24 @@ use event_values::Observed;
 use mg_bytes::OutOfMemory;
 use mg_line::MOST_QUARANTINED;
 use quarantine::Buffer;
-use scenario_files::Row;
+use scenario_files::{Outcome, Row};
 use std::alloc::Global;
 use std::io;
 
 // `L/hf`: this event comes.
 fn hold(buffer: &mut Buffer, row: &mut Row<'_>) {
     let word = row.rest();
-    match observed_of(row, word) {
+    match observed_of(&mut row.given, word) {
         Some(event) => buffer.hold(event),
-        None => row.unread(),
+        None => row.given.unread(),
     }
 }
 
 // What came first.
-fn put_taken(row: &mut Row<'_>, taken: Option<Observed>) {
+fn put_taken(given: &mut Outcome, taken: Option<Observed>) {
     match taken {
-        Some(first) => row.put_text(write_observed(row.alloc, &[first])),
-        None => row.put(b"-"),
+        Some(first) => given.put_text(write_observed(given.alloc, &[first])),
+        None => given.put(b"-"),
     }
 }
 
@@ -42,10 +42,10 @@ fn copy_into(alloc: Global, buffer: &Buffer, room: u32) -> Result<Buffer, OutOfM
 }
 
 // Another quarantine stands in its place.
-fn become_other(buffer: &mut Buffer, row: &mut Row<'_>, other: Result<Buffer, OutOfMemory>) {
+fn become_other(buffer: &mut Buffer, given: &mut Outcome, other: Result<Buffer, OutOfMemory>) {
     match other {
         Ok(other) => *buffer = other,
-        Err(_) => row.refuse(),
+        Err(_) => given.refuse(),
     }
 }
 
@@ -58,18 +58,20 @@ impl Thing for Buffer {
         match row.before(" ") {
             "room" => {
                 let room = row.number() as usize;
-                become_other(self, row, Buffer::new(row.alloc, room));
+                let other = Buffer::new(row.given.alloc, room);
+                become_other(self, &mut row.given, other);
             }
             "into" => {
                 let room = row.number();
-                become_other(self, row, copy_into(row.alloc, self, room));
+                let other = copy_into(row.given.alloc, self, room);
+                become_other(self, &mut row.given, other);
             }
             "hold" => hold(self, row),
             "clear" => self.clear(),
-            "take" => put_taken(row, self.take()),
-            "holds" => row.put_shown(self.iter().count()),
-            "lost" => row.put_shown(self.lost()),
-            _ => row.unread(),
+            "take" => put_taken(&mut row.given, self.take()),
+            "holds" => row.given.put_shown(self.iter().count()),
+            "lost" => row.given.put_shown(self.lost()),
+            _ => row.given.unread(),
         }
     }
 }

@@ -12,12 +12,12 @@ use crate::line::parameters::events_of;
 use event_requests::{Decision, Doing, EventRequest, decide};
 use event_syntax::{Action, Embedding, Observed, write_signals};
 use mg_packages::event_of;
-use scenario_files::Row;
+use scenario_files::{Outcome, Row};
 use std::alloc::Global;
 use std::io;
 
 // What is done, as a row says it.
-fn put_decision(row: &mut Row<'_>, decision: Decision<'_>) {
+fn put_decision(given: &mut Outcome, decision: Decision<'_>) {
     let done = match decision.doing {
         Doing::Plain(Action::Notify) => "notify",
         Doing::Plain(Action::Accumulate) => "accumulate",
@@ -26,60 +26,60 @@ fn put_decision(row: &mut Row<'_>, decision: Decision<'_>) {
         Doing::Embed(_) => "embed",
         Doing::AccumulateAndEmbed(_) => "accumulate,embed",
     };
-    row.put(done.as_bytes());
+    given.put(done.as_bytes());
     if decision.keep {
-        row.put(b",keep");
+        given.put(b",keep");
     }
 }
 
 // What a request says of an event that occurs: `at` it, or `keeps`.
-fn put_answer_at(row: &mut Row<'_>, request: &EventRequest, word: &str, event: Observed) {
+fn put_answer_at(given: &mut Outcome, request: &EventRequest, word: &str, event: Observed) {
     match word {
-        "at" => put_decision(row, decide(request, event)),
-        "keeps" => row.put_judged(request.is_kept(event)),
-        _ => row.unread(),
+        "at" => put_decision(given, decide(request, event)),
+        "keeps" => given.put_judged(request.is_kept(event)),
+        _ => given.unread(),
     }
 }
 
 // `requested L/hd`.
-fn put_requested(row: &mut Row<'_>, request: &EventRequest, event: &str) {
+fn put_requested(given: &mut Outcome, request: &EventRequest, event: &str) {
     match event_of(event.as_bytes()) {
-        Ok(event) => row.put_judged(request.is_requested(event)),
-        Err(_) => row.unread(),
+        Ok(event) => given.put_judged(request.is_requested(event)),
+        Err(_) => given.unread(),
     }
 }
 
 // `lacks map`, or `lacks map with D`.
-fn put_lacking(row: &mut Row<'_>, request: &EventRequest, what: &str) {
+fn put_lacking(given: &mut Outcome, request: &EventRequest, what: &str) {
     match what {
-        "map" => row.put_judged(request.lacks_map(false)),
-        "map with D" => row.put_judged(request.lacks_map(true)),
-        _ => row.unread(),
+        "map" => given.put_judged(request.lacks_map(false)),
+        "map with D" => given.put_judged(request.lacks_map(true)),
+        _ => given.unread(),
     }
 }
 
 /// Puts what a request says to a question: `at L/hd`, `requested L/hd`, `keeps L/hd` or `lacks map`.
-pub fn put_answer(row: &mut Row<'_>, request: &EventRequest, question: &str) {
+pub fn put_answer(given: &mut Outcome, request: &EventRequest, question: &str) {
     let (word, event) = question.split_once(' ').unwrap_or((question, ""));
     match word {
-        "lacks" => put_lacking(row, request, event),
-        "requested" => put_requested(row, request, event),
-        _ => match observed_of(row, event) {
-            Some(event) => put_answer_at(row, request, word, event),
-            None => row.unread(),
+        "lacks" => put_lacking(given, request, event),
+        "requested" => put_requested(given, request, event),
+        _ => match observed_of(given, event) {
+            Some(event) => put_answer_at(given, request, word, event),
+            None => given.unread(),
         },
     }
 }
 
 // The S and the D of an embedded request.
-fn put_embedding(row: &mut Row<'_>, embedding: &Embedding) {
+fn put_embedding(given: &mut Outcome, embedding: &Embedding) {
     let request = embedding.request();
-    row.put(b"S ");
-    row.put_text(write_signals(row.alloc, request.signals.as_slice()));
-    row.put(b"  D ");
+    given.put(b"S ");
+    given.put_text(write_signals(given.alloc, request.signals.as_slice()));
+    given.put(b"  D ");
     match &request.map {
-        Some(map) => row.put(map.as_bytes()),
-        None => row.put(b"-"),
+        Some(map) => given.put(map.as_bytes()),
+        None => given.put(b"-"),
     }
 }
 
@@ -91,37 +91,37 @@ pub struct RequestScenario {
 
 impl RequestScenario {
     // The request that is embedded at this event takes effect: its S and its D.
-    fn take_effect(&mut self, row: &mut Row<'_>, event: &str) {
-        let Some(event) = observed_of(row, event) else {
-            return row.unread();
+    fn take_effect(&mut self, given: &mut Outcome, event: &str) {
+        let Some(event) = observed_of(given, event) else {
+            return given.unread();
         };
         let (Doing::Embed(embedding) | Doing::AccumulateAndEmbed(embedding)) = decide(
             &self.request,
             event,
         ).doing
         else {
-            return row.put(b"nothing is embedded");
+            return given.put(b"nothing is embedded");
         };
-        put_embedding(row, embedding);
+        put_embedding(given, embedding);
         match self.request.embedded(embedding) {
-            Ok(request) if !row.is_refused => self.request = request,
-            _ => row.refuse(),
+            Ok(request) if !given.is_refused => self.request = request,
+            _ => given.refuse(),
         }
     }
 
     // What the request says to a question, and a copy of it where that says something else.
-    fn put_answer(&self, row: &mut Row<'_>, question: &str) {
-        put_answer(row, &self.request, question);
+    fn put_answer(&self, given: &mut Outcome, question: &str) {
+        put_answer(given, &self.request, question);
         let Ok(copy) = self.request.try_copy() else {
-            return row.refuse();
+            return given.refuse();
         };
-        let mut of_copy = Row::of(row.alloc, "");
+        let mut of_copy = Outcome::nothing(given.alloc);
         put_answer(&mut of_copy, &copy, question);
         if of_copy.is_refused {
-            row.refuse();
-        } else if of_copy.given.as_slice() != row.given.as_slice() {
-            row.put(b", and of a copy ");
-            row.put(&of_copy.given);
+            given.refuse();
+        } else if of_copy.bytes.as_slice() != given.bytes.as_slice() {
+            given.put(b", and of a copy ");
+            given.put(&of_copy.bytes);
         }
     }
 }
@@ -135,15 +135,15 @@ impl Thing for RequestScenario {
     fn turn(&mut self, row: &mut Row<'_>) {
         let question = row.before("  ");
         if question == "asks" {
-            match events_of(row.alloc, row.rest()) {
+            match events_of(row.given.alloc, row.rest()) {
                 Ok(request) => self.request = request,
-                Err(fault) => row.fault(fault),
+                Err(fault) => row.given.fault(fault),
             }
             return;
         }
         match question.strip_prefix("after ") {
-            Some(event) => self.take_effect(row, event),
-            None => self.put_answer(row, question),
+            Some(event) => self.take_effect(&mut row.given, event),
+            None => self.put_answer(&mut row.given, question),
         }
     }
 }

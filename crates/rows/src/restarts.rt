@@ -8,7 +8,7 @@ ghost use Rattle.std.specs.Prelude.{◌<◌, ◌^◌};
 
 use crate::keeping::{Kept, Thing};
 use restart::Restart;
-use scenario_files::Row;
+use scenario_files::{Outcome, Row};
 use std::alloc::Global;
 use std::io;
 
@@ -36,10 +36,10 @@ impl RestartScenario {
     }
 
     // When it is sent.
-    fn put_due(&self, row: &mut Row<'_>) {
+    fn put_due(&self, given: &mut Outcome) {
         match self.restart.due() {
-            Some(moment) => row.put_shown(moment),
-            None => row.put(b"-"),
+            Some(moment) => given.put_shown(moment),
+            None => given.put(b"-"),
         }
     }
 }
@@ -55,9 +55,9 @@ impl Thing for RestartScenario {
             "waits" => self.wait(row),
             "sent" => self.restart = Restart::Announced,
             "answered" => self.restart = Restart::Serving,
-            "is" => row.put(self.place().as_bytes()),
-            "due" => self.put_due(row),
-            _ => row.unread(),
+            "is" => row.given.put(self.place().as_bytes()),
+            "due" => self.put_due(&mut row.given),
+            _ => row.given.unread(),
         }
     }
 }

@@ -8,7 +8,7 @@
 use crate::keeping::Thing;
 use event_syntax::read_signals;
 use mg_packages::{Hook, signal_name, signal_of};
-use scenario_files::Row;
+use scenario_files::{Outcome, Row};
 use signals::{SignalSet, refused};
 use std::alloc::Global;
 use std::io;
@@ -19,33 +19,33 @@ fn hook_of(row: &mut Row<'_>) -> Hook {
         "on" => Hook::OnHook,
         "off" => Hook::OffHook,
         _ => {
-            row.unread();
+            row.given.unread();
             Hook::OnHook
         }
     }
 }
 
 // What ends first.
-fn put_due(row: &mut Row<'_>, set: &SignalSet) {
+fn put_due(given: &mut Outcome, set: &SignalSet) {
     match set.next_due() {
         Some((moment, signal)) => {
-            row.put_shown(moment);
-            row.put(b" ");
-            row.put(signal_name(signal));
+            given.put_shown(moment);
+            given.put(b" ");
+            given.put(signal_name(signal));
         }
-        None => row.put(b"-"),
+        None => given.put(b"-"),
     }
 }
 
 // The active signals, a field each.
-fn put_active(row: &mut Row<'_>, set: &SignalSet) {
+fn put_active(given: &mut Outcome, set: &SignalSet) {
     for active in set.list().as_slice() {
-        row.put(b"  ");
-        row.put(signal_name(active.signal));
-        row.put(b" ");
+        given.put(b"  ");
+        given.put(signal_name(active.signal));
+        given.put(b" ");
         match active.end {
-            Some(end) => row.put_shown(end),
-            None => row.put(b"-"),
+            Some(end) => given.put_shown(end),
+            None => given.put(b"-"),
         }
     }
 }
@@ -55,10 +55,10 @@ fn put_refusal(row: &mut Row<'_>) {
     let hook = hook_of(row);
     match read_signals(row.before("  ").as_bytes()) {
         Ok(requests) => match refused(requests.as_slice(), hook) {
-            Some(code) => row.put_shown(code),
-            None => row.put(b"-"),
+            Some(code) => row.given.put_shown(code),
+            None => row.given.put(b"-"),
         },
-        Err(fault) => row.fault(fault),
+        Err(fault) => row.given.fault(fault),
     }
 }
 
@@ -69,7 +69,7 @@ fn apply(set: &mut SignalSet, row: &mut Row<'_>, moment: u32) {
     let value = value.strip_prefix("S: ").unwrap_or(value);
     match read_signals(value.as_bytes()) {
         Ok(requests) => set.apply(requests.as_slice(), hook, u64::from(moment)),
-        Err(fault) => row.fault(fault),
+        Err(fault) => row.given.fault(fault),
     }
 }
 
@@ -77,7 +77,7 @@ fn apply(set: &mut SignalSet, row: &mut Row<'_>, moment: u32) {
 fn expire(set: &mut SignalSet, row: &mut Row<'_>) {
     match signal_of(row.rest().as_bytes()) {
         Ok(signal) => set.expire(signal),
-        Err(_) => row.unread(),
+        Err(_) => row.given.unread(),
     }
 }
 
@@ -91,12 +91,12 @@ impl Thing for SignalSet {
             "hook" => self.hook_changed(hook_of(row)),
             "expire" => expire(self, row),
             "stop" => self.stop_timeouts(),
-            "due" => put_due(row, self),
-            "active" => put_active(row, self),
+            "due" => put_due(&mut row.given, self),
+            "active" => put_active(&mut row.given, self),
             "refused" => put_refusal(row),
             moment => match moment.parse::<u32>() {
                 Ok(moment) => apply(self, row, moment),
-                Err(_) => row.unread(),
+                Err(_) => row.given.unread(),
             },
         }
     }

@@ -1,5 +1,5 @@
 //! Pieces and fields of what a row gives.
-use scenario_files::Row;
+use scenario_files::{Outcome, Row};
 
 /// Bytes of ASCII as words, as they stand in a text that is formed.
 pub fn words_of(bytes: &[u8]) -> &str {
@@ -7,9 +7,9 @@ pub fn words_of(bytes: &[u8]) -> &str {
 }
 
 /// Puts a piece, with a `|` behind it.
-pub fn put_piece(row: &mut Row<'_>, piece: &[u8]) {
-    row.put(piece);
-    row.put(b"|");
+pub fn put_piece(given: &mut Outcome, piece: &[u8]) {
+    given.put(piece);
+    given.put(b"|");
 }
 
 // Whether this is one of the fields of a text.
@@ -34,8 +34,8 @@ fn has_fields(text: &str, wanted: &str) -> bool {
 
 /// Takes all fields back that were put, where those that are left of a row are among them.
 pub fn unless_fields(row: &mut Row<'_>) {
-    if has_fields(words_of(&row.given), row.left) {
+    if has_fields(words_of(&row.given.bytes), row.left) {
         row.left = "";
-        row.given.clear();
+        row.given.bytes.clear();
     }
 }

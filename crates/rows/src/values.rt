@@ -16,7 +16,7 @@ mod packing;
 mod shown;
 mod spelled;
 
-use scenario_files::{Row, Scenario, bytes_of, said};
+use scenario_files::{Outcome, Scenario, bytes_of, said};
 use std::alloc::Global;
 use std::io;
 
@@ -35,29 +35,29 @@ pub fn numbered(call: &str) -> (&str, u16) {
 }
 
 // Puts what a call gives of a value, and says whether there is such a call; each of the modules knows calls of its own.
-fn put_answer(row: &mut Row<'_>, call: &str, value: &[u8]) -> bool {
-    spelled::put_answer(row, call, value)
-        || maps::put_answer(row, call, value)
-        || commands::put_answer(row, call, value)
-        || descriptions::put_answer(row, call, value)
-        || bytes::put_answer(row, call, value)
-        || names::put_answer(row, call, value)
-        || packing::put_answer(row, call, value)
-        || capturing::put_answer(row, call, value)
-        || checks::put_answer(row, call, value)
-        || logged::put_answer(row, call, value)
-        || shown::put_answer(row, call, value)
-        || messages::put_answer(row, call, value)
+fn put_answer(given: &mut Outcome, call: &str, value: &[u8]) -> bool {
+    spelled::put_answer(given, call, value)
+        || maps::put_answer(given, call, value)
+        || commands::put_answer(given, call, value)
+        || descriptions::put_answer(given, call, value)
+        || bytes::put_answer(given, call, value)
+        || names::put_answer(given, call, value)
+        || packing::put_answer(given, call, value)
+        || capturing::put_answer(given, call, value)
+        || checks::put_answer(given, call, value)
+        || logged::put_answer(given, call, value)
+        || shown::put_answer(given, call, value)
+        || messages::put_answer(given, call, value)
 }
 
 // What a call gives of a value, as a row says it.
-fn given(row: &mut Row<'_>, call: &str, field: &str) -> io::Result<String> {
-    let value = bytes_of(row.alloc, field)?;
-    row.given.clear();
-    if !put_answer(row, call, &value) {
-        row.unread();
+fn answer_to(given: &mut Outcome, call: &str, field: &str) -> io::Result<String> {
+    let value = bytes_of(given.alloc, field)?;
+    given.bytes.clear();
+    if !put_answer(given, call, &value) {
+        given.unread();
     }
-    said(row.alloc, &row.given)
+    said(given.alloc, &given.bytes)
 }
 
 // Whether a row says this answer.
@@ -69,19 +69,19 @@ fn is_said(answer: &str, wanted: &str) -> bool {
 }
 
 // Puts what a call gives of one of the values that the row doesn't say, with its place; else what the row says.
-fn put_given(row: &mut Row<'_>, call: &str, values: &str, wanted: &str) -> io::Result<()> {
+fn put_given(given: &mut Outcome, call: &str, values: &str, wanted: &str) -> io::Result<()> {
     for (place, field) in values.split("  ").enumerate() {
-        let given = given(row, call, field)?;
-        if !is_said(given.as_str(), wanted) {
-            row.given.clear();
-            row.put(given.as_bytes());
-            row.put(b" for value ");
-            row.put_shown(place.saturating_add(1));
+        let answer = answer_to(given, call, field)?;
+        if !is_said(answer.as_str(), wanted) {
+            given.bytes.clear();
+            given.put(answer.as_bytes());
+            given.put(b" for value ");
+            given.put_shown(place.saturating_add(1));
             return Ok(());
         }
     }
-    row.given.clear();
-    row.put(wanted.as_bytes());
+    given.bytes.clear();
+    given.put(wanted.as_bytes());
     Ok(())
 }
 
@@ -93,13 +93,13 @@ impl Scenario for Values {
     fn unlike(&mut self, alloc: Global, row: &str) -> io::Result<Option<String>> {
         let (rest, wanted) = row.rsplit_once("  ").unwrap_or((row, ""));
         let (call, values) = rest.split_once("  ").unwrap_or((rest, ""));
-        let mut row = Row::of(alloc, wanted);
+        let mut given = Outcome::nothing(alloc);
         match call {
-            "verdict" | "in range" => maps::put_answer_of_two(&mut row, call, values)?,
+            "verdict" | "in range" => maps::put_answer_of_two(&mut given, call, values)?,
             // Without a value the row would say nothing of the call.
-            _ if values.is_empty() => row.unread(),
-            _ => put_given(&mut row, call, values, wanted)?,
+            _ if values.is_empty() => given.unread(),
+            _ => put_given(&mut given, call, values, wanted)?,
         }
-        row.unlike()
+        given.unlike(wanted)
     }
 }

@@ -9,7 +9,7 @@
 use crate::twins::scene_of;
 use gateway_core::{DATAGRAM_ROOM, Gateway};
 use rgw_play::UdpWire;
-use scenario_files::{Count, Row, SETTINGS, bytes_of, in_full};
+use scenario_files::{Count, Outcome, Row, SETTINGS, bytes_of, in_full};
 use std::alloc::Global;
 use std::io;
 use std::net::{Ipv4Addr, Net, SocketAddrV4, UdpSocket};
@@ -52,32 +52,32 @@ fn both_ends<R: AllocGlobal + Net>(rt: &R) -> io::Result<Ends> {
 
 impl Ends {
     // What the agent gets.
-    fn put_received(&self, row: &mut Row<'_>) {
+    fn put_received(&self, given: &mut Outcome) {
         let mut room = [0u8; DATAGRAM_ROOM];
         match self.agent.recv(&mut room) {
             Ok(len) => match room.get(..len) {
-                Some(bytes) => row.put(bytes),
-                None => row.put(b"more than there is room for"),
+                Some(bytes) => given.put(bytes),
+                None => given.put(b"more than there is room for"),
             },
-            Err(_) => row.put(b"none"),
+            Err(_) => given.put(b"none"),
         }
     }
 
     // What comes of a datagram of the agent's, and a turn.
     fn turn(&mut self, row: &mut Row<'_>) -> io::Result<()> {
-        let bytes = bytes_of(row.alloc, row.before("  "))?;
+        let bytes = bytes_of(row.given.alloc, row.before("  "))?;
         if !bytes.is_empty() {
             self.agent.send(&bytes)?;
         }
         if self.gateway.serve(&mut self.wire, 1).receive_faults == 0 {
-            self.put_received(row);
+            self.put_received(&mut row.given);
             return Ok(());
         }
-        row.put(b"fault: ");
-        row.put_shown(self.wire.receive_faults());
-        row.put(b" not received, ");
-        row.put_shown(self.wire.send_faults());
-        row.put(b" not sent");
+        row.given.put(b"fault: ");
+        row.given.put_shown(self.wire.receive_faults());
+        row.given.put(b" not received, ");
+        row.given.put_shown(self.wire.send_faults());
+        row.given.put(b" not sent");
         Ok(())
     }
 }

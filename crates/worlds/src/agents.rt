@@ -24,7 +24,7 @@ use agent_core::{Agent, IssueFault, Issued};
 use endpoint_names::Route;
 use gateway_core::{Event, OutDatagram, Outputs, Refusal};
 use mg_bytes::{OutOfMemory, Sequence, Text};
-use scenario_files::{Row, Scenario, bytes_of, item_at, range_in, refused};
+use scenario_files::{Outcome, Row, Scenario, bytes_of, item_at, range_in, refused};
 use std::alloc::Global;
 use std::io;
 
@@ -77,13 +77,13 @@ impl AgentScenario {
     // `999999999`
     fn open(&mut self, row: &mut Row<'_>) {
         let first = row.number();
-        let Ok(agent) = agent_from(row.alloc, first) else {
-            return row.refuse();
+        let Ok(agent) = agent_from(row.given.alloc, first) else {
+            return row.given.refuse();
         };
         self.agent = agent;
         self.now = 0;
         self.issued = 0;
-        self.sent = Vec::new(row.alloc);
+        self.sent = Vec::new(row.given.alloc);
         self.told = 0;
     }
 
@@ -97,8 +97,8 @@ impl AgentScenario {
     }
 
     // A command is issued. There is a place for what is sent before it is.
-    fn issue(&mut self, row: &mut Row<'_>, command: &Command) -> Result<(), OutOfMemory> {
-        let sent = Vec::with_capacity(row.alloc, 1)?;
+    fn issue(&mut self, given: &mut Outcome, command: &Command) -> Result<(), OutOfMemory> {
+        let sent = Vec::with_capacity(given.alloc, 1)?;
         self.sent.reserve(1)?;
         let issued = self.agent.issue(
             command.verb.as_bytes(),
@@ -107,8 +107,8 @@ impl AgentScenario {
         );
         match issued {
             Ok(issued) => return self.keep(issued, sent),
-            Err(IssueFault::OutOfMemory) => row.refuse(),
-            Err(fault) => put_refusal(row, fault.number(), name_of(fault)),
+            Err(IssueFault::OutOfMemory) => given.refuse(),
+            Err(fault) => put_refusal(given, fault.number(), name_of(fault)),
         }
         Ok(())
     }
@@ -116,16 +116,16 @@ impl AgentScenario {
     // `RQNT  aaln/1@rgw.example.net  X: 1¶`.
     fn issue_in(&mut self, row: &mut Row<'_>) {
         let words = but_refusal(row);
-        let command = command_in(row, words);
-        if !row.is_refused && self.issue(row, &command).is_err() {
-            row.refuse();
+        let command = command_in(&mut row.given, words);
+        if !row.given.is_refused && self.issue(&mut row.given, &command).is_err() {
+            row.given.refuse();
         }
     }
 
     // What an event gives is kept.
-    fn take(&mut self, row: &mut Row<'_>, event: Event<'_>, outputs: Outputs) {
+    fn take(&mut self, given: &mut Outcome, event: Event<'_>, outputs: Outputs) {
         if self.sent.push(outputs).is_err() {
-            return row.refuse();
+            return given.refuse();
         }
         if let Event::Tick { moment } = event {
             self.now = moment;
@@ -133,17 +133,17 @@ impl AgentScenario {
     }
 
     // An event, and its refusal or nothing. There is a place for what is sent before it is.
-    fn step(&mut self, row: &mut Row<'_>, event: Event<'_>) {
-        if row.is_unread || row.is_refused {
+    fn step(&mut self, given: &mut Outcome, event: Event<'_>) {
+        if given.is_unread || given.is_refused {
             return;
         }
         if self.sent.reserve(1).is_err() {
-            return row.refuse();
+            return given.refuse();
         }
         match self.agent.step(event) {
-            Ok(outputs) => self.take(row, event, outputs),
-            Err(Refusal::OutOfMemory) => row.refuse(),
-            Err(refusal) => put_refusal(row, refusal.number(), refusal.name()),
+            Ok(outputs) => self.take(given, event, outputs),
+            Err(Refusal::OutOfMemory) => given.refuse(),
+            Err(refusal) => put_refusal(given, refusal.number(), refusal.name()),
         }
     }
 
@@ -151,56 +151,58 @@ impl AgentScenario {
     fn hear(&mut self, row: &mut Row<'_>) {
         let source = address_in(row);
         let field = row.rest();
-        let bytes = text_of(row, field);
+        let bytes = text_of(&mut row.given, field);
         let bytes = bytes.as_bytes();
-        self.step(row, Event::Datagram { source, bytes });
+        self.step(&mut row.given, Event::Datagram { source, bytes });
     }
 
     // `1 off`
     fn phone(&mut self, row: &mut Row<'_>) {
         let words = but_refusal(row);
-        let (line, act) = act_in(row, words);
-        self.step(row, Event::Phone { line, act });
+        let (line, act) = act_in(&mut row.given, words);
+        self.step(&mut row.given, Event::Phone { line, act });
     }
 
     // `1000`
     fn tick(&mut self, row: &mut Row<'_>) {
         let words = but_refusal(row);
-        let moment = number_of(row, words);
-        self.step(row, Event::Tick { moment });
+        let moment = number_of(&mut row.given, words);
+        self.step(&mut row.given, Event::Tick { moment });
     }
 
     // Ticks up to this moment. After a refusal of memory they go on from the last that was taken.
-    fn tick_up_to(&mut self, row: &mut Row<'_>, end: u64) {
+    fn tick_up_to(&mut self, given: &mut Outcome, end: u64) {
         for _ in 0..end.saturating_sub(self.now).div_ceil(1000) {
             let moment = self.now.saturating_add(1000).min(end);
-            self.step(row, Event::Tick { moment });
-            if row.is_refused || !row.given.is_empty() {
+            self.step(given, Event::Tick { moment });
+            if given.is_refused || !given.bytes.is_empty() {
                 return;
             }
         }
     }
 
     // The next datagram: its moment, where it goes, and its bytes.
-    fn put_sent(&mut self, row: &mut Row<'_>) {
+    fn put_sent(&mut self, given: &mut Outcome) {
         let Some(datagram) = item_at(self.sent.as_slice(), self.told) else {
-            return row.put(b"none");
+            return given.put(b"none");
         };
-        row.put_shown(datagram.moment);
-        row.put(b" ");
-        row.put_shown(datagram.to);
-        row.put(b"  ");
-        row.put(datagram.bytes.as_bytes());
-        if !row.is_refused {
+        given.put_shown(datagram.moment);
+        given.put(b" ");
+        given.put_shown(datagram.to);
+        given.put(b"  ");
+        given.put(datagram.bytes.as_bytes());
+        if !given.is_refused {
             self.told = self.told.wrapping_add(1);
         }
     }
 
     // Whether an announcement with this id is answered by 200.
-    fn is_answered(&mut self, row: &mut Row<'_>, id: u32) -> bool {
-        let text = format!(in row.alloc; "RSIP {id} *@rgw.example.net MGCP 1.0\r\nRM: restart\r\n");
+    fn is_answered(&mut self, given: &mut Outcome, id: u32) -> bool {
+        let text = format!(in given.alloc;
+            "RSIP {id} *@rgw.example.net MGCP 1.0\r\nRM: restart\r\n"
+        );
         let Ok(text) = text else {
-            row.refuse();
+            given.refuse();
             return false;
         };
         let event = Event::Datagram {
@@ -208,9 +210,9 @@ impl AgentScenario {
             bytes: text.as_bytes(),
         };
         match self.agent.step(event) {
-            Ok(outputs) => is_just_200(row, &outputs, gateway_address(), id),
+            Ok(outputs) => is_just_200(given, &outputs, gateway_address(), id),
             Err(_) => {
-                row.refuse();
+                given.refuse();
                 false
             }
         }
@@ -219,12 +221,12 @@ impl AgentScenario {
     // `1-4096`. Where memory is refused the first of them come again, which gives the same answers.
     fn announce(&mut self, row: &mut Row<'_>) {
         let Some((first, last)) = range_in(row.rest()) else {
-            return row.unread();
+            return row.given.unread();
         };
         for id in first..=last {
-            if !self.is_answered(row, id) {
-                row.put(b"another answer to ");
-                return row.put_shown(id);
+            if !self.is_answered(&mut row.given, id) {
+                row.given.put(b"another answer to ");
+                return row.given.put_shown(id);
             }
         }
     }
@@ -233,21 +235,21 @@ impl AgentScenario {
         match row.before(" ") {
             "agent" => self.open(row),
             "issue" => self.issue_in(row),
-            "issued" => row.put_shown(self.issued),
+            "issued" => row.given.put_shown(self.issued),
             "hears" => self.hear(row),
             "phone" => self.phone(row),
             "tick" => self.tick(row),
             "at" => {
                 let words = row.rest();
-                let end = number_of(row, words);
-                self.tick_up_to(row, end);
+                let end = number_of(&mut row.given, words);
+                self.tick_up_to(&mut row.given, end);
             }
-            "sends" => self.put_sent(row),
+            "sends" => self.put_sent(&mut row.given),
             "firsts" => self.announce(row),
-            "due" => row.put_or_none(self.agent.next_due()),
+            "due" => row.given.put_or_none(self.agent.next_due()),
             "answers" => put_answer(row, &self.agent),
             "taken" => put_taken(row, &self.agent),
-            _ => row.unread(),
+            _ => row.given.unread(),
         }
     }
 }

@@ -5,7 +5,7 @@ use event_values::write_observed;
 use mg_bytes::Text;
 use mg_line::Act;
 use rgw_scripts::{ScriptLine, ScriptStep, line_in};
-use scenario_files::{Row, bytes_of};
+use scenario_files::{Outcome, Row, bytes_of};
 use std::alloc::Global;
 use std::io;
 use std::net::SocketAddrV4;
@@ -45,39 +45,39 @@ pub fn but_refusal<'a>(row: &mut Row<'a>) -> &'a str {
 }
 
 /// Puts a refusal.
-pub fn put_refusal(row: &mut Row<'_>, number: u8, name: &str) {
-    row.put_shown(number);
-    row.put(b" ");
-    row.put(name.as_bytes());
+pub fn put_refusal(given: &mut Outcome, number: u8, name: &str) {
+    given.put_shown(number);
+    given.put(b" ");
+    given.put(name.as_bytes());
 }
 
 /// The number that words say; 0 where they say none, and then there is no such row.
-pub fn number_of(row: &mut Row<'_>, words: &str) -> u64 {
+pub fn number_of(given: &mut Outcome, words: &str) -> u64 {
     let Ok(number) = words.parse::<u64>() else {
-        row.unread();
+        given.unread();
         return 0;
     };
     number
 }
 
 /// A field as a text; nothing where memory is refused, which the row keeps.
-pub fn text_of(row: &mut Row<'_>, field: &str) -> Text {
-    Text::of(match bytes_of(row.alloc, field) {
+pub fn text_of(given: &mut Outcome, field: &str) -> Text {
+    Text::of(match bytes_of(given.alloc, field) {
         Ok(bytes) => bytes,
         Err(_) => {
-            row.refuse();
-            Vec::new(row.alloc)
+            given.refuse();
+            Vec::new(given.alloc)
         }
     })
 }
 
 /// `AUEP  aaln/1@rgw.example.net  K: 1¶`, without the last where that is empty.
-pub fn command_in(row: &mut Row<'_>, fields: &str) -> Command {
+pub fn command_in(given: &mut Outcome, fields: &str) -> Command {
     let (verb, behind) = fields.split_once("  ").unwrap_or((fields, ""));
     let (name, rest) = behind.split_once("  ").unwrap_or((behind, ""));
-    let verb = text_of(row, verb);
-    let name = text_of(row, name);
-    let rest = text_of(row, rest);
+    let verb = text_of(given, verb);
+    let name = text_of(given, name);
+    let rest = text_of(given, rest);
     Command { verb, name, rest }
 }
 
@@ -89,8 +89,8 @@ fn script_line(alloc: Global, step: &str, words: &str) -> io::Result<Option<Scri
 
 /// `1 off`: the line, and what is done at its telephone; on hook at line 0 where it says something else, and then there is no
 /// such row.
-pub fn act_in(row: &mut Row<'_>, words: &str) -> (u16, Act) {
-    match script_line(row.alloc, "phone", words) {
+pub fn act_in(given: &mut Outcome, words: &str) -> (u16, Act) {
+    match script_line(given.alloc, "phone", words) {
         Ok(
             Some(
                 ScriptLine::Whole {
@@ -98,8 +98,8 @@ pub fn act_in(row: &mut Row<'_>, words: &str) -> (u16, Act) {
                 },
             ),
         ) => return (line, act),
-        Ok(_) => row.unread(),
-        Err(_) => row.refuse(),
+        Ok(_) => given.unread(),
+        Err(_) => given.refuse(),
     }
     (0, Act::OnHook)
 }
@@ -107,10 +107,10 @@ pub fn act_in(row: &mut Row<'_>, words: &str) -> (u16, Act) {
 /// The address that comes next, up to the next field.
 pub fn address_in(row: &mut Row<'_>) -> SocketAddrV4 {
     let address = row.before("  ");
-    match script_line(row.alloc, "from", address) {
+    match script_line(row.given.alloc, "from", address) {
         Ok(Some(ScriptLine::From { source })) => return source,
-        Ok(_) => row.unread(),
-        Err(_) => row.refuse(),
+        Ok(_) => row.given.unread(),
+        Err(_) => row.given.refuse(),
     }
     agent_address()
 }
@@ -118,25 +118,26 @@ pub fn address_in(row: &mut Row<'_>) -> SocketAddrV4 {
 /// `1  200  200 1 OK¶` or `1  none`: the answer to the command with this id.
 pub fn put_answer(row: &mut Row<'_>, agent: &Agent) {
     let Ok(id) = row.before("  ").parse::<u32>() else {
-        return row.unread();
+        return row.given.unread();
     };
     let Some(answer) = agent.answers(id) else {
-        return row.put(b"none");
+        return row.given.put(b"none");
     };
-    row.put_shown(answer.code);
-    row.put(b"  ");
-    row.put(answer.text.as_bytes());
+    row.given.put_shown(answer.code);
+    row.given.put(b"  ");
+    row.given.put(answer.text.as_bytes());
 }
 
 /// `1  L/hd,D/5` or `1  none`: what notifications of this line told.
 pub fn put_taken(row: &mut Row<'_>, agent: &Agent) {
     let Ok(line) = row.before("  ").parse::<u16>() else {
-        return row.unread();
+        return row.given.unread();
     };
     let observed = agent.taken(line);
     if observed.is_empty() {
-        row.put(b"none");
+        row.given.put(b"none");
     } else {
-        row.put_text(write_observed(row.alloc, observed));
+        let given = &mut row.given;
+        given.put_text(write_observed(given.alloc, observed));
     }
 }

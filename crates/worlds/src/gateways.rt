@@ -82,10 +82,10 @@ pub fn usual_gateway(alloc: Global) -> io::Result<Box<Gateway>> {
 pub fn put_hook(row: &mut Row<'_>, gateway: &Gateway) {
     let line = row.before(" ").parse::<u16>().unwrap_or(0);
     if line == 0 || line > gateway.lines() {
-        return row.unread();
+        return row.given.unread();
     }
     match gateway.hook(line) {
-        Hook::OnHook => row.put(b"on"),
-        Hook::OffHook => row.put(b"off"),
+        Hook::OnHook => row.given.put(b"on"),
+        Hook::OffHook => row.given.put(b"off"),
     }
 }

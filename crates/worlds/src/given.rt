@@ -41,17 +41,17 @@ pub fn given_in(row: &mut Row<'_>, word: &str) -> Option<Given> {
     let words = but_refusal(row);
     Some(match word {
         "issue" => Given::Issue {
-            command: command_in(row, words),
+            command: command_in(&mut row.given, words),
         },
         "dial" => {
-            let (line, act) = act_in(row, words);
+            let (line, act) = act_in(&mut row.given, words);
             Given::Dial { line, act }
         }
         "tick" => Given::Tick {
-            moment: number_of(row, words),
+            moment: number_of(&mut row.given, words),
         },
         "deliver" => Given::Deliver {
-            packet: number_of(row, words) as usize,
+            packet: number_of(&mut row.given, words) as usize,
         },
         _ => return None,
     })

@@ -20,7 +20,7 @@ use crate::planned::{event_of, planned_in};
 use crate::playing::MemoryWire;
 use gateway_core::{Event, Gateway, Outputs, Served, Wire};
 use mg_bytes::Sequence;
-use scenario_files::{Row, Scenario, number_in, range_in};
+use scenario_files::{Outcome, Row, Scenario, number_in, range_in};
 use std::alloc::Global;
 use std::{io, mem};
 
@@ -57,50 +57,50 @@ fn events_of(alloc: Global, plan: &[Planned]) -> io::Result<Vec<Event<'_>>> {
 }
 
 // Puts how many events were taken.
-fn put_count(row: &mut Row<'_>, taken: usize) {
-    row.put_shown(taken);
-    row.put(b" taken");
+fn put_count(given: &mut Outcome, taken: usize) {
+    given.put_shown(taken);
+    given.put(b" taken");
 }
 
 // What a gateway sends to these events in one run. Puts what came of them.
-fn run_events(row: &mut Row<'_>, gateway: &mut Gateway, events: &[Event<'_>]) -> Outputs {
+fn run_events(given: &mut Outcome, gateway: &mut Gateway, events: &[Event<'_>]) -> Outputs {
     match gateway.run(events) {
         Ok(outputs) => {
-            put_count(row, events.len());
+            put_count(given, events.len());
             outputs
         }
         Err(stopped) => {
-            put_count(row, stopped.place);
-            row.put(b", ");
-            put_refusal(row, stopped.refusal.number(), stopped.refusal.name());
+            put_count(given, stopped.place);
+            given.put(b", ");
+            put_refusal(given, stopped.refusal.number(), stopped.refusal.name());
             stopped.outputs
         }
     }
 }
 
 // The same of the events of a plan.
-fn run_plan(row: &mut Row<'_>, gateway: &mut Gateway, plan: &[Planned]) -> Outputs {
-    match events_of(row.alloc, plan) {
-        Ok(events) => run_events(row, gateway, &events),
+fn run_plan(given: &mut Outcome, gateway: &mut Gateway, plan: &[Planned]) -> Outputs {
+    match events_of(given.alloc, plan) {
+        Ok(events) => run_events(given, gateway, &events),
         Err(_) => {
-            row.refuse();
-            Sequence::new(row.alloc)
+            given.refuse();
+            Sequence::new(given.alloc)
         }
     }
 }
 
 // What came of turns that were served, as a row says it.
-fn put_served(row: &mut Row<'_>, served: &Served) {
-    row.put_shown(served.turns);
-    row.put(b" turns, ");
-    row.put_shown(served.refused);
-    row.put(b" refused, ");
-    row.put_shown(served.receive_faults);
-    row.put(b" not received, ");
-    row.put_shown(served.send_faults);
-    row.put(b" not sent");
+fn put_served(given: &mut Outcome, served: &Served) {
+    given.put_shown(served.turns);
+    given.put(b" turns, ");
+    given.put_shown(served.refused);
+    given.put(b" refused, ");
+    given.put_shown(served.receive_faults);
+    given.put(b" not received, ");
+    given.put_shown(served.send_faults);
+    given.put(b" not sent");
     if served.ended {
-        row.put(b", ended");
+        given.put(b", ended");
     }
 }
 
@@ -108,8 +108,8 @@ impl MemoryScenario {
     // For the next wire.
     fn plan_more(&mut self, row: &mut Row<'_>) {
         let planned = planned_in(row);
-        if row.is_refused || self.plan.push(planned).is_err() {
-            row.refuse();
+        if row.given.is_refused || self.plan.push(planned).is_err() {
+            row.given.refuse();
         }
     }
 
@@ -120,23 +120,23 @@ impl MemoryScenario {
     }
 
     // In place of a wire the gateway takes the events of the plan in one run.
-    fn run(&mut self, row: &mut Row<'_>) {
-        let outputs = run_plan(row, &mut self.gateway, &self.plan);
-        if row.is_refused {
+    fn run(&mut self, given: &mut Outcome) {
+        let outputs = run_plan(given, &mut self.gateway, &self.plan);
+        if given.is_refused {
             return;
         }
-        self.plan = Vec::new(row.alloc);
-        self.lay(row.alloc, 0);
+        self.plan = Vec::new(given.alloc);
+        self.lay(given.alloc, 0);
         for datagram in outputs.as_slice() {
             let _ = self.wire.send(datagram.to, datagram.bytes.as_bytes());
         }
     }
 
     // Whether an audit with this id is answered by 200.
-    fn is_answered(&mut self, row: &mut Row<'_>, id: u32) -> bool {
-        let audit = format!(in row.alloc; "AUEP {id} aaln/1@rgw.example.net MGCP 1.0\r\n");
+    fn is_answered(&mut self, given: &mut Outcome, id: u32) -> bool {
+        let audit = format!(in given.alloc; "AUEP {id} aaln/1@rgw.example.net MGCP 1.0\r\n");
         let Ok(audit) = audit else {
-            row.refuse();
+            given.refuse();
             return false;
         };
         let event = Event::Datagram {
@@ -144,47 +144,47 @@ impl MemoryScenario {
             bytes: audit.as_bytes(),
         };
         match self.gateway.step(event) {
-            Ok(outputs) => is_just_200(row, &outputs, agent_address(), id),
+            Ok(outputs) => is_just_200(given, &outputs, agent_address(), id),
             Err(_) => {
-                row.refuse();
+                given.refuse();
                 false
             }
         }
     }
 
     // It is this moment.
-    fn tick(&mut self, row: &mut Row<'_>, moment: u64) {
+    fn tick(&mut self, given: &mut Outcome, moment: u64) {
         if self.gateway.step(Event::Tick { moment }).is_err() {
-            row.refuse();
+            given.refuse();
         }
     }
 
     // `1-20000`
     fn audit(&mut self, row: &mut Row<'_>) {
         let Some((first, last)) = range_in(row.rest()) else {
-            return row.unread();
+            return row.given.unread();
         };
         let mut moment = self.gateway.now();
         for id in first..=last {
             moment = moment.saturating_add(10);
-            self.tick(row, moment);
-            if row.is_refused || !self.is_answered(row, id) {
-                row.put(b"another answer to ");
-                return row.put_shown(id);
+            self.tick(&mut row.given, moment);
+            if row.given.is_refused || !self.is_answered(&mut row.given, id) {
+                row.given.put(b"another answer to ");
+                return row.given.put_shown(id);
             }
         }
     }
 
     // The next datagram that was handed to the wire.
-    fn put_sent(&mut self, row: &mut Row<'_>) {
+    fn put_sent(&mut self, given: &mut Outcome) {
         let Some(datagram) = self.wire.kept.get(self.told) else {
-            return row.put(b"none");
+            return given.put(b"none");
         };
         if datagram.to != agent_address() {
-            return row.put(b"one to another address");
+            return given.put(b"one to another address");
         }
-        row.put(datagram.bytes.as_bytes());
-        if !row.is_refused {
+        given.put(datagram.bytes.as_bytes());
+        if !given.is_refused {
             self.told = self.told.wrapping_add(1);
         }
     }
@@ -192,15 +192,15 @@ impl MemoryScenario {
     fn turn(&mut self, row: &mut Row<'_>) {
         match row.before(" ") {
             "gives" => self.plan_more(row),
-            "wire" => self.lay(row.alloc, number_in(row.rest())),
+            "wire" => self.lay(row.given.alloc, number_in(row.rest())),
             "serve" => self.served = self.gateway.serve(&mut self.wire, number_in(row.rest())),
-            "served" => put_served(row, &self.served),
-            "run" => self.run(row),
+            "served" => put_served(&mut row.given, &self.served),
+            "run" => self.run(&mut row.given),
             "audits" => self.audit(row),
-            "sent" => self.put_sent(row),
-            "due" => row.put_or_none(self.gateway.next_due()),
+            "sent" => self.put_sent(&mut row.given),
+            "due" => row.given.put_or_none(self.gateway.next_due()),
             "hook" => put_hook(row, &self.gateway),
-            _ => row.unread(),
+            _ => row.given.unread(),
         }
     }
 }

@@ -13,19 +13,19 @@ pub fn planned_in(row: &mut Row<'_>) -> Planned {
     match word {
         "datagram" => Planned::Datagram {
             source: agent_address(),
-            bytes: text_of(row, rest),
+            bytes: text_of(&mut row.given, rest),
         },
         "phone" => {
-            let (line, act) = act_in(row, rest);
+            let (line, act) = act_in(&mut row.given, rest);
             Planned::Phone { line, act }
         }
         "at" => Planned::Tick {
-            moment: number_of(row, rest),
+            moment: number_of(&mut row.given, rest),
         },
         "end" => Planned::End,
         "fault" => Planned::Fault,
         _ => {
-            row.unread();
+            row.given.unread();
             Planned::Fault
         }
     }

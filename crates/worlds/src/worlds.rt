@@ -17,7 +17,7 @@ use crate::given::{Given, given_in, world_from, world_of};
 use agent_core::{Step, StepRefusal, World, WorldStopped, world_run};
 use gateway_core::ConfigFault;
 use mg_bytes::Text;
-use scenario_files::{Row, Scenario, again, bytes_of, refused};
+use scenario_files::{Outcome, Row, Scenario, again, bytes_of, refused};
 use std::alloc::Global;
 use std::io;
 
@@ -72,30 +72,30 @@ impl WorldScenario {
         } else {
             row.rest()
         };
-        let entity = text_of(row, field);
+        let entity = text_of(&mut row.given, field);
         let Ok(lines) = lines else {
-            return row.unread();
+            return row.given.unread();
         };
-        match world_of(row.alloc, lines, entity.as_bytes()) {
-            Ok(world) => self.begin_with(row.alloc, world, lines, entity),
-            Err(ConfigFault::OutOfMemory) => row.refuse(),
-            Err(fault) => put_refusal(row, fault.number(), fault.name()),
+        match world_of(row.given.alloc, lines, entity.as_bytes()) {
+            Ok(world) => self.begin_with(row.given.alloc, world, lines, entity),
+            Err(ConfigFault::OutOfMemory) => row.given.refuse(),
+            Err(fault) => put_refusal(&mut row.given, fault.number(), fault.name()),
         }
     }
 
     // `5`
     fn start(&mut self, row: &mut Row<'_>) {
         let first = row.number();
-        let entity = text_of(row, ENTITY);
-        if row.is_unread || row.is_refused {
+        let entity = text_of(&mut row.given, ENTITY);
+        if row.given.is_unread || row.given.is_refused {
             return;
         }
-        match world_from(row.alloc, LINES, entity.as_bytes(), first) {
+        match world_from(row.given.alloc, LINES, entity.as_bytes(), first) {
             Ok(world) => {
-                self.begin_with(row.alloc, world, LINES, entity);
+                self.begin_with(row.given.alloc, world, LINES, entity);
                 self.first = first;
             }
-            Err(_) => row.refuse(),
+            Err(_) => row.given.refuse(),
         }
     }
 
@@ -110,58 +110,58 @@ impl WorldScenario {
     }
 
     // Memory was refused: from then on the world takes neither a step nor none.
-    fn spend(&mut self, row: &mut Row<'_>) {
+    fn spend(&mut self, given: &mut Outcome) {
         self.spent = is_at_once(world_run(&mut self.world, &[]))
             && is_at_once(world_run(&mut self.world, &[Step::Tick { moment: 0 }]));
         if self.spent {
-            row.refuse();
+            given.refuse();
         } else {
-            row.put(b"a spent world goes on");
+            given.put(b"a spent world goes on");
         }
     }
 
     // A step, and its refusal or nothing. There is a place for it before it is taken.
-    fn take(&mut self, row: &mut Row<'_>, given: Given) {
-        if row.is_unread || row.is_refused {
+    fn take(&mut self, given: &mut Outcome, taken: Given) {
+        if given.is_unread || given.is_refused {
             return;
         }
         if self.given.reserve(1).is_err() {
-            return row.refuse();
+            return given.refuse();
         }
-        match world_run(&mut self.world, &[given.step()]) {
+        match world_run(&mut self.world, &[taken.step()]) {
             Ok(()) => {
-                if self.given.push(given).is_err() {
-                    row.refuse();
+                if self.given.push(taken).is_err() {
+                    given.refuse();
                 }
             }
-            Err(WorldStopped { place, refusal }) => self.stop(row, place, refusal),
+            Err(WorldStopped { place, refusal }) => self.stop(given, place, refusal),
         }
     }
 
     // It stopped at a step: at the one that it was given.
-    fn stop(&mut self, row: &mut Row<'_>, place: usize, refusal: StepRefusal) {
+    fn stop(&mut self, given: &mut Outcome, place: usize, refusal: StepRefusal) {
         if refusal == StepRefusal::OutOfMemory {
-            self.spend(row);
+            self.spend(given);
         } else if place != 0 {
-            row.put(b"it stopped at another place");
+            given.put(b"it stopped at another place");
         } else {
-            put_refusal(row, refusal.number(), refusal.name());
+            put_refusal(given, refusal.number(), refusal.name());
         }
     }
 
     // The next packet: its moment, its sender, where it goes, and its bytes.
-    fn put_post(&mut self, row: &mut Row<'_>) {
+    fn put_post(&mut self, given: &mut Outcome) {
         let Some(packet) = self.world.packet(self.told) else {
-            return row.put(b"none");
+            return given.put(b"none");
         };
-        row.put_shown(packet.moment);
-        row.put(b"  ");
-        row.put_shown(packet.sender);
-        row.put(b"  ");
-        row.put_shown(packet.to);
-        row.put(b"  ");
-        row.put(packet.bytes.as_bytes());
-        if !row.is_refused {
+        given.put_shown(packet.moment);
+        given.put(b"  ");
+        given.put_shown(packet.sender);
+        given.put(b"  ");
+        given.put_shown(packet.to);
+        given.put(b"  ");
+        given.put(packet.bytes.as_bytes());
+        if !given.is_refused {
             self.told = self.told.wrapping_add(1);
         }
     }
@@ -171,14 +171,14 @@ impl WorldScenario {
         match word {
             "world" => self.open(row),
             "first" => self.start(row),
-            "posts" => self.put_post(row),
+            "posts" => self.put_post(&mut row.given),
             "answers" => put_answer(row, self.world.agent()),
             "taken" => put_taken(row, self.world.agent()),
             "hook" => put_hook(row, self.world.gateway()),
-            "now" => row.put_shown(self.world.gateway().now()),
+            "now" => row.given.put_shown(self.world.gateway().now()),
             _ => match given_in(row, word) {
-                Some(given) => self.take(row, given),
-                None => row.unread(),
+                Some(taken) => self.take(&mut row.given, taken),
+                None => row.given.unread(),
             },
         }
     }

@@ -4,48 +4,48 @@ use mg_bytes::{
     decimal, has_dot_line, hex_text, ipv4_address, lines, list_items, port_number, put_decimal,
     same_no_case, split_once, trimmed, words,
 };
-use scenario_files::Row;
+use scenario_files::Outcome;
 
-fn put_lines(row: &mut Row<'_>, value: &[u8]) {
+fn put_lines(given: &mut Outcome, value: &[u8]) {
     for line in lines(value) {
-        put_piece(row, line);
+        put_piece(given, line);
     }
 }
 
 // What stands behind each line.
-fn put_rests(row: &mut Row<'_>, value: &[u8]) {
+fn put_rests(given: &mut Outcome, value: &[u8]) {
     let mut left = lines(value);
     for _ in lines(value) {
         let _line = left.next();
-        put_piece(row, left.rest());
+        put_piece(given, left.rest());
     }
 }
 
-fn put_words(row: &mut Row<'_>, value: &[u8]) {
+fn put_words(given: &mut Outcome, value: &[u8]) {
     for word in words(value) {
-        put_piece(row, word);
+        put_piece(given, word);
     }
 }
 
-fn put_items(row: &mut Row<'_>, value: &[u8]) {
+fn put_items(given: &mut Outcome, value: &[u8]) {
     for item in list_items(value) {
-        put_piece(row, item);
+        put_piece(given, item);
     }
 }
 
 // The two sides of the first colon, or none.
-fn put_sides(row: &mut Row<'_>, value: &[u8]) {
+fn put_sides(given: &mut Outcome, value: &[u8]) {
     if let Some((left, right)) = split_once(value, b':') {
-        put_piece(row, left);
-        put_piece(row, right);
+        put_piece(given, left);
+        put_piece(given, right);
     }
 }
 
 // The digits that a number is written with.
-fn put_digits(row: &mut Row<'_>, value: &[u8]) {
+fn put_digits(given: &mut Outcome, value: &[u8]) {
     let number = words_of(value).parse::<u64>().unwrap_or(0);
-    if put_decimal(row.alloc, &mut row.given, number).is_err() {
-        row.refuse();
+    if put_decimal(given.alloc, &mut given.bytes, number).is_err() {
+        given.refuse();
     }
 }
 
@@ -57,21 +57,21 @@ fn is_same(value: &[u8]) -> bool {
 }
 
 /// Puts what a call gives; no where there is no such call here.
-pub fn put_answer(row: &mut Row<'_>, call: &str, value: &[u8]) -> bool {
+pub fn put_answer(given: &mut Outcome, call: &str, value: &[u8]) -> bool {
     match call {
-        "lines" => put_lines(row, value),
-        "rests" => put_rests(row, value),
-        "words in" => put_words(row, value),
-        "items" => put_items(row, value),
-        "colon" => put_sides(row, value),
-        "trimmed" => row.put(trimmed(value)),
-        "written number" => put_digits(row, value),
-        "number" => row.put_or_none(decimal(value)),
-        "port" => row.put_or_none(port_number(value)),
-        "address" => row.put_or_none(ipv4_address(value)),
-        "hexadecimal" => row.put_judged(hex_text(value)),
-        "same" => row.put_judged(is_same(value)),
-        "dot line" => row.put_judged(has_dot_line(value)),
+        "lines" => put_lines(given, value),
+        "rests" => put_rests(given, value),
+        "words in" => put_words(given, value),
+        "items" => put_items(given, value),
+        "colon" => put_sides(given, value),
+        "trimmed" => given.put(trimmed(value)),
+        "written number" => put_digits(given, value),
+        "number" => given.put_or_none(decimal(value)),
+        "port" => given.put_or_none(port_number(value)),
+        "address" => given.put_or_none(ipv4_address(value)),
+        "hexadecimal" => given.put_judged(hex_text(value)),
+        "same" => given.put_judged(is_same(value)),
+        "dot line" => given.put_judged(has_dot_line(value)),
         _ => return false,
     }
     true

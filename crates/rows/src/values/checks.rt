@@ -11,7 +11,8 @@ use gateway_checks::{
     put_entry,
 };
 use mg_bytes::{OutOfMemory, decimal};
-use scenario_files::Row;
+use scenario_files::Outcome;
+use std::alloc::Global;
 
 // Where the checks are played.
 const PLACES: Places<'static> = Places {
@@ -117,31 +118,31 @@ fn put_form(
 
 // What is told of a check in which this comes.
 fn told(
-    row: &Row<'_>,
+    alloc: Global,
     form: Form,
     check: &Check<'static>,
     came: &[u8],
 ) -> Result<String, OutOfMemory> {
-    let names = Names::new(row.alloc, &PLACES, 0);
-    let mut player = Player::new(row.alloc, check, names);
+    let names = Names::new(alloc, &PLACES, 0);
+    let mut player = Player::new(alloc, check, names);
     play(&mut player, came)?;
-    let mut out = String::new(row.alloc);
+    let mut out = String::new(alloc);
     put_form(&mut out, form, check, &player)?;
     Ok(out)
 }
 
 /// Puts what a call gives, and says whether there is such a call here. Where there is no check of this name there is no such row.
-pub fn put_answer(row: &mut Row<'_>, call: &str, value: &[u8]) -> bool {
+pub fn put_answer(given: &mut Outcome, call: &str, value: &[u8]) -> bool {
     let Some((form, name)) = asked(call) else {
         return false;
     };
     let Some(check) = check_named(name) else {
-        row.unread();
+        given.unread();
         return true;
     };
-    match told(row, form, &check, value) {
-        Ok(text) => row.put(text.as_bytes()),
-        Err(_) => row.refuse(),
+    match told(given.alloc, form, &check, value) {
+        Ok(text) => given.put(text.as_bytes()),
+        Err(_) => given.refuse(),
     }
     true
 }

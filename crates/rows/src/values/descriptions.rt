@@ -1,18 +1,18 @@
 //! Calls about session descriptions.
-use scenario_files::Row;
+use scenario_files::Outcome;
 use sdp_subset::{Origin, Session, read_sdp, write_sdp};
 
 // Where a stream is received, and its payload types.
-fn put_offered(row: &mut Row<'_>, session: &Session) {
-    row.put_shown(session.address);
-    row.put(b":");
-    row.put_shown(session.port);
+fn put_offered(given: &mut Outcome, session: &Session) {
+    given.put_shown(session.address);
+    given.put(b":");
+    given.put_shown(session.port);
     for payload in session.payloads.as_slice() {
-        row.put(b" ");
-        row.put_shown(*payload);
+        given.put(b" ");
+        given.put_shown(*payload);
     }
     if session.origin.is_some() || session.ptime.is_some() {
-        row.put(b" of its own");
+        given.put(b" of its own");
     }
 }
 
@@ -28,32 +28,32 @@ fn own_of(numbers: &str) -> Option<(Origin, u16)> {
 }
 
 // A description as it is written again, with an origin and a packet time where these are given.
-fn put_written(row: &mut Row<'_>, session: &mut Session, own: Option<(Origin, u16)>) {
+fn put_written(given: &mut Outcome, session: &mut Session, own: Option<(Origin, u16)>) {
     if let Some((origin, ptime)) = own {
         session.origin = Some(origin);
         session.ptime = Some(ptime);
     }
-    row.put_text(write_sdp(row.alloc, session));
+    given.put_text(write_sdp(given.alloc, session));
 }
 
 // What a call gives of a description, with this origin and packet time where they are given.
-fn put_of(row: &mut Row<'_>, call: &str, value: &[u8], own: Option<(Origin, u16)>) {
+fn put_of(given: &mut Outcome, call: &str, value: &[u8], own: Option<(Origin, u16)>) {
     match read_sdp(value) {
-        Ok(session) if call == "description" => put_offered(row, &session),
-        Ok(mut session) => put_written(row, &mut session, own),
-        Err(_) => row.put(b"refused"),
+        Ok(session) if call == "description" => put_offered(given, &session),
+        Ok(mut session) => put_written(given, &mut session, own),
+        Err(_) => given.put(b"refused"),
     }
 }
 
 /// Puts what a call gives; no where there is no such call here.
-pub fn put_answer(row: &mut Row<'_>, call: &str, value: &[u8]) -> bool {
+pub fn put_answer(given: &mut Outcome, call: &str, value: &[u8]) -> bool {
     if call == "description" || call == "written description" {
-        put_of(row, call, value, None);
+        put_of(given, call, value, None);
         return true;
     }
     let own = own_of(call.strip_prefix("own description ").unwrap_or(""));
     if own.is_some() {
-        put_of(row, call, value, own);
+        put_of(given, call, value, own);
     }
     own.is_some()
 }

@@ -6,52 +6,60 @@ use exchange_log::{
 };
 use mg_bytes::OutOfMemory;
 use mgcp_text::TransactionId;
-use scenario_files::Row;
+use scenario_files::Outcome;
 
-fn id_of(row: &mut Row<'_>, digits: &[u8]) -> TransactionId {
-    let number = number_of(row, digits);
+fn id_of(given: &mut Outcome, digits: &[u8]) -> TransactionId {
+    let number = number_of(given, digits);
     if number < 1 || number > 999_999_999 {
-        row.unread();
+        given.unread();
         return TransactionId::of(1);
     }
     TransactionId::of(number as u32)
 }
 
 // `12 TEXT`: how long was waited, `-` or digits, and the message.
-fn put_told(row: &mut Row<'_>, stamp: Stamp, way: Way, value: &[u8]) -> Result<(), OutOfMemory> {
-    let (word, text) = parted(row, value);
+fn put_told(given: &mut Outcome, stamp: Stamp, way: Way, value: &[u8]) -> Result<(), OutOfMemory> {
+    let (word, text) = parted(given, value);
     let waited = match word {
         b"-" => None,
-        _ => Some(number_of(row, word)),
+        _ => Some(number_of(given, word)),
     };
-    put_message(row.alloc, &mut row.given, DOMAIN, stamp, way, text, waited)
+    put_message(
+        given.alloc,
+        &mut given.bytes,
+        DOMAIN,
+        stamp,
+        way,
+        text,
+        waited,
+    )
 }
 
 // `1207 WHY`.
-fn put_why(row: &mut Row<'_>, stamp: Stamp, value: &[u8]) -> Result<(), OutOfMemory> {
-    let (id, why) = parted(row, value);
-    let id = id_of(row, id);
-    put_refused(row.alloc, &mut row.given, stamp, id, why)
+fn put_why(given: &mut Outcome, stamp: Stamp, value: &[u8]) -> Result<(), OutOfMemory> {
+    let (id, why) = parted(given, value);
+    let id = id_of(given, id);
+    put_refused(given.alloc, &mut given.bytes, stamp, id, why)
 }
 
 // `1234`: so many lines. What is noted of the program itself has no other end.
-fn put_dropped(row: &mut Row<'_>, stamp: Stamp, value: &[u8]) -> Result<(), OutOfMemory> {
-    let lines = number_of(row, value);
+fn put_dropped(given: &mut Outcome, stamp: Stamp, value: &[u8]) -> Result<(), OutOfMemory> {
+    let lines = number_of(given, value);
     put_notice(
-        row.alloc,
-        &mut row.given,
+        given.alloc,
+        &mut given.bytes,
         stamp.moment,
         Notice::Dropped { lines },
     )
 }
 
 // `1207 401`: the command, and the code by which it is refused.
-fn refused_by(row: &mut Row<'_>, value: &[u8]) -> Note {
-    let (id, code) = parted(row, value);
-    let code = number_of(row, code);
-    let id = id_of(row, id);
+fn refused_by(given: &mut Outcome, value: &[u8]) -> Note {
+    let (id, code) = parted(given, value);
+    let code = number_of(given, code);
+    let id = id_of(given, id);
     if code > 999 {
-        row.unread();
+        given.unread();
         return Note::Unanswered(id);
     }
     Note::Refused {
@@ -61,64 +69,69 @@ fn refused_by(row: &mut Row<'_>, value: &[u8]) -> Note {
 }
 
 // `answered again 1205` and so on.
-fn note_of(row: &mut Row<'_>, call: &str, value: &[u8]) -> Note {
+fn note_of(given: &mut Outcome, call: &str, value: &[u8]) -> Note {
     match call {
-        "log answered again" => Note::AnsweredAgain(id_of(row, value)),
-        "log unanswered" => Note::Unanswered(id_of(row, value)),
-        "log sent again" => Note::SentAgain(id_of(row, value)),
-        "log refused by" => refused_by(row, value),
+        "log answered again" => Note::AnsweredAgain(id_of(given, value)),
+        "log unanswered" => Note::Unanswered(id_of(given, value)),
+        "log sent again" => Note::SentAgain(id_of(given, value)),
+        "log refused by" => refused_by(given, value),
         "log too long" => Note::TooLong {
-            length: number_of(row, value) as usize,
+            length: number_of(given, value) as usize,
         },
         "log unreadable" => Note::Unreadable,
         "log not sent" => Note::Unsent,
         "log out of memory" => Note::OutOfMemory,
         "log stranger" => Note::Stranger {
-            untold: number_of(row, value),
+            untold: number_of(given, value),
         },
         "log no room" => Note::NoRoom {
-            young: number_of(row, value),
+            young: number_of(given, value),
         },
         _ => {
-            row.unread();
+            given.unread();
             Note::Unreadable
         }
     }
 }
 
 // Puts the line of a call whose value goes on behind its stamp.
-fn put_line(row: &mut Row<'_>, call: &str, stamp: Stamp, value: &[u8]) -> Result<(), OutOfMemory> {
+fn put_line(
+    given: &mut Outcome,
+    call: &str,
+    stamp: Stamp,
+    value: &[u8],
+) -> Result<(), OutOfMemory> {
     match call {
-        "log came" => put_told(row, stamp, Way::Came, value),
-        "log sent" => put_told(row, stamp, Way::Sent, value),
-        "log given up" => put_given_up(row.alloc, &mut row.given, DOMAIN, stamp, value),
-        "log refused" => put_why(row, stamp, value),
-        "log dropped" => put_dropped(row, stamp, value),
+        "log came" => put_told(given, stamp, Way::Came, value),
+        "log sent" => put_told(given, stamp, Way::Sent, value),
+        "log given up" => put_given_up(given.alloc, &mut given.bytes, DOMAIN, stamp, value),
+        "log refused" => put_why(given, stamp, value),
+        "log dropped" => put_dropped(given, stamp, value),
         _ => {
-            let note = note_of(row, call, value);
-            put_note(row.alloc, &mut row.given, stamp, note)
+            let note = note_of(given, call, value);
+            put_note(given.alloc, &mut given.bytes, stamp, note)
         }
     }
 }
 
 // `43387123456 10.0.0.7:2727`, the moment and the other end, and what stands behind them.
-fn put_logged(row: &mut Row<'_>, call: &str, value: &[u8]) {
-    let (moment, rest) = parted(row, value);
-    let (peer, rest) = parted(row, rest);
+fn put_logged(given: &mut Outcome, call: &str, value: &[u8]) {
+    let (moment, rest) = parted(given, value);
+    let (peer, rest) = parted(given, rest);
     let stamp = Stamp {
-        moment: number_of(row, moment),
-        peer: address_of(row, peer),
+        moment: number_of(given, moment),
+        peer: address_of(given, peer),
     };
-    if put_line(row, call, stamp, rest).is_err() {
-        row.refuse();
+    if put_line(given, call, stamp, rest).is_err() {
+        given.refuse();
     }
 }
 
 /// Puts what a call gives; no where there is no such call here.
-pub fn put_answer(row: &mut Row<'_>, call: &str, value: &[u8]) -> bool {
+pub fn put_answer(given: &mut Outcome, call: &str, value: &[u8]) -> bool {
     let is_known = call.starts_with("log ");
     if is_known {
-        put_logged(row, call, value);
+        put_logged(given, call, value);
     }
     is_known
 }

@@ -14,7 +14,7 @@ use digit_map::{
 };
 use digit_map_bits::{Compiled, Dialling, SlowMap};
 use mg_bytes::{CodeFault, Letter, OutOfMemory, letter_of};
-use scenario_files::{Row, bytes_of, refused, yes_or_no};
+use scenario_files::{Outcome, bytes_of, refused, yes_or_no};
 use std::alloc::Global;
 use std::io;
 
@@ -132,54 +132,54 @@ fn in_range(range: &[u8], key: &[u8]) -> &'static str {
 }
 
 /// Puts the answer of a call of two values: of `verdict` or `in range`.
-pub fn put_answer_of_two(row: &mut Row<'_>, call: &str, fields: &str) -> io::Result<()> {
+pub fn put_answer_of_two(given: &mut Outcome, call: &str, fields: &str) -> io::Result<()> {
     let (one, other) = fields.split_once("  ").unwrap_or((fields, ""));
-    let (one, other) = (bytes_of(row.alloc, one)?, bytes_of(row.alloc, other)?);
-    let given = match call {
-        "verdict" => verdict(row.alloc, &one, &other)?,
+    let (one, other) = (bytes_of(given.alloc, one)?, bytes_of(given.alloc, other)?);
+    let answer = match call {
+        "verdict" => verdict(given.alloc, &one, &other)?,
         _ => in_range(&one, &other),
     };
-    row.put(given.as_bytes());
+    given.put(answer.as_bytes());
     Ok(())
 }
 
 // Puts a map, by a copy of it.
-fn put_map(row: &mut Row<'_>, map: &MapText) {
+fn put_map(given: &mut Outcome, map: &MapText) {
     match map.try_copy() {
-        Ok(copy) => row.put(copy.as_bytes()),
-        Err(_) => row.refuse(),
+        Ok(copy) => given.put(copy.as_bytes()),
+        Err(_) => given.refuse(),
     }
 }
 
 // A map without its blanks, or a code.
-fn put_read(row: &mut Row<'_>, value: &[u8]) {
-    match read_map(row.alloc, value) {
-        Ok(map) => put_map(row, &map),
-        Err(fault) => row.put_code(CodeFault::from(fault)),
+fn put_read(given: &mut Outcome, value: &[u8]) {
+    match read_map(given.alloc, value) {
+        Ok(map) => put_map(given, &map),
+        Err(fault) => given.put_code(CodeFault::from(fault)),
     }
 }
 
 // What a D makes of the map that stands, or a code.
-fn put_change(row: &mut Row<'_>, value: &[u8]) {
+fn put_change(given: &mut Outcome, value: &[u8]) {
     let named = if value == b"-".as_slice() {
         None
     } else {
         Some(value)
     };
-    match read_change(row.alloc, named) {
-        Ok(MapChange::Keep) => row.put(b"keep"),
-        Ok(MapChange::Remove) => row.put(b"remove"),
-        Ok(MapChange::Replace(map)) => put_map(row, &map),
-        Err(fault) => row.put_code(CodeFault::from(fault)),
+    match read_change(given.alloc, named) {
+        Ok(MapChange::Keep) => given.put(b"keep"),
+        Ok(MapChange::Remove) => given.put(b"remove"),
+        Ok(MapChange::Replace(map)) => put_map(given, &map),
+        Err(fault) => given.put_code(CodeFault::from(fault)),
     }
 }
 
 /// Puts the answer of a call of one value; no where there is no such call here.
-pub fn put_answer(row: &mut Row<'_>, call: &str, value: &[u8]) -> bool {
+pub fn put_answer(given: &mut Outcome, call: &str, value: &[u8]) -> bool {
     match call {
-        "map" => put_read(row, value),
-        "change" => put_change(row, value),
-        "range" => row.put_judged(is_range(value)),
+        "map" => put_read(given, value),
+        "change" => put_change(given, value),
+        "range" => given.put_judged(is_range(value)),
         _ => return false,
     }
     true

@@ -4,7 +4,7 @@ use endpoint_names::{
     NameFault, Pattern, Route, Table, TableFault, is_domain, matches, read_entity, read_name,
     write_name,
 };
-use scenario_files::Row;
+use scenario_files::Outcome;
 use std::fmt::Display;
 use std::net::Ipv4Addr;
 
@@ -12,38 +12,38 @@ use std::net::Ipv4Addr;
 pub const DOMAIN: &[u8] = b"rgw.example.net";
 
 /// Puts the endpoints that a name means.
-pub fn put_pattern(row: &mut Row<'_>, pattern: Pattern) {
+pub fn put_pattern(given: &mut Outcome, pattern: Pattern) {
     match pattern {
         Pattern::One(line) => {
-            row.put(b"line ");
-            row.put_shown(line);
+            given.put(b"line ");
+            given.put_shown(line);
         }
-        Pattern::All => row.put(b"all lines"),
-        Pattern::Any => row.put(b"any line"),
+        Pattern::All => given.put(b"all lines"),
+        Pattern::Any => given.put(b"any line"),
     }
 }
 
-fn put_fault(row: &mut Row<'_>, fault: NameFault) {
-    row.put_shown(fault as u8);
-    row.put(match fault {
+fn put_fault(given: &mut Outcome, fault: NameFault) {
+    given.put_shown(fault as u8);
+    given.put(match fault {
         NameFault::Unknown => b" unknown".as_slice(),
         NameFault::TooComplicated => b" too complicated".as_slice(),
     });
 }
 
 // What a name means on a gateway with so many lines.
-fn put_meaning(row: &mut Row<'_>, name: &[u8], lines: u16) {
+fn put_meaning(given: &mut Outcome, name: &[u8], lines: u16) {
     match read_name(name, DOMAIN, lines) {
-        Ok(pattern) => put_pattern(row, pattern),
-        Err(fault) => put_fault(row, fault),
+        Ok(pattern) => put_pattern(given, pattern),
+        Err(fault) => put_fault(given, fault),
     }
 }
 
 // The name that is written of what a name means.
-fn put_written(row: &mut Row<'_>, name: &[u8]) {
+fn put_written(given: &mut Outcome, name: &[u8]) {
     match read_name(name, DOMAIN, 65535) {
-        Ok(pattern) => row.put_text(write_name(row.alloc, pattern, DOMAIN)),
-        Err(fault) => put_fault(row, fault),
+        Ok(pattern) => given.put_text(write_name(given.alloc, pattern, DOMAIN)),
+        Err(fault) => put_fault(given, fault),
     }
 }
 
@@ -55,27 +55,27 @@ fn means(name: &[u8], line: u16) -> bool {
 }
 
 // Two addresses with a comma between them.
-fn put_two<A: Display + Copy>(row: &mut Row<'_>, one: A, other: A) {
-    row.put_shown(one);
-    row.put(b",");
-    row.put_shown(other);
+fn put_two<A: Display + Copy>(given: &mut Outcome, one: A, other: A) {
+    given.put_shown(one);
+    given.put(b",");
+    given.put_shown(other);
 }
 
 // The addresses of a route, with commas between them, or `none`.
-fn put_route<A: Display + Copy>(row: &mut Row<'_>, route: Option<Route<A>>) {
+fn put_route<A: Display + Copy>(given: &mut Outcome, route: Option<Route<A>>) {
     match route {
-        None => row.put(b"none"),
-        Some(Route::One(a)) => row.put_shown(a),
-        Some(Route::Two(a, b)) => put_two(row, a, b),
+        None => given.put(b"none"),
+        Some(Route::One(a)) => given.put_shown(a),
+        Some(Route::Two(a, b)) => put_two(given, a, b),
         Some(Route::Three(a, b, c)) => {
-            put_two(row, a, b);
-            row.put(b",");
-            row.put_shown(c);
+            put_two(given, a, b);
+            given.put(b",");
+            given.put_shown(c);
         }
         Some(Route::Four(a, b, c, d)) => {
-            put_two(row, a, b);
-            row.put(b",");
-            put_two(row, c, d);
+            put_two(given, a, b);
+            given.put(b",");
+            put_two(given, c, d);
         }
     }
 }
@@ -96,28 +96,28 @@ fn route_to(hosts: u16) -> Route<Ipv4Addr> {
 }
 
 // Puts so many hosts into a table: `h00` at 127.0.0.0, `h01` at 127.0.0.1, and so on.
-fn add_hosts(row: &mut Row<'_>, table: &mut Table, count: u16) {
+fn add_hosts(given: &mut Outcome, table: &mut Table, count: u16) {
     for place in 0..count {
-        let Ok(name) = format!(in row.alloc; "h{place:02}") else {
-            return row.refuse();
+        let Ok(name) = format!(in given.alloc; "h{place:02}") else {
+            return given.refuse();
         };
         let [_, octet] = place.to_be_bytes();
         if table
             .add(name.as_bytes(), Route::One(local(octet)))
             .is_err()
         {
-            return row.unread();
+            return given.unread();
         }
     }
 }
 
 // What becomes of a host that is added to a table.
-fn put_added(row: &mut Row<'_>, table: &mut Table, name: &[u8]) {
+fn put_added(given: &mut Outcome, table: &mut Table, name: &[u8]) {
     let Err(fault) = table.add(name, Route::One(Ipv4Addr::LOCALHOST)) else {
-        return row.put(b"taken");
+        return given.put(b"taken");
     };
-    row.put_shown(fault as u8);
-    row.put(match fault {
+    given.put_shown(fault as u8);
+    given.put(match fault {
         TableFault::NotADomain => b" no domain".as_slice(),
         TableFault::Twice => b" twice".as_slice(),
         TableFault::Full => b" full".as_slice(),
@@ -125,45 +125,45 @@ fn put_added(row: &mut Row<'_>, table: &mut Table, name: &[u8]) {
 }
 
 // What a call gives of a host's name and a table of so many hosts.
-fn put_of_host(row: &mut Row<'_>, call: &str, name: &[u8], count: u16) {
+fn put_of_host(given: &mut Outcome, call: &str, name: &[u8], count: u16) {
     let mut table = Table::new();
-    add_hosts(row, &mut table, count);
+    add_hosts(given, &mut table, count);
     match call {
-        "host added to" => put_added(row, &mut table, name),
-        _ => put_route(row, table.route_to(name)),
+        "host added to" => put_added(given, &mut table, name),
+        _ => put_route(given, table.route_to(name)),
     }
 }
 
 // Where the entity is that a text names, by a table of hosts.
-fn put_entity(row: &mut Row<'_>, text: &[u8], table: &Table) {
+fn put_entity(given: &mut Outcome, text: &[u8], table: &Table) {
     match read_entity(text, table) {
-        Some(entity) if entity.text.as_bytes() != text => row.put(b"another text"),
-        Some(entity) => put_route(row, Some(entity.route)),
-        None => row.put(b"none"),
+        Some(entity) if entity.text.as_bytes() != text => given.put(b"another text"),
+        Some(entity) => put_route(given, Some(entity.route)),
+        None => given.put(b"none"),
     }
 }
 
 // The same where ca.example.net has so many addresses; there is no host where that is 0.
-fn put_place(row: &mut Row<'_>, text: &[u8], hosts: u16) {
+fn put_place(given: &mut Outcome, text: &[u8], hosts: u16) {
     let mut table = Table::new();
     if hosts > 0 && table.add(b"ca.example.net", route_to(hosts)).is_err() {
-        return row.unread();
+        return given.unread();
     }
-    put_entity(row, text, &table);
+    put_entity(given, text, &table);
 }
 
 /// Puts what a call gives; no where there is no such call here.
-pub fn put_answer(row: &mut Row<'_>, call: &str, value: &[u8]) -> bool {
+pub fn put_answer(given: &mut Outcome, call: &str, value: &[u8]) -> bool {
     let (call, number) = numbered(call);
     match call {
-        "name of" => put_meaning(row, value, number),
-        "written name" => put_written(row, value),
-        "means line" => row.put_judged(means(value, number)),
-        "domain" => row.put_judged(is_domain(value)),
-        "host added to" | "host among" => put_of_host(row, call, value, number),
-        "entity" => put_place(row, value, 1),
-        "entity at" => put_place(row, value, number),
-        "entity without hosts" => put_place(row, value, 0),
+        "name of" => put_meaning(given, value, number),
+        "written name" => put_written(given, value),
+        "means line" => given.put_judged(means(value, number)),
+        "domain" => given.put_judged(is_domain(value)),
+        "host added to" | "host among" => put_of_host(given, call, value, number),
+        "entity" => put_place(given, value, 1),
+        "entity at" => put_place(given, value, number),
+        "entity without hosts" => put_place(given, value, 0),
         _ => return false,
     }
     true

@@ -7,13 +7,13 @@ use crate::texts::put_piece;
 use crate::values::numbered;
 use mg_bytes::{OutOfMemory, Text};
 use piggyback::{is_joinable, join, parts};
-use scenario_files::Row;
+use scenario_files::Outcome;
 use std::alloc::Global;
 
 // Each part of a datagram, with a `|` behind it.
-fn put_parts(row: &mut Row<'_>, datagram: &[u8]) {
+fn put_parts(given: &mut Outcome, datagram: &[u8]) {
     for part in parts(datagram) {
-        put_piece(row, part);
+        put_piece(given, part);
     }
 }
 
@@ -44,27 +44,27 @@ fn datagrams_of(alloc: Global, value: &[u8], max: usize) -> Result<Vec<Text>, Ou
 }
 
 // The datagrams, or how long each is.
-fn put_joined(row: &mut Row<'_>, call: &str, value: &[u8], max: usize) {
-    let Ok(datagrams) = datagrams_of(row.alloc, value, max) else {
-        return row.refuse();
+fn put_joined(given: &mut Outcome, call: &str, value: &[u8], max: usize) {
+    let Ok(datagrams) = datagrams_of(given.alloc, value, max) else {
+        return given.refuse();
     };
     for datagram in &datagrams {
         match call {
-            "lengths in" => row.put_shown(datagram.as_bytes().len()),
-            _ => row.put(datagram.as_bytes()),
+            "lengths in" => given.put_shown(datagram.as_bytes().len()),
+            _ => given.put(datagram.as_bytes()),
         }
-        row.put(b"|");
+        given.put(b"|");
     }
 }
 
 /// Puts what a call gives; no where there is no such call here.
-pub fn put_answer(row: &mut Row<'_>, call: &str, value: &[u8]) -> bool {
+pub fn put_answer(given: &mut Outcome, call: &str, value: &[u8]) -> bool {
     let (call, max) = numbered(call);
     let max = usize::from(max);
     match call {
-        "parts" => put_parts(row, value),
-        "joinable in" => row.put_judged(is_joinable(value, max)),
-        "joined in" | "lengths in" => put_joined(row, call, value, max),
+        "parts" => put_parts(given, value),
+        "joinable in" => given.put_judged(is_joinable(value, max)),
+        "joined in" | "lengths in" => put_joined(given, call, value, max),
         _ => return false,
     }
     true

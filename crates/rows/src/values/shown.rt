@@ -10,7 +10,7 @@ use page_answers::{
     CodeCount, ConnectionView, FileCount, LineView, Picture, SignalView, VerbCount, metrics_text,
     state_text,
 };
-use scenario_files::Row;
+use scenario_files::Outcome;
 use std::alloc::Global;
 
 // Sets the number that a word names, the clock, the first of ids or a count, and says whether it names one.
@@ -46,42 +46,42 @@ fn set_number(picture: &mut Picture, key: &str, number: u64) -> bool {
 }
 
 // A code, a verb's place or a connection's number, which is below 1,000 here.
-fn small_number_of(row: &mut Row<'_>, digits: &[u8]) -> u16 {
-    let number = number_of(row, digits);
+fn small_number_of(given: &mut Outcome, digits: &[u8]) -> u16 {
+    let number = number_of(given, digits);
     if number > 999 {
-        row.unread();
+        given.unread();
         return 0;
     }
     number as u16
 }
 
 // `6:2`: a verb's place or a code, and a number.
-fn pair_of(row: &mut Row<'_>, value: &[u8]) -> (u16, u64) {
+fn pair_of(given: &mut Outcome, value: &[u8]) -> (u16, u64) {
     let (place, number) = split_once(value, b':').unwrap_or((value, b""));
-    (small_number_of(row, place), number_of(row, number))
+    (small_number_of(given, place), number_of(given, number))
 }
 
 // `capture.pcap:1`: a file, and a number.
-fn file_of(row: &mut Row<'_>, value: &[u8]) -> Option<FileCount> {
+fn file_of(given: &mut Outcome, value: &[u8]) -> Option<FileCount> {
     let (name, number) = split_once(value, b':').unwrap_or((value, b""));
-    let number = number_of(row, number);
-    match Vec::from_slice(row.alloc, name) {
+    let number = number_of(given, number);
+    match Vec::from_slice(given.alloc, name) {
         Ok(file) => Some(FileCount { file, number }),
         Err(_) => None,
     }
 }
 
 // The end of a signal: `-` or digits.
-fn end_of(row: &mut Row<'_>, value: &[u8]) -> Option<u64> {
+fn end_of(given: &mut Outcome, value: &[u8]) -> Option<u64> {
     match value {
         b"-" => None,
-        _ => Some(number_of(row, value)),
+        _ => Some(number_of(given, value)),
     }
 }
 
 // A connection of the line that was begun last, whose media come to 127.0.0.1:3000, and go nowhere yet: whether memory is there.
-fn put_connection(row: &Row<'_>, line: &mut LineView, number: u32) -> bool {
-    let Ok(local) = Vec::from_slice(row.alloc, b"127.0.0.1:3000") else {
+fn put_connection(alloc: Global, line: &mut LineView, number: u32) -> bool {
+    let Ok(local) = Vec::from_slice(alloc, b"127.0.0.1:3000") else {
         return false;
     };
     let connection = ConnectionView {
@@ -90,27 +90,27 @@ fn put_connection(row: &Row<'_>, line: &mut LineView, number: u32) -> bool {
         codec: b"PCMU",
         packet_time: 20,
         local,
-        remote: Vec::new(row.alloc),
+        remote: Vec::new(alloc),
     };
     line.connections.push(connection).is_ok()
 }
 
 // What a word tells of the line that was begun last.
-fn tell_line(row: &mut Row<'_>, line: &mut LineView, key: &str, value: &[u8]) {
+fn tell_line(given: &mut Outcome, line: &mut LineView, key: &str, value: &[u8]) {
     let is_told = match key {
         "tone" => {
-            let end = end_of(row, value);
+            let end = end_of(given, value);
             let signal = SignalView { name: b"L/dl", end };
             line.signals.push(signal).is_ok()
         }
         "connection" => {
-            let number = u32::from(small_number_of(row, value));
-            put_connection(row, line, number)
+            let number = u32::from(small_number_of(given, value));
+            put_connection(given.alloc, line, number)
         }
-        _ => return row.unread(),
+        _ => return given.unread(),
     };
     if !is_told {
-        row.refuse();
+        given.refuse();
     }
 }
 
@@ -125,10 +125,10 @@ fn begun(alloc: Global, is_off_hook: bool, lost: u64) -> LineView {
 }
 
 // What a word tells of a list of the picture.
-fn tell_list(row: &mut Row<'_>, picture: &mut Picture, key: &str, value: &[u8]) {
+fn tell_list(given: &mut Outcome, picture: &mut Picture, key: &str, value: &[u8]) {
     let is_told = match key {
         "verb" => {
-            let (place, number) = pair_of(row, value);
+            let (place, number) = pair_of(given, value);
             let verb = place.min(255) as u8;
             picture
                 .counts
@@ -137,86 +137,86 @@ fn tell_list(row: &mut Row<'_>, picture: &mut Picture, key: &str, value: &[u8]) 
                 .is_ok()
         }
         "code" => {
-            let (code, number) = pair_of(row, value);
+            let (code, number) = pair_of(given, value);
             picture
                 .counts
                 .answers
                 .push(CodeCount { code, number })
                 .is_ok()
         }
-        "file" => match file_of(row, value) {
+        "file" => match file_of(given, value) {
             Some(file) => picture.counts.write_faults.push(file).is_ok(),
             None => false,
         },
         "off" | "on" => {
-            let lost = number_of(row, value);
-            let line = begun(row.alloc, key == "off", lost);
+            let lost = number_of(given, value);
+            let line = begun(given.alloc, key == "off", lost);
             picture.lines.push(line).is_ok()
         }
         _ => match picture.lines.last_mut() {
-            Some(line) => return tell_line(row, line, key, value),
-            None => return row.unread(),
+            Some(line) => return tell_line(given, line, key, value),
+            None => return given.unread(),
         },
     };
     if !is_told {
-        row.refuse();
+        given.refuse();
     }
 }
 
-fn tell(row: &mut Row<'_>, picture: &mut Picture, key: &str, value: &[u8]) {
+fn tell(given: &mut Outcome, picture: &mut Picture, key: &str, value: &[u8]) {
     let number = decimal(value);
     if !set_number(picture, key, number.unwrap_or(0)) {
-        tell_list(row, picture, key, value);
+        tell_list(given, picture, key, value);
     } else if number.is_none() {
-        row.unread();
+        given.unread();
     }
 }
 
 // The picture that these words tell.
-fn picture_of(row: &mut Row<'_>, value: &[u8]) -> Picture {
-    let mut picture = Picture::new(row.alloc);
+fn picture_of(given: &mut Outcome, value: &[u8]) -> Picture {
+    let mut picture = Picture::new(given.alloc);
     for word in value.split(|byte| *byte == b' ') {
         match split_once(word, b':') {
-            Some((key, value)) => tell(row, &mut picture, words_of(key), value),
-            None => row.unread(),
+            Some((key, value)) => tell(given, &mut picture, words_of(key), value),
+            None => given.unread(),
         }
     }
     picture
 }
 
 // Puts a text with `<` and `>` in place of braces, which are short forms in rows.
-fn put_unbraced(row: &mut Row<'_>, text: &[u8]) {
+fn put_unbraced(given: &mut Outcome, text: &[u8]) {
     for byte in text {
         let shown = match *byte {
             b'{' => b'<',
             b'}' => b'>',
             byte => byte,
         };
-        row.put(&[shown]);
+        given.put(&[shown]);
     }
 }
 
-fn put_metrics(row: &mut Row<'_>, value: &[u8]) {
-    let picture = picture_of(row, value);
-    match metrics_text(row.alloc, &picture) {
-        Ok(text) => put_unbraced(row, &text),
-        Err(_) => row.refuse(),
+fn put_metrics(given: &mut Outcome, value: &[u8]) {
+    let picture = picture_of(given, value);
+    match metrics_text(given.alloc, &picture) {
+        Ok(text) => put_unbraced(given, &text),
+        Err(_) => given.refuse(),
     }
 }
 
-fn put_state(row: &mut Row<'_>, value: &[u8]) {
-    let picture = picture_of(row, value);
-    match state_text(row.alloc, &picture, 1) {
-        Ok(text) => put_unbraced(row, text.as_bytes()),
-        Err(_) => row.refuse(),
+fn put_state(given: &mut Outcome, value: &[u8]) {
+    let picture = picture_of(given, value);
+    match state_text(given.alloc, &picture, 1) {
+        Ok(text) => put_unbraced(given, text.as_bytes()),
+        Err(_) => given.refuse(),
     }
 }
 
 /// Puts what a call gives; no where there is no such call here.
-pub fn put_answer(row: &mut Row<'_>, call: &str, value: &[u8]) -> bool {
+pub fn put_answer(given: &mut Outcome, call: &str, value: &[u8]) -> bool {
     match call {
-        "metrics" => put_metrics(row, value),
-        "state" => put_state(row, value),
+        "metrics" => put_metrics(given, value),
+        "state" => put_state(given, value),
         _ => return false,
     }
     true

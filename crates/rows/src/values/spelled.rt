@@ -10,7 +10,7 @@ use event_syntax::{
     write_events, write_handling, write_observed, write_signals,
 };
 use mg_bytes::{CodeFault, OutOfMemory, Text};
-use scenario_files::Row;
+use scenario_files::Outcome;
 use std::alloc::Global;
 
 // A value of R, T, S, Q, O or D, as it is written again; D without its blanks.
@@ -31,52 +31,52 @@ fn map_text(alloc: Global, map: &[u8]) -> Result<Text, OutOfMemory> {
 }
 
 // A value of one of these, or a code.
-fn put_spelled(row: &mut Row<'_>, call: &str, value: &[u8]) {
-    match events_text(row.alloc, call, value) {
-        Ok(text) => row.put(text.as_bytes()),
-        Err(fault) => row.put_code(fault),
+fn put_spelled(given: &mut Outcome, call: &str, value: &[u8]) {
+    match events_text(given.alloc, call, value) {
+        Ok(text) => given.put(text.as_bytes()),
+        Err(fault) => given.put_code(fault),
     }
 }
 
 // What L asks for, as it is written again where it names codecs.
-fn put_options(row: &mut Row<'_>, value: &[u8]) {
+fn put_options(given: &mut Outcome, value: &[u8]) {
     let options = match read_options(value) {
         Ok(options) => options,
-        Err(code) => return row.put_shown(code),
+        Err(code) => return given.put_shown(code),
     };
     let time = options.packet_time;
     match options.codecs {
         CodecChoice::These(codecs) => {
-            return row.put_text(write_options(row.alloc, codecs, time));
+            return given.put_text(write_options(given.alloc, codecs, time));
         }
-        CodecChoice::ByEncoding => row.put(b"by encoding, p:"),
-        CodecChoice::NoneKnown => row.put(b"no codec, p:"),
+        CodecChoice::ByEncoding => given.put(b"by encoding, p:"),
+        CodecChoice::NoneKnown => given.put(b"no codec, p:"),
     }
-    row.put_shown(time);
+    given.put_shown(time);
 }
 
 // The identifier of the connection with a number.
-fn put_identifier(row: &mut Row<'_>, value: &[u8]) {
+fn put_identifier(given: &mut Outcome, value: &[u8]) {
     let number = words_of(value).parse::<u32>().unwrap_or(0);
-    if write_number(row.alloc, &mut row.given, number).is_err() {
-        row.refuse();
+    if write_number(given.alloc, &mut given.bytes, number).is_err() {
+        given.refuse();
     }
 }
 
 /// Puts what a call gives; no where there is no such call here.
-pub fn put_answer(row: &mut Row<'_>, call: &str, value: &[u8]) -> bool {
+pub fn put_answer(given: &mut Outcome, call: &str, value: &[u8]) -> bool {
     match call {
-        "R" | "T" | "S" | "Q" | "O" | "D" => put_spelled(row, call, value),
-        "L" => put_options(row, value),
-        "M" => row.put(match read_mode(value) {
+        "R" | "T" | "S" | "Q" | "O" | "D" => put_spelled(given, call, value),
+        "L" => put_options(given, value),
+        "M" => given.put(match read_mode(value) {
             Some(mode) => mode_text(mode),
             None => b"none".as_slice(),
         }),
-        "B" => row.put(match read_encoding(value) {
+        "B" => given.put(match read_encoding(value) {
             Some(encoding) => encoding_text(encoding),
             None => b"none".as_slice(),
         }),
-        "I" => put_identifier(row, value),
+        "I" => put_identifier(given, value),
         _ => return false,
     }
     true

@@ -1,0 +1,120 @@
+//! What comes of a row.
+//!
+//! It is apart from what is read of the row, which is lent: nearly all that plays a row only puts, and is checked for no loan then.
+use crate::again::refused;
+use crate::texts::yes_or_no;
+use mg_bytes::{CodeFault, OutOfMemory, Text};
+use std::alloc::Global;
+use std::fmt::Display;
+use std::io;
+use std::io::Write;
+
+/// What a row gives so far.
+pub struct Outcome {
+    pub alloc: Global,
+    pub bytes: Vec<u8>,
+    /// Memory was refused.
+    pub is_refused: bool,
+    /// There is no such row.
+    pub is_unread: bool,
+}
+
+// Written out, since each crate that lets one go would prove a derived one anew.
+impl Drop for Outcome {
+    fn drop(self) {
+        let Outcome {
+            alloc: _,
+            bytes,
+            is_refused: _,
+            is_unread: _,
+        } = self;
+        drop(bytes);
+    }
+}
+
+impl Outcome {
+    /// Nothing yet.
+    pub fn nothing(alloc: Global) -> Outcome {
+        Outcome {
+            alloc,
+            bytes: Vec::new(alloc),
+            is_refused: false,
+            is_unread: false,
+        }
+    }
+
+    /// There is no such row.
+    pub fn unread(&mut self) {
+        self.is_unread = true;
+    }
+
+    /// Memory was refused.
+    pub fn refuse(&mut self) {
+        self.is_refused = true;
+    }
+
+    /// A value can't be read: there is no such row, or memory was refused.
+    pub fn fault(&mut self, fault: CodeFault) {
+        match fault {
+            CodeFault::Code(_) => self.is_unread = true,
+            CodeFault::OutOfMemory => self.is_refused = true,
+        }
+    }
+
+    /// Puts bytes behind what there is already.
+    pub fn put(&mut self, bytes: &[u8]) {
+        if self.bytes.extend_from_slice(bytes).is_err() {
+            self.is_refused = true;
+        }
+    }
+
+    /// Puts a value as it is shown.
+    pub fn put_shown<T: Display + Copy>(&mut self, value: T) {
+        if write!(self.bytes, "{value}").is_err() {
+            self.is_refused = true;
+        }
+    }
+
+    /// Puts a value, or `none` where there is none.
+    pub fn put_or_none<T: Display + Copy>(&mut self, value: Option<T>) {
+        match value {
+            Some(value) => self.put_shown(value),
+            None => self.put(b"none"),
+        }
+    }
+
+    /// Puts a text that was written, unless memory was refused for it.
+    pub fn put_text(&mut self, text: Result<Text, OutOfMemory>) {
+        match text {
+            Ok(text) => self.put(text.as_bytes()),
+            Err(_) => self.is_refused = true,
+        }
+    }
+
+    /// Puts a return code; want of memory is kept.
+    pub fn put_code(&mut self, fault: CodeFault) {
+        match fault {
+            CodeFault::Code(code) => self.put_shown(code),
+            CodeFault::OutOfMemory => self.is_refused = true,
+        }
+    }
+
+    /// Puts a judgement.
+    pub fn put_judged(&mut self, is_so: bool) {
+        self.put(yes_or_no(is_so).as_bytes());
+    }
+
+    /// What is given, unless that is what was wanted, whatever blanks stand before both.
+    pub fn unlike(&self, wanted: &str) -> io::Result<Option<String>> {
+        if self.is_refused {
+            return Err(refused());
+        }
+        if self.is_unread {
+            return Ok(Some("no such row".to_string(self.alloc)?));
+        }
+        if self.bytes.trim_ascii_start() == wanted.trim_start().as_bytes() {
+            return Ok(None);
+        }
+        Ok(Some(String::from_utf8_lossy(self.alloc, &self.bytes)?))
+    }
+}
