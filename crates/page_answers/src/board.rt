@@ -6,8 +6,7 @@ ghost use Rattle.page_answers.specs.Keeping.{next_number, nothing_yet, noted, co
 ghost use Rattle.page_answers.specs.Showing.{IsNothingCounted, lines_of};
 ghost use Rattle.page_answers.specs.Health.{is_alive};
 ghost use Rattle.page_answers.specs.Metrics.{metrics_of};
-ghost use Rattle.page_answers.specs.Outcomes.{Becomes, queued_behind};
-ghost use Rattle.page_answers.specs.declared.board.ActOutcome.TheVariants.{Queued, Unreadable};
+ghost use Rattle.page_answers.specs.Outcomes.{Becomes};
 
 use crate::act::QueuedAct;
 use crate::acting::read_act;
@@ -32,7 +31,7 @@ const LONGEST_BEHIND: u64 = 1000;
 pub enum ActOutcome {
     /// The act waits until it is taken.
     Queued,
-    /// No more can wait, or memory was refused.
+    /// As many wait as may.
     NoRoom,
     /// The body asks for no act.
     Unreadable,
@@ -170,31 +169,22 @@ impl Board {
         metrics_text(self.alloc, &self.picture)
     }
 
-    // Puts an act behind the others, where there is room.
-    fn queue(&mut self, queued: QueuedAct) -> ActOutcome
-        ensures taken { result ≡ Queued → self.new ≡ queued_behind self.old queued }
-        ensures refused { result ≢ Queued → self.new ≡ self.old }
-        ensures readable { result ≢ Unreadable }
-        ensures few { length self.new.acts ≤ MOST_ACTS }
-    {
-        if self.acts.len() >= MOST_ACTS {
-            return ActOutcome::NoRoom;
-        }
-        match self.acts.push_back(queued) {
-            Ok(()) => ActOutcome::Queued,
-            Err(_) => ActOutcome::NoRoom,
-        }
-    }
-
-    /// Takes what a body asks for. After an error the board is as it was.
+    /// Takes what a body asks for: it waits behind the others, where fewer wait than may. After an error, which is for want of memory,
+    /// the board is as it was.
     pub fn act(&mut self, body: &[u8]) -> Result<ActOutcome, AllocError>
         ensures outcome { IfOk result (λ outcome. Becomes self.old body.now outcome self.new) }
         ensures few { length self.new.acts ≤ MOST_ACTS }
         ensures err { OnErr result (self.new ≡ self.old) }
     {
-        match read_act(self.alloc, body)? {
-            Some(queued) => Ok(self.queue(queued)),
-            None => Ok(ActOutcome::Unreadable),
+        let Some(queued) = read_act(self.alloc, body)? else {
+            return Ok(ActOutcome::Unreadable);
+        };
+        if self.acts.len() >= MOST_ACTS {
+            return Ok(ActOutcome::NoRoom);
+        }
+        match self.acts.push_back(queued) {
+            Ok(()) => Ok(ActOutcome::Queued),
+            Err(_) => Err(AllocError),
         }
     }
 }
