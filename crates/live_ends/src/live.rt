@@ -79,9 +79,17 @@ impl<'a, R: Net + Clock> Live<'a, R> {
 }
 
 impl<R: Net + Clock> Surroundings for Live<'_, R> {
-    ghost use Rattle.std.specs.Prelude.{None};
+    ghost use Rattle.std.specs.Prelude.{⊤, None};
 
     ghost sent = { λ live. None };
+
+    ghost sockets = { λ live. live.own };
+
+    ghost receives = { λ was given room is. ⊤ };
+
+    ghost hears = { λ was given room is. ⊤ };
+
+    ghost answers = { λ was to text is. ⊤ };
 
     fn moment(&self) -> Result<u64, Fault> {
         match self.clock.passed() {

@@ -2,5 +2,6 @@ pub mod Sending
 pub mod Keeping
 pub mod Requests
 pub mod Typing
+pub mod Hearing
 pub mod Speaking
 pub mod Example

@@ -4,6 +4,7 @@
 #![tactic(auto)]
 
 pub mod examples;
+pub mod hearing_examples;
 mod keeping;
 mod lines;
 mod requests;

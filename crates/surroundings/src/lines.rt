@@ -1,13 +1,16 @@
 //! Lines of who types, which came in one datagram: each is a turn of its own.
-ghost use Rattle.std.specs.Prelude.{◌≡◌, ◌↔◌, ◌⊎◌, [], None, IfOk, IsSomeAnd, IsTrue, drop, false};
+ghost use Rattle.std.specs.Prelude.{◌≡◌, ◌↔◌, ◌⊎◌, ◌≤◌, ℕ, List, [], Option, None, IfOk, IfSome, IsSomeAnd, IsTrue};
+ghost use Rattle.std.specs.Prelude.{drop, length, false};
 ghost use Rattle.std.specs.Net.Addr.{IsLoopbackV4, IsLoopbackV6, MatchIp};
 ghost use Rattle.std.specs.Net.Socket.{socket_ip};
 ghost use Rattle.std.specs.Vec.{vec_capacity};
+ghost use Rattle.std.specs.declared.net.socket_addr.SocketAddr.{SocketAddr as Sender};
 ghost use Rattle.mg_bytes.specs.Lines.{cut, TakesLine};
 ghost use Rattle.mg_bytes.specs.Lists.{is_empty};
 ghost use Rattle.surroundings.specs.Requests.{requests_from};
 ghost use Rattle.surroundings.specs.declared.lines.TheConstants.{ROOM};
 ghost use Rattle.surroundings.specs.Typing.{left_of, behind, EndsWith, v4_of};
+ghost use Rattle.surroundings.specs.Hearing.{Begins, Takes, Looked, Hears, AnswersTo};
 
 use crate::requests::{from_request, is_own};
 use crate::surroundings::Surroundings;
@@ -112,6 +115,16 @@ fn next_place(text: &[u8], begin: usize) -> usize
     place_of(text, from_request(rest))
 }
 
+// This is answered to who sent the lines, where somebody did.
+fn reply<S: Surroundings>(around: &mut S, sender: Option<SocketAddr>, text: &[u8])
+    ensures answered { AnswersTo S.answers sender around.old text.now around.new }
+    ensures sent { S.sent around.new ≡ S.sent around.old }
+{
+    if let Some(sender) = sender {
+        around.answer(sender, text);
+    }
+}
+
 impl Lines {
     /// None so far; there is room for a datagram of them.
     #[tactic(auto, unfolding(mg_bytes::specs::Lines::cut))]
@@ -185,6 +198,7 @@ impl Lines {
     fn advance(&mut self)
         ensures left { left_of self.new ≡ requests_from (behind (left_of self.old)) }
         ensures sender { self.new.sender ≡ self.old.sender }
+        ensures room { vec_capacity self.new.text ≡ vec_capacity self.old.text }
     {
         let begin = next_place(self.text.as_slice(), self.begin);
         self.begin = begin;
@@ -196,6 +210,7 @@ impl Lines {
         ensures left { left_of self.new ≡ [] }
         ensures text { self.new.text.items ≡ [] }
         ensures sender { self.new.sender ≡ self.old.sender }
+        ensures room { vec_capacity self.new.text ≡ vec_capacity self.old.text }
     {
         self.text.clear();
         self.begin = 0;
@@ -206,6 +221,8 @@ impl Lines {
     fn begin(&mut self, sender: Option<SocketAddr>, text: &[u8])
         ensures left { (left_of self.new ≡ requests_from (cut text.now)) ⊎ (left_of self.new ≡ []) }
         ensures sender { self.new.sender ≡ sender }
+        ensures begins { Begins sender text.now self.old self.new }
+        ensures room { vec_capacity self.old.text ≤ vec_capacity self.new.text }
     {
         self.clear();
         self.sender = sender;
@@ -215,62 +232,105 @@ impl Lines {
         }
     }
 
-    /// Takes a datagram of lines, where one has come and no line is left of the one before: whether one was taken. Nothing is made of one
-    /// that came from the program's own sockets.
-    pub fn hear<S: Surroundings>(&mut self, around: &mut S) -> bool
-        ensures waits { is_empty (left_of self.old) ≡ false → result ≡ false }
-        ensures same { result ≡ false → self.new ≡ self.old }
-        ensures sent { S.sent around.new ≡ S.sent around.old }
+    // A datagram of lines has come from there, and these are the program's own sockets.
+    fn take_typed(&mut self, own: &[SocketAddrV4], source: SocketAddr, text: &[u8])
+        ensures takes { Takes own.now source text.now self.old self.new }
+        ensures room { vec_capacity self.old.text ≤ vec_capacity self.new.text }
     {
-        if !self.is_empty() {
-            return false;
+        if !is_own(own, source) {
+            self.begin(Some(source), text);
         }
-        let mut room = [0u8; ROOM];
-        match around.hear(&mut room) {
-            Some((sender, length)) => {
-                let own = around.own();
-                if !is_own(&own, sender) {
-                    self.begin(Some(sender), &room[..length]);
-                }
+    }
+
+    // What a look gave is taken, where it gave something: whether it did.
+    fn take_found(
+        &mut self,
+        own: &[SocketAddrV4],
+        found: Option<(SocketAddr, usize)>,
+        room: &[u8],
+    ) -> bool
+        requires { IfSome found (λ p. p.1 ≤ length room.now) }
+        ensures looked { Looked own.now found room.now self.old result self.new }
+        ensures same { result ≡ false → self.new ≡ self.old }
+        ensures room { vec_capacity self.old.text ≤ vec_capacity self.new.text }
+    {
+        match found {
+            Some((source, length)) => {
+                self.take_typed(own, source, &room[..length]);
                 true
             }
             None => false,
         }
     }
 
+    // It is looked once for lines.
+    fn look<S: Surroundings>(&mut self, around: &mut S) -> bool
+        ensures looks { (found : Option (Sender × ℕ)) × (room : List ℕ) × S.hears around.old found room around.new
+            × Looked (S.sockets around.new) found room self.old result self.new }
+        ensures same { result ≡ false → self.new ≡ self.old }
+        ensures sent { S.sent around.new ≡ S.sent around.old }
+        ensures room { vec_capacity self.old.text ≤ vec_capacity self.new.text }
+    {
+        let mut room = [0u8; ROOM];
+        let found = around.hear(&mut room);
+        let own = around.own();
+        self.take_found(&own, found, &room)
+    }
+
+    /// Takes a datagram of lines, where one has come and no line is left of the one before: whether one was taken. Nothing is made of one
+    /// that came from the program's own sockets.
+    pub fn hear<S: Surroundings>(&mut self, around: &mut S) -> bool
+        ensures heard { Hears S.sockets S.hears around.old self.old result around.new self.new }
+        ensures waits { is_empty (left_of self.old) ≡ false → result ≡ false }
+        ensures same { result ≡ false → self.new ≡ self.old }
+        ensures sent { S.sent around.new ≡ S.sent around.old }
+        ensures room { vec_capacity self.old.text ≤ vec_capacity self.new.text }
+    {
+        if !self.is_empty() {
+            return false;
+        }
+        self.look(around)
+    }
+
     /// Takes lines that came another way, where none is left; nobody is answered.
     pub fn take(&mut self, text: &[u8])
         ensures left { (left_of self.new ≡ requests_from (cut text.now)) ⊎ (left_of self.new ≡ []) }
         ensures sender { self.new.sender ≡ None }
+        ensures begins { Begins None text.now self.old self.new }
+        ensures room { vec_capacity self.old.text ≤ vec_capacity self.new.text }
     {
         self.begin(None, text);
     }
 
     /// Answers the line, and goes on to the next.
     pub fn answer<S: Surroundings>(&mut self, around: &mut S, text: &[u8])
+        ensures answered { AnswersTo S.answers self.old.sender around.old text.now around.new }
         ensures left { left_of self.new ≡ requests_from (behind (left_of self.old)) }
+        ensures sender { self.new.sender ≡ self.old.sender }
         ensures sent { S.sent around.new ≡ S.sent around.old }
+        ensures room { vec_capacity self.new.text ≡ vec_capacity self.old.text }
     {
-        if let Some(sender) = self.sender {
-            around.answer(sender, text);
-        }
+        reply(around, self.sender, text);
         self.advance();
     }
 
     /// Answers the line together with all that stands behind it in its datagram.
     pub fn answer_all<S: Surroundings>(&mut self, around: &mut S, text: &[u8])
+        ensures answered { AnswersTo S.answers self.old.sender around.old text.now around.new }
         ensures left { left_of self.new ≡ [] }
+        ensures sender { self.new.sender ≡ self.old.sender }
         ensures sent { S.sent around.new ≡ S.sent around.old }
+        ensures room { vec_capacity self.new.text ≡ vec_capacity self.old.text }
     {
-        if let Some(sender) = self.sender {
-            around.answer(sender, text);
-        }
+        reply(around, self.sender, text);
         self.clear();
     }
 
     /// Goes on to the next line; nothing is answered.
     pub fn pass_over(&mut self)
-        ensures { left_of self.new ≡ requests_from (behind (left_of self.old)) }
+        ensures left { left_of self.new ≡ requests_from (behind (left_of self.old)) }
+        ensures sender { self.new.sender ≡ self.old.sender }
+        ensures room { vec_capacity self.new.text ≡ vec_capacity self.old.text }
     {
         self.advance();
     }

@@ -191,9 +191,18 @@ fn is_asked(what: &Happening, is_lines: bool) -> bool {
 }
 
 impl Surroundings for Scripted {
+    ghost use Rattle.std.specs.Prelude.{⊤};
     ghost use Rattle.surroundings.specs.Keeping.{told_by};
 
     ghost sent = { told_by };
+
+    ghost sockets = { λ around. around.own };
+
+    ghost receives = { λ was given room is. ⊤ };
+
+    ghost hears = { λ was given room is. ⊤ };
+
+    ghost answers = { λ was to text is. ⊤ };
 
     fn moment(&self) -> Result<u64, Fault> {
         Ok(self.moment)

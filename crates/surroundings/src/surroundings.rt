@@ -17,13 +17,29 @@ pub struct Told {
 
 /// A socket for datagrams, another for lines, a clock, and a wait for all of them.
 ///
-/// It says whether it tells what was handed to it: one in memory does, sockets don't. No call waits but `wait`.
+/// It says whether it tells what was handed to it: one in memory does, sockets don't; and what it can be held to of what it gave and of
+/// what it was told to answer. Who calls it is held to that it was asked so. No call waits but `wait`.
 pub trait Surroundings {
-    ghost use Rattle.std.specs.Prelude.{List, Option};
+    ghost use Rattle.std.specs.Prelude.{ℕ, List, Option, Result};
+    ghost use Rattle.std.specs.declared.net.socket_addr.SocketAddr.{SocketAddr};
+    ghost use Rattle.std.specs.declared.net.socket_addr.SocketAddrV4.{SocketAddrV4};
     ghost use Rattle.surroundings.specs.Sending.{Sent};
+    ghost use Rattle.surroundings.specs.declared.surroundings.Fault.{Fault};
 
     /// All datagrams that were handed to it to be sent, in order, where it tells.
     ghost sent: { Self → Option (List Sent) };
+
+    /// The addresses of its sockets.
+    ghost sockets: { Self → List SocketAddrV4 };
+
+    /// It was looked for a datagram: that gave this, and left the room so.
+    ghost receives: { Self → Result (Option (SocketAddrV4 × ℕ)) Fault → List ℕ → Self → Type 0 };
+
+    /// It was looked for lines of who types: that gave this, and left the room so.
+    ghost hears: { Self → Option (SocketAddr × ℕ) → List ℕ → Self → Type 0 };
+
+    /// This was answered to who typed.
+    ghost answers: { Self → SocketAddr → List ℕ → Self → Type 0 };
 
     /// How long it is since the start, in ms.
     fn moment(&self) -> Result<u64, Fault>;
@@ -32,7 +48,8 @@ pub trait Surroundings {
     fn time(&self) -> u64;
 
     /// The addresses of its two sockets.
-    fn own(&self) -> [SocketAddrV4; 2];
+    fn own(&self) -> [SocketAddrV4; 2]
+        ensures { result ≡ sockets self.now };
 
     /// Of which sockets it was told that something may have come.
     fn told(&self) -> Told;
@@ -46,7 +63,8 @@ pub trait Surroundings {
     fn receive(&mut self, room: &mut [u8]) -> Result<Option<(SocketAddrV4, usize)>, Fault>
         ensures length { length room.new ≡ length room.old }
         ensures within { IfOk result (λ found. IfSome found (λ p. p.1 ≤ length room.new)) }
-        ensures kept { sent self.new ≡ sent self.old };
+        ensures kept { sent self.new ≡ sent self.old }
+        ensures looked { receives self.old result room.new self.new };
 
     /// Sends a datagram. After a fault it counts as lost in the network.
     fn send(&mut self, to: SocketAddrV4, bytes: &[u8]) -> Result<(), Fault>
@@ -56,9 +74,11 @@ pub trait Surroundings {
     fn hear(&mut self, room: &mut [u8]) -> Option<(SocketAddr, usize)>
         ensures length { length room.new ≡ length room.old }
         ensures within { IfSome result (λ p. p.1 ≤ length room.new) }
-        ensures kept { sent self.new ≡ sent self.old };
+        ensures kept { sent self.new ≡ sent self.old }
+        ensures looked { hears self.old result room.new self.new };
 
     /// Answers who typed. What can't be sent is lost.
     fn answer(&mut self, to: SocketAddr, text: &[u8])
-        ensures { sent self.new ≡ sent self.old };
+        ensures kept { sent self.new ≡ sent self.old }
+        ensures answered { answers self.old to text.now self.new };
 }

@@ -1,0 +1,33 @@
+//! Worked examples of what becomes of lines that come, as theorems.
+#![tactic(auto, unfolding(crate::proofs::Computing::on_examples))]
+
+ghost use Rattle.std.specs.Prelude.{◌≡◌, ◌≤◌, ℕ, Bool, List, codes, false, [], ◌∷◌, Some, None};
+ghost use Rattle.std.specs.Vec.{vec_capacity};
+ghost use Rattle.std.specs.declared.net.socket_addr.SocketAddr.{SocketAddr};
+ghost use Rattle.std.specs.declared.net.socket_addr.SocketAddr.TheVariants.{V4};
+ghost use Rattle.surroundings.specs.declared.lines.Lines.{Lines};
+ghost use Rattle.surroundings.specs.Example.{socket_at, here};
+ghost use Rattle.surroundings.specs.Typing.{left_of};
+ghost use Rattle.surroundings.specs.Hearing.{Looked, AnswersTo};
+
+/// Lines that come are left, as far as the room was filled, and their sender is known; of what came from an own socket nothing is.
+pub fn what_comes_is_taken()
+    ensures nothing { (was is : Lines) (taken : Bool) → Looked [] None (codes "show 1") was taken is → is ≡ was }
+    ensures not_taken { (was is : Lines) (taken : Bool) → Looked [] None (codes "show 1") was taken is → taken ≡ false }
+    ensures own { (was is : Lines) (taken : Bool) → Looked (socket_at here 2428 ∷ []) (Some (V4 (socket_at here 2428), 6)) (codes "show 1") was taken is → is ≡ was }
+    ensures sender { (was is : Lines) (taken : Bool) → Looked (socket_at here 2428 ∷ []) (Some (V4 (socket_at here 4000), 6)) (codes "show 1") was taken is
+        → is.sender ≡ Some (V4 (socket_at here 4000)) }
+    ensures whole { (was is : Lines) (taken : Bool) → Looked [] (Some (V4 (socket_at here 4000), 6)) (codes "show 1") was taken is → 6 ≤ vec_capacity was.text
+        → left_of is ≡ codes "show 1" ∷ [] }
+    ensures filled { (was is : Lines) (taken : Bool) → Looked [] (Some (V4 (socket_at here 4000), 4)) (codes "stop 1") was taken is → 6 ≤ vec_capacity was.text
+        → left_of is ≡ codes "stop" ∷ [] }
+    ensures asking { (was is : Lines) (taken : Bool) → Looked [] (Some (V4 (socket_at here 4000), 9)) (codes "done\nstop") was taken is → 9 ≤ vec_capacity was.text
+        → left_of is ≡ codes "stop" ∷ [] }
+{}
+
+/// Who sent lines is answered, and nobody else.
+pub fn who_sent_lines_is_answered()
+    ensures nobody { (answers : ℕ → SocketAddr → List ℕ → ℕ → Type 0) (was is : ℕ) → AnswersTo answers None was (codes "done") is → is ≡ was }
+    ensures sender { (answers : ℕ → SocketAddr → List ℕ → ℕ → Type 0) (was is : ℕ) → AnswersTo answers (Some (V4 (socket_at here 4000))) was (codes "done") is
+        → answers was (V4 (socket_at here 4000)) (codes "done") is }
+{}
