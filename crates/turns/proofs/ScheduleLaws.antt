@@ -15,7 +15,7 @@ use Rattle.turns.specs.declared.schedule.Schedule.{Schedule}
 use Rattle.turns.specs.Circle.{is_ready, first_ready}
 use Rattle.turns.specs.Clock.{longest_tick, longest_wait, is_over, tick_to, wait_until}
 use Rattle.turns.specs.Schedule.{longest_read_pause, most_read, is_far_behind, reads_on, met, asked, taken, turn_of, is_tick_due, is_stale, round_by, round, is_paused, lateness_of, noted, woken, of_sockets, read_by, read_on, onward, next_met, next_of}
-use Rattle.turns.specs.Runs.{turns_from, source_of, is_its, is_turn_of, is_rounds, is_round, IsReadyIn, reading}
+use Rattle.turns.specs.Runs.{turns_from, is_end, source_of, is_its, is_turn_of, is_rounds, is_round, IsReadyIn, reading}
 
 -- ---- tests
 
@@ -468,3 +468,39 @@ pub taken_unseen : (s : Schedule) (at : Situation) (source : Source) → is_roun
 taken_unseen s at source going is =
     not_stale s at (taken_seen (met s at) at (first_ready (is_tick_due (met s at) at) at.ready (met s at).last) source
     (ap (λ (r : Turn × Schedule). source_of r.0) (sym (next_round s at going)) ∙ is))
+
+-- ---- the end
+
+found_goes_on : (at : Situation) (found : Source) → is_end (turn_of at found) ≡ false
+found_goes_on at Clock = refl
+found_goes_on at Commands = refl
+found_goes_on at Datagrams = refl
+found_goes_on at Visitors = refl
+
+round_goes_on : (s : Schedule) (at : Situation) (found : Option Source) → is_end (round_by found s at).0 ≡ false
+round_goes_on s at None = refl
+round_goes_on s at (Some found) =
+    by_if (λ (r : Turn × Schedule). is_end r.0 ≡ false) (is_stale s at) (Look, asked s at) (turn_of at found, taken s at found) (λ stale. refl)
+    (λ seen. found_goes_on at found)
+
+read_goes_on : (s : Schedule) (at : Situation) (late before : ℕ) (found : Option Source) → is_end (read_by found s at late before).0 ≡ false
+read_goes_on s at late before None = refl
+read_goes_on s at late before (Some found) =
+    by_if (λ (r : Turn × Schedule). is_end r.0 ≡ false) (is_stale s at) (Look, asked s at) (turn_of at found, taken s at found) (λ stale. refl)
+    (λ seen. found_goes_on at found)
+
+onward_goes_on : (mode : Mode) (s : Schedule) (at : Situation) → is_end (onward mode s at).0 ≡ false
+onward_goes_on Rounds s at = round_goes_on s at (first_ready (is_tick_due s at) at.ready s.last)
+onward_goes_on (Reading late before) s at = read_goes_on s at late before _
+onward_goes_on (CatchingUp left) s at =
+    by_if (λ (r : Turn × Schedule). is_end r.0 ≡ false) (nat_lt 0 left && nat_lt at.ticked at.moment)
+    (Tick (tick_to at), record (taken s at Clock) { mode = CatchingUp (left - 1) }) (round (record s { mode = Rounds }) at)
+    (λ both. refl) (λ over. round_goes_on (record s { mode = Rounds }) at (first_ready (is_tick_due (record s { mode = Rounds }) at) at.ready s.last))
+
+pub ends_when_over : (s : Schedule) (at : Situation) → is_end (next_of s at).0 ≡ is_over at
+unfolding next_of
+ends_when_over s at =
+    by_if (λ (r : Turn × Schedule). is_end r.0 ≡ is_over at) (is_over at) (End, s) (next_met (met s at) at) (λ over. sym over)
+    (λ on. by_if (λ (r : Turn × Schedule). is_end r.0 ≡ false) (is_paused (met s at) at) (woken (met s at) at) (onward (met s at).mode (met s at) at)
+    (λ paused. woken_quiet (λ (turn : Turn). is_end turn ≡ false) (met s at) at refl refl)
+    (λ going. onward_goes_on (met s at).mode (met s at) at) ∙ sym on)

@@ -20,6 +20,17 @@ unfoldable pub schedule_after : Schedule → List Situation → Schedule
 schedule_after s [] = s
 schedule_after s (at ∷ more) = schedule_after (next_of s at).1 more
 
+-- it is the end
+abbrev pub is_end : Turn → Bool
+is_end End = true
+is_end Look = false
+is_end (Wait until) = false
+is_end (Tick moment) = false
+is_end Command = false
+is_end Datagram = false
+is_end Visit = false
+is_end (Note pause) = false
+
 -- whose turn it is
 abbrev pub source_of : Turn → Option Source
 source_of End = None

@@ -8,7 +8,7 @@ ghost use Rattle.turns.specs.declared.turn.Turn.TheVariants.{Tick, Note, Wait};
 ghost use Rattle.turns.specs.Circle.{is_ready};
 ghost use Rattle.turns.specs.Clock.{longest_tick, longest_wait, is_over};
 ghost use Rattle.turns.specs.Schedule.{longest_read_pause, most_read, longest_unseen, met, is_tick_due, next_of};
-ghost use Rattle.turns.specs.Runs.{turns_from, is_turn_of, source_of, is_round, IsReadyIn, reading};
+ghost use Rattle.turns.specs.Runs.{turns_from, is_end, is_turn_of, source_of, is_round, IsReadyIn, reading};
 
 /// While a source is ready, and has no turn, each other one has one turn at most.
 pub fn who_is_ready_waits_for_one_turn_of_each_other()
@@ -45,4 +45,9 @@ pub fn nobody_who_is_ready_waits()
 pub fn nothing_is_taken_unseen()
     ensures { (s : Schedule) (at : Situation) (source : Source) → is_round s at ≡ true → source_of (next_of s at).0 ≡ Some source →
         at.moment - (met s at).looked < longest_unseen }
+{}
+
+/// It ends once ticks have come to the end, and not before.
+pub fn it_ends_once_ticks_have_come_to_the_end()
+    ensures { (s : Schedule) (at : Situation) → is_end (next_of s at).0 ≡ is_over at }
 {}
