@@ -1,5 +1,5 @@
 -- What a gateway says by itself: which of it is for a check, what of it a step expects, and how what isn't answered comes again.
-use Rattle.std.specs.Prelude.{ℕ, ◌+◌, ◌-◌, ◌*◌, Bool, true, false, not, ◌&&◌, ◌||◌, ◌==◌, nat_le, nat_lt, if◌then◌else◌, codes, bytes_eq, List, [], ◌∷◌, fold, Option, Some, None}
+use Rattle.std.specs.Prelude.{ℕ, ◌+◌, ◌-◌, ◌*◌, Bool, true, false, not, ◌&&◌, ◌||◌, ◌==◌, nat_le, nat_lt, if◌then◌else◌, codes, bytes_eq, slice_get, List, [], ◌∷◌, length, fold, Option, Some, None}
 use Rattle.std.specs.List.{list_any}
 use Rattle.mg_bytes.specs.Case.{same_but_case}
 use Rattle.mg_bytes.specs.Numbers.{decimal_of}
@@ -12,6 +12,8 @@ use Rattle.mgcp_text.specs.Message.{param_at}
 use Rattle.mgcp_text.specs.Reading.{Outcome, message, no_header, bad_version, bad_body, read_text}
 use Rattle.gateway_checks.specs.declared.socket.Socket.{Socket}
 use Rattle.gateway_checks.specs.declared.unasked.Unasked.{Unasked}
+use Rattle.gateway_checks.specs.declared.unasked.Expected.{Expected}
+use Rattle.gateway_checks.specs.declared.unasked.Expected.TheVariants.{Notification, Announcement}
 use Rattle.gateway_checks.specs.declared.unasked.Likeness.{Likeness}
 use Rattle.gateway_checks.specs.declared.unasked.Likeness.TheVariants.{Another, AsDue, Otherwise}
 use Rattle.gateway_checks.specs.declared.unasked.TheConstants.{OWN_NUMBERS}
@@ -77,28 +79,55 @@ is_written wanted (Some value) = is_any wanted || is_either wanted value
 
 -- of the text that is meant it is judged whether it is right; any other is passed over
 abbrev pub likeness : Bool → Bool → Likeness
-likeness is_meant is_right = if not is_meant then Another else if is_right then AsDue else Otherwise
+likeness meant right = if not meant then Another else if right then AsDue else Otherwise
 
--- a notification (RFC 3435, 2.3.4) is meant by its endpoint's name, and right by its request's identifier and its observed events
-abbrev pub notified_by : List ℕ → List ℕ → List ℕ → Outcome → Likeness
-notified_by name x events (message (Command verb id endpoint params body)) =
-    if is_notify verb
-    then likeness (is_written name (Some endpoint))
-    (is_written x (value_in (codes "X") params) && is_written events (value_in (codes "O") params))
-    else Another
-notified_by name x events (message (Response code id params body)) = Another
-notified_by name x events no_header = Another
-notified_by name x events (bad_version id) = Another
-notified_by name x events (bad_body id) = Another
+-- it is the text that is meant, right or not
+abbrev pub is_meant : Likeness → Bool
+is_meant Another = false
+is_meant AsDue = true
+is_meant Otherwise = true
+
+abbrev pub is_as_due : Likeness → Bool
+is_as_due Another = false
+is_as_due AsDue = true
+is_as_due Otherwise = false
+
+-- what a text is by what its command is; a response, and what is no message, are the same to all
+abbrev pub by_command : {A : Type 0} → A → (Verb → List ℕ → List Param → A) → Outcome → A
+by_command other on_command (message (Command verb id name params body)) = on_command verb name params
+by_command other on_command (message (Response code id params body)) = other
+by_command other on_command no_header = other
+by_command other on_command (bad_version id) = other
+by_command other on_command (bad_body id) = other
+
+-- a notification (RFC 3435, 2.3.4) is meant by its endpoint's name
+abbrev pub is_notice_of : List ℕ → Verb → List ℕ → Bool
+is_notice_of name verb endpoint = is_notify verb && is_written name (Some endpoint)
+
+-- and right by its request's identifier and its observed events
+abbrev pub tells : List ℕ → List ℕ → List Param → Bool
+tells x events params = is_written x (value_in (codes "X") params) && is_written events (value_in (codes "O") params)
+
+abbrev pub notified_in : List ℕ → List ℕ → List ℕ → Verb → List ℕ → List Param → Likeness
+notified_in name x events verb endpoint params = likeness (is_notice_of name verb endpoint) (tells x events params)
 
 -- an announcement (RFC 3435, 2.3.12) is right by its method
+abbrev pub announced_in : List ℕ → Verb → List ℕ → List Param → Likeness
+announced_in method verb endpoint params = likeness (is_restart verb) (is_written method (value_in (codes "RM") params))
+
+abbrev pub notified_by : List ℕ → List ℕ → List ℕ → Outcome → Likeness
+notified_by name x events text = by_command Another (notified_in name x events) text
+
 abbrev pub announced_by : List ℕ → Outcome → Likeness
-announced_by method (message (Command verb id endpoint params body)) =
-    if is_restart verb then likeness true (is_written method (value_in (codes "RM") params)) else Another
-announced_by method (message (Response code id params body)) = Another
-announced_by method no_header = Another
-announced_by method (bad_version id) = Another
-announced_by method (bad_body id) = Another
+announced_by method text = by_command Another (announced_in method) text
+
+-- what a command is to a step that expects this
+abbrev pub likeness_in : Expected → Verb → List ℕ → List Param → Likeness
+likeness_in (Notification name x events) verb endpoint params = notified_in name.now x.now events.now verb endpoint params
+likeness_in (Announcement method) verb endpoint params = announced_in method.now verb endpoint params
+
+abbrev pub likeness_of : Expected → Outcome → Likeness
+likeness_of expected text = by_command Another (likeness_in expected) text
 
 -- Which of it is for a check
 
@@ -112,13 +141,12 @@ is_own_request base None = true
 is_own_request base (Some x) = is_own_number base (decimal_of x)
 
 -- a notification under an identifier of the check's own, or under none; an announcement, where the check takes these
-abbrev pub is_for_check : ℕ → Bool → Outcome → Bool
-is_for_check base announces (message (Command verb id name params body)) =
+abbrev pub is_for_steps : ℕ → Bool → Verb → List Param → Bool
+is_for_steps base announces verb params =
     if is_notify verb then is_own_request base (value_in (codes "X") params) else announces && is_restart verb
-is_for_check base announces (message (Response code id params body)) = false
-is_for_check base announces no_header = false
-is_for_check base announces (bad_version id) = false
-is_for_check base announces (bad_body id) = false
+
+abbrev pub is_for_check : ℕ → Bool → Outcome → Bool
+is_for_check base announces text = by_command false (λ verb name params. is_for_steps base announces verb params) text
 
 -- What comes again
 
@@ -141,20 +169,20 @@ disturbs heard since unasked = breaks (is_copy heard unasked) since unasked.mome
 abbrev pub is_quiet : List Unasked → List Unasked → ℕ → Bool
 is_quiet heard waiting since = not (list_any (disturbs heard since) waiting)
 
--- what one that waits is to a step: it came to this socket, and is no copy
-abbrev pub likeness_at : List Unasked → Socket → (List ℕ → Likeness) → Unasked → Likeness
-likeness_at heard at like unasked =
-    if is_same_socket unasked.at at && not (is_copy heard unasked) then like unasked.text.items else Another
+-- one that waits came to this socket, and is no copy
+abbrev pub counts_at : List Unasked → Socket → Unasked → Bool
+counts_at heard at unasked = is_same_socket unasked.at at && not (is_copy heard unasked)
 
-abbrev pub chosen : Likeness → ℕ → Option (ℕ × Bool) → Option (ℕ × Bool)
-chosen Another place later = later
-chosen AsDue place later = Some (place, true)
-chosen Otherwise place later = Some (place, false)
+-- what one that waits is to a step that expects this at a socket
+abbrev pub likeness_at : List Unasked → Socket → Expected → Unasked → Likeness
+likeness_at heard at expected unasked =
+    if not (counts_at heard at unasked) then Another else likeness_of expected (read_text unasked.text.items)
 
 -- the first that is meant: its place, and whether it is as due
 unfoldable pub first_meant : (Unasked → Likeness) → ℕ → List Unasked → Option (ℕ × Bool)
 first_meant like place [] = None
-first_meant like place (unasked ∷ more) = chosen (like unasked) place (first_meant like (place + 1) more)
+first_meant like place (unasked ∷ more) =
+    if is_meant (like unasked) then Some (place, is_as_due (like unasked)) else first_meant like (place + 1) more
 
 -- Gaps, in ms, between the comings of one text
 
@@ -177,6 +205,15 @@ with_copy text gaps unasked = if is_same_text text unasked then with_coming gaps
 -- how a text that came at its moment comes again among these
 abbrev pub gaps_of : Unasked → List Unasked → Gaps
 gaps_of text waiting = fold (with_copy text) (none_since text.moment) waiting
+
+-- the one that a step asked for last
+abbrev pub last_of : List Unasked → Option Unasked
+last_of heard = slice_get heard (length heard - 1)
+
+-- how that comes again; nothing where none was asked for
+abbrev pub gaps_behind : Option Unasked → List Unasked → Option Gaps
+gaps_behind None waiting = None
+gaps_behind (Some last) waiting = Some (gaps_of last waiting)
 
 -- the last gap is at least half as long again as the first (RFC 3435, 3.5.3: gaps grow)
 abbrev pub has_grown : Gaps → Bool

@@ -1,7 +1,7 @@
 //! Worked examples of the definitions, as theorems: each sentence of a definition has one that a slip in it breaks.
 #![tactic(auto, unfolding(crate::proofs::Computing::on_examples))]
 
-ghost use Rattle.std.specs.Prelude.{◌≡◌, [], ◌∷◌, true, false, Some, None, codes};
+ghost use Rattle.std.specs.Prelude.{◌≡◌, ◌==◌, [], ◌∷◌, List, true, false, Some, None, codes};
 ghost use Rattle.gateway_checks.specs.declared.judging.Fault.TheVariants.{NotSupported, Otherwise};
 ghost use Rattle.gateway_checks.specs.declared.judging.Verdict.TheVariants as verdicts;
 ghost use Rattle.gateway_checks.specs.declared.socket.Socket.TheVariants.{First, Second};
@@ -15,7 +15,9 @@ ghost use Rattle.gateway_checks.specs.Reporting.{word_of, greatest_count, one_mo
 ghost use Rattle.gateway_checks.specs.declared.report.Tally.{Tally};
 ghost use Rattle.gateway_checks.specs.Waiting.{greatest_moment, waited_until, is_prolonged};
 ghost use Rattle.gateway_checks.specs.declared.unasked.Likeness.TheVariants as likes;
-ghost use Rattle.gateway_checks.specs.Unasked.{notified_by, announced_by, is_for_check, breaks, is_quiet, likeness, chosen, none_since, with_coming, has_grown};
+ghost use Rattle.gateway_checks.specs.declared.unasked.Unasked.{Unasked};
+ghost use Rattle.gateway_checks.specs.Unasked.{notified_by, announced_by, is_for_check, breaks, is_quiet, likeness, first_meant};
+ghost use Rattle.gateway_checks.specs.Unasked.{none_since, with_coming, last_of, gaps_behind, has_grown};
 
 /// A code that is due is right; by one from 500 to 599 something that may be left out isn't supported.
 pub fn codes_are_due_or_not()
@@ -184,12 +186,21 @@ pub fn a_silence_is_broken_by_what_comes()
 
 /// The first that is meant is the one that counts, whether it is as due or not.
 pub fn the_first_that_is_meant_counts()
-    ensures another { chosen likes.Another 0 (Some (3, true)) ≡ Some (3, true) }
-    ensures due { chosen likes.AsDue 2 (Some (3, false)) ≡ Some (2, true) }
-    ensures otherwise { chosen likes.Otherwise 2 (Some (3, true)) ≡ Some (2, false) }
     ensures passed_over { likeness false true ≡ likes.Another }
     ensures right { likeness true true ≡ likes.AsDue }
     ensures wrong { likeness true false ≡ likes.Otherwise }
+    ensures none { (a b : Unasked) → first_meant (λ _. likes.Another) 0 (a ∷ b ∷ []) ≡ None }
+    ensures due { (a b : Unasked) → first_meant (λ _. likes.AsDue) 2 (a ∷ b ∷ []) ≡ Some (2, true) }
+    ensures otherwise { (a b : Unasked) → first_meant (λ _. likes.Otherwise) 2 (a ∷ b ∷ []) ≡ Some (2, false) }
+    ensures second { (a : Unasked) → first_meant (λ text. likeness (text.moment == 7) true) 0
+        (record a { moment = 5 } ∷ record a { moment = 7 } ∷ []) ≡ Some (1, true) }
+{}
+
+/// What a step asked for last is what comes again.
+pub fn what_was_asked_for_last_comes_again()
+    ensures none { (waiting : List Unasked) → gaps_behind (last_of []) waiting ≡ None }
+    ensures last { (a b : Unasked) → last_of (a ∷ b ∷ []) ≡ Some b }
+    ensures never { (a : Unasked) → gaps_behind (last_of (a ∷ [])) [] ≡ Some (none_since a.moment) }
 {}
 
 /// The first gap and the last are counted, and the last is to be half as long again.

@@ -1,14 +1,11 @@
 //! What the gateway said by itself, as long as a check is played.
-ghost use Rattle.std.specs.Prelude.{◌≡◌, ◌++◌, ◌∷◌, [], ◌&&◌, not, OnOk, IfOk};
-ghost use Rattle.mgcp_text.specs.Reading.{read_text};
-ghost use Rattle.gateway_checks.specs.declared.socket.Socket.TheVariants.{First};
-ghost use Rattle.gateway_checks.specs.Matching.{is_same_socket};
-ghost use Rattle.gateway_checks.specs.Unasked.{is_copy, disturbs, is_quiet, likeness_at, first_meant, notified_by, announced_by};
-ghost use Rattle.gateway_checks.specs.Unasked.{gaps_of};
+ghost use Rattle.std.specs.Prelude.{◌≡◌, ◌++◌, ◌∷◌, [], OnOk, IfOk};
+ghost use Rattle.gateway_checks.specs.Unasked.{is_copy, disturbs, is_quiet, counts_at, likeness_at, first_meant};
+ghost use Rattle.gateway_checks.specs.Unasked.{last_of, with_copy, gaps_of, gaps_behind};
 
 use crate::gaps::Gaps;
 use crate::socket::Socket;
-use crate::unasked::{Likeness, Unasked, announced_by, notified_by};
+use crate::unasked::{Expected, Likeness, Unasked, likeness_of};
 use crate::waiting::CROSSING;
 use mg_bytes::OutOfMemory;
 use std::alloc::Global;
@@ -67,48 +64,40 @@ impl Mailbox {
 
     // Whether it came to this socket, and is no copy.
     fn counts_at(&self, at: Socket, unasked: &Unasked) -> bool
-        ensures { result ≡ (is_same_socket unasked.now.at at && not (is_copy self.now.heard.items unasked.now)) }
+        ensures { result ≡ counts_at self.now.heard.items at unasked.now }
     {
         unasked.at.is_same(at) && !self.is_copy(unasked)
     }
 
-    /// The first that is a notification of this endpoint: its place, and whether it has this X and this O.
-    #[tactic(auto, unfolding(crate::specs::Unasked::first_meant))]
-    pub(crate) fn notified(
+    // What it is to a step that expects this at a socket.
+    fn likeness_at(
         &self,
         at: Socket,
-        name: &[u8],
-        x: &[u8],
-        events: &[u8],
-    ) -> Result<Option<(usize, bool)>, OutOfMemory>
-        ensures { IfOk result (λ found. found ≡ first_meant (likeness_at self.now.heard.items at
-            (λ text. notified_by name.now x.now events.now (read_text text))) 0 self.now.waiting.items) }
+        expected: &Expected<'_>,
+        unasked: &Unasked,
+    ) -> Result<Likeness, OutOfMemory>
+        ensures { IfOk result (λ likeness. likeness ≡ likeness_at self.now.heard.items at expected.now unasked.now) }
     {
-        for (place, unasked) in self.waiting.iter().enumerate() {
-            if self.counts_at(at, unasked) {
-                match notified_by(self.alloc, unasked.text.as_slice(), name, x, events)? {
-                    Likeness::Another => {}
-                    Likeness::AsDue => return Ok(Some((place, true))),
-                    Likeness::Otherwise => return Ok(Some((place, false))),
-                }
-            }
+        if !self.counts_at(at, unasked) {
+            return Ok(Likeness::Another);
         }
-        Ok(None)
+        likeness_of(self.alloc, expected, unasked.text.as_slice())
     }
 
-    /// The first that is an announcement: its place, and whether it has this method.
+    /// The first that a step means which expects this at a socket: its place, and whether it is as due.
     #[tactic(auto, unfolding(crate::specs::Unasked::first_meant))]
-    pub(crate) fn announced(&self, method: &[u8]) -> Result<Option<(usize, bool)>, OutOfMemory>
-        ensures { IfOk result (λ found. found ≡ first_meant (likeness_at self.now.heard.items First
-            (λ text. announced_by method.now (read_text text))) 0 self.now.waiting.items) }
+    pub(crate) fn first_meant(
+        &self,
+        at: Socket,
+        expected: &Expected<'_>,
+    ) -> Result<Option<(usize, bool)>, OutOfMemory>
+        ensures { IfOk result (λ found. found
+            ≡ first_meant (likeness_at self.now.heard.items at expected.now) 0 self.now.waiting.items) }
     {
         for (place, unasked) in self.waiting.iter().enumerate() {
-            if self.counts_at(Socket::First, unasked) {
-                match announced_by(self.alloc, unasked.text.as_slice(), method)? {
-                    Likeness::Another => {}
-                    Likeness::AsDue => return Ok(Some((place, true))),
-                    Likeness::Otherwise => return Ok(Some((place, false))),
-                }
+            let likeness = self.likeness_at(at, expected, unasked)?;
+            if likeness.is_meant() {
+                return Ok(Some((place, likeness.is_as_due())));
             }
         }
         Ok(None)
@@ -126,9 +115,24 @@ impl Mailbox {
     }
 
     /// How the one that a step asked for last comes again; nothing where none has asked.
-    pub(crate) fn gaps(&self) -> Option<Gaps> {
-        let last = self.heard.as_slice().last()?;
-        Some(gaps_of(last, self.waiting.as_slice()))
+    pub(crate) fn gaps(&self) -> Option<Gaps>
+        ensures { result ≡ gaps_behind (last_of self.now.heard.items) self.now.waiting.items }
+    {
+        match self.heard.as_slice().last() {
+            Some(last) => Some(gaps_of(last, self.waiting.as_slice())),
+            None => None,
+        }
+    }
+}
+
+// The gaps with this one, which counts where it is that text again.
+fn with_copy(text: &Unasked, gaps: Gaps, unasked: &Unasked) -> Gaps
+    ensures { result ≡ with_copy text.now gaps unasked.now }
+{
+    if text.is_same(unasked) {
+        gaps.with_coming(unasked.moment)
+    } else {
+        gaps
     }
 }
 
@@ -138,9 +142,7 @@ fn gaps_of(text: &Unasked, waiting: &[Unasked]) -> Gaps
 {
     let mut gaps = Gaps::since(text.moment);
     for unasked in waiting {
-        if text.is_same(unasked) {
-            gaps = gaps.with_coming(unasked.moment);
-        }
+        gaps = with_copy(text, gaps, unasked);
     }
     gaps
 }

@@ -15,7 +15,7 @@ use crate::matching::{code_fault, has_another, has_value};
 use crate::names::Names;
 use crate::socket::Socket;
 use crate::step::{Step, step_of};
-use crate::unasked::{Unasked, is_for_check};
+use crate::unasked::{Expected, Unasked, is_for_check};
 use crate::waiting::{UNASKED_TIME, is_prolonged, waited_until};
 use mg_bytes::OutOfMemory;
 use piggyback::parts;
@@ -266,7 +266,7 @@ impl<'a> Player<'a> {
     fn play_unasked(&mut self, step: Step<'a>, now: u64) -> Result<Option<Turn>, OutOfMemory> {
         match step {
             Step::Notified { at, name, due } => self.notified(at, name, due, now),
-            Step::Announced { name, method } => self.announced(name, method, now),
+            Step::Announced { at, name, method } => self.announced(at, name, method, now),
             Step::Again { times, grows } => self.came_again(times, grows, now),
             Step::Quiet { ms } => self.quiet(ms, now),
             Step::Act { act } => self.ask_for(act),
@@ -436,14 +436,15 @@ impl<'a> Player<'a> {
         self.finish_met(false)
     }
 
-    // A step has found what it asks for at this place, as due or not: its id has this name from here on.
-    fn found(
+    // This is to come to a socket: whether as due or not, its id has this name from here on.
+    fn find(
         &mut self,
-        found: Option<(usize, bool)>,
+        at: Socket,
+        expected: &Expected<'_>,
         name: &'a str,
         now: u64,
     ) -> Result<Option<Turn>, OutOfMemory> {
-        let Some((place, is_due)) = found else {
+        let Some((place, is_due)) = self.mailbox.first_meant(at, expected)? else {
             return self.await_unasked(now);
         };
         if let Some(id) = self.mailbox.ask(place)? {
@@ -464,21 +465,26 @@ impl<'a> Player<'a> {
         let due = self.names.filled(due)?;
         let (endpoint, rest) = due.as_str().split_once(' ').unwrap_or((due.as_str(), ""));
         let (x, events) = rest.split_once(' ').unwrap_or((rest, ""));
-        let found = self
-            .mailbox
-            .notified(at, endpoint.as_bytes(), x.as_bytes(), events.as_bytes())?;
-        self.found(found, name, now)
+        let expected = Expected::Notification {
+            name: endpoint.as_bytes(),
+            x: x.as_bytes(),
+            events: events.as_bytes(),
+        };
+        self.find(at, &expected, name, now)
     }
 
-    // An announcement with this method is to come.
+    // An announcement with this method is to come to a socket.
     fn announced(
         &mut self,
+        at: Socket,
         name: &'a str,
         method: &str,
         now: u64,
     ) -> Result<Option<Turn>, OutOfMemory> {
-        let found = self.mailbox.announced(method.as_bytes())?;
-        self.found(found, name, now)
+        let expected = Expected::Announcement {
+            method: method.as_bytes(),
+        };
+        self.find(at, &expected, name, now)
     }
 
     // What a step asked for last is to come so often again, each time within a time of its own.

@@ -61,8 +61,9 @@ pub(crate) enum Step<'a> {
         name: &'a str,
         due: &'a str,
     },
-    /// An announcement with this method comes, and its id has this name from here on.
+    /// An announcement with this method comes to that socket, and its id has this name from here on.
     Announced {
+        at: Socket,
         name: &'a str,
         method: &'a str,
     },
@@ -96,19 +97,24 @@ fn so_long(digits: &str) -> u64 {
     digits.parse::<u64>().unwrap_or(0)
 }
 
+// The socket that a word of a step means.
+fn socket_of(word: &str) -> Socket {
+    match word {
+        "notified-there" | "announced-there" => Socket::Second,
+        _ => Socket::First,
+    }
+}
+
 // The step that a line is which speaks of what the gateway says by itself.
 fn unasked_step<'a>(line: &'a str, word: &str, first: &'a str, second: &'a str) -> Step<'a> {
     match word {
         "notified" | "notified-there" => Step::Notified {
-            at: if word == "notified" {
-                Socket::First
-            } else {
-                Socket::Second
-            },
+            at: socket_of(word),
             name: first,
             due: second,
         },
-        "announced" => Step::Announced {
+        "announced" | "announced-there" => Step::Announced {
+            at: socket_of(word),
             name: first,
             method: second,
         },

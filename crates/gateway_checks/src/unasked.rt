@@ -1,7 +1,9 @@
 //! What a gateway says by itself, and what that is to a step which expects it.
 ghost use Rattle.std.specs.Prelude.{◌≡◌, IfOk, option_copied};
 ghost use Rattle.mgcp_text.specs.Reading.{message as said, read_text};
-ghost use Rattle.gateway_checks.specs.Unasked.{is_same_text, is_notify, is_restart, value_in, is_any, is_either, is_written, likeness, notified_by, announced_by, is_own_number, is_own_request, is_for_check};
+ghost use Rattle.gateway_checks.specs.Unasked.{is_same_text, is_notify, is_restart, value_in, is_any, is_either, is_written};
+ghost use Rattle.gateway_checks.specs.Unasked.{likeness, is_meant, is_as_due, is_notice_of, tells, likeness_in, likeness_of};
+ghost use Rattle.gateway_checks.specs.Unasked.{is_own_number, is_own_request, is_for_steps, is_for_check};
 
 use crate::socket::Socket;
 use mg_bytes::{OutOfMemory, decimal, same_no_case, split_once};
@@ -20,6 +22,21 @@ pub(crate) struct Unasked {
     pub text: Vec<u8>,
 }
 
+/// What a step expects that the gateway says by itself: `*` stands for anything, and of two texts that a bar parts either is right.
+#[derive(Clone, Copy)]
+pub(crate) enum Expected<'a> {
+    /// A notification of this endpoint, with this X and this O.
+    Notification {
+        name: &'a [u8],
+        x: &'a [u8],
+        events: &'a [u8],
+    },
+    /// An announcement with this method.
+    Announcement {
+        method: &'a [u8],
+    },
+}
+
 /// What a text is to a step that expects one.
 #[derive(Clone, Copy)]
 pub(crate) enum Likeness {
@@ -29,6 +46,28 @@ pub(crate) enum Likeness {
     AsDue,
     /// The one that is meant, but it says something else than is due.
     Otherwise,
+}
+
+impl Likeness {
+    /// Whether it is the one that is meant, right or not.
+    pub(crate) fn is_meant(self) -> bool
+        ensures { result ≡ is_meant self }
+    {
+        match self {
+            Likeness::Another => false,
+            Likeness::AsDue | Likeness::Otherwise => true,
+        }
+    }
+
+    /// Whether it is the one that is due.
+    pub(crate) fn is_as_due(self) -> bool
+        ensures { result ≡ is_as_due self }
+    {
+        match self {
+            Likeness::AsDue => true,
+            Likeness::Another | Likeness::Otherwise => false,
+        }
+    }
 }
 
 impl Unasked {
@@ -114,75 +153,78 @@ fn is_written(wanted: &[u8], given: Option<&[u8]>) -> bool
 }
 
 // What a text is by whether it is meant, and right.
-fn likeness(is_meant: bool, is_right: bool) -> Likeness
-    ensures { result ≡ likeness is_meant is_right }
+fn likeness(meant: bool, right: bool) -> Likeness
+    ensures { result ≡ likeness meant right }
 {
-    if !is_meant {
+    if !meant {
         Likeness::Another
-    } else if is_right {
+    } else if right {
         Likeness::AsDue
     } else {
         Likeness::Otherwise
     }
 }
 
-fn notified_in(message: &Message<'_>, name: &[u8], x: &[u8], events: &[u8]) -> Likeness
-    ensures { result ≡ notified_by name.now x.now events.now (said message.now) }
+// Whether a command is a notification of this endpoint.
+fn is_notice_of(name: &[u8], verb: Verb, endpoint: &[u8]) -> bool
+    ensures { result ≡ is_notice_of name.now verb endpoint.now }
+{
+    is_notify(verb) && is_written(name, Some(endpoint))
+}
+
+// Whether these have this X and this O.
+fn tells(x: &[u8], events: &[u8], params: &[Param<'_>]) -> bool
+    ensures { result ≡ tells x.now events.now params.now }
+{
+    is_written(x, value_in(b"X", params)) && is_written(events, value_in(b"O", params))
+}
+
+// What a command is to a step that expects this.
+fn likeness_in(
+    expected: &Expected<'_>,
+    verb: Verb,
+    endpoint: &[u8],
+    params: &[Param<'_>],
+) -> Likeness
+    ensures { result ≡ likeness_in expected.now verb endpoint.now params.now }
+{
+    match expected {
+        Expected::Notification { name, x, events } => likeness(
+            is_notice_of(*name, verb, endpoint),
+            tells(*x, *events, params),
+        ),
+        Expected::Announcement { method } => likeness(
+            is_restart(verb),
+            is_written(*method, value_in(b"RM", params)),
+        ),
+    }
+}
+
+// What a message is to a step that expects this.
+fn message_likeness(expected: &Expected<'_>, message: &Message<'_>) -> Likeness
+    ensures { result ≡ likeness_of expected.now (said message.now) }
 {
     match message {
         Message::Command {
             verb,
-            name: endpoint,
+            name,
             params,
             ..
-        } if is_notify(*verb) => {
-            let params = params.as_slice();
-            let is_right = is_written(x, value_in(b"X", params))
-                && is_written(events, value_in(b"O", params));
-            likeness(is_written(name, Some(endpoint.as_slice())), is_right)
-        }
-        Message::Command { .. } | Message::Response { .. } => Likeness::Another,
+        } => likeness_in(expected, *verb, name.as_slice(), params.as_slice()),
+        Message::Response { .. } => Likeness::Another,
     }
 }
 
-/// What a text is to a step that expects a notification of this endpoint, with this X and this O.
-pub(crate) fn notified_by(
+/// What a text is to a step that expects this.
+pub(crate) fn likeness_of(
     alloc: Global,
+    expected: &Expected<'_>,
     text: &[u8],
-    name: &[u8],
-    x: &[u8],
-    events: &[u8],
 ) -> Result<Likeness, OutOfMemory>
-    ensures { IfOk result (λ likeness. likeness ≡ notified_by name.now x.now events.now (read_text text.now)) }
+    ensures { IfOk result (λ likeness. likeness ≡ likeness_of expected.now (read_text text.now)) }
 {
     match read_message(alloc, text) {
-        Ok(message) => Ok(notified_in(&message, name, x, events)),
-        Err(TextFault::OutOfMemory) => Err(AllocError),
-        Err(_) => Ok(Likeness::Another),
-    }
-}
-
-fn announced_in(message: &Message<'_>, method: &[u8]) -> Likeness
-    ensures { result ≡ announced_by method.now (said message.now) }
-{
-    match message {
-        Message::Command { verb, params, .. } if is_restart(*verb) => {
-            likeness(true, is_written(method, value_in(b"RM", params.as_slice())))
-        }
-        Message::Command { .. } | Message::Response { .. } => Likeness::Another,
-    }
-}
-
-/// What a text is to a step that expects an announcement with this method.
-pub(crate) fn announced_by(
-    alloc: Global,
-    text: &[u8],
-    method: &[u8],
-) -> Result<Likeness, OutOfMemory>
-    ensures { IfOk result (λ likeness. likeness ≡ announced_by method.now (read_text text.now)) }
-{
-    match read_message(alloc, text) {
-        Ok(message) => Ok(announced_in(&message, method)),
+        Ok(message) => Ok(message_likeness(expected, &message)),
         Err(TextFault::OutOfMemory) => Err(AllocError),
         Err(_) => Ok(Likeness::Another),
     }
@@ -211,14 +253,24 @@ fn is_own_request(base: u32, x: Option<&[u8]>) -> bool
     }
 }
 
-fn is_for_check_in(message: &Message<'_>, base: u32, announces: bool) -> bool
+// Whether a command is for a check with this base, which takes announcements or not.
+fn is_for_steps(base: u32, announces: bool, verb: Verb, params: &[Param<'_>]) -> bool
+    ensures { result ≡ is_for_steps base announces verb params.now }
+{
+    if is_notify(verb) {
+        is_own_request(base, value_in(b"X", params))
+    } else {
+        announces && is_restart(verb)
+    }
+}
+
+fn message_is_for(base: u32, announces: bool, message: &Message<'_>) -> bool
     ensures { result ≡ is_for_check base announces (said message.now) }
 {
     match message {
-        Message::Command { verb, params, .. } if is_notify(*verb) => {
-            is_own_request(base, value_in(b"X", params.as_slice()))
+        Message::Command { verb, params, .. } => {
+            is_for_steps(base, announces, *verb, params.as_slice())
         }
-        Message::Command { verb, .. } => announces && is_restart(*verb),
         Message::Response { .. } => false,
     }
 }
@@ -233,7 +285,7 @@ pub(crate) fn is_for_check(
     ensures { IfOk result (λ is_for. is_for ≡ is_for_check base announces (read_text text.now)) }
 {
     match read_message(alloc, text) {
-        Ok(message) => Ok(is_for_check_in(&message, base, announces)),
+        Ok(message) => Ok(message_is_for(base, announces, &message)),
         Err(TextFault::OutOfMemory) => Err(AllocError),
         Err(_) => Ok(false),
     }
