@@ -3,7 +3,7 @@
 //! - `notified NAME ENDPOINT X EVENTS` a notification of this endpoint comes, with this X and this O, and its transaction id
 //!   has this name from here on. `*` stands for anything, and of two texts with `|` between them either is right. Of several the
 //!   first counts, and copies of one that was asked for don't. `notified-there` is the same at the second socket.
-//! - `announced NAME METHOD` an announcement (RSIP) comes, with this method.
+//! - `announced NAME METHOD` an announcement (RSIP) comes, with this method; `announced-there` to the second socket.
 //! - `again N` what was asked for last comes N times again, byte for byte; `slower N` so, and its last gap is at least half as
 //!   long again as its first. It is waited for 4 s each time, as for the first.
 //! - `quiet MS` the gateway says nothing by itself for so long, in ms; copies of what was asked for count from 200 ms on, since
@@ -381,15 +381,16 @@ pause 300
 quiet 1500
 undo request
 
-= restart-redirected | 2.1.4, 2.4 | A response 521 with N redirects an announcement: it goes out anew, under another id
+= restart-redirected | 2.1.4, 2.4 | A response 521 with N redirects an announcement: it goes out anew, to that entity and under another id
 restart
 announced one restart
-> 521 {one} REDIRECTED / N: {here}
-announced two restart
+> 521 {one} REDIRECTED / N: {there}
+announced-there two restart
 differ {one} {two}
-> 200 {two} OK
+>> 200 {two} OK
 quiet 1500
-undo request
+undo
+restart
 
 = restart-ids | 3.5.1, 4.4.6 | After a restart ids aren't those of the last life
 > RQNT {1} {line} MGCP 1.0 / X: {1} / R: L/oc(N) / S: L/rg(to=100)
