@@ -17,17 +17,24 @@ const ROOM: usize = 4096;
 // So long it is waited for what is done at a telephone, in ms: a gateway may start anew then.
 const LONGEST_ACT: u64 = 30_000;
 
+// Two sockets for the gateway, of which the first has the call agent's address, one for who works telephones, and what tells of
+// all three.
+#[derive(Drop)]
+struct Sockets {
+    first: UdpSocket,
+    second: UdpSocket,
+    third: UdpSocket,
+    poll: Poll,
+    events: Events,
+}
+
 /// The ends of a talk with a gateway.
 #[derive(Drop)]
 pub(crate) struct Ends<'a, R> {
     rt: &'a R,
     alloc: Global,
     gateway: SocketAddrV4,
-    first: UdpSocket,
-    second: UdpSocket,
-    third: UdpSocket,
-    poll: Poll,
-    events: Events,
+    sockets: Sockets,
     start: Instant,
     // Who works the line's telephone, if someone does.
     telephone: Option<Telephone<'a>>,
@@ -46,18 +53,8 @@ fn watched<R: Net>(
     Ok(socket)
 }
 
-// Three sockets, of which the first has this address, the second its host, and the third any.
-#[derive(Drop)]
-struct Opened {
-    first: UdpSocket,
-    second: UdpSocket,
-    third: UdpSocket,
-    poll: Poll,
-    events: Events,
-}
-
-// The sockets, and what tells of them.
-fn opened<R: Net>(rt: &R, alloc: Global, own: SocketAddrV4) -> io::Result<Opened> {
+// The sockets: the second has the first one's host, the third any.
+fn opened<R: Net>(rt: &R, alloc: Global, own: SocketAddrV4) -> io::Result<Sockets> {
     let other = SocketAddrV4::new(*own.ip(), 0);
     let any = SocketAddrV4::new(Ipv4Addr::UNSPECIFIED, 0);
     let events = Events::with_capacity(alloc, 3)?;
@@ -65,13 +62,23 @@ fn opened<R: Net>(rt: &R, alloc: Global, own: SocketAddrV4) -> io::Result<Opened
     let first = watched(rt, &poll, own, Token(0))?;
     let second = watched(rt, &poll, other, Token(1))?;
     let third = watched(rt, &poll, any, Token(2))?;
-    Ok(Opened {
+    Ok(Sockets {
         first,
         second,
         third,
         poll,
         events,
     })
+}
+
+// What came from who works telephones.
+#[derive(Clone, Copy)]
+enum Told {
+    // Whether what was asked for is done.
+    Done(bool),
+    // Something from elsewhere, of which nothing is made.
+    Other,
+    Nothing,
 }
 
 // Whether an answer says that something was done.
@@ -96,13 +103,7 @@ impl<'a, R: Net + Clock> Ends<'a, R> {
         own: SocketAddrV4,
         telephone: Option<Telephone<'a>>,
     ) -> Result<Ends<'a, R>, CheckFault> {
-        let Opened {
-            first,
-            second,
-            third,
-            poll,
-            events,
-        } = match opened(rt, alloc, own) {
+        let sockets = match opened(rt, alloc, own) {
             Ok(sockets) => sockets,
             Err(e) => return Err(unbound(own, e.kind())),
         };
@@ -113,11 +114,7 @@ impl<'a, R: Net + Clock> Ends<'a, R> {
             rt,
             alloc,
             gateway,
-            first,
-            second,
-            third,
-            poll,
-            events,
+            sockets,
             start,
             telephone,
         })
@@ -125,7 +122,7 @@ impl<'a, R: Net + Clock> Ends<'a, R> {
 
     /// The port of the second socket; 0 where the system doesn't tell.
     pub(crate) fn second_port(&self) -> u16 {
-        match self.second.local_addr() {
+        match self.sockets.second.local_addr() {
             Ok(address) => address.port(),
             Err(_) => 0,
         }
@@ -133,8 +130,8 @@ impl<'a, R: Net + Clock> Ends<'a, R> {
 
     fn socket(&self, which: Socket) -> &UdpSocket {
         match which {
-            Socket::First => &self.first,
-            Socket::Second => &self.second,
+            Socket::First => &self.sockets.first,
+            Socket::Second => &self.sockets.second,
         }
     }
 
@@ -174,9 +171,10 @@ impl<'a, R: Net + Clock> Ends<'a, R> {
     // Waits until something comes, or this moment.
     fn wait(&mut self, until: u64) -> Result<(), CheckFault> {
         let left = until.saturating_sub(self.now()?);
-        match self
+        let sockets = &mut self.sockets;
+        match sockets
             .poll
-            .poll(&mut self.events, Some(Duration::from_millis(left)))
+            .poll(&mut sockets.events, Some(Duration::from_millis(left)))
         {
             Ok(()) => Ok(()),
             Err(e) if e.kind() == io::ErrorKind::Interrupted => Ok(()),
@@ -209,43 +207,54 @@ impl<'a, R: Net + Clock> Ends<'a, R> {
         self.wait(until)
     }
 
-    // What was answered to what is to be done, if that has come: whether it was done. Others aren't heard.
-    fn done(&self, telephone: Telephone<'_>) -> Option<bool> {
+    // What has come from who works telephones.
+    fn told(&self, telephone: Telephone<'_>) -> Told {
         let mut room = [0u8; ROOM];
-        match self.third.recv_from(&mut room) {
+        match self.sockets.third.recv_from(&mut room) {
             Ok((len, SocketAddr::V4(source))) if source == telephone.address => {
-                Some(is_done(&room[..len]))
+                Told::Done(is_done(&room[..len]))
             }
-            Ok(_) | Err(_) => None,
+            Ok(_) => Told::Other,
+            // Nothing is there, or what was asked wasn't delivered.
+            Err(_) => Told::Nothing,
         }
     }
 
-    // Waits until it is told whether something was done, but no longer than until this moment.
-    fn await_done(&mut self, telephone: Telephone<'_>, until: u64) -> Result<bool, CheckFault> {
+    // Waits until it is told whether something was done, but no longer than until this moment; meanwhile the player hears the gateway.
+    fn await_done(
+        &mut self,
+        telephone: Telephone<'_>,
+        player: &mut Player<'_>,
+        until: u64,
+    ) -> Result<bool, CheckFault> {
         for _ in 0..u64::MAX {
-            if let Some(is_done) = self.done(telephone) {
-                return Ok(is_done);
+            match self.told(telephone) {
+                Told::Done(is_done) => return Ok(is_done),
+                Told::Other => {}
+                Told::Nothing => {
+                    if self.now()? >= until {
+                        return Ok(false);
+                    }
+                    self.hear(player, until)?;
+                }
             }
-            if self.now()? >= until {
-                return Ok(false);
-            }
-            self.wait(until)?;
         }
         Ok(false)
     }
 
-    // Has this done at the line's telephone, or with the gateway; whether it was.
-    fn act(&mut self, act: &str) -> Result<bool, CheckFault> {
+    // Has what the player asks for done at the line's telephone, or with the gateway; whether it was.
+    fn act(&mut self, player: &mut Player<'_>) -> Result<bool, CheckFault> {
         let Some(telephone) = self.telephone else {
             return Ok(false);
         };
-        let text = telephone.text(self.alloc, act)?;
+        let text = telephone.text(self.alloc, player.act())?;
         let until = self.now()?.saturating_add(LONGEST_ACT);
         match self
+            .sockets
             .third
             .send_to(text.as_bytes(), SocketAddr::V4(telephone.address))
         {
-            Ok(_) => self.await_done(telephone, until),
+            Ok(_) => self.await_done(telephone, player, until),
             Err(_) => Ok(false),
         }
     }
@@ -258,7 +267,7 @@ impl<'a, R: Net + Clock> Ends<'a, R> {
                 Turn::Send { from } => self.send(from, player.sent())?,
                 Turn::Wait { until } => self.hear(player, until)?,
                 Turn::Act => {
-                    let is_done = self.act(player.act())?;
+                    let is_done = self.act(player)?;
                     player.acted(is_done);
                 }
                 Turn::Over => return Ok(()),
