@@ -302,6 +302,19 @@ fn find_lines<R: Net + Clock>(
     }
 }
 
+// Behind a check that has the gateway started anew it is waited for: what it announces is answered meanwhile, so that the checks
+// behind aren't refused with 405. One that doesn't serve then shows in these.
+fn await_serving<R: Net + Clock>(
+    checking: &mut Checking<'_>,
+    ends: &mut Ends<'_, R>,
+) -> Result<(), CheckFault> {
+    match find(checking, ends) {
+        Ok(()) => Ok(()),
+        Err(CheckFault::NoAnswer { .. } | CheckFault::NotServing { .. }) => Ok(()),
+        Err(fault) => Err(fault),
+    }
+}
+
 // Plays a check to its end, and reports what came of it.
 fn play_one<R: Net + Clock, F: Write + Drop>(
     out: &mut Outlet<F>,
@@ -311,7 +324,11 @@ fn play_one<R: Net + Clock, F: Write + Drop>(
     player: &mut Player<'_>,
 ) -> Result<(), CheckFault> {
     ends.play(player)?;
-    checking.report(out, check, Some(player))
+    checking.report(out, check, Some(player))?;
+    if check.needs_restart() {
+        return await_serving(checking, ends);
+    }
+    Ok(())
 }
 
 // Plays a check, where it is asked for.
