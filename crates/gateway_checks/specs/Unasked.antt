@@ -165,9 +165,12 @@ breaks copied since moment = nat_lt (so_long_behind since CROSSING) moment || no
 abbrev pub disturbs : List Unasked → ℕ → Unasked → Bool
 disturbs heard since unasked = breaks (is_copy heard unasked) since unasked.moment
 
--- nothing of what waits breaks it
+-- one of those that wait does
+abbrev pub is_disturbed : List Unasked → List Unasked → ℕ → Bool
+is_disturbed heard waiting since = list_any (disturbs heard since) waiting
+
 abbrev pub is_quiet : List Unasked → List Unasked → ℕ → Bool
-is_quiet heard waiting since = not (list_any (disturbs heard since) waiting)
+is_quiet heard waiting since = not (is_disturbed heard waiting since)
 
 -- one that waits came to this socket, and is no copy
 abbrev pub counts_at : List Unasked → Socket → Unasked → Bool

@@ -1,6 +1,6 @@
 //! What the gateway said by itself, as long as a check is played.
 ghost use Rattle.std.specs.Prelude.{◌≡◌, ◌++◌, ◌∷◌, [], OnOk, IfOk};
-ghost use Rattle.gateway_checks.specs.Unasked.{is_copy, disturbs, is_quiet, counts_at, likeness_at, first_meant};
+ghost use Rattle.gateway_checks.specs.Unasked.{is_copy, disturbs, is_disturbed, is_quiet, counts_at, likeness_at, first_meant};
 ghost use Rattle.gateway_checks.specs.Unasked.{last_of, with_copy, gaps_of, gaps_behind};
 
 use crate::gaps::Gaps;
@@ -37,36 +37,18 @@ impl Mailbox {
         Ok(())
     }
 
-    // Whether it is a copy of one that a step has asked for.
-    fn is_copy(&self, unasked: &Unasked) -> bool
-        ensures { result ≡ is_copy self.now.heard.items unasked.now }
-    {
-        self.heard.iter().any(|before| before.is_same(unasked))
-    }
-
-    // Whether it breaks a silence that began at this moment, in ms.
-    fn disturbs(&self, since: u64, unasked: &Unasked) -> bool
-        ensures { result ≡ disturbs self.now.heard.items since unasked.now }
-    {
-        since.saturating_add(CROSSING) < unasked.moment || !self.is_copy(unasked)
-    }
-
     /// Whether nothing that waits breaks a silence that began at this moment, in ms.
     pub(crate) fn is_quiet(&self, since: u64) -> bool
         ensures { result ≡ is_quiet self.now.heard.items self.now.waiting.items since }
     {
-        let is_disturbed = self
-            .waiting
-            .iter()
-            .any(|unasked| self.disturbs(since, unasked));
-        !is_disturbed
+        !is_disturbed(self.heard.as_slice(), self.waiting.as_slice(), since)
     }
 
     // Whether it came to this socket, and is no copy.
     fn counts_at(&self, at: Socket, unasked: &Unasked) -> bool
         ensures { result ≡ counts_at self.now.heard.items at unasked.now }
     {
-        unasked.at.is_same(at) && !self.is_copy(unasked)
+        unasked.at.is_same(at) && !is_copy(self.heard.as_slice(), unasked)
     }
 
     // What it is to a step that expects this at a socket.
@@ -123,6 +105,29 @@ impl Mailbox {
             None => None,
         }
     }
+}
+
+// Whether it is a copy of one of these, for which steps have asked.
+fn is_copy(heard: &[Unasked], unasked: &Unasked) -> bool
+    ensures { result ≡ is_copy heard.now unasked.now }
+{
+    heard.iter().any(|before| before.is_same(unasked))
+}
+
+// Whether it breaks a silence that began at this moment, in ms.
+fn disturbs(heard: &[Unasked], since: u64, unasked: &Unasked) -> bool
+    ensures { result ≡ disturbs heard.now since unasked.now }
+{
+    since.saturating_add(CROSSING) < unasked.moment || !is_copy(heard, unasked)
+}
+
+// Whether one of those that wait does.
+fn is_disturbed(heard: &[Unasked], waiting: &[Unasked], since: u64) -> bool
+    ensures { result ≡ is_disturbed heard.now waiting.now since }
+{
+    waiting
+        .iter()
+        .any(|unasked| disturbs(heard, since, unasked))
 }
 
 // The gaps with this one, which counts where it is that text again.
