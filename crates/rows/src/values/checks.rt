@@ -116,6 +116,20 @@ fn put_form(
     }
 }
 
+// What is told of a check that this player plays, where this comes.
+fn told_by(
+    alloc: Global,
+    player: &mut Player<'_>,
+    form: Form,
+    check: &Check<'_>,
+    came: &[u8],
+) -> Result<String, OutOfMemory> {
+    play(player, came)?;
+    let mut out = String::new(alloc);
+    put_form(&mut out, form, check, player)?;
+    Ok(out)
+}
+
 // What is told of a check in which this comes.
 fn told(
     alloc: Global,
@@ -125,10 +139,7 @@ fn told(
 ) -> Result<String, OutOfMemory> {
     let names = Names::new(alloc, &PLACES, 0);
     let mut player = Player::new(alloc, check, names);
-    play(&mut player, came)?;
-    let mut out = String::new(alloc);
-    put_form(&mut out, form, check, &player)?;
-    Ok(out)
+    told_by(alloc, &mut player, form, check, came)
 }
 
 /// Puts what a call gives, and says whether there is such a call here. Where there is no check of this name there is no such row.
