@@ -164,7 +164,7 @@ impl<'a> Checking<'a> {
         check: &Check<'_>,
         player: Option<&Player<'_>>,
     ) -> Result<(), CheckFault> {
-        let nothing: &[Vec<u8>] = &[];
+        let nothing: Vec<Vec<u8>> = Vec::new(self.alloc);
         let (verdict, said, due, came) = match player {
             Some(player) => (
                 Some(player.verdict()),
@@ -172,7 +172,7 @@ impl<'a> Checking<'a> {
                 player.due(),
                 player.came(),
             ),
-            None => (None, "", "", nothing),
+            None => (None, "", "", nothing.as_slice()),
         };
         self.tally.count(verdict);
         self.keep_case(check, verdict, due, said)?;
