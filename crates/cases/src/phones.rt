@@ -41,9 +41,8 @@ fn names_of(alloc: Global) -> Result<Vec<Text>, AllocError> {
 }
 
 // Reads a script of one file.
-fn read(reader: &mut Reader, name: Text, script: Text) -> Result<Wanted, ScriptFault> {
-    reader.begin(name)?;
-    reader.give(script)?;
+fn read(reader: &mut Reader<'_>, name: Text, script: Text) -> Result<Wanted, ScriptFault> {
+    reader.begin(name, script)?;
     reader.go_on()
 }
 
@@ -67,7 +66,7 @@ fn say_failure(
         Failure::Unmet { .. } => b"status 1",
         _ => b"status 3",
     };
-    say(given, moment, text.as_slice(), status);
+    say(given, moment, text.as_bytes(), status);
     Ok(())
 }
 
@@ -103,16 +102,17 @@ impl Program for Phones {
     }
 
     fn play(alloc: Global, story: &mut Story, given: &mut Transcript) -> io::Result<bool> {
-        let mut reader = Reader::new(alloc, names_of(alloc)?);
+        let names = names_of(alloc)?;
+        let mut reader = Reader::new(alloc, names.as_slice());
         let name = text_of(alloc, b"script")?;
         let script = text_of(alloc, story.settings.as_bytes())?;
         match read(&mut reader, name, script) {
             Ok(Wanted::Nothing) => play_script(alloc, reader.into_script(), story, given)?,
-            Ok(Wanted::File) => return Ok(false),
+            Ok(Wanted::File { .. }) => return Ok(false),
             Err(ScriptFault::OutOfMemory) => return Err(refused()),
             Err(fault) => {
                 let text = script_fault_text(alloc, reader.files(), fault)?;
-                say(given, 0, text.as_slice(), b"status 2");
+                say(given, 0, text.as_bytes(), b"status 2");
             }
         }
         Ok(true)

@@ -28,4 +28,4 @@ pub use crate::said::{Said, SaidFault};
 pub use crate::script::{Placed, Reader, Script, ScriptFault, Wanted};
 pub use crate::statement::{Phone, Place, Statement};
 pub use crate::telephone::{Connected, Telephone, What};
-pub use crate::wording::{failure_text, file_fault_text, script_fault_text};
+pub use crate::wording::{failure_text, put_place, script_fault_text};

@@ -60,8 +60,8 @@ impl From<OutOfMemory> for ScriptFault {
 /// What a reader wants.
 #[derive(Clone, Copy)]
 pub enum Wanted {
-    /// The text of the file that was named last.
-    File,
+    /// The text of the file that was named last, there.
+    File { place: Place },
     /// Nothing: all is read.
     Nothing,
 }
@@ -79,15 +79,13 @@ struct Level {
 
 /// Reads a script. Gateways have these names.
 #[derive(Drop)]
-pub struct Reader {
+pub struct Reader<'n> {
     alloc: Global,
-    names: Vec<Text>,
+    names: &'n [Text],
     script: Script,
     levels: Vec<Level>,
     // Where blocks began that are open.
     begun: Vec<Place>,
-    // Where the file was named that was named last; the script itself is named nowhere.
-    wanted: Option<Place>,
 }
 
 // Puts a key that is pressed.
@@ -138,9 +136,9 @@ fn line_at(text: &[u8], begin: usize) -> Option<(&[u8], usize)> {
     Some((line, text.len().saturating_sub(rest.rest().len())))
 }
 
-impl Reader {
+impl<'n> Reader<'n> {
     /// Reads a script whose gateways have these names; the first is meant where none is said.
-    pub fn new(alloc: Global, names: Vec<Text>) -> Reader {
+    pub fn new(alloc: Global, names: &'n [Text]) -> Reader<'n> {
         Reader {
             alloc,
             names,
@@ -150,7 +148,6 @@ impl Reader {
             },
             levels: Vec::new(alloc),
             begun: Vec::new(alloc),
-            wanted: None,
         }
     }
 
@@ -159,27 +156,14 @@ impl Reader {
         self.script.files.as_slice()
     }
 
-    /// Where the file was named that was named last, but for the script itself.
-    pub fn wanted_at(&self) -> Option<Place> {
-        self.wanted
-    }
-
-    // A file is wanted.
-    fn name(&mut self, place: Place, file: Text) -> Result<(), ScriptFault> {
-        if self.levels.len() > DEEPEST_INCLUDE {
-            return Err(ScriptFault::TooDeep { place });
-        }
+    /// The script itself is in this file, and has this text. Its only error is want of memory.
+    pub fn begin(&mut self, file: Text, text: Text) -> Result<(), OutOfMemory> {
         self.script.files.push(file)?;
-        Ok(())
+        self.give(text)
     }
 
-    /// The script itself is in this file.
-    pub fn begin(&mut self, file: Text) -> Result<(), ScriptFault> {
-        self.name(Place { file: 0, line: 0 }, file)
-    }
-
-    /// The file that was named last has this text.
-    pub fn give(&mut self, text: Text) -> Result<(), ScriptFault> {
+    /// The file that was named last has this text. Its only error is want of memory.
+    pub fn give(&mut self, text: Text) -> Result<(), OutOfMemory> {
         let last = self.script.files.len().saturating_sub(1);
         let file = u16::try_from(last).unwrap_or(u16::MAX);
         let depth = self.begun.len();
@@ -189,8 +173,7 @@ impl Reader {
             begin: 0,
             line: 0,
             depth,
-        })?;
-        Ok(())
+        })
     }
 
     // Puts a statement.
@@ -235,10 +218,12 @@ impl Reader {
 
     // A file is included, as a block.
     fn include(&mut self, place: Place, file: Text) -> Result<Wanted, ScriptFault> {
-        self.name(place, file)?;
-        self.wanted = Some(place);
+        if self.levels.len() > DEEPEST_INCLUDE {
+            return Err(ScriptFault::TooDeep { place });
+        }
+        self.script.files.push(file)?;
         self.put(place, Statement::Repeat { times: 1 })?;
-        Ok(Wanted::File)
+        Ok(Wanted::File { place })
     }
 
     // What a line says is put, where so many blocks were open before its file.
@@ -290,7 +275,7 @@ impl Reader {
         if line.starts_with(b"#") {
             return Ok(Said::Nothing);
         }
-        match said_in(self.alloc, self.names.as_slice(), line) {
+        match said_in(self.alloc, self.names, line) {
             Ok(Ok(said)) => Ok(said),
             Ok(Err(fault)) => Err(ScriptFault::Said { place, fault }),
             Err(_) => Err(ScriptFault::OutOfMemory),
@@ -322,7 +307,7 @@ impl Reader {
                 return Ok(Wanted::Nothing);
             };
             match self.read_line(level)? {
-                Wanted::File => return Ok(Wanted::File),
+                Wanted::File { place } => return Ok(Wanted::File { place }),
                 Wanted::Nothing => {}
             }
         }
@@ -337,7 +322,6 @@ impl Reader {
             script,
             levels: _,
             begun: _,
-            wanted: _,
         } = self;
         script
     }

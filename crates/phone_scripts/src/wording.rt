@@ -43,8 +43,8 @@ pub(crate) fn words_of(alloc: Global, telephone: &Telephone) -> Result<Text, Out
     Ok(Text::of(out))
 }
 
-// Where something stands, as `calls.phones:7: `.
-fn put_place(
+/// Puts where something stands, as `calls.phones:7: `. Its only error is want of memory.
+pub fn put_place(
     alloc: Global,
     out: &mut Vec<u8>,
     files: &[Text],
@@ -197,11 +197,11 @@ pub fn failure_text(
     files: &[Text],
     names: &[Text],
     failure: &Failure,
-) -> Result<Vec<u8>, OutOfMemory> {
+) -> Result<Text, OutOfMemory> {
     let mut out = Vec::new(alloc);
     put_failure(alloc, &mut out, files, names, failure)?;
     out.push(b'\n')?;
-    Ok(out)
+    Ok(Text::of(out))
 }
 
 // What is the matter with a script, and where, if memory is there.
@@ -223,7 +223,7 @@ pub fn script_fault_text(
     alloc: Global,
     files: &[Text],
     fault: ScriptFault,
-) -> Result<Vec<u8>, OutOfMemory> {
+) -> Result<Text, OutOfMemory> {
     let mut out = Vec::new(alloc);
     match matter_of(fault) {
         Some((place, matter)) => {
@@ -233,23 +233,5 @@ pub fn script_fault_text(
         None => out.extend_from_slice(b"out of memory")?,
     }
     out.push(b'\n')?;
-    Ok(out)
-}
-
-/// Why a file of a script can't be had that is named there, or which is the script itself: a line that ends with the matter.
-pub fn file_fault_text(
-    alloc: Global,
-    files: &[Text],
-    place: Option<Place>,
-    path: &[u8],
-    matter: &[u8],
-) -> Result<Vec<u8>, OutOfMemory> {
-    let mut out = Vec::new(alloc);
-    if let Some(place) = place {
-        put_place(alloc, &mut out, files, place)?;
-    }
-    out.extend_from_slice(path)?;
-    out.extend_from_slice(matter)?;
-    out.push(b'\n')?;
-    Ok(out)
+    Ok(Text::of(out))
 }
