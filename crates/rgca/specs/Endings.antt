@@ -6,8 +6,10 @@ use Rattle.agent_texts.specs.declared.config_fault.ConfigRefusal.TheVariants as 
 use Rattle.live_ends.specs.declared.ending.CommonEnding.TheVariants as endings
 use Rattle.rgca.specs.declared.words.WordFault.{WordFault}
 use Rattle.rgca.specs.declared.words.WordFault.TheVariants as faults
+use Rattle.rgca.specs.declared.phone_words.PhoneWordFault.{PhoneWordFault}
+use Rattle.rgca.specs.declared.phone_words.PhoneWordFault.TheVariants as phone_faults
 use Rattle.rgca.specs.declared.ending.Ending.{Ending}
-use Rattle.rgca.specs.declared.ending.Ending.TheVariants.{Common, OfCheck, BadLine, SameLine, Config}
+use Rattle.rgca.specs.declared.ending.Ending.TheVariants.{Common, OfCheck, OfPhones, BadGateway, BadLine, SameLine, Config}
 
 abbrev pub word_ending : WordFault → Ending
 word_ending (faults.Common ending) = Common ending
@@ -19,6 +21,11 @@ abbrev pub check_ending : WordFault → Ending
 check_ending (faults.Common ending) = OfCheck ending
 check_ending (faults.BadLine word) = BadLine word
 check_ending faults.SameLine = SameLine
+
+-- by words behind `phones`, likewise
+abbrev pub phone_ending : PhoneWordFault → Ending
+phone_ending (phone_faults.Common ending) = OfPhones ending
+phone_ending (phone_faults.BadGateway word) = BadGateway word
 
 -- by the configuration in this file
 abbrev pub config_by : Bor (List ℕ) → ConfigRefusal → Ending

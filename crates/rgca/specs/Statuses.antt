@@ -2,14 +2,21 @@
 use Rattle.std.specs.Prelude.{ℕ, Bool, false}
 use Rattle.live_ends.specs.Ending.{status_of as common_status, is_asked as is_commonly_asked}
 use Rattle.rgca.specs.declared.ending.Ending.{Ending}
-use Rattle.rgca.specs.declared.ending.Ending.TheVariants.{Common, OfCheck, Checked, BadLine, SameLine, Config, NoAnswer, NotServing, NoSuchLine, InUse, System}
+use Rattle.rgca.specs.declared.ending.Ending.TheVariants.{Common, OfCheck, OfPhones, Checked, Played, Unexpected, Unplayed, BadScript, BadGateway, BadLine, SameLine, Config, NoAnswer, NotServing, NoSuchLine, InUse, System}
 
--- 0: it did what was asked; 2: words or a configuration are refused; 3: memory, a file, a socket, a stream or the clock failed, or a
--- gateway can't be checked; of one that was checked its own
+-- 0: it did what was asked; 1: a telephone wasn't as a script expects; 2: words, a configuration or a script are refused; 3: memory, a
+-- file, a socket, a stream or the clock failed, or a gateway can't be checked, or its telephones can't be worked; of one that was checked
+-- its own
 abbrev pub status_of : Ending → ℕ
 status_of (Common ending) = common_status ending
 status_of (OfCheck ending) = common_status ending
+status_of (OfPhones ending) = common_status ending
 status_of (Checked status) = status
+status_of Played = 0
+status_of (Unexpected text) = 1
+status_of (Unplayed text) = 3
+status_of (BadScript text) = 2
+status_of (BadGateway word) = 2
 status_of (BadLine word) = 2
 status_of SameLine = 2
 status_of (Config file line) = 2
@@ -23,4 +30,5 @@ status_of System = 3
 abbrev pub is_asked : Ending → Bool
 is_asked (Common ending) = is_commonly_asked ending
 is_asked (OfCheck ending) = is_commonly_asked ending
+is_asked (OfPhones ending) = is_commonly_asked ending
 is_asked other = false

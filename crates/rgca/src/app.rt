@@ -1,7 +1,8 @@
-//! The program: reads its words and its configuration, and serves or checks.
+//! The program: reads its words and its configuration, and serves, checks or plays.
 use crate::check_words::read_check_words;
 use crate::ending::{Ending, check_words_ending, config_ending};
-use crate::help::{of_checks, of_program};
+use crate::help::of_all;
+use crate::phones::played;
 use crate::words::{Settings, read_words};
 use agent_texts::{AgentConfig, ConfigRefusal, Place, missing, read_config, too_long};
 use live_agent::{ServeFault, WireSettings, check_gateway, serve_agent};
@@ -138,7 +139,7 @@ fn ending_of<'w, R: AllocGlobal + Files + Net + Clock>(
 // What the program says at its end.
 fn ending_text(alloc: Global, ending: &Ending<'_>) -> Result<Vec<u8>, OutOfMemory> {
     let mut text = Vec::new(alloc);
-    ending.put_text(alloc, &mut text, of_program(), of_checks())?;
+    ending.put_text(alloc, &mut text, of_all())?;
     Ok(text)
 }
 
@@ -169,11 +170,26 @@ fn checked<'w, R: AllocGlobal + Net + Clock, F: Write + Drop>(
     Ending::Checked { status }
 }
 
-// The words of a check, if one is asked for: those behind the program's name.
-fn check_words(words: &[String]) -> Option<&[String]> {
-    match words.get(1) {
-        Some(word) if word.as_str() == "check" => words.get(1..),
-        _ => None,
+// What the program is asked for.
+#[derive(Clone, Copy)]
+enum Asked<'w> {
+    // To serve.
+    Serve,
+    // To check a gateway, by these words.
+    Check(&'w [String]),
+    // To play a script of telephones, by these words.
+    Play(&'w [String]),
+}
+
+// What words ask for, of which the first is the program's name.
+fn asked_by(words: &[String]) -> Asked<'_> {
+    match words {
+        [_, behind @ ..] => match behind {
+            [word, ..] if word.as_str() == "check" => Asked::Check(behind),
+            [word, ..] if word.as_str() == "phones" => Asked::Play(behind),
+            _ => Asked::Serve,
+        },
+        [] => Asked::Serve,
     }
 }
 
@@ -183,9 +199,10 @@ fn ending_by<'w, R: AllocGlobal + Files + Net + Clock>(
     words: &'w [String],
     outlets: &mut Outlets<R::File>,
 ) -> Ending<'w> {
-    match check_words(words) {
-        Some(asked) => checked(rt, asked, outlets),
-        None => ending_of(rt, words, outlets),
+    match asked_by(words) {
+        Asked::Serve => ending_of(rt, words, outlets),
+        Asked::Check(asked) => checked(rt, asked, outlets),
+        Asked::Play(asked) => played(rt, rt.alloc(), asked),
     }
 }
 

@@ -1,21 +1,33 @@
 //! How the program ends: its status, and what it says then.
 ghost use Rattle.std.specs.Prelude.{◌≡◌, ◌++◌, codes, OnOk};
 ghost use Rattle.rgca.specs.Statuses.{status_of, is_asked};
-ghost use Rattle.rgca.specs.Endings.{word_ending, check_ending, config_by};
+ghost use Rattle.rgca.specs.Endings.{word_ending, check_ending, phone_ending, config_by};
 ghost use Rattle.rgca.specs.Texts.{unanswered_text, unserved_text, ending_text};
 
+use crate::phone_words::PhoneWordFault;
 use crate::words::WordFault;
 use agent_texts::ConfigRefusal;
 use exchange_log::peer_text;
 use live_agent::CheckFault;
 use live_ends::{About, CommonEnding, put_pieces};
-use mg_bytes::OutOfMemory;
+use mg_bytes::{OutOfMemory, Text};
 use std::alloc::Global;
 use std::net::SocketAddrV4;
 
 // What a text is that doesn't name one line.
 const NO_LINE: &str =
     ": not the name of one line, as aaln/1: 1 to 64 characters, no blank, *, $ or @\n";
+
+// What a word is that names no gateway.
+const NO_GATEWAY: &str = ": wanted NAME=ADDRESS, each name and each address once\n";
+
+/// What is said of the program, of its checks, and of its scripts of telephones.
+#[derive(Clone, Copy)]
+pub struct Abouts {
+    pub program: About,
+    pub checks: About,
+    pub phones: About,
+}
 
 /// How the program ends.
 #[derive(Drop)]
@@ -24,8 +36,20 @@ pub enum Ending<'a> {
     Common(CommonEnding<'a>),
     /// So by words behind `check`, which have a usage and a help of their own.
     OfCheck(CommonEnding<'a>),
+    /// So by words behind `phones`, likewise.
+    OfPhones(CommonEnding<'a>),
     /// A gateway was checked, which has this exit status.
     Checked { status: u8 },
+    /// A script of telephones was played, and all was as expected.
+    Played,
+    /// A telephone wasn't as a script expects: lines tell which, what it was, and since when.
+    Unexpected { text: Text },
+    /// A script wasn't played to its end, for a reason that a line tells.
+    Unplayed { text: Text },
+    /// A script says something that can't be done, which a line tells.
+    BadScript { text: Text },
+    /// This word behind a script isn't NAME=ADDRESS, or has what another one has.
+    BadGateway { word: &'a str },
     /// What stands behind this word isn't the name of one line.
     BadLine { word: &'static str },
     /// The other line to be checked is the line itself.
@@ -45,16 +69,26 @@ pub enum Ending<'a> {
 }
 
 impl<'a> Ending<'a> {
-    /// The exit status: 0 served or told, 2 words or a configuration that are refused, 3 memory, a
-    /// file, a socket or a stream, or a gateway that can't be checked; else that of a check.
+    /// The exit status: 0 it did what was asked, 1 a telephone that wasn't as a script expects, 2 words, a configuration or a script
+    /// that are refused, 3 memory, a file, a socket or a stream, or a gateway that can't be checked or whose telephones can't be worked;
+    /// else that of a check.
     pub fn status(&self) -> u8
         ensures { result ≡ status_of self.now }
     {
         match self {
-            Ending::Common(ending) | Ending::OfCheck(ending) => ending.status(),
+            Ending::Common(ending) | Ending::OfCheck(ending) | Ending::OfPhones(ending) => {
+                ending.status()
+            }
             Ending::Checked { status } => *status,
-            Ending::BadLine { .. } | Ending::SameLine | Ending::Config { .. } => 2,
-            Ending::NoAnswer { .. }
+            Ending::Played => 0,
+            Ending::Unexpected { .. } => 1,
+            Ending::BadScript { .. }
+            | Ending::BadGateway { .. }
+            | Ending::BadLine { .. }
+            | Ending::SameLine
+            | Ending::Config { .. } => 2,
+            Ending::Unplayed { .. }
+            | Ending::NoAnswer { .. }
             | Ending::NotServing { .. }
             | Ending::NoSuchLine { .. }
             | Ending::InUse { .. }
@@ -67,27 +101,32 @@ impl<'a> Ending<'a> {
         ensures { result ≡ is_asked self.now }
     {
         match self {
-            Ending::Common(ending) | Ending::OfCheck(ending) => ending.is_asked(),
+            Ending::Common(ending) | Ending::OfCheck(ending) | Ending::OfPhones(ending) => {
+                ending.is_asked()
+            }
             _ => false,
         }
     }
 
-    /// Puts what is said, where this is said of the program, and that of its checks: on standard output what the words ask, else a line
-    /// on standard error, or nothing where it served or checked, or where all was said. Its only error is want of memory.
+    /// Puts what is said, where this is said of the program: on standard output what the words ask, else lines on standard error, or
+    /// nothing where it served, checked or played, or where all was said. Its only error is want of memory.
     #[tactic(auto, unfolding(crate::specs::Texts::ending_text))]
     pub fn put_text(
         &self,
         alloc: Global,
         out: &mut Vec<u8>,
-        about: About,
-        check: About,
+        about: Abouts,
     ) -> Result<(), OutOfMemory>
-        ensures { OnOk result (out.new.items ≡ out.old.items ++ ending_text about check self.now) }
+        ensures { OnOk result (out.new.items ≡ out.old.items ++ ending_text about self.now) }
     {
         match self {
-            Ending::Common(ending) => ending.put_text(alloc, out, about),
-            Ending::OfCheck(ending) => ending.put_text(alloc, out, check),
-            Ending::Checked { .. } => Ok(()),
+            Ending::Common(ending) => ending.put_text(alloc, out, about.program),
+            Ending::OfCheck(ending) => ending.put_text(alloc, out, about.checks),
+            Ending::OfPhones(ending) => ending.put_text(alloc, out, about.phones),
+            Ending::Checked { .. } | Ending::Played => Ok(()),
+            Ending::Unexpected { text } | Ending::Unplayed { text } | Ending::BadScript { text } =>
+                { out.extend_from_slice(text.as_bytes()) }
+            Ending::BadGateway { word } => put_pieces(out, &[*word, NO_GATEWAY]),
             Ending::BadLine { word } => put_pieces(out, &[*word, NO_LINE]),
             Ending::SameLine => put_pieces(out, &["--more-lines: the same line as --line\n"]),
             Ending::Config { file, line } => put_config(out, *file, line.as_slice()),
@@ -104,6 +143,12 @@ impl<'a> Ending<'a> {
             }
             Ending::System => put_pieces(out, &["clock or socket fault\n"]),
         }
+    }
+}
+
+impl From<OutOfMemory> for Ending<'_> {
+    fn from(_refused: OutOfMemory) -> Self {
+        Ending::Common(CommonEnding::OutOfMemory)
     }
 }
 
@@ -138,6 +183,16 @@ pub fn check_words_ending<'a>(fault: WordFault) -> Ending<'a>
         WordFault::Common(ending) => Ending::OfCheck(ending),
         WordFault::BadLine { word } => Ending::BadLine { word },
         WordFault::SameLine => Ending::SameLine,
+    }
+}
+
+/// How the program ends by words behind `phones`.
+pub fn phone_words_ending<'a>(fault: PhoneWordFault<'a>) -> Ending<'a>
+    ensures { result ≡ phone_ending fault }
+{
+    match fault {
+        PhoneWordFault::Common(ending) => Ending::OfPhones(ending),
+        PhoneWordFault::BadGateway { word } => Ending::BadGateway { word },
     }
 }
 

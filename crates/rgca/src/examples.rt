@@ -5,20 +5,28 @@ ghost use Rattle.std.specs.Prelude.{◌≡◌, ℕ, codes, false, List, [], ◌�
 ghost use Rattle.std.specs.Borrow.{Bor};
 ghost use Rattle.std.specs.Net.Text.{socket_v4_text};
 ghost use Rattle.std.specs.declared.net.socket_addr.SocketAddrV4.{SocketAddrV4};
-ghost use Rattle.live_ends.specs.declared.ending.About.{About};
 ghost use Rattle.live_ends.specs.declared.ending.CommonEnding.{CommonEnding};
 ghost use Rattle.live_ends.specs.Ending.{status_of as common_status, is_asked as is_commonly_asked, ending_text as common_text};
 ghost use Rattle.rgca.specs.declared.words.WordFault.TheVariants as faults;
-ghost use Rattle.rgca.specs.declared.ending.Ending.TheVariants.{Common, OfCheck, Checked, BadLine, SameLine, Config, NoAnswer, NotServing, NoSuchLine, InUse, System};
+ghost use Rattle.rgca.specs.declared.phone_words.PhoneWordFault.TheVariants as phone_faults;
+ghost use Rattle.rgca.specs.declared.ending.Abouts.{Abouts};
+ghost use Rattle.rgca.specs.declared.ending.Ending.TheVariants.{Common, OfCheck, OfPhones, Checked, Played, Unexpected, Unplayed, BadScript, BadGateway, BadLine, SameLine, Config, NoAnswer, NotServing, NoSuchLine, InUse, System};
 ghost use Rattle.rgca.specs.Statuses.{status_of, is_asked};
-ghost use Rattle.rgca.specs.Endings.{word_ending, check_ending};
+ghost use Rattle.rgca.specs.Endings.{word_ending, check_ending, phone_ending};
 ghost use Rattle.rgca.specs.Texts.{ending_text};
 
-/// What was asked was done, or words are refused, or the system failed, or a gateway can't be checked.
+/// What was asked was done, or words or a script are refused, or the system failed, or a gateway can't be checked or its telephones worked,
+/// or a telephone wasn't as was expected.
 pub fn statuses_tell_what_came_of_it()
     ensures common { (ending : CommonEnding) → status_of (Common ending) ≡ common_status ending }
     ensures of_check { (ending : CommonEnding) → status_of (OfCheck ending) ≡ common_status ending }
+    ensures of_phones { (ending : CommonEnding) → status_of (OfPhones ending) ≡ common_status ending }
     ensures checked { map status_of (Checked 0 ∷ Checked 1 ∷ []) ≡ 0 ∷ 1 ∷ [] }
+    ensures played { status_of Played ≡ 0 }
+    ensures unexpected { (text : List ℕ) → status_of (Unexpected text) ≡ 1 }
+    ensures unplayed { (text : List ℕ) → status_of (Unplayed text) ≡ 3 }
+    ensures bad_script { (text : List ℕ) → status_of (BadScript text) ≡ 2 }
+    ensures bad_gateway { (word : _) → status_of (BadGateway word) ≡ 2 }
     ensures same { status_of SameLine ≡ 2 }
     ensures line { (word : _) → status_of (BadLine word) ≡ 2 }
     ensures config { (file line : _) → status_of (Config file line) ≡ 2 }
@@ -29,33 +37,43 @@ pub fn statuses_tell_what_came_of_it()
     ensures in_use { (word : _) → status_of (InUse word) ≡ 3 }
     ensures asked { (ending : CommonEnding) → is_asked (Common ending) ≡ is_commonly_asked ending }
     ensures asked_of_check { (ending : CommonEnding) → is_asked (OfCheck ending) ≡ is_commonly_asked ending }
-    ensures own { map is_asked (Checked 0 ∷ SameLine ∷ System ∷ []) ≡ false ∷ false ∷ false ∷ [] }
+    ensures asked_of_phones { (ending : CommonEnding) → is_asked (OfPhones ending) ≡ is_commonly_asked ending }
+    ensures own { map is_asked (Checked 0 ∷ Played ∷ SameLine ∷ System ∷ []) ≡ false ∷ false ∷ false ∷ false ∷ [] }
+    ensures told { map is_asked (Unexpected [] ∷ Unplayed [] ∷ BadScript [] ∷ []) ≡ false ∷ false ∷ false ∷ [] }
 {}
 
-/// Words behind `check` have a usage and a help of their own; else they are refused as all words are.
-pub fn a_check_has_its_own_usage()
+/// Words behind `check` have a usage and a help of their own, and so have those behind `phones`; else they are refused as all words are.
+pub fn a_check_and_a_script_have_their_own_usage()
     ensures words { (ending : CommonEnding) → word_ending (faults.Common ending) ≡ Common ending }
     ensures of_check { (ending : CommonEnding) → check_ending (faults.Common ending) ≡ OfCheck ending }
-    ensures usage { (about check : About) (ending : CommonEnding) → ending_text about check (Common ending) ≡ common_text about ending }
-    ensures own_usage { (about check : About) (ending : CommonEnding) →
-        ending_text about check (OfCheck ending) ≡ common_text check ending }
+    ensures of_phones { (ending : CommonEnding) → phone_ending (phone_faults.Common ending) ≡ OfPhones ending }
+    ensures usage { (about : Abouts) (ending : CommonEnding) → ending_text about (Common ending) ≡ common_text about.program ending }
+    ensures check_usage { (about : Abouts) (ending : CommonEnding) → ending_text about (OfCheck ending) ≡ common_text about.checks ending }
+    ensures phones_usage { (about : Abouts) (ending : CommonEnding) → ending_text about (OfPhones ending) ≡ common_text about.phones ending }
     ensures same { check_ending faults.SameLine ≡ word_ending faults.SameLine }
     ensures line { (word : _) → check_ending (faults.BadLine word) ≡ word_ending (faults.BadLine word) }
+    ensures gateway { (word : _) → phone_ending (phone_faults.BadGateway word) ≡ BadGateway word }
 {}
 
-/// An ending says why, in a line; nothing where a gateway was checked.
+/// An ending says why, in a line or those that are told; nothing where a gateway was checked, or where all was as a script expects.
 pub fn an_ending_says_why()
-    ensures checked { (about check : About) → ending_text about check (Checked 0) ≡ [] }
-    ensures line { (about check : About) (word : Bor (List ℕ)) → ending_text about check (BadLine word)
+    ensures checked { (about : Abouts) → ending_text about (Checked 0) ≡ [] }
+    ensures played { (about : Abouts) → ending_text about Played ≡ [] }
+    ensures unexpected { (about : Abouts) (text : List ℕ) → ending_text about (Unexpected text) ≡ text }
+    ensures unplayed { (about : Abouts) (text : List ℕ) → ending_text about (Unplayed text) ≡ text }
+    ensures bad_script { (about : Abouts) (text : List ℕ) → ending_text about (BadScript text) ≡ text }
+    ensures bad_gateway { (about : Abouts) (word : Bor (List ℕ)) → ending_text about (BadGateway word)
+        ≡ word.now ++ codes ": wanted NAME=ADDRESS, each name and each address once\n" }
+    ensures line { (about : Abouts) (word : Bor (List ℕ)) → ending_text about (BadLine word)
         ≡ word.now ++ codes ": not the name of one line, as aaln/1: 1 to 64 characters, no blank, *, $ or @\n" }
-    ensures same { (about check : About) → ending_text about check SameLine ≡ codes "--more-lines: the same line as --line\n" }
-    ensures silent { (about check : About) (address : SocketAddrV4) → ending_text about check (NoAnswer address)
+    ensures same { (about : Abouts) → ending_text about SameLine ≡ codes "--more-lines: the same line as --line\n" }
+    ensures silent { (about : Abouts) (address : SocketAddrV4) → ending_text about (NoAnswer address)
         ≡ socket_v4_text address ++ codes ": no answer\n" }
-    ensures unserved { (about check : About) (address : SocketAddrV4) → ending_text about check (NotServing address)
+    ensures unserved { (about : Abouts) (address : SocketAddrV4) → ending_text about (NotServing address)
         ≡ socket_v4_text address ++ codes ": 405, it waits for its call agent (--own answers for that)\n" }
-    ensures no_line { (about check : About) (word : Bor (List ℕ)) → ending_text about check (NoSuchLine word)
+    ensures no_line { (about : Abouts) (word : Bor (List ℕ)) → ending_text about (NoSuchLine word)
         ≡ word.now ++ codes ": 500, no such line there, or not in --domain\n" }
-    ensures in_use { (about check : About) (word : Bor (List ℕ)) → ending_text about check (InUse word)
+    ensures in_use { (about : Abouts) (word : Bor (List ℕ)) → ending_text about (InUse word)
         ≡ word.now ++ codes ": in use, off hook or with a connection\n" }
-    ensures system { (about check : About) → ending_text about check System ≡ codes "clock or socket fault\n" }
+    ensures system { (about : Abouts) → ending_text about System ≡ codes "clock or socket fault\n" }
 {}

@@ -1,4 +1,5 @@
 //! What the program says of itself: how it is used, and its version.
+use crate::ending::Abouts;
 use live_ends::About;
 
 /// The version of the program.
@@ -50,7 +51,8 @@ that is given up, and with --route for each change of a call or of a line:
   call 7: 201 -> 202 ringing          and so answered, connected, over
   line 201: dialling                  and so busy tone, reorder tone, at rest
 
-A gateway is checked by rgca check ADDRESS; rgca check --help says how.
+A gateway is checked by rgca check ADDRESS, and telephones are worked by rgca phones SCRIPT; each
+says how by --help.
 More: the manual page rgca(1).
 ";
 
@@ -60,8 +62,8 @@ static HELP: [&str; 5] = ["usage: ", USAGE, ABOVE, CONTROL, BELOW];
 // The version of the program, and of its protocol, in pieces.
 static VERSIONS: [&str; 3] = ["rgca ", VERSION, "\nMGCP 1.0 (RFC 3435)\n"];
 
-/// What the program says of itself.
-pub(crate) fn of_program() -> About {
+// What the program says of itself.
+fn of_program() -> About {
     About {
         usage: USAGE,
         help: HELP.as_slice(),
@@ -97,11 +99,63 @@ The status is 0 where none failed, 1 where one did, 2 for other words, 3 where n
 // How a check is asked for, in pieces.
 static CHECK_HELP: [&str; 3] = ["usage: ", CHECK_USAGE, CHECK_BELOW];
 
-/// What it says of its checks.
-pub(crate) fn of_checks() -> About {
+// What it says of its checks.
+fn of_checks() -> About {
     About {
         usage: CHECK_USAGE,
         help: CHECK_HELP.as_slice(),
         version: VERSIONS.as_slice(),
+    }
+}
+
+// The words behind `phones`, in a line.
+const PHONES_USAGE: &str = "rgca phones SCRIPT [NAME=ADDRESS ..]";
+
+// What they say, from the end of the first line on.
+const PHONES_BELOW: &str = "
+
+Works telephones of rgwd by a script, and says what isn't as the script expects.
+
+  SCRIPT              the file of the script
+  NAME=ADDRESS        a gateway's telephones, as its --phones says; without any 127.0.0.1:2428
+  --help              this
+
+Its lines; a line that begins with # is a comment:
+
+  1 off               the handset of line 1 is lifted; on, flash, or a key: 0 to 9, *, #, A to D
+  gw2:1 off           of the gateway that is named gw2; else of the first
+  1 dial 203          keys, 100 ms each; dial 203 50 takes 50 ms each
+  wait 500            nothing is done for so many ms
+  expect 1 L/dl within 2000
+                      this signal is active, at once or within so many ms of the gateway's clock;
+                      without `within` it is now
+  expect 1 silent     no signal, and no connection
+  expect 1 connection sendrecv within 5000
+  side by side, end   each line and each block between them is begun at once
+  repeat 10 times, end
+  include FILE        what that file says, as a block
+
+The status is 0 where all was as expected, 1 where something wasn't, 2 for a fault of the script, and then nothing was done,
+3 where the script can't be read, or a gateway doesn't answer or refuses an act.
+";
+
+// How a script of telephones is played, in pieces.
+static PHONES_HELP: [&str; 3] = ["usage: ", PHONES_USAGE, PHONES_BELOW];
+
+// What it says of its scripts of telephones.
+fn of_phones() -> About {
+    About {
+        usage: PHONES_USAGE,
+        help: PHONES_HELP.as_slice(),
+        version: VERSIONS.as_slice(),
+    }
+}
+
+/// What the program says of all it can be asked for.
+pub(crate) fn of_all() -> Abouts {
+    Abouts {
+        program: of_program(),
+        checks: of_checks(),
+        phones: of_phones(),
     }
 }

@@ -1,4 +1,4 @@
-//! The program `rgca`: its words, its exit statuses and its texts, and what it opens, serves and checks.
+//! The program `rgca`: its words, its exit statuses and its texts, and what it opens, serves, checks and plays.
 #![tactic(auto)]
 
 mod app;
@@ -6,6 +6,9 @@ mod check_words;
 mod ending;
 mod examples;
 mod help;
+mod phone_files;
+mod phone_words;
+mod phones;
 mod words;
 
 use std::process::ExitCode;

@@ -1,0 +1,140 @@
+//! Reads the words behind `phones`.
+use live_ends::CommonEnding;
+use mg_bytes::Text;
+use std::alloc::{AllocError, Global};
+use std::net::{Ipv4Addr, SocketAddrV4};
+
+// Where telephones are, where no word says it.
+const USUAL: SocketAddrV4 = SocketAddrV4::new(Ipv4Addr::LOCALHOST, 2428);
+
+// So many gateways a script may name.
+const MOST_GATEWAYS: usize = 64;
+
+/// Which script is to be played, and where: the names of gateways, and their telephones' addresses.
+#[derive(Drop)]
+pub struct PhoneSettings<'a> {
+    /// The file of the script.
+    pub script: &'a str,
+    /// How a script names its gateways, of which the first is meant where it names none.
+    pub names: Vec<Text>,
+    /// The address of the telephones of each.
+    pub addresses: Vec<SocketAddrV4>,
+}
+
+/// Why the words say no script.
+#[derive(Clone, Copy)]
+pub enum PhoneWordFault<'a> {
+    /// As the words of any program may be refused, or ask for something else.
+    Common(CommonEnding<'a>),
+    /// This one isn't NAME=ADDRESS, or has what another one has.
+    BadGateway { word: &'a str },
+}
+
+impl From<AllocError> for PhoneWordFault<'_> {
+    fn from(_refused: AllocError) -> Self {
+        PhoneWordFault::Common(CommonEnding::OutOfMemory)
+    }
+}
+
+// Whether a byte may stand in the name of a gateway.
+fn is_of_name(byte: u8) -> bool {
+    byte.is_ascii_alphanumeric() || byte == b'-' || byte == b'.' || byte == b'_'
+}
+
+fn are_of_name(name: &[u8]) -> bool {
+    name.iter().all(|byte| is_of_name(*byte))
+}
+
+// Whether a text can name a gateway: a number names a line.
+fn is_name(name: &str) -> bool {
+    match name.as_bytes() {
+        [] => false,
+        [first, ..] => !first.is_ascii_digit() && are_of_name(name.as_bytes()),
+    }
+}
+
+// The name and the address that a word says.
+fn gateway_of(word: &str) -> Option<(&str, SocketAddrV4)> {
+    let (name, address) = word.split_once('=')?;
+    if !is_name(name) {
+        return None;
+    }
+    match address.parse::<SocketAddrV4>() {
+        Ok(address) => Some((name, address)),
+        Err(_) => None,
+    }
+}
+
+impl PhoneSettings<'_> {
+    // Whether a gateway has this name already, or its telephones this address.
+    fn has(&self, name: &str, address: SocketAddrV4) -> bool {
+        self.names
+            .iter()
+            .any(|other| other.as_bytes() == name.as_bytes())
+            || self.addresses.iter().any(|other| *other == address)
+    }
+
+    // A gateway is named so, and its telephones are there.
+    fn add(&mut self, alloc: Global, name: &str, address: SocketAddrV4) -> Result<(), AllocError> {
+        let name = Text::of(Vec::from_slice(alloc, name.as_bytes())?);
+        self.names.push(name)?;
+        self.addresses.push(address)
+    }
+}
+
+// Reads a word that says a gateway.
+fn take_gateway<'a>(
+    alloc: Global,
+    settings: &mut PhoneSettings<'a>,
+    word: &'a str,
+) -> Result<(), PhoneWordFault<'a>> {
+    match gateway_of(word) {
+        Some((name, address)) if !settings.has(name, address) => {
+            settings.add(alloc, name, address)?;
+            Ok(())
+        }
+        _ => Err(PhoneWordFault::BadGateway { word }),
+    }
+}
+
+// Reads the words that say gateways; without any the telephones are where they usually are.
+fn take_gateways<'a>(
+    alloc: Global,
+    settings: &mut PhoneSettings<'a>,
+    words: &'a [String],
+) -> Result<(), PhoneWordFault<'a>> {
+    if words.len() > MOST_GATEWAYS {
+        return Err(PhoneWordFault::Common(CommonEnding::Usage));
+    }
+    for word in words {
+        take_gateway(alloc, settings, word.as_str())?;
+    }
+    if words.is_empty() {
+        settings.add(alloc, "", USUAL)?;
+    }
+    Ok(())
+}
+
+/// Reads the words of a play, of which the first is `phones`.
+pub fn read_phone_words<'a>(
+    alloc: Global,
+    words: &'a [String],
+) -> Result<PhoneSettings<'a>, PhoneWordFault<'a>> {
+    let [_, script, gateways @ ..] = words else {
+        return Err(PhoneWordFault::Common(CommonEnding::Usage));
+    };
+    match script.as_str() {
+        "--help" | "-h" => return Err(PhoneWordFault::Common(CommonEnding::Help)),
+        word if word.starts_with('-') => {
+            return Err(PhoneWordFault::Common(CommonEnding::Usage));
+        }
+        _ => {}
+    }
+    let mut settings = PhoneSettings {
+        script: script.as_str(),
+        names: Vec::new(alloc),
+        addresses: Vec::new(alloc),
+    };
+    take_gateways(alloc, &mut settings, gateways)?;
+    Ok(settings)
+}

@@ -1,0 +1,84 @@
+//! Plays a script of telephones.
+use crate::ending::{Ending, phone_words_ending};
+use crate::phone_files::read_script;
+use crate::phone_words::{PhoneSettings, read_phone_words};
+use live_agent::{Played, play_phones};
+use live_ends::{CommonEnding, Live, bind};
+use mg_bytes::{OutOfMemory, Text};
+use phone_scripts::{Failure, Player, Script, failure_text};
+use std::alloc::Global;
+use std::net::{Ipv4Addr, Net, SocketAddrV4};
+use std::rt::{Clock, Files};
+
+// Any free port of this machine.
+const ANY: SocketAddrV4 = SocketAddrV4::new(Ipv4Addr::UNSPECIFIED, 0);
+
+// How the program ends by a play that failed.
+fn failure_ending<'w>(
+    alloc: Global,
+    files: &[Text],
+    names: &[Text],
+    failure: &Failure,
+) -> Result<Ending<'w>, OutOfMemory> {
+    let text = failure_text(alloc, files, names, failure)?;
+    match failure {
+        Failure::Unmet { .. } => Ok(Ending::Unexpected { text }),
+        _ => Ok(Ending::Unplayed { text }),
+    }
+}
+
+// Two sockets, of which the first is used, and the clock.
+fn open_sockets<'a, R: Net + Clock>(rt: &'a R, alloc: Global) -> Option<Live<'a, R>> {
+    let (Ok(socket), Ok(other)) = (bind(rt, ANY), bind(rt, ANY)) else {
+        return None;
+    };
+    Live::watch(rt, alloc, socket, other).ok()
+}
+
+// Plays a script over sockets.
+fn play<'w, R: Net + Clock>(
+    rt: &R,
+    alloc: Global,
+    settings: &PhoneSettings<'w>,
+    script: Script,
+) -> Result<Ending<'w>, OutOfMemory> {
+    let Some(mut live) = open_sockets(rt, alloc) else {
+        return Ok(Ending::System);
+    };
+    let gateways = settings.addresses.as_slice();
+    let most = u16::try_from(gateways.len()).unwrap_or(u16::MAX);
+    let mut player = Player::new(alloc, script, most, 0)?;
+    match play_phones(alloc, &mut live, &mut player, gateways)? {
+        Played::Done => Ok(Ending::Played),
+        Played::Failed { failure } => {
+            failure_ending(alloc, player.files(), settings.names.as_slice(), &failure)
+        }
+        Played::Clock => Ok(Ending::Common(CommonEnding::Clock)),
+    }
+}
+
+// Reads a script, and plays it.
+fn play_by<'w, R: Files + Net + Clock>(
+    rt: &R,
+    alloc: Global,
+    settings: &PhoneSettings<'w>,
+) -> Result<Ending<'w>, Ending<'w>> {
+    let script = read_script(rt, alloc, settings)?;
+    Ok(play(rt, alloc, settings, script)?)
+}
+
+/// How the program ends by a play with these words, of which the first is `phones`.
+pub fn played<'w, R: Files + Net + Clock>(
+    rt: &R,
+    alloc: Global,
+    words: &'w [String],
+) -> Ending<'w> {
+    let settings = match read_phone_words(alloc, words) {
+        Ok(settings) => settings,
+        Err(fault) => return phone_words_ending(fault),
+    };
+    match play_by(rt, alloc, &settings) {
+        Ok(ending) => ending,
+        Err(ending) => ending,
+    }
+}
