@@ -9,18 +9,20 @@ use Rattle.rgca.specs.declared.words.WordFault.TheVariants as faults
 use Rattle.rgca.specs.declared.phone_words.PhoneWordFault.{PhoneWordFault}
 use Rattle.rgca.specs.declared.phone_words.PhoneWordFault.TheVariants as phone_faults
 use Rattle.rgca.specs.declared.ending.Ending.{Ending}
-use Rattle.rgca.specs.declared.ending.Ending.TheVariants.{Common, OfCheck, OfPhones, BadGateway, BadLine, SameLine, Config}
+use Rattle.rgca.specs.declared.ending.Ending.TheVariants.{Common, OfCheck, OfPhones, BadGateway, BadLine, SameLine, NoCheck, Config}
 
 abbrev pub word_ending : WordFault → Ending
 word_ending (faults.Common ending) = Common ending
 word_ending (faults.BadLine word) = BadLine word
 word_ending faults.SameLine = SameLine
+word_ending faults.NoCheck = NoCheck
 
 -- by words behind `check`, which have a usage and a help of their own
 abbrev pub check_ending : WordFault → Ending
 check_ending (faults.Common ending) = OfCheck ending
 check_ending (faults.BadLine word) = BadLine word
 check_ending faults.SameLine = SameLine
+check_ending faults.NoCheck = NoCheck
 
 -- by words behind `phones`, likewise
 abbrev pub phone_ending : PhoneWordFault → Ending

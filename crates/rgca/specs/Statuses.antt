@@ -2,7 +2,7 @@
 use Rattle.std.specs.Prelude.{ℕ, Bool, false}
 use Rattle.live_ends.specs.Ending.{status_of as common_status, is_asked as is_commonly_asked}
 use Rattle.rgca.specs.declared.ending.Ending.{Ending}
-use Rattle.rgca.specs.declared.ending.Ending.TheVariants.{Common, OfCheck, OfPhones, Checked, Played, Unexpected, Unplayed, BadScript, BadGateway, BadLine, SameLine, Config, NoAnswer, NotServing, NoSuchLine, InUse, System}
+use Rattle.rgca.specs.declared.ending.Ending.TheVariants.{Common, OfCheck, OfPhones, Checked, Played, Unexpected, Unplayed, BadScript, BadGateway, BadLine, SameLine, NoCheck, Config, NoAnswer, NotServing, NoSuchLine, InUse, System}
 
 -- 0: it did what was asked; 1: a telephone wasn't as a script expects; 2: words, a configuration or a script are refused; 3: memory, a
 -- file, a socket, a stream or the clock failed, or a gateway can't be checked, or its telephones can't be worked; of one that was checked
@@ -19,6 +19,7 @@ status_of (BadScript text) = 2
 status_of (BadGateway word) = 2
 status_of (BadLine word) = 2
 status_of SameLine = 2
+status_of NoCheck = 2
 status_of (Config file line) = 2
 status_of (NoAnswer address) = 3
 status_of (NotServing address) = 3

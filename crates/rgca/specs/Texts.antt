@@ -6,7 +6,7 @@ use Rattle.live_ends.specs.Wording.{joined}
 use Rattle.live_ends.specs.Ending.{ending_text as common_text}
 use Rattle.rgca.specs.declared.ending.Abouts.{Abouts}
 use Rattle.rgca.specs.declared.ending.Ending.{Ending}
-use Rattle.rgca.specs.declared.ending.Ending.TheVariants.{Common, OfCheck, OfPhones, Checked, Played, Unexpected, Unplayed, BadScript, BadGateway, BadLine, SameLine, Config, NoAnswer, NotServing, NoSuchLine, InUse, System}
+use Rattle.rgca.specs.declared.ending.Ending.TheVariants.{Common, OfCheck, OfPhones, Checked, Played, Unexpected, Unplayed, BadScript, BadGateway, BadLine, SameLine, NoCheck, Config, NoAnswer, NotServing, NoSuchLine, InUse, System}
 
 abbrev pub unanswered_text : SocketAddrV4 → List ℕ
 unanswered_text address = joined (socket_v4_text address ∷ codes ": no answer\n" ∷ [])
@@ -29,6 +29,7 @@ ending_text about (BadScript text) = text
 ending_text about (BadGateway word) = joined (word.now ∷ codes ": wanted NAME=ADDRESS, each name and each address once\n" ∷ [])
 ending_text about (BadLine word) = joined (word.now ∷ codes ": not the name of one line, as aaln/1: 1 to 64 characters, no blank, *, $ or @\n" ∷ [])
 ending_text about SameLine = joined (codes "--more-lines: the same line as --line\n" ∷ [])
+ending_text about NoCheck = joined (codes "--only: no check has this name; rgca check --list has them\n" ∷ [])
 ending_text about (Config file line) = file.now ++ (codes ": " ++ (line.items ++ codes "\n"))
 ending_text about (NoAnswer address) = unanswered_text address
 ending_text about (NotServing address) = unserved_text address

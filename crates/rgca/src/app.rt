@@ -1,11 +1,11 @@
 //! The program: reads its words and its configuration, and serves, checks or plays.
-use crate::check_words::read_check_words;
-use crate::ending::{Ending, check_words_ending, config_ending};
+use crate::checks::checked;
+use crate::ending::{Ending, config_ending};
 use crate::help::of_all;
 use crate::phones::played;
 use crate::words::{Settings, read_words};
 use agent_texts::{AgentConfig, ConfigRefusal, Place, missing, read_config, too_long};
-use live_agent::{ServeFault, WireSettings, check_gateway, serve_agent};
+use live_agent::{ServeFault, WireSettings, serve_agent};
 use live_ends::{CommonEnding, Outlets, end, hold_standard, open_outlets, read_file, words_of};
 use mg_bytes::OutOfMemory;
 use rgw_scripts::LIMIT;
@@ -151,23 +151,6 @@ fn tell<R: AllocGlobal + Clock, F: Write + Drop>(
 ) -> u8 {
     let text = ending_text(rt.alloc(), ending);
     end(rt, outlets, text, ending.status(), ending.is_asked())
-}
-
-// How the program ends by a check with these words.
-fn checked<'w, R: AllocGlobal + Net + Clock, F: Write + Drop>(
-    rt: &R,
-    words: &'w [String],
-    outlets: &mut Outlets<F>,
-) -> Ending<'w> {
-    let settings = match read_check_words(rt.alloc(), words, &mut outlets.error) {
-        Ok(settings) => settings,
-        Err(fault) => return check_words_ending(fault),
-    };
-    let status = match check_gateway(rt, settings, &mut outlets.output) {
-        Ok(status) => status,
-        Err(fault) => return Ending::from(fault),
-    };
-    Ending::Checked { status }
 }
 
 // What the program is asked for.

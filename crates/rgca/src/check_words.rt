@@ -2,7 +2,7 @@
 use crate::help::CHECK_USAGE;
 use crate::words::{WordFault, address_behind, fault_of, flag_word};
 use clap::{Arg, ArgMatches, Command};
-use live_agent::CheckSettings;
+use live_agent::{CheckSettings, Telephone, is_check};
 use live_ends::{CommonEnding, Outlet};
 use std::alloc::{AllocError, Global};
 use std::io::Write;
@@ -18,6 +18,10 @@ fn command<'a>(alloc: Global) -> Result<Command<'a>, AllocError> {
     let more = Arg::new(alloc, "more-lines")
         .long("more-lines")
         .num_args(1usize..);
+    let only = Arg::new(alloc, "only").long("only");
+    let junit = Arg::new(alloc, "junit").long("junit");
+    let phones = Arg::new(alloc, "phones").long("phones");
+    let hook = Arg::new(alloc, "hook").long("hook");
     Command::new(alloc, "check")
         .override_usage(CHECK_USAGE)
         .arg(Arg::new(alloc, "address").required(true))?
@@ -26,6 +30,10 @@ fn command<'a>(alloc: Global) -> Result<Command<'a>, AllocError> {
         .arg(more)?
         .arg(flag_word(alloc, "slow"))?
         .arg(flag_word(alloc, "json"))?
+        .arg(only)?
+        .arg(junit)?
+        .arg(phones)?
+        .arg(hook)?
         .arg(own)
 }
 
@@ -73,20 +81,67 @@ fn other_in<'a>(matches: &ArgMatches<'a>, line: &str) -> Result<Option<&'a str>,
     Ok(Some(other))
 }
 
-fn settings_in<'a>(matches: &ArgMatches<'a>) -> Result<CheckSettings<'a>, WordFault> {
+// The names behind `--only`, each of which is that of a check.
+fn names_in<'a>(matches: &ArgMatches<'a>) -> Result<Option<&'a str>, WordFault> {
+    let Some(names) = matches.get_str("only") else {
+        return Ok(None);
+    };
+    if names.split(',').all(|name| is_check(name.trim())) {
+        Ok(Some(names))
+    } else {
+        Err(WordFault::NoCheck)
+    }
+}
+
+// Who works the line's telephone, if someone does.
+fn telephone_in<'a>(
+    matches: &ArgMatches<'_>,
+    line: &'a str,
+) -> Result<Option<Telephone<'a>>, WordFault> {
+    let phones = address_behind(matches, "phones", "--phones")?;
+    let hook = address_behind(matches, "hook", "--hook")?;
+    match (phones, hook) {
+        (None, None) => Ok(None),
+        (Some(address), None) => Ok(Some(Telephone {
+            address,
+            is_hook: false,
+            line,
+        })),
+        (None, Some(address)) => Ok(Some(Telephone {
+            address,
+            is_hook: true,
+            line,
+        })),
+        (Some(_), Some(_)) => Err(WordFault::Common(CommonEnding::Usage)),
+    }
+}
+
+/// The file behind `--junit`, which has the report as JUnit's XML; and the settings of a check.
+#[derive(Drop)]
+pub struct CheckWords<'a> {
+    pub settings: CheckSettings<'a>,
+    pub junit: Option<&'a str>,
+}
+
+fn settings_in<'a>(matches: &ArgMatches<'a>) -> Result<CheckWords<'a>, WordFault> {
     let (Some(domain), Some(line)) = (matches.get_str("domain"), matches.get_str("line")) else {
         return Err(WordFault::Common(CommonEnding::Usage));
     };
     let line = name_behind(line, "--line")?;
-    Ok(CheckSettings {
+    let junit = matches.get_str("junit");
+    let settings = CheckSettings {
         gateway: address_in(matches, "address", "ADDRESS")?,
         domain,
         line,
         other: other_in(matches, line)?,
         is_slow: matches.get_flag("slow"),
+        only: names_in(matches)?,
+        telephone: telephone_in(matches, line)?,
         is_json: matches.get_flag("json"),
+        is_junit: junit.is_some(),
         own: address_in(matches, "own", "--own")?,
-    })
+    };
+    Ok(CheckWords { settings, junit })
 }
 
 /// Reads the words of a check, of which the first is `check`; this outlet says which are wrong.
@@ -94,7 +149,7 @@ pub fn read_check_words<'a, F: Write + Drop>(
     alloc: Global,
     words: &'a [String],
     said: &mut Outlet<F>,
-) -> Result<CheckSettings<'a>, WordFault> {
+) -> Result<CheckWords<'a>, WordFault> {
     match command(alloc)?.try_get_matches_from(words) {
         Ok(matches) => settings_in(&matches),
         Err(fault) => Err(fault_of(alloc, &fault, said)),

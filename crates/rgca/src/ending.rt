@@ -18,6 +18,9 @@ use std::net::SocketAddrV4;
 const NO_LINE: &str =
     ": not the name of one line, as aaln/1: 1 to 64 characters, no blank, *, $ or @\n";
 
+// What a name is that no check has.
+const NO_CHECK: &str = "--only: no check has this name; rgca check --list has them\n";
+
 // What a word is that names no gateway.
 const NO_GATEWAY: &str = ": wanted NAME=ADDRESS, each name and each address once\n";
 
@@ -54,6 +57,8 @@ pub enum Ending<'a> {
     BadLine { word: &'static str },
     /// The other line to be checked is the line itself.
     SameLine,
+    /// There is no check of a name that stands behind `--only`.
+    NoCheck,
     /// The configuration in this file has a fault, which a line tells, without its end.
     Config { file: &'a str, line: Vec<u8> },
     /// The gateway at this address can't be checked: it doesn't answer.
@@ -86,6 +91,7 @@ impl<'a> Ending<'a> {
             | Ending::BadGateway { .. }
             | Ending::BadLine { .. }
             | Ending::SameLine
+            | Ending::NoCheck
             | Ending::Config { .. } => 2,
             Ending::Unplayed { .. }
             | Ending::NoAnswer { .. }
@@ -129,6 +135,7 @@ impl<'a> Ending<'a> {
             Ending::BadGateway { word } => put_pieces(out, &[*word, NO_GATEWAY]),
             Ending::BadLine { word } => put_pieces(out, &[*word, NO_LINE]),
             Ending::SameLine => put_pieces(out, &["--more-lines: the same line as --line\n"]),
+            Ending::NoCheck => put_pieces(out, &[NO_CHECK]),
             Ending::Config { file, line } => put_config(out, *file, line.as_slice()),
             Ending::NoAnswer { address } => put_unanswered(alloc, out, *address),
             Ending::NotServing { address } => put_unserved(alloc, out, *address),
@@ -166,6 +173,7 @@ fn word_ending<'a>(fault: WordFault) -> Ending<'a>
         WordFault::Common(ending) => Ending::Common(ending),
         WordFault::BadLine { word } => Ending::BadLine { word },
         WordFault::SameLine => Ending::SameLine,
+        WordFault::NoCheck => Ending::NoCheck,
     }
 }
 
@@ -183,6 +191,7 @@ pub fn check_words_ending<'a>(fault: WordFault) -> Ending<'a>
         WordFault::Common(ending) => Ending::OfCheck(ending),
         WordFault::BadLine { word } => Ending::BadLine { word },
         WordFault::SameLine => Ending::SameLine,
+        WordFault::NoCheck => Ending::NoCheck,
     }
 }
 

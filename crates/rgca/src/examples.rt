@@ -10,7 +10,7 @@ ghost use Rattle.live_ends.specs.Ending.{status_of as common_status, is_asked as
 ghost use Rattle.rgca.specs.declared.words.WordFault.TheVariants as faults;
 ghost use Rattle.rgca.specs.declared.phone_words.PhoneWordFault.TheVariants as phone_faults;
 ghost use Rattle.rgca.specs.declared.ending.Abouts.{Abouts};
-ghost use Rattle.rgca.specs.declared.ending.Ending.TheVariants.{Common, OfCheck, OfPhones, Checked, Played, Unexpected, Unplayed, BadScript, BadGateway, BadLine, SameLine, Config, NoAnswer, NotServing, NoSuchLine, InUse, System};
+ghost use Rattle.rgca.specs.declared.ending.Ending.TheVariants.{Common, OfCheck, OfPhones, Checked, Played, Unexpected, Unplayed, BadScript, BadGateway, BadLine, SameLine, NoCheck, Config, NoAnswer, NotServing, NoSuchLine, InUse, System};
 ghost use Rattle.rgca.specs.Statuses.{status_of, is_asked};
 ghost use Rattle.rgca.specs.Endings.{word_ending, check_ending, phone_ending};
 ghost use Rattle.rgca.specs.Texts.{ending_text};
@@ -28,6 +28,7 @@ pub fn statuses_tell_what_came_of_it()
     ensures bad_script { (text : List ℕ) → status_of (BadScript text) ≡ 2 }
     ensures bad_gateway { (word : _) → status_of (BadGateway word) ≡ 2 }
     ensures same { status_of SameLine ≡ 2 }
+    ensures no_check { status_of NoCheck ≡ 2 }
     ensures line { (word : _) → status_of (BadLine word) ≡ 2 }
     ensures config { (file line : _) → status_of (Config file line) ≡ 2 }
     ensures system { status_of System ≡ 3 }
@@ -38,7 +39,7 @@ pub fn statuses_tell_what_came_of_it()
     ensures asked { (ending : CommonEnding) → is_asked (Common ending) ≡ is_commonly_asked ending }
     ensures asked_of_check { (ending : CommonEnding) → is_asked (OfCheck ending) ≡ is_commonly_asked ending }
     ensures asked_of_phones { (ending : CommonEnding) → is_asked (OfPhones ending) ≡ is_commonly_asked ending }
-    ensures own { map is_asked (Checked 0 ∷ Played ∷ SameLine ∷ System ∷ []) ≡ false ∷ false ∷ false ∷ false ∷ [] }
+    ensures own { map is_asked (Checked 0 ∷ Played ∷ SameLine ∷ NoCheck ∷ System ∷ []) ≡ false ∷ false ∷ false ∷ false ∷ false ∷ [] }
     ensures told { map is_asked (Unexpected [] ∷ Unplayed [] ∷ BadScript [] ∷ []) ≡ false ∷ false ∷ false ∷ [] }
 {}
 
@@ -51,6 +52,8 @@ pub fn a_check_and_a_script_have_their_own_usage()
     ensures check_usage { (about : Abouts) (ending : CommonEnding) → ending_text about (OfCheck ending) ≡ common_text about.checks ending }
     ensures phones_usage { (about : Abouts) (ending : CommonEnding) → ending_text about (OfPhones ending) ≡ common_text about.phones ending }
     ensures same { check_ending faults.SameLine ≡ word_ending faults.SameLine }
+    ensures no_check { check_ending faults.NoCheck ≡ word_ending faults.NoCheck }
+    ensures unnamed { word_ending faults.NoCheck ≡ NoCheck }
     ensures line { (word : _) → check_ending (faults.BadLine word) ≡ word_ending (faults.BadLine word) }
     ensures gateway { (word : _) → phone_ending (phone_faults.BadGateway word) ≡ BadGateway word }
 {}
@@ -67,6 +70,8 @@ pub fn an_ending_says_why()
     ensures line { (about : Abouts) (word : Bor (List ℕ)) → ending_text about (BadLine word)
         ≡ word.now ++ codes ": not the name of one line, as aaln/1: 1 to 64 characters, no blank, *, $ or @\n" }
     ensures same { (about : Abouts) → ending_text about SameLine ≡ codes "--more-lines: the same line as --line\n" }
+    ensures no_check { (about : Abouts) → ending_text about NoCheck
+        ≡ codes "--only: no check has this name; rgca check --list has them\n" }
     ensures silent { (about : Abouts) (address : SocketAddrV4) → ending_text about (NoAnswer address)
         ≡ socket_v4_text address ++ codes ": no answer\n" }
     ensures unserved { (about : Abouts) (address : SocketAddrV4) → ending_text about (NotServing address)

@@ -71,28 +71,38 @@ fn of_program() -> About {
     }
 }
 
-/// The words behind `check`, in a line.
+/// The words behind `check`.
 pub const CHECK_USAGE: &str =
-    "rgca check ADDRESS --domain D --line NAME [--more-lines NAME] [--slow] [--json] [--own ADDRESS]";
+    "rgca check ADDRESS --domain D --line NAME [--more-lines NAME] [--own ADDRESS] [--phones ADDRESS | --hook ADDRESS]
+                          [--slow] [--only NAME,..] [--json] [--junit FILE]
+       rgca check --list";
 
 // What they say, from the end of the first line on.
 const CHECK_BELOW: &str = "
 
-Checks an MGCP gateway as RFC 3435 asks, without anyone at its telephones. A line that is off hook or has a connection is
-not checked, and no other call agent may be at work on the lines. What is changed is undone: connections are deleted, and an
-empty request ends the checks.
+Checks an MGCP gateway as RFC 3435 asks: what it answers, and what it says by itself. A line that is off hook or has a
+connection is not checked, and no other call agent may be at work on the lines. What is changed is undone: connections are
+deleted, and an empty request ends the checks.
 
   ADDRESS             of the gateway, a.b.c.d:port
   --domain D          of its endpoint names
   --line NAME         the local name of a line, as aaln/1
   --more-lines NAME   of another one, for checks that need two
+  --own ADDRESS       of the call agent that the gateway is configured for: from there it sends, and there it hears what the
+                      gateway says by itself; else any free port, and that is not checked
+  --phones ADDRESS    of the telephones of an rgwd, for checks that need someone at the line's telephone
+  --hook ADDRESS      of a program that works it: it is sent `act 1 off` or `restart`, and answers `done` when that is done
   --slow              checks that wait for half a minute too
-  --json              the report as JSON
-  --own ADDRESS       of the call agent that the gateway is configured for: from there it sends, and there it answers what the
-                      gateway announces; else any free port
+  --only NAME,..      these checks alone
+  --json              the report as JSON, an object a line: one for each check, and one for how many came to what
+  --junit FILE        the report as JUnit's XML too, in this file
+  --list              the names of all checks, with their rules
   --help              this
 
-A check that fails tells what was due. `not supported` is what a gateway may leave out, or what the RFC leaves open.
+Of a check `>` stands before what was sent and `<` before what came, doubled for the second port, and `@` before what was
+done at the telephone. One that fails tells what was due: `< 200|250 7` an answer with this code and id, `<? 200 7` the same
+where a refusal by 500 to 599 is no failure, `silence 500` no answer for so many ms; rgca(1) has the others. `left open` is
+what RFC 3435 leaves open, `not supported` an option that isn't there.
 The status is 0 where none failed, 1 where one did, 2 for other words, 3 where nothing can be checked.
 ";
 

@@ -3,6 +3,7 @@
 
 mod app;
 mod check_words;
+mod checks;
 mod ending;
 mod examples;
 mod help;

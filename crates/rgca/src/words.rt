@@ -44,6 +44,8 @@ pub enum WordFault {
     BadLine { word: &'static str },
     /// The other line to be checked is the line itself.
     SameLine,
+    /// There is no check of a name that stands behind `--only`.
+    NoCheck,
 }
 
 impl From<AllocError> for WordFault {
