@@ -63,7 +63,7 @@ impl Mailbox {
         if !self.counts_at(at, unasked) {
             return Ok(Likeness::Another);
         }
-        likeness_of(self.alloc, expected, unasked.text.as_slice())
+        Ok(likeness_of(self.alloc, expected, unasked.text.as_slice())?)
     }
 
     /// The first that a step means which expects this at a socket: its place, and whether it is as due.
