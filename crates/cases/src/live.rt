@@ -11,6 +11,7 @@
 //! - `pause 31000` the program is stopped, for so many ms.
 //! - `fault send` the next datagram can't be sent; `fault receive` none can be received.
 //! - `dropped 12` so many lines of the log are said not to be kept; `failed calls.pcap` a record is said not to be written.
+//! - `room 300` so many bytes of the trace find room, and no more, since nobody takes any.
 //! - `answer done` a line of an answer to who usually types, `answer 10.0.0.9:5000 done` to somebody else; `page ..` one of what a visitor gets; `log ..`, `trace ..`, `capture ..` what is
 //!   recorded; `count ..` what is counted at the end, and `replay ..` what a replay of the trace finds.
 mod browsers;
@@ -22,7 +23,7 @@ use crate::stories::{
 use crate::titled::Titled;
 use bad_network::BadNetwork;
 use gateway_core::Gateway;
-use live_ends::{Now, TEXT_ROOM, Written};
+use live_ends::{Now, Written};
 use live_gateway::{Admission, Desk, Exchange, Recorder, SpoiltWay, boxed, speakers_of};
 use live_journal::{Capture, Journal, Log, MessageTally, Trace};
 use live_page::HostNames;
@@ -42,8 +43,7 @@ pub struct Live;
 
 impl Recorder<Trace> for Records {
     fn write(&mut self, journal: &mut Journal, trace: &mut Trace, time: u64) {
-        self.keep_trace(time, &mut trace.record);
-        trace.give_room(TEXT_ROOM);
+        self.keep_trace(time, trace);
         self.keep(time, b"log ", &mut journal.log.record);
         self.keep_capture(time, &mut journal.capture.record);
         journal.written = self.written;
@@ -199,7 +199,7 @@ fn end(
     desk.play.end();
     desk.write(records);
     let moment = records.moment_of(desk.exchange.now.time);
-    if desk.play.teller.record.is_on() {
+    if !records.trace.is_empty() {
         tell_replay(alloc, records, moment)?;
     }
     if is_counted {
@@ -220,6 +220,7 @@ fn run(
 ) -> io::Result<bool> {
     let opened = desk.exchange.around.time();
     let mut records = Records::new(alloc, opened, story.written);
+    records.room = story.room;
     desk.run(visitors, &mut records);
     if is_ended || story.is_counted {
         end(alloc, desk, &mut records, story.is_counted)?;

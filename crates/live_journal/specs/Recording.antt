@@ -38,6 +38,10 @@ trace_head config first = whole_lines config ++ codes "%%\n" ++ first_line first
 abbrev pub is_telling : Trace → Bool
 is_telling trace = is_told trace.record.state && not trace.is_broken_off
 
+-- it was broken off, and its record hasn't ended yet
+abbrev pub has_ended : Trace → Bool
+has_ended trace = trace.is_broken_off && is_told trace.record.state
+
 -- what it was told has its place in what is kept, out of the room that was left there; or memory was refused, and nothing is told from
 -- then on
 abbrev pub HasPlace : Trace → List ℕ → Trace → Type 0

@@ -18,6 +18,7 @@ mod spoiling;
 mod strangers;
 mod text_counts;
 mod trace;
+pub mod trace_examples;
 
 pub use crate::capture::Capture;
 pub use crate::journal::Journal;

@@ -1,6 +1,7 @@
 //! The trace, as a record keeps it until it is written.
 ghost use Rattle.std.specs.Prelude.{◌≡◌, ◌≤◌, ◌<◌, ◌-◌, ◌++◌, length, true, false, OnOk, None};
-ghost use Rattle.live_journal.specs.Recording.{whole_lines, trace_head, Begins, is_telling, HasPlace};
+ghost use Rattle.live_ends.specs.declared.record.RecordState.TheVariants.{Off};
+ghost use Rattle.live_journal.specs.Recording.{whole_lines, trace_head, Begins, is_telling, has_ended, HasPlace};
 
 use live_ends::{Outlet, Record, TEXT_ROOM};
 use live_play::Teller;
@@ -107,11 +108,24 @@ impl Trace {
         }
     }
 
+    /// Whether it was broken off since this was asked last: its record ends with that.
+    pub fn has_ended(&mut self) -> bool
+        ensures ended { result ≡ has_ended self.old }
+        ensures off { has_ended self.old ≡ true → self.new.record.state ≡ Off }
+        ensures on { has_ended self.old ≡ false → self.new ≡ self.old }
+        ensures room { (self.new.room ≡ self.old.room) × (self.new.is_broken_off ≡ self.old.is_broken_off) }
+    {
+        let has_ended = self.is_broken_off && self.record.is_on();
+        if has_ended {
+            self.record.end();
+        }
+        has_ended
+    }
+
     /// What it was told is kept by its outlet, which ends with a last line where the trace was broken off.
     pub(crate) fn keep<F: Write + Drop>(&mut self, output: &mut Outlet<F>) {
         output.keep_whole(&mut self.record, broken_off_line());
-        if self.is_broken_off && self.record.is_on() {
-            self.record.end();
+        if self.has_ended() {
             output.break_off(broken_off_line());
         }
         output.end_refused(&self.record, broken_off_line());

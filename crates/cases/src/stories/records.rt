@@ -1,7 +1,9 @@
 //! What a program records, kept as it is written.
 use crate::stories::Transcript;
-use live_ends::{Record, Written};
+use live_ends::{Record, TEXT_ROOM, Written};
+use live_journal::Trace;
 use std::alloc::Global;
+use traces::broken_off_line;
 
 const MICROSECONDS: u64 = 1000;
 
@@ -14,6 +16,8 @@ pub struct Records {
     pub given: Transcript,
     /// All of the trace.
     pub trace: Vec<u8>,
+    /// So many bytes of it find room.
+    pub room: usize,
     /// What is said to become of it.
     pub written: Written,
 }
@@ -26,6 +30,7 @@ impl Records {
             opened,
             given: Transcript::new(alloc),
             trace: Vec::new(alloc),
+            room: TEXT_ROOM,
             written,
         }
     }
@@ -42,12 +47,23 @@ impl Records {
         record.out.clear();
     }
 
-    /// Keeps what was put together of a trace at this time.
-    pub fn keep_trace(&mut self, time: u64, record: &mut Record) {
-        if self.trace.extend_from_slice(record.out.as_slice()).is_err() {
+    // This is told of a trace at this time.
+    fn tell_trace(&mut self, time: u64, text: &[u8]) {
+        if self.trace.extend_from_slice(text).is_err() {
             self.given.refuse();
         }
-        self.keep(time, b"trace ", record);
+        let moment = self.moment_of(time);
+        self.given.tell(moment, b"trace ", text);
+    }
+
+    /// Keeps what a trace was told at this time, and that it was broken off; it gets the room that is left.
+    pub fn keep_trace(&mut self, time: u64, trace: &mut Trace) {
+        self.tell_trace(time, trace.record.out.as_slice());
+        trace.record.out.clear();
+        if trace.has_ended() {
+            self.tell_trace(time, broken_off_line());
+        }
+        trace.give_room(self.room.saturating_sub(self.trace.len()));
     }
 
     /// Keeps what was put together of a capture at this time, in hexadecimal digits.

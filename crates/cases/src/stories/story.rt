@@ -1,7 +1,7 @@
 //! A story as it is written: what a program is called with, what comes, and what it gives.
 use crate::stories::given::typist;
 use crate::stories::transcript::Transcript;
-use live_ends::Written;
+use live_ends::{TEXT_ROOM, Written};
 use live_gateway::boxed;
 use scenario_files::{bytes_of, in_full, number_in, put_line};
 use std::alloc::Global;
@@ -42,6 +42,8 @@ pub struct Story {
     pub visits: VecDeque<Visit>,
     /// What becomes of what it records.
     pub written: Written,
+    /// So many bytes of a trace find room.
+    pub room: usize,
     pub wanted: Transcript,
     /// Whether it is said what was counted at the end.
     pub is_counted: bool,
@@ -79,12 +81,13 @@ enum Says {
     Fault,
     Dropped,
     Failed,
+    Room,
     Nothing,
     // This is to be given.
     Given,
 }
 
-const FIRST_WORDS: [(&str, Says); 15] = [
+const FIRST_WORDS: [(&str, Says); 16] = [
     ("<", Says::Heard),
     (">", Says::Sent),
     ("at", Says::At),
@@ -98,6 +101,7 @@ const FIRST_WORDS: [(&str, Says); 15] = [
     ("fault", Says::Fault),
     ("dropped", Says::Dropped),
     ("failed", Says::Failed),
+    ("room", Says::Room),
     ("#", Says::Nothing),
     ("", Says::Nothing),
 ];
@@ -135,6 +139,7 @@ impl Story {
             around: Scripted::new(alloc, at.own),
             visits: VecDeque::new(alloc),
             written: Written::ALL,
+            room: TEXT_ROOM,
             wanted: Transcript::new(alloc),
             is_counted: false,
             moment: 0,
@@ -238,6 +243,7 @@ impl Story {
             Says::At => self.moment = number_in(rest),
             Says::Dropped => self.written.dropped = number_in(rest),
             Says::Failed => self.put_failed(rest),
+            Says::Room => self.room = number_in(rest) as usize,
             Says::Nothing => {}
             Says::Given => self.want(word, line),
         }
