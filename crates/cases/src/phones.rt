@@ -11,7 +11,7 @@ use crate::titled::Titled;
 use live_agent::{Played, play_phones};
 use mg_bytes::Text;
 use phone_scripts::{
-    Failure, Player, Reader, Script, ScriptFault, Wanted, failure_text, script_fault_text,
+    Failure, Player, Reader, Script, ScriptFault, Wanted, failure_text, fault_line,
 };
 use scenario_files::refused;
 use std::alloc::{AllocError, Global};
@@ -63,7 +63,7 @@ fn say_failure(
     let names = names_of(alloc)?;
     let text = failure_text(alloc, player.files(), names.as_slice(), failure)?;
     let status: &[u8] = match failure {
-        Failure::Unmet { .. } => b"status 1",
+        Failure::Unmet(_) => b"status 1",
         _ => b"status 3",
     };
     say(given, moment, text.as_bytes(), status);
@@ -110,8 +110,8 @@ impl Program for Phones {
             Ok(Wanted::Nothing) => play_script(alloc, reader.into_script(), story, given)?,
             Ok(Wanted::File { .. }) => return Ok(false),
             Err(ScriptFault::OutOfMemory) => return Err(refused()),
-            Err(fault) => {
-                let text = script_fault_text(alloc, reader.files(), fault)?;
+            Err(ScriptFault::Line { place, fault }) => {
+                let text = fault_line(alloc, reader.files(), place, fault)?;
                 say(given, 0, text.as_bytes(), b"status 2");
             }
         }

@@ -1,9 +1,12 @@
 pub mod Connected
 pub mod Telephones
 pub mod Expecting
+pub mod Limits
 pub mod Grammar
 pub mod Faults
 pub mod Pushed
 pub mod Blocks
+pub mod Asking
+pub mod Wording
 pub mod Numbering
 pub mod Example

@@ -3,8 +3,7 @@ ghost use Rattle.std.specs.Prelude.{◌≡◌};
 ghost use Rattle.std.specs.List.{list_all};
 ghost use Rattle.phone_scripts.specs.Grammar.{is_key, are_keys, key_of, act_of};
 
-// So many keys are dialled by one line at most.
-pub(crate) const MOST_KEYS: usize = 64;
+use crate::limits::MOST_KEYS;
 
 /// What is done at a telephone.
 #[derive(Clone, Copy)]

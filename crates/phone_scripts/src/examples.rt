@@ -7,18 +7,22 @@ ghost use Rattle.mg_packages.specs.declared.signal.Signal.TheVariants.{DialTone,
 ghost use Rattle.phone_scripts.specs.declared.act.PhoneAct.TheVariants.{Off, On, Flash, Key};
 ghost use Rattle.phone_scripts.specs.declared.expecting.Expected.TheVariants as expected;
 ghost use Rattle.phone_scripts.specs.declared.said.Said.TheVariants as said;
-ghost use Rattle.phone_scripts.specs.declared.said.SaidFault.TheVariants as faults;
+ghost use Rattle.phone_scripts.specs.declared.fault.LineFault.TheVariants as faults;
 ghost use Rattle.phone_scripts.specs.declared.statement.Statement.TheVariants as statements;
 ghost use Rattle.phone_scripts.specs.declared.telephone.What.TheVariants as what;
-ghost use Rattle.phone_scripts.specs.Blocks.{statements_of, length_of_first, most_depth, deepest_include, most_statements};
-ghost use Rattle.phone_scripts.specs.Example.{says, phone, tells, at_moment, hearing, connection, connected};
+ghost use Rattle.phone_scripts.specs.Asking.{act_line};
+ghost use Rattle.phone_scripts.specs.Blocks.{statements_of, length_of_first};
+ghost use Rattle.phone_scripts.specs.declared.failure.Failure.TheVariants as failures;
+ghost use Rattle.phone_scripts.specs.Example.{says, phone, tells, at_moment, hearing, connection, connected, here, all_here, files, names, unmet};
 ghost use Rattle.phone_scripts.specs.Expecting.{is_so, last_moment, is_met, opened, next_open, passed, verdict_of};
 ghost use Rattle.phone_scripts.specs.declared.expecting.Verdict.TheVariants as verdicts;
+ghost use Rattle.phone_scripts.specs.Faults.{fault_text};
 ghost use Rattle.phone_scripts.specs.Grammar.{is_comment};
 ghost use Rattle.phone_scripts.specs.declared.gateways.Numbered.TheVariants as numbers;
-ghost use Rattle.phone_scripts.specs.Numbering.{number_says};
+ghost use Rattle.phone_scripts.specs.Numbering.{number_says, missing_before};
 ghost use Rattle.phone_scripts.specs.Pushed.{watching_in};
 ghost use Rattle.phone_scripts.specs.Telephones.{resting, after};
+ghost use Rattle.phone_scripts.specs.Wording.{telephone_text, fault_line, expected_text, failure_lines};
 ghost use Rattle.mg_bytes.specs.Words.{words};
 
 /// A telephone is as is expected by a signal among others, by having nothing at all, or by one connection in a mode.
@@ -131,12 +135,10 @@ pub fn things_end_with_their_blocks()
     ensures dialled { statements_of (said.Dial (phone 0 1) (codes "20") 50) ≡ statements.Repeat 1
         ∷ statements.Act (phone 0 1) (Key 50) ∷ statements.Wait 50 ∷ statements.Act (phone 0 1) (Key 48) ∷ statements.Wait 50 ∷ statements.End ∷ [] }
     ensures included { statements_of (said.Include (codes "a")) ≡ statements.Repeat 1 ∷ [] }
-    ensures one { length_of_first 0 (statements.Wait 5 ∷ statements.Wait 6 ∷ []) ≡ 1 }
-    ensures block { length_of_first 0 (statements.Beside ∷ statements.Wait 6 ∷ statements.End ∷ statements.Wait 7 ∷ []) ≡ 3 }
-    ensures nested { length_of_first 0 (statements.Repeat 2 ∷ statements.Beside ∷ statements.End ∷ statements.End ∷ statements.Wait 7 ∷ []) ≡ 4 }
-    ensures depth { most_depth ≡ 16 }
-    ensures files { deepest_include ≡ 8 }
-    ensures statements { most_statements ≡ 65536 }
+    ensures one { length_of_first 0 (all_here (statements.Wait 5 ∷ statements.Wait 6 ∷ [])) ≡ 1 }
+    ensures none { length_of_first 0 [] ≡ 0 }
+    ensures block { length_of_first 0 (all_here (statements.Beside ∷ statements.Wait 6 ∷ statements.End ∷ statements.Wait 7 ∷ [])) ≡ 3 }
+    ensures nested { length_of_first 0 (all_here (statements.Repeat 2 ∷ statements.Beside ∷ statements.End ∷ statements.End ∷ statements.Wait 7 ∷ [])) ≡ 4 }
 {}
 
 /// A change that was told before is passed over, and one that is missing was lost.
@@ -145,6 +147,8 @@ pub fn a_missing_number_is_a_loss()
     ensures again { number_says 17 16 ≡ numbers.Told }
     ensures lost { number_says 17 18 ≡ numbers.Lost 17 }
     ensures more_lost { number_says 17 30 ≡ numbers.Lost 17 }
+    ensures all { missing_before 17 17 ≡ None }
+    ensures missing { missing_before 17 19 ≡ Some 17 }
 {}
 
 /// What is told who watches is read.
@@ -161,4 +165,59 @@ pub fn what_is_told_is_read()
     ensures nothing_changed { tells (codes "change 1 at 0 line 1") ≡ None }
     ensures watching { watching_in (words (codes "watching from 17 at 5000")) ≡ Some (record { next = 17; moment = 5000 }) }
     ensures watching_more { watching_in (words (codes "watching from 17 at 5000 ms")) ≡ None }
+{}
+
+/// What is said of a line that can't stand where it stands.
+pub fn faults_are_told()
+    ensures line { fault_text faults.Line
+        ≡ codes "wanted TELEPHONE off, on, flash, KEY or dial DIGITS, wait, expect, repeat, side by side, include or end" }
+    ensures phone { fault_text faults.Phone ≡ codes "wanted LINE, or NAME:LINE with a gateway NAME=ADDRESS behind the script" }
+    ensures act { fault_text faults.Act ≡ codes "wanted off, on, flash, a key, or dial DIGITS" }
+    ensures keys { fault_text faults.Keys ≡ codes "wanted 1 to 64 of 0 to 9, *, #, A to D" }
+    ensures time { fault_text faults.Time ≡ codes "wanted a time in ms, up to 10000000" }
+    ensures expects { fault_text faults.Expected
+        ≡ codes "wanted L/dl, L/bz, L/ro, L/rg, L/rs, L/vmwi, G/rt, G/cg, G/cf, silent or connection MODE" }
+    ensures mode { fault_text faults.Mode ≡ codes "wanted sendonly, recvonly, sendrecv, confrnce or inactive" }
+    ensures times { fault_text faults.Times ≡ codes "wanted repeat 1 to 1000000 times" }
+    ensures no_block { fault_text faults.NoBlock ≡ codes "end: no block is open" }
+    ensures endless { fault_text faults.Endless ≡ codes "this block has no end" }
+    ensures deep { fault_text faults.TooDeep ≡ codes "more than 16 blocks in one another, or 8 files" }
+    ensures long { fault_text faults.TooLong ≡ codes "more than 65536 statements" }
+    ensures placed { fault_line files (here 7) faults.Endless ≡ codes "a.phones:7: this block has no end\n" }
+{}
+
+/// A telephone is told by its hook, what is heard there, and its connections.
+pub fn telephones_are_told()
+    ensures rests { telephone_text resting ≡ codes "on, no signal, no connection" }
+    ensures hears { telephone_text (hearing (DialTone ∷ Busy ∷ [])) ≡ codes "on, L/dl, L/bz, no connection" }
+    ensures talks { telephone_text (record (connected (connection (codes "1") SendReceive ∷ connection (codes "2") Inactive ∷ []))
+        { is_off_hook = true }) ≡ codes "off, no signal, connection sendrecv, connection inactive" }
+{}
+
+/// A play that fails tells where and why, and what was there.
+pub fn failures_are_told()
+    ensures not_so { failure_lines files names (failures.Unmet unmet)
+        ≡ codes "a.phones:7: expected gw1:1 L/dl within 2000\nsince 5020: off, no signal, no connection\n" }
+    ensures from_the_start { failure_lines files names (failures.Unmet (record unmet { since = None }))
+        ≡ codes "a.phones:7: expected gw1:1 L/dl within 2000\nsince the start: off, no signal, no connection\n" }
+    ensures alone { failure_lines files ([] ∷ []) (failures.Unmet unmet)
+        ≡ codes "a.phones:7: expected 1 L/dl within 2000\nsince 5020: off, no signal, no connection\n" }
+    ensures refused { failure_lines files names (failures.Refused (here 2) (codes "! 5 PhoneState"))
+        ≡ codes "a.phones:2: answered ! 5 PhoneState\n" }
+    ensures many { failure_lines files names (failures.TooMany (here 2)) ≡ codes "a.phones:2: more than 64 side by side\n" }
+    ensures silent { failure_lines files names (failures.NoAnswer 1) ≡ codes "gw2: no answer\n" }
+    ensures unnamed { failure_lines files ([] ∷ []) (failures.NoAnswer 0) ≡ codes "the gateway: no answer\n" }
+    ensures unwatched { failure_lines files names (failures.Unwatched 0 (codes "! 8 watch already"))
+        ≡ codes "gw1: doesn't tell what changes: ! 8 watch already\n" }
+    ensures lost { failure_lines files names (failures.Lost 0 17) ≡ codes "gw1: changes were lost, from number 17\n" }
+    ensures expects_silence { expected_text expected.Silent ≡ codes "silent" }
+    ensures expects_mode { expected_text (expected.Connection SendReceive) ≡ codes "connection sendrecv" }
+{}
+
+/// What is done at a telephone is asked of its gateway in a line.
+pub fn acts_are_asked()
+    ensures off { act_line 1 Off ≡ codes "phone 1 off\n" }
+    ensures on { act_line 17 On ≡ codes "phone 17 on\n" }
+    ensures flash { act_line 1 Flash ≡ codes "phone 1 flash\n" }
+    ensures key { act_line 1 (Key 35) ≡ codes "phone 1 #\n" }
 {}

@@ -1,8 +1,9 @@
 //! What is known of the gateways whose telephones a script works.
 ghost use Rattle.std.specs.Prelude.{◌≡◌};
 ghost use Rattle.std.specs.Option.{unwrap_or};
-ghost use Rattle.phone_scripts.specs.Numbering.{number_says};
+ghost use Rattle.phone_scripts.specs.Numbering.{number_says, missing_before};
 
+use crate::asking::{LONGEST_ANSWER, RENEWAL};
 use crate::telephone::{Telephone, What};
 use mg_bytes::OutOfMemory;
 use std::alloc::Global;
@@ -83,7 +84,9 @@ impl Watched {
     }
 
     /// All changes before this number were told: the first of those that wasn't, if there is one.
-    pub(crate) fn missing_before(&mut self, number: u64) -> Option<u64> {
+    pub(crate) fn missing_before(&mut self, number: u64) -> Option<u64>
+        ensures { result ≡ missing_before (unwrap_or self.old.next number) number }
+    {
         let next = self.next.unwrap_or(number);
         self.next = Some(next);
         if next < number { Some(next) } else { None }
@@ -94,8 +97,8 @@ impl Watched {
         self.telephones.iter().position(|known| known.line == line)
     }
 
-    /// The place of a line's telephone; one of which nothing was told is at rest.
-    pub(crate) fn place(&mut self, alloc: Global, line: u16) -> Result<usize, OutOfMemory> {
+    // The place of a line's telephone; one of which nothing was told is at rest.
+    fn place(&mut self, alloc: Global, line: u16) -> Result<usize, OutOfMemory> {
         if let Some(place) = self.place_of(line) {
             return Ok(place);
         }
@@ -106,6 +109,33 @@ impl Watched {
             since: None,
         })?;
         Ok(place)
+    }
+
+    /// What is known of a line's telephone.
+    pub(crate) fn known(
+        &mut self,
+        alloc: Global,
+        line: u16,
+    ) -> Result<Option<&Known>, OutOfMemory> {
+        let place = self.place(alloc, line)?;
+        Ok(self.telephones.get(place))
+    }
+
+    /// Whether it hasn't answered for too long, at this moment of this machine's clock, in ms.
+    pub(crate) fn is_silent(&self, now: u64) -> bool {
+        match self.questions.front() {
+            Some(question) => now >= question.asked.saturating_add(LONGEST_ANSWER),
+            None => false,
+        }
+    }
+
+    /// Until when it is waited for an answer, or for the moment at which it is asked anew to tell what changes.
+    pub(crate) fn due(&self) -> u64 {
+        let renewal = self.renewed.saturating_add(RENEWAL);
+        match self.questions.front() {
+            Some(question) => renewal.min(question.asked.saturating_add(LONGEST_ANSWER)),
+            None => renewal,
+        }
     }
 
     /// A line changed at this moment, in ms.
@@ -124,7 +154,7 @@ impl Watched {
         Ok(())
     }
 
-    /// A line is so, as it was shown.
+    /// A line is so, as it was shown. Where none was before, that is the answer to who asked first.
     pub(crate) fn show(
         &mut self,
         alloc: Global,
@@ -135,7 +165,10 @@ impl Watched {
         if let Some(known) = self.telephones.get_mut(place) {
             known.telephone = telephone;
         }
-        self.is_shown = true;
+        if !self.is_shown {
+            let _ = self.questions.pop_front();
+            self.is_shown = true;
+        }
         Ok(())
     }
 }

@@ -5,11 +5,17 @@
 #![tactic(auto)]
 
 mod act;
+mod asking;
 mod change;
 pub mod examples;
 mod expecting;
+mod failure;
+mod fault;
 mod gateways;
+mod going;
+mod hearing;
 pub mod laws;
+mod limits;
 mod player;
 mod runner;
 mod said;
@@ -23,9 +29,11 @@ mod words;
 pub use crate::act::PhoneAct;
 pub use crate::change::{Telling, Watching, telling_in, watching_in};
 pub use crate::expecting::{Expected, Open, Verdict};
-pub use crate::player::{Failure, Next, Player};
-pub use crate::said::{Said, SaidFault};
+pub use crate::failure::{Failure, Unmet};
+pub use crate::fault::LineFault;
+pub use crate::player::{Next, Player};
+pub use crate::said::Said;
 pub use crate::script::{Placed, Reader, Script, ScriptFault, Wanted};
 pub use crate::statement::{Phone, Place, Statement};
 pub use crate::telephone::{Connected, Telephone, What};
-pub use crate::wording::{failure_text, put_place, script_fault_text};
+pub use crate::wording::{failure_text, fault_line, put_place};

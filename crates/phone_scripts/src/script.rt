@@ -4,20 +4,13 @@ ghost use Rattle.std.specs.List.{flat_map};
 ghost use Rattle.phone_scripts.specs.Blocks.{pressed};
 
 use crate::act::PhoneAct;
-use crate::said::{Said, SaidFault};
+use crate::fault::LineFault;
+use crate::limits::{DEEPEST_INCLUDE, MOST_DEPTH, MOST_STATEMENTS};
+use crate::said::Said;
 use crate::statement::{Phone, Place, Statement};
 use crate::words::said_in;
 use mg_bytes::{OutOfMemory, Text, lines};
 use std::alloc::Global;
-
-// So many blocks stand in one another at most.
-const MOST_DEPTH: usize = 16;
-
-// So many files bring one another at most.
-const DEEPEST_INCLUDE: usize = 8;
-
-// So many statements has a script at most.
-const MOST_STATEMENTS: usize = 65_536;
 
 /// A statement, and where it stands.
 #[derive(Clone, Copy)]
@@ -36,17 +29,10 @@ pub struct Script {
 /// Why a script can't be played.
 #[derive(Clone, Copy)]
 pub enum ScriptFault {
+    /// Memory was refused.
     OutOfMemory,
-    /// What stands there says nothing that can be done.
-    Said { place: Place, fault: SaidFault },
-    /// No block is open that would end there.
-    NoBlock { place: Place },
-    /// The block that begins there has no end.
-    Endless { place: Place },
-    /// Too many blocks stand in one another, or files bring one another.
-    TooDeep { place: Place },
-    /// It has too many statements.
-    TooLong { place: Place },
+    /// What stands there can't stand there.
+    Line { place: Place, fault: LineFault },
 }
 
 impl From<OutOfMemory> for ScriptFault {
@@ -55,6 +41,13 @@ impl From<OutOfMemory> for ScriptFault {
     fn from(_refused: OutOfMemory) -> ScriptFault {
         ScriptFault::OutOfMemory
     }
+}
+
+// What stands there can't.
+fn fault_at(place: Place, fault: LineFault) -> ScriptFault
+    ensures { result ≡ ScriptFault.Line place fault }
+{
+    ScriptFault::Line { place, fault }
 }
 
 /// What a reader wants.
@@ -179,7 +172,7 @@ impl<'n> Reader<'n> {
     // Puts a statement.
     fn put(&mut self, place: Place, statement: Statement) -> Result<(), ScriptFault> {
         if self.script.statements.len() >= MOST_STATEMENTS {
-            return Err(ScriptFault::TooLong { place });
+            return Err(fault_at(place, LineFault::TooLong));
         }
         self.script.statements.push(Placed { place, statement })?;
         Ok(())
@@ -188,7 +181,7 @@ impl<'n> Reader<'n> {
     // A block begins.
     fn begin_block(&mut self, place: Place, begin: Statement) -> Result<(), ScriptFault> {
         if self.begun.len() >= MOST_DEPTH {
-            return Err(ScriptFault::TooDeep { place });
+            return Err(fault_at(place, LineFault::TooDeep));
         }
         self.begun.push(place)?;
         self.put(place, begin)
@@ -197,7 +190,7 @@ impl<'n> Reader<'n> {
     // A block ends that this file began.
     fn end_block(&mut self, place: Place, depth: usize) -> Result<(), ScriptFault> {
         if self.begun.len() <= depth {
-            return Err(ScriptFault::NoBlock { place });
+            return Err(fault_at(place, LineFault::NoBlock));
         }
         let _ = self.begun.pop();
         self.put(place, Statement::End)
@@ -219,7 +212,7 @@ impl<'n> Reader<'n> {
     // A file is included, as a block.
     fn include(&mut self, place: Place, file: Text) -> Result<Wanted, ScriptFault> {
         if self.levels.len() > DEEPEST_INCLUDE {
-            return Err(ScriptFault::TooDeep { place });
+            return Err(fault_at(place, LineFault::TooDeep));
         }
         self.script.files.push(file)?;
         self.put(place, Statement::Repeat { times: 1 })?;
@@ -257,7 +250,7 @@ impl<'n> Reader<'n> {
     fn leave(&mut self, level: Level) -> Result<(), ScriptFault> {
         if self.begun.len() > level.depth {
             if let Some(place) = self.begun.pop() {
-                return Err(ScriptFault::Endless { place });
+                return Err(fault_at(place, LineFault::Endless));
             }
         }
         if self.levels.is_empty() {
@@ -277,7 +270,7 @@ impl<'n> Reader<'n> {
         }
         match said_in(self.alloc, self.names, line) {
             Ok(Ok(said)) => Ok(said),
-            Ok(Err(fault)) => Err(ScriptFault::Said { place, fault }),
+            Ok(Err(fault)) => Err(fault_at(place, fault)),
             Err(_) => Err(ScriptFault::OutOfMemory),
         }
     }

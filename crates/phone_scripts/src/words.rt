@@ -2,23 +2,19 @@
 ghost use Rattle.std.specs.Prelude.{◌≡◌, IfOk, MatchResult, option_map, Ok, Err, Some};
 ghost use Rattle.std.specs.Option.{ok_or};
 ghost use Rattle.mg_bytes.specs.Words.{words as words_of};
-ghost use Rattle.phone_scripts.specs.declared.said.SaidFault.TheVariants as faults;
+ghost use Rattle.phone_scripts.specs.declared.fault.LineFault.TheVariants as faults;
 ghost use Rattle.phone_scripts.specs.Grammar.{line_of, named_from, phone_at, phone_of, time_of, times_of, expected_of, connection_of, signals, modes, is_side_by_side, is_connection_within, waits, acts_on, dials, expects, line_of_one, line_of_two, line_of_three, line_of_four, line_of_five, line_of_six, said_in};
 
 use crate::act::{act_of, are_keys};
 use crate::expecting::Expected;
-use crate::said::{Said, SaidFault};
+use crate::fault::LineFault;
+use crate::limits::{LONGEST_TIME, MOST_TIMES};
+use crate::said::Said;
 use crate::statement::Phone;
 use connections::read_mode;
 use mg_bytes::{OutOfMemory, Text, decimal, split_once, words};
 use mg_packages::signal_of;
 use std::alloc::Global;
-
-// So long it is waited or expected at most, in ms.
-const LONGEST_TIME: u64 = 10_000_000;
-
-// So often a block is repeated at most.
-const MOST_TIMES: u64 = 1_000_000;
 
 // So long keys are apart where nothing is said, in ms.
 const USUAL_GAP: u64 = 100;
@@ -108,76 +104,76 @@ fn connection_of(word: &[u8]) -> Option<Expected>
     Some(Expected::Connection { mode })
 }
 
-fn signals(word: &[u8]) -> Result<Expected, SaidFault>
+fn signals(word: &[u8]) -> Result<Expected, LineFault>
     ensures { result ≡ signals word.now }
 {
     match expected_of(word) {
         Some(expected) => Ok(expected),
-        None => Err(SaidFault::Expected),
+        None => Err(LineFault::Expected),
     }
 }
 
-fn modes(word: &[u8]) -> Result<Expected, SaidFault>
+fn modes(word: &[u8]) -> Result<Expected, LineFault>
     ensures { result ≡ modes word.now }
 {
     match connection_of(word) {
         Some(expected) => Ok(expected),
-        None => Err(SaidFault::Mode),
+        None => Err(LineFault::Mode),
     }
 }
 
-fn phone_in(names: &[Text], word: &[u8]) -> Result<Phone, SaidFault>
+fn phone_in(names: &[Text], word: &[u8]) -> Result<Phone, LineFault>
     ensures { result ≡ ok_or (phone_of names.now word.now) faults.Phone }
 {
     match phone_of(names, word) {
         Some(phone) => Ok(phone),
-        None => Err(SaidFault::Phone),
+        None => Err(LineFault::Phone),
     }
 }
 
-fn time_in(time: Option<u64>) -> Result<u64, SaidFault>
+fn time_in(time: Option<u64>) -> Result<u64, LineFault>
     ensures { result ≡ ok_or time faults.Time }
 {
     match time {
         Some(time) => Ok(time),
-        None => Err(SaidFault::Time),
+        None => Err(LineFault::Time),
     }
 }
 
-fn waits(text: &[u8]) -> Result<Said, SaidFault>
+fn waits(text: &[u8]) -> Result<Said, LineFault>
     ensures { result ≡ waits text.now }
 {
     match time_of(text) {
         Some(ms) => Ok(Said::Wait { ms }),
-        None => Err(SaidFault::Time),
+        None => Err(LineFault::Time),
     }
 }
 
-fn repeats(text: &[u8]) -> Result<Said, SaidFault>
+fn repeats(text: &[u8]) -> Result<Said, LineFault>
     ensures { result ≡ ok_or (option_map Said.Repeat (times_of text.now)) faults.Times }
 {
     match times_of(text) {
         Some(times) => Ok(Said::Repeat { times }),
-        None => Err(SaidFault::Times),
+        None => Err(LineFault::Times),
     }
 }
 
-fn acts_on(names: &[Text], phone: &[u8], word: &[u8]) -> Result<Said, SaidFault>
+fn acts_on(names: &[Text], phone: &[u8], word: &[u8]) -> Result<Said, LineFault>
     ensures { result ≡ acts_on names.now phone.now word.now }
 {
     let phone = phone_in(names, phone)?;
     match act_of(word) {
         Some(act) => Ok(Said::Act { phone, act }),
-        None => Err(SaidFault::Act),
+        None => Err(LineFault::Act),
     }
 }
 
 fn expects(
     names: &[Text],
     phone: &[u8],
-    what: Result<Expected, SaidFault>,
+    what: Result<Expected, LineFault>,
     within: Option<u64>,
-) -> Result<Said, SaidFault>
+) -> Result<Said, LineFault>
     ensures { result ≡ expects names.now phone.now what within }
 {
     let phone = phone_in(names, phone)?;
@@ -196,7 +192,7 @@ fn dialling(
     phone: &[u8],
     keys: &[u8],
     gap: Option<u64>,
-) -> Result<(Phone, u64), SaidFault>
+) -> Result<(Phone, u64), LineFault>
     ensures { MatchResult result (λ p. dials names.now phone.now keys.now gap ≡ Ok (Said.Dial p.0 keys.now p.1))
         (λ fault. dials names.now phone.now keys.now gap ≡ Err fault) }
 {
@@ -205,7 +201,7 @@ fn dialling(
     if are_keys(keys) {
         Ok((phone, gap))
     } else {
-        Err(SaidFault::Keys)
+        Err(LineFault::Keys)
     }
 }
 
@@ -215,7 +211,7 @@ fn dials(
     phone: &[u8],
     keys: &[u8],
     gap: Option<u64>,
-) -> Result<Result<Said, SaidFault>, OutOfMemory>
+) -> Result<Result<Said, LineFault>, OutOfMemory>
     ensures { IfOk result (λ said. said ≡ dials names.now phone.now keys.now gap) }
 {
     match dialling(names, phone, keys, gap) {
@@ -227,7 +223,7 @@ fn dials(
     }
 }
 
-fn includes(alloc: Global, file: &[u8]) -> Result<Result<Said, SaidFault>, OutOfMemory>
+fn includes(alloc: Global, file: &[u8]) -> Result<Result<Said, LineFault>, OutOfMemory>
     ensures { IfOk result (λ said. said ≡ Ok (Said.Include file.now)) }
 {
     let file = Text::of(Vec::from_slice(alloc, file)?);
@@ -235,13 +231,13 @@ fn includes(alloc: Global, file: &[u8]) -> Result<Result<Said, SaidFault>, OutOf
 }
 
 #[tactic(auto, unfolding(crate::specs::Grammar::line_of_one))]
-fn line_of_one(a: &[u8]) -> Result<Said, SaidFault>
+fn line_of_one(a: &[u8]) -> Result<Said, LineFault>
     ensures { result ≡ line_of_one a.now }
 {
     if a == b"end".as_slice() {
         Ok(Said::End)
     } else {
-        Err(SaidFault::Line)
+        Err(LineFault::Line)
     }
 }
 
@@ -251,7 +247,7 @@ fn line_of_two(
     names: &[Text],
     a: &[u8],
     b: &[u8],
-) -> Result<Result<Said, SaidFault>, OutOfMemory>
+) -> Result<Result<Said, LineFault>, OutOfMemory>
     ensures { IfOk result (λ said. said ≡ line_of_two names.now a.now b.now) }
 {
     if a == b"wait".as_slice() {
@@ -277,7 +273,7 @@ fn line_of_three(
     a: &[u8],
     b: &[u8],
     c: &[u8],
-) -> Result<Result<Said, SaidFault>, OutOfMemory>
+) -> Result<Result<Said, LineFault>, OutOfMemory>
     ensures { IfOk result (λ said. said ≡ line_of_three names.now a.now b.now c.now) }
 {
     if b == b"dial".as_slice() {
@@ -289,7 +285,7 @@ fn line_of_three(
     } else if is_side_by_side(a, b, c) {
         Ok(Ok(Said::Beside))
     } else {
-        Ok(Err(SaidFault::Line))
+        Ok(Err(LineFault::Line))
     }
 }
 
@@ -301,7 +297,7 @@ fn line_of_four(
     b: &[u8],
     c: &[u8],
     d: &[u8],
-) -> Result<Result<Said, SaidFault>, OutOfMemory>
+) -> Result<Result<Said, LineFault>, OutOfMemory>
     ensures { IfOk result (λ said. said ≡ line_of_four names.now a.now b.now c.now d.now) }
 {
     if b == b"dial".as_slice() {
@@ -309,7 +305,7 @@ fn line_of_four(
     } else if a == b"expect".as_slice() && c == b"connection".as_slice() {
         Ok(expects(names, b, modes(d), Some(0)))
     } else {
-        Ok(Err(SaidFault::Line))
+        Ok(Err(LineFault::Line))
     }
 }
 
@@ -321,13 +317,13 @@ fn line_of_five(
     c: &[u8],
     d: &[u8],
     e: &[u8],
-) -> Result<Said, SaidFault>
+) -> Result<Said, LineFault>
     ensures { result ≡ line_of_five names.now a.now b.now c.now d.now e.now }
 {
     if a == b"expect".as_slice() && d == b"within".as_slice() {
         expects(names, b, signals(c), time_of(e))
     } else {
-        Err(SaidFault::Line)
+        Err(LineFault::Line)
     }
 }
 
@@ -346,13 +342,13 @@ fn line_of_six(
     d: &[u8],
     e: &[u8],
     f: &[u8],
-) -> Result<Said, SaidFault>
+) -> Result<Said, LineFault>
     ensures { result ≡ line_of_six names.now a.now b.now c.now d.now e.now f.now }
 {
     if is_connection_within(a, c, e) {
         expects(names, b, modes(d), time_of(f))
     } else {
-        Err(SaidFault::Line)
+        Err(LineFault::Line)
     }
 }
 
@@ -362,7 +358,7 @@ pub(crate) fn said_in(
     alloc: Global,
     names: &[Text],
     line: &[u8],
-) -> Result<Result<Said, SaidFault>, OutOfMemory>
+) -> Result<Result<Said, LineFault>, OutOfMemory>
     ensures { IfOk result (λ said. said ≡ said_in names.now (words_of line.now)) }
 {
     let mut rest = words(line);
@@ -385,7 +381,7 @@ pub(crate) fn said_in(
         return Ok(line_of_five(names, a, b, c, d, e));
     };
     if rest.next().is_some() {
-        return Ok(Err(SaidFault::Line));
+        return Ok(Err(LineFault::Line));
     }
     Ok(line_of_six(names, a, b, c, d, e, f))
 }

@@ -4,7 +4,7 @@ use crate::help::of_all;
 use crate::phone_words::PhoneSettings;
 use live_ends::{CommonEnding, put_around, read_file};
 use mg_bytes::{OutOfMemory, Text};
-use phone_scripts::{Place, Reader, Script, ScriptFault, Wanted, put_place, script_fault_text};
+use phone_scripts::{Place, Reader, Script, ScriptFault, Wanted, fault_line, put_place};
 use rgw_scripts::LIMIT;
 use std::alloc::Global;
 use std::rt::Files;
@@ -28,11 +28,12 @@ fn script_ending<'w>(
     files: &[Text],
     fault: ScriptFault,
 ) -> Result<Ending<'w>, OutOfMemory> {
-    if let ScriptFault::OutOfMemory = fault {
-        return Ok(Ending::Common(CommonEnding::OutOfMemory));
+    match fault {
+        ScriptFault::OutOfMemory => Ok(Ending::Common(CommonEnding::OutOfMemory)),
+        ScriptFault::Line { place, fault } => Ok(Ending::BadScript {
+            text: fault_line(alloc, files, place, fault)?,
+        }),
     }
-    let text = script_fault_text(alloc, files, fault)?;
-    Ok(Ending::BadScript { text })
 }
 
 // How it ends where a script can't have a file that it brings there, of which this would be said if it were the script itself.

@@ -22,7 +22,7 @@ fn failure_ending<'w>(
 ) -> Result<Ending<'w>, OutOfMemory> {
     let text = failure_text(alloc, files, names, failure)?;
     match failure {
-        Failure::Unmet { .. } => Ok(Ending::Unexpected { text }),
+        Failure::Unmet(_) => Ok(Ending::Unexpected { text }),
         _ => Ok(Ending::Unplayed { text }),
     }
 }
