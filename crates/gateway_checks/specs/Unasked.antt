@@ -78,8 +78,8 @@ is_written wanted (Some value) = is_any wanted || is_either wanted value
 -- What a step expects
 
 -- of the text that is meant it is judged whether it is right; any other is passed over
-abbrev pub likeness : Bool → Bool → Likeness
-likeness meant right = if not meant then Another else if right then AsDue else Otherwise
+abbrev pub likeness_by : Bool → Bool → Likeness
+likeness_by meant right = if not meant then Another else if right then AsDue else Otherwise
 
 -- it is the text that is meant, right or not
 abbrev pub is_meant : Likeness → Bool
@@ -109,11 +109,11 @@ abbrev pub tells : List ℕ → List ℕ → List Param → Bool
 tells x events params = is_written x (value_in (codes "X") params) && is_written events (value_in (codes "O") params)
 
 abbrev pub notified_in : List ℕ → List ℕ → List ℕ → Verb → List ℕ → List Param → Likeness
-notified_in name x events verb endpoint params = likeness (is_notice_of name verb endpoint) (tells x events params)
+notified_in name x events verb endpoint params = likeness_by (is_notice_of name verb endpoint) (tells x events params)
 
 -- an announcement (RFC 3435, 2.3.12) is right by its method
 abbrev pub announced_in : List ℕ → Verb → List ℕ → List Param → Likeness
-announced_in method verb endpoint params = likeness (is_restart verb) (is_written method (value_in (codes "RM") params))
+announced_in method verb endpoint params = likeness_by (is_restart verb) (is_written method (value_in (codes "RM") params))
 
 abbrev pub notified_by : List ℕ → List ℕ → List ℕ → Outcome → Likeness
 notified_by name x events text = by_command Another (notified_in name x events) text

@@ -16,7 +16,7 @@ ghost use Rattle.gateway_checks.specs.declared.report.Tally.{Tally};
 ghost use Rattle.gateway_checks.specs.Waiting.{greatest_moment, waited_until, is_prolonged};
 ghost use Rattle.gateway_checks.specs.declared.unasked.Likeness.TheVariants as likes;
 ghost use Rattle.gateway_checks.specs.declared.unasked.Unasked.{Unasked};
-ghost use Rattle.gateway_checks.specs.Unasked.{notified_by, announced_by, is_for_check, breaks, is_quiet, likeness, first_meant};
+ghost use Rattle.gateway_checks.specs.Unasked.{notified_by, announced_by, is_for_check, breaks, is_quiet, likeness_by, first_meant};
 ghost use Rattle.gateway_checks.specs.Unasked.{none_since, with_coming, last_of, gaps_behind, has_grown};
 
 /// A code that is due is right; by one from 500 to 599 something that may be left out isn't supported.
@@ -186,13 +186,13 @@ pub fn a_silence_is_broken_by_what_comes()
 
 /// The first that is meant is the one that counts, whether it is as due or not.
 pub fn the_first_that_is_meant_counts()
-    ensures passed_over { likeness false true ≡ likes.Another }
-    ensures right { likeness true true ≡ likes.AsDue }
-    ensures wrong { likeness true false ≡ likes.Otherwise }
+    ensures passed_over { likeness_by false true ≡ likes.Another }
+    ensures right { likeness_by true true ≡ likes.AsDue }
+    ensures wrong { likeness_by true false ≡ likes.Otherwise }
     ensures none { (a b : Unasked) → first_meant (λ _. likes.Another) 0 (a ∷ b ∷ []) ≡ None }
     ensures due { (a b : Unasked) → first_meant (λ _. likes.AsDue) 2 (a ∷ b ∷ []) ≡ Some (2, true) }
     ensures otherwise { (a b : Unasked) → first_meant (λ _. likes.Otherwise) 2 (a ∷ b ∷ []) ≡ Some (2, false) }
-    ensures second { (a : Unasked) → first_meant (λ text. likeness (text.moment == 7) true) 0
+    ensures second { (a : Unasked) → first_meant (λ text. likeness_by (text.moment == 7) true) 0
         (record a { moment = 5 } ∷ record a { moment = 7 } ∷ []) ≡ Some (1, true) }
 {}
 

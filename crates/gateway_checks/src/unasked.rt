@@ -2,7 +2,7 @@
 ghost use Rattle.std.specs.Prelude.{◌≡◌, IfOk, option_copied};
 ghost use Rattle.mgcp_text.specs.Reading.{message as said, read_text};
 ghost use Rattle.gateway_checks.specs.Unasked.{is_same_text, is_notify, is_restart, value_in, is_any, is_either, is_written};
-ghost use Rattle.gateway_checks.specs.Unasked.{likeness, is_meant, is_as_due, is_notice_of, tells, likeness_in, likeness_of};
+ghost use Rattle.gateway_checks.specs.Unasked.{likeness_by, is_meant, is_as_due, is_notice_of, tells, likeness_in, likeness_of};
 ghost use Rattle.gateway_checks.specs.Unasked.{is_own_number, is_own_request, is_for_steps, is_for_check};
 
 use crate::socket::Socket;
@@ -153,8 +153,8 @@ fn is_written(wanted: &[u8], given: Option<&[u8]>) -> bool
 }
 
 // What a text is by whether it is meant, and right.
-fn likeness(meant: bool, right: bool) -> Likeness
-    ensures { result ≡ likeness meant right }
+fn likeness_by(meant: bool, right: bool) -> Likeness
+    ensures { result ≡ likeness_by meant right }
 {
     if !meant {
         Likeness::Another
@@ -189,11 +189,11 @@ fn likeness_in(
     ensures { result ≡ likeness_in expected.now verb endpoint.now params.now }
 {
     match expected {
-        Expected::Notification { name, x, events } => likeness(
+        Expected::Notification { name, x, events } => likeness_by(
             is_notice_of(*name, verb, endpoint),
             tells(*x, *events, params),
         ),
-        Expected::Announcement { method } => likeness(
+        Expected::Announcement { method } => likeness_by(
             is_restart(verb),
             is_written(*method, value_in(b"RM", params)),
         ),
