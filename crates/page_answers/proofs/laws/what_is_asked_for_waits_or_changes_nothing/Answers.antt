@@ -12,7 +12,7 @@ returns-clause-shown c = λ old new body h.
     (ap (λ (b : BoardState). b.picture) t.2, ap (λ (b : BoardState). b.version) t.2, ap (λ (b : BoardState). b.ring) t.2)
 
 pub returns-clause-no_room : goal.returns-clause-no_room
-returns-clause-no_room c = λ old new body h. (h.refused (λ e. cc), h.no_room refl)
+returns-clause-no_room c = λ old new body h. (h.refused (λ e. cc), h.no_room refl, h.full refl)
 
 pub returns-clause-unreadable : goal.returns-clause-unreadable
 returns-clause-unreadable c = λ old new body h. (h.refused (λ e. cc), h.unreadable refl)
