@@ -14,7 +14,7 @@ use surroundings::{Fault, Surroundings, Told};
 /// What is answered to a line that asks for the program's end, and isn't from the loopback.
 pub const STOP_FROM_AFAR: &[u8] = b"! stop is taken from a loopback address alone, 127.0.0.0/8\n";
 
-/// A socket for datagrams, another for lines of who types, and the machine's clock. What was handed to sockets isn't told.
+/// A socket for datagrams, another for lines of who types, and the machine's clock. What went over sockets isn't told.
 #[derive(Drop)]
 pub struct Live<'a, R> {
     pub rt: &'a R,
@@ -79,9 +79,10 @@ impl<'a, R: Net + Clock> Live<'a, R> {
 }
 
 impl<R: Net + Clock> Surroundings for Live<'_, R> {
-    ghost use Rattle.std.specs.Prelude.{⊤, None};
+    ghost use Rattle.std.specs.Prelude.{⊤};
+    ghost use Rattle.surroundings.specs.Sending.{untold};
 
-    ghost sent = { λ live. None };
+    ghost traffic = { λ live. untold };
 
     ghost sockets = { λ live. live.own };
 

@@ -1,3 +1,4 @@
 pub mod Computing
 pub mod TypingLemmas
+pub mod TrafficLemmas
 pub mod SpeakingLemmas

@@ -1,8 +1,10 @@
 -- What is told by who keeps copies.
-use Rattle.std.specs.Prelude.{ℕ, List, map, if◌then◌else◌, Option, Some, None}
+use Rattle.std.specs.Prelude.{ℕ, List, map, if◌then◌else◌, Option, Some, None, option_map}
+use Rattle.surroundings.specs.declared.arrivals.Arrivals.{Arrivals}
+use Rattle.surroundings.specs.declared.arrivals.ReceivedDatagram.{ReceivedDatagram}
 use Rattle.surroundings.specs.declared.keeping.SentDatagram.{SentDatagram}
 use Rattle.surroundings.specs.declared.scripted.Scripted.{Scripted}
-use Rattle.surroundings.specs.Sending.{Sent}
+use Rattle.surroundings.specs.Sending.{Sent, Received, Traffic}
 
 abbrev pub copies_of : List SentDatagram → List Sent
 copies_of kept = map (λ copy. record { to = copy.to; bytes = copy.bytes.items }) kept
@@ -11,6 +13,16 @@ copies_of kept = map (λ copy. record { to = copy.to; bytes = copy.bytes.items }
 abbrev pub moments_of : List SentDatagram → List ℕ
 moments_of kept = map (λ copy. copy.moment) kept
 
--- all copies, where none was refused memory
-abbrev pub told_by : Scripted → Option (List Sent)
-told_by scripted = if scripted.is_whole then Some (copies_of scripted.sent.items) else None
+abbrev pub received_in : List ReceivedDatagram → List Received
+received_in kept = map (λ copy. record { source = copy.source; bytes = copy.bytes.items }) kept
+
+-- all copies of what came, where none was refused memory
+abbrev pub arrivals_of : Arrivals → Option (List Received)
+arrivals_of arrivals = option_map (λ kept. received_in kept.items) arrivals.kept
+
+-- all copies of what was sent, where none was refused memory
+abbrev pub sent_by : Scripted → Option (List Sent)
+sent_by scripted = if scripted.is_whole then Some (copies_of scripted.sent.items) else None
+
+abbrev pub told_by : Scripted → Traffic
+told_by scripted = record { sent = sent_by scripted; received = arrivals_of scripted.received }

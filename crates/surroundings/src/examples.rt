@@ -1,13 +1,15 @@
 //! Worked examples of the definitions, as theorems: each sentence of a definition has one that a slip in it breaks.
 #![tactic(auto, unfolding(crate::proofs::Computing::on_examples))]
 
-ghost use Rattle.std.specs.Prelude.{◌≡◌, codes, map, true, false, [], ◌∷◌};
+ghost use Rattle.std.specs.Prelude.{◌≡◌, codes, map, true, false, [], ◌∷◌, Some, None, Ok, Err};
 ghost use Rattle.std.specs.declared.net.socket_addr.SocketAddr.TheVariants.{V4, V6};
 ghost use Rattle.std.specs.declared.net.socket_addr.SocketAddrV6.{SocketAddrV6};
 ghost use Rattle.mg_bytes.specs.Lines.{cut};
 ghost use Rattle.surroundings.specs.Example.{socket_at, everywhere, here, there};
 ghost use Rattle.surroundings.specs.Requests.{is_answer, is_request, requests_from, is_from, is_from_any, is_own};
+ghost use Rattle.surroundings.specs.Sending.{found_by, received_at};
 ghost use Rattle.surroundings.specs.Typing.{behind};
+ghost use Rattle.surroundings.specs.declared.surroundings.Fault.{Fault};
 
 /// Each answer of `rgwd` is known by its beginning, and each line of its counts.
 pub fn answers_of_a_gateway_are_known()
@@ -87,4 +89,14 @@ pub fn own_sockets_are_known()
     ensures none { is_from_any (socket_at here 2500 ∷ socket_at here 2427 ∷ []) (socket_at here 40000) ≡ false }
     ensures of_its_kind { is_own (socket_at here 2500 ∷ []) (V4 (socket_at here 2500)) ≡ true }
     ensures of_another_kind { (sender : SocketAddrV6) → is_own (socket_at everywhere 2500 ∷ []) (V6 sender) ≡ false }
+{}
+
+/// What is received is the front of the room, as long as is said, with its source; where nothing came, or the socket failed, it is
+/// nothing.
+pub fn what_is_received_stands_at_the_front_of_the_room()
+    ensures front { received_at (Ok (Some (socket_at here 2427, 2))) (7 ∷ 8 ∷ 9 ∷ []) ≡ record { source = socket_at here 2427; bytes = 7 ∷ 8 ∷ [] } ∷ [] }
+    ensures empty { received_at (Ok (Some (socket_at here 2427, 0))) (7 ∷ []) ≡ record { source = socket_at here 2427; bytes = [] } ∷ [] }
+    ensures nothing { received_at (Ok None) (7 ∷ []) ≡ [] }
+    ensures fault { (fault : Fault) → received_at (Err fault) (7 ∷ []) ≡ [] }
+    ensures found { found_by (Some (socket_at there 2727, 1)) (7 ∷ 8 ∷ []) ≡ record { source = socket_at there 2727; bytes = 7 ∷ [] } ∷ [] }
 {}

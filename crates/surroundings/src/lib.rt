@@ -3,6 +3,7 @@
 //! A program's loop is written over it, so that it runs on the machine's sockets and clock, and in memory, by a script, just so.
 #![tactic(auto)]
 
+mod arrivals;
 pub mod examples;
 pub mod hearing_examples;
 mod keeping;

@@ -118,7 +118,7 @@ fn next_place(text: &[u8], begin: usize) -> usize
 // This is answered to who sent the lines, where somebody did.
 fn reply<S: Surroundings>(around: &mut S, sender: Option<SocketAddr>, text: &[u8])
     ensures answered { AnswersTo S.answers sender around.old text.now around.new }
-    ensures sent { S.sent around.new ≡ S.sent around.old }
+    ensures traffic { S.traffic around.new ≡ S.traffic around.old }
 {
     if let Some(sender) = sender {
         around.answer(sender, text);
@@ -268,7 +268,7 @@ impl Lines {
         ensures looks { (found : Option (Sender × ℕ)) × (room : List ℕ) × S.hears around.old found room around.new
             × Looked (S.sockets around.new) found room self.old result self.new }
         ensures same { result ≡ false → self.new ≡ self.old }
-        ensures sent { S.sent around.new ≡ S.sent around.old }
+        ensures traffic { S.traffic around.new ≡ S.traffic around.old }
         ensures room { vec_capacity self.old.text ≤ vec_capacity self.new.text }
     {
         let mut room = [0u8; ROOM];
@@ -283,7 +283,7 @@ impl Lines {
         ensures heard { Hears S.sockets S.hears around.old self.old result around.new self.new }
         ensures waits { is_empty (left_of self.old) ≡ false → result ≡ false }
         ensures same { result ≡ false → self.new ≡ self.old }
-        ensures sent { S.sent around.new ≡ S.sent around.old }
+        ensures traffic { S.traffic around.new ≡ S.traffic around.old }
         ensures room { vec_capacity self.old.text ≤ vec_capacity self.new.text }
     {
         if !self.is_empty() {
@@ -307,7 +307,7 @@ impl Lines {
         ensures answered { AnswersTo S.answers self.old.sender around.old text.now around.new }
         ensures left { left_of self.new ≡ requests_from (behind (left_of self.old)) }
         ensures sender { self.new.sender ≡ self.old.sender }
-        ensures sent { S.sent around.new ≡ S.sent around.old }
+        ensures traffic { S.traffic around.new ≡ S.traffic around.old }
         ensures room { vec_capacity self.new.text ≡ vec_capacity self.old.text }
     {
         reply(around, self.sender, text);
@@ -319,7 +319,7 @@ impl Lines {
         ensures answered { AnswersTo S.answers self.old.sender around.old text.now around.new }
         ensures left { left_of self.new ≡ [] }
         ensures sender { self.new.sender ≡ self.old.sender }
-        ensures sent { S.sent around.new ≡ S.sent around.old }
+        ensures traffic { S.traffic around.new ≡ S.traffic around.old }
         ensures room { vec_capacity self.new.text ≡ vec_capacity self.old.text }
     {
         reply(around, self.sender, text);

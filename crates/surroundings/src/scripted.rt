@@ -2,6 +2,7 @@
 ghost use Rattle.std.specs.Prelude.{◌≡◌, ◌≤◌, ◌<◌, ◌++◌, ◌∷◌, [], false, Some, length, IfSome, OnOk, OnErr};
 ghost use Rattle.surroundings.specs.Keeping.{told_by};
 
+use crate::arrivals::Arrivals;
 use crate::keeping::{SentDatagram, keep};
 use crate::surroundings::{Fault, Surroundings, Told};
 use std::alloc::{AllocError, Global};
@@ -52,7 +53,8 @@ pub struct Answer {
     pub text: Vec<u8>,
 }
 
-/// Surroundings in which things happen at their moments, and that keep what is sent and answered. Its clock goes on by waits alone.
+/// Surroundings in which things happen at their moments, and that keep what is received, sent and answered. Its clock goes on by waits
+/// alone.
 #[derive(Drop)]
 pub struct Scripted {
     alloc: Global,
@@ -66,6 +68,8 @@ pub struct Scripted {
     pub answers: Vec<Answer>,
     // No copy of what was sent is missing.
     pub(crate) is_whole: bool,
+    // What was received.
+    pub(crate) received: Arrivals,
     is_failing: bool,
 }
 
@@ -82,7 +86,7 @@ fn fill(room: &mut [u8], bytes: &[u8]) -> usize
 impl Scripted {
     /// At moment 0, with sockets at these addresses; nothing is to happen.
     pub fn new(alloc: Global, own: [SocketAddrV4; 2]) -> Scripted
-        ensures sent { told_by result ≡ Some [] }
+        ensures traffic { told_by result ≡ record { sent = Some []; received = Some [] } }
         ensures own { result.own ≡ own }
         ensures moment { result.moment ≡ 0 }
         ensures coming { result.coming.items ≡ [] }
@@ -99,6 +103,7 @@ impl Scripted {
             unsent: Vec::new(alloc),
             answers: Vec::new(alloc),
             is_whole: true,
+            received: Arrivals::none(alloc),
             is_failing: false,
         }
     }
@@ -107,7 +112,7 @@ impl Scripted {
     pub fn add(&mut self, coming: Coming) -> Result<(), AllocError>
         ensures ok { OnOk result (self.new.coming.items ≡ self.old.coming.items ++ coming ∷ []) }
         ensures err { OnErr result (self.new.coming.items ≡ self.old.coming.items) }
-        ensures sent { told_by self.new ≡ told_by self.old }
+        ensures traffic { told_by self.new ≡ told_by self.old }
         ensures own { self.new.own ≡ self.old.own }
         ensures moment { self.new.moment ≡ self.old.moment }
         ensures unsent { self.new.unsent ≡ self.old.unsent }
@@ -138,6 +143,7 @@ impl Scripted {
     fn take(&mut self, place: usize) -> Option<Happening>
         ensures sent { self.new.sent ≡ self.old.sent }
         ensures whole { self.new.is_whole ≡ self.old.is_whole }
+        ensures received { self.new.received ≡ self.old.received }
     {
         match self.coming.remove(place) {
             Some(Coming { what, .. }) => Some(what),
@@ -149,6 +155,7 @@ impl Scripted {
     fn go_on(&mut self, until: u64)
         ensures sent { self.new.sent ≡ self.old.sent }
         ensures whole { self.new.is_whole ≡ self.old.is_whole }
+        ensures received { self.new.received ≡ self.old.received }
     {
         let Some(coming) = self.coming.front() else {
             self.moment = until;
@@ -174,6 +181,7 @@ impl Scripted {
     fn fail_to_send(&mut self)
         ensures sent { self.new.sent ≡ self.old.sent }
         ensures whole { self.new.is_whole ≡ self.old.is_whole }
+        ensures received { self.new.received ≡ self.old.received }
     {
         self.is_failing = false;
         let place = self.sent.len().saturating_sub(1);
@@ -194,7 +202,7 @@ impl Surroundings for Scripted {
     ghost use Rattle.std.specs.Prelude.{⊤};
     ghost use Rattle.surroundings.specs.Keeping.{told_by};
 
-    ghost sent = { told_by };
+    ghost traffic = { told_by };
 
     ghost sockets = { λ around. around.own };
 
@@ -228,13 +236,16 @@ impl Surroundings for Scripted {
         Ok(())
     }
 
+    #[tactic(auto, using(crate::proofs::TrafficLemmas::nothing_more))]
     fn receive(&mut self, room: &mut [u8]) -> Result<Option<(SocketAddrV4, usize)>, Fault> {
         let Some(place) = self.place_of(false) else {
             return Ok(None);
         };
         match self.take(place) {
             Some(Happening::Datagram { source, bytes }) => {
-                Ok(Some((source, fill(room, bytes.as_slice()))))
+                let len = fill(room, bytes.as_slice());
+                self.received.add(source, &room[..len]);
+                Ok(Some((source, len)))
             }
             Some(Happening::ReceiveFault) => Err(Fault),
             _ => Ok(None),

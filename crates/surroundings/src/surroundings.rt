@@ -1,6 +1,6 @@
 //! What a program stands on.
 ghost use Rattle.std.specs.Prelude.{◌≡◌, ◌≤◌, ◌∷◌, [], length, IfOk, IfSome};
-ghost use Rattle.surroundings.specs.Sending.{Grows};
+ghost use Rattle.surroundings.specs.Sending.{Grows, received_at};
 
 use std::net::{SocketAddr, SocketAddrV4};
 
@@ -17,17 +17,17 @@ pub struct Told {
 
 /// A socket for datagrams, another for lines, a clock, and a wait for all of them.
 ///
-/// It says whether it tells what was handed to it: one in memory does, sockets don't; and what it can be held to of what it gave and of
+/// It says whether it tells what went over it: one in memory does, sockets don't; and what it can be held to of what it gave and of
 /// what it was told to answer. Who calls it is held to that it was asked so. No call waits but `wait`.
 pub trait Surroundings {
     ghost use Rattle.std.specs.Prelude.{ℕ, List, Option, Result};
     ghost use Rattle.std.specs.declared.net.socket_addr.SocketAddr.{SocketAddr};
     ghost use Rattle.std.specs.declared.net.socket_addr.SocketAddrV4.{SocketAddrV4};
-    ghost use Rattle.surroundings.specs.Sending.{Sent};
+    ghost use Rattle.surroundings.specs.Sending.{Traffic};
     ghost use Rattle.surroundings.specs.declared.surroundings.Fault.{Fault};
 
-    /// All datagrams that were handed to it to be sent, in order, where it tells.
-    ghost sent: { Self → Option (List Sent) };
+    /// All datagrams that were handed to it to be sent, and all that were received of it, each in their order, where it tells.
+    ghost traffic: { Self → Traffic };
 
     /// The addresses of its sockets.
     ghost sockets: { Self → List SocketAddrV4 };
@@ -56,29 +56,31 @@ pub trait Surroundings {
 
     /// Waits until something comes, but no longer than this, in ms; at 0 it only asks what has come.
     fn wait(&mut self, longest: u64) -> Result<(), Fault>
-        ensures { sent self.new ≡ sent self.old };
+        ensures { traffic self.new ≡ traffic self.old };
 
     /// A datagram, put at the start of the room, if one has come: from where, and how long it is. One that is longer than the room
     /// fills it.
     fn receive(&mut self, room: &mut [u8]) -> Result<Option<(SocketAddrV4, usize)>, Fault>
         ensures length { length room.new ≡ length room.old }
         ensures within { IfOk result (λ found. IfSome found (λ p. p.1 ≤ length room.new)) }
-        ensures kept { sent self.new ≡ sent self.old }
+        ensures sent { (traffic self.new).sent ≡ (traffic self.old).sent }
+        ensures received { Grows (traffic self.old).received (received_at result room.new) (traffic self.new).received }
         ensures looked { receives self.old result room.new self.new };
 
     /// Sends a datagram. After a fault it counts as lost in the network.
     fn send(&mut self, to: SocketAddrV4, bytes: &[u8]) -> Result<(), Fault>
-        ensures { Grows (sent self.old) (record { to = to; bytes = bytes.now } ∷ []) (sent self.new) };
+        ensures sent { Grows (traffic self.old).sent (record { to = to; bytes = bytes.now } ∷ []) (traffic self.new).sent }
+        ensures received { (traffic self.new).received ≡ (traffic self.old).received };
 
     /// A datagram of lines of who types, put at the start of the room, if one has come: from whom, and how long it is.
     fn hear(&mut self, room: &mut [u8]) -> Option<(SocketAddr, usize)>
         ensures length { length room.new ≡ length room.old }
         ensures within { IfSome result (λ p. p.1 ≤ length room.new) }
-        ensures kept { sent self.new ≡ sent self.old }
+        ensures kept { traffic self.new ≡ traffic self.old }
         ensures looked { hears self.old result room.new self.new };
 
     /// Answers who typed. What can't be sent is lost.
     fn answer(&mut self, to: SocketAddr, text: &[u8])
-        ensures kept { sent self.new ≡ sent self.old }
+        ensures kept { traffic self.new ≡ traffic self.old }
         ensures answered { answers self.old to text.now self.new };
 }
