@@ -9,6 +9,7 @@ use Rattle.mg_bytes.specs.Words.{words}
 use Rattle.mg_line.specs.declared.phone.Act.{Act}
 use Rattle.std.specs.declared.net.socket_addr.SocketAddrV4.{SocketAddrV4}
 use Rattle.surroundings.specs.Sending.{Sent, Grows}
+use Rattle.surroundings.proofs.TrafficLemmas.{grows_nothing, grows_on, known}
 use Rattle.transmission.specs.declared.output.OutDatagram.{OutDatagram}
 use Rattle.plain_machine.specs.declared.setup.Setup.{Setup}
 use Rattle.plain_machine.specs.declared.refusal.Refusal.{Refusal}
@@ -35,16 +36,6 @@ use Rattle.live_play.specs.Running.{Live, live, sent_of, Ran, IsFrom, AreFrom, H
 use Rattle.traces.proofs.ShowLemmas.{both_not}
 
 -- ---- what is told
-
-pub grows_on : {A : Type 0} (a b c : Option (List A)) (xs ys : List A) → Grows a xs b → Grows b ys c → Grows a (xs ++ ys) c
-grows_on None b c xs ys g h = subst (λ o. Grows o ys c) g h
-grows_on (Some x) None c xs ys g h = subst (λ o. Grows (Some x) (xs ++ ys) o) (sym h) tt
-grows_on (Some x) (Some y) None xs ys g h = tt
-grows_on (Some x) (Some y) (Some z) xs ys g h = h ∙ ap (λ l. l ++ ys) g ∙ append_assoc x xs ys
-
-pub grows_nothing : {A : Type 0} (a : Option (List A)) → Grows a [] a
-grows_nothing None = refl
-grows_nothing (Some x) = sym (append-nil x)
 
 pub ends_all : {A : Type 0} (a b : Option (List A)) (xs : List A) → b ≡ None → Grows a xs b
 ends_all None b xs none = none
@@ -338,14 +329,6 @@ ran_on was mid is a b p q = record {
 
 -- ---- what is told of a run
 
-known : {A : Type 0} (a b : Option (List A)) (xs were are : List A) → Grows a xs b → a ≡ Some were → b ≡ Some are → are ≡ were ++ xs
-known None b xs were are g was is = absurd cc
-known (Some x) None xs were are g was is = absurd cc
-known (Some x) (Some y) xs were are g was is =
-    let first : x ≡ were = cc in
-    let second : y ≡ are = cc in
-    sym second ∙ g ∙ ap (λ l. l ++ xs) first
-
 pub handed_known : (was is : Live) (entries : List Entry) (were are : List Sent) → Ran was entries is → was.handed ≡ Some were → is.handed ≡ Some are
     → are ≡ were ++ map sent_of (sent_in entries)
 handed_known was is entries were are r a b = known was.handed is.handed (map sent_of (sent_in entries)) were are r.handed a b
@@ -361,26 +344,10 @@ script_known was is entries text r told = from (rw told at r.script) where
 
 -- ---- from whom datagrams came
 
-pub from_both : (speaks : SocketAddrV4 → Type 0) (a b : List Entry) → AreFrom speaks a → AreFrom speaks b → AreFrom speaks (a ++ b)
-from_both speaks [] b p q = q
-from_both speaks (showed input move shown ∷ a) b p q = (p.0, from_both speaks a b p.1 q)
-from_both speaks (became mark place ∷ a) b p q = from_both speaks a b p q
-
 marks_are_from : (speaks : SocketAddrV4 → Type 0) (after last : ℕ) (marks : List Entry) → AreMarks after last marks → AreFrom speaks marks
 marks_are_from speaks after last [] are = tt
 marks_are_from speaks after last (showed input move shown ∷ marks) are = absurd are
 marks_are_from speaks after last (became mark place ∷ marks) are = marks_are_from speaks place last marks are.2
-
-one_from : (some more : SocketAddrV4 → Type 0) → ((source : SocketAddrV4) → some source → more source) → (input : Input) → IsFrom some input → IsFrom more input
-one_from some more goes (arrived source bytes) is = goes source is
-one_from some more goes (typed line) is = tt
-one_from some more goes (passed moment) is = tt
-
-pub from_more : (some more : SocketAddrV4 → Type 0) → ((source : SocketAddrV4) → some source → more source) → (entries : List Entry) → AreFrom some entries
-    → AreFrom more entries
-from_more some more goes [] are = tt
-from_more some more goes (showed input move shown ∷ entries) are = (one_from some more goes input are.0, from_more some more goes entries are.1)
-from_more some more goes (became mark place ∷ entries) are = from_more some more goes entries are
 
 -- ---- one event or question
 
@@ -512,38 +479,20 @@ same_gateway g h same = subst (λ (x : GatewayState). Took g [] x [] []) (sym sa
 pub stays : (speaks : SocketAddrV4 → Type 0) (was : Live) → HeardFrom speaks was was
 stays speaks was = goes_on_quietly speaks was was (same_gateway was.gateway was.gateway refl) refl refl refl
 
-pub stays_so : (speaks : SocketAddrV4 → Type 0) (was is : Live) → is ≡ was → HeardFrom speaks was is
-stays_so speaks was is same = subst (λ (x : Live). HeardFrom speaks was x) (sym same) (stays speaks was)
-
-pub goes_on_then : (speaks : SocketAddrV4 → Type 0) (was mid is : Live) → HeardFrom speaks was mid → HeardFrom speaks mid is → HeardFrom speaks was is
-goes_on_then speaks was mid is a b = record {
-  entries = a.entries ++ b.entries;
-  ran = ran_on was mid is a.entries b.entries a.ran b.ran;
-  from = from_both speaks a.entries b.entries a.from b.from;
-}
-
--- who heard some has heard some of more
-pub heard_more : (some more : SocketAddrV4 → Type 0) (was is : Live) → ((source : SocketAddrV4) → some source → more source) → HeardFrom some was is
-    → HeardFrom more was is
-heard_more some more was is goes heard =
-    record { entries = heard.entries; ran = heard.ran; from = from_more some more goes heard.entries heard.from }
+pub ran_stays : (was : Live) → Ran was [] was
+ran_stays was = ran_nothing was was (same_gateway was.gateway was.gateway refl) refl refl refl
 
 -- what a trace is told may be broken off where it is written
-pub written_off : (speaks : SocketAddrV4 → Type 0) (was is : Live) → is.gateway ≡ was.gateway → is.script ≡ was.script → is.handed ≡ was.handed
-    → Grows was.told [] is.told → HeardFrom speaks was is
+pub ran_written_off : (was is : Live) → is.gateway ≡ was.gateway → is.script ≡ was.script → is.handed ≡ was.handed → Grows was.told [] is.told → Ran was [] is
 unfolding written script_after
-written_off speaks was is gateway script handed told = record {
-  entries = [];
-  ran = record {
-    setup = ap (λ (g : GatewayState). g.setup) gateway;
-    stands = λ before s. subst (λ (g : GatewayState). Stands g before) (sym gateway) s;
-    play = λ before s. tt;
-    handed = subst (λ (o : Option (List Sent)). Grows was.handed [] o) (sym handed) (grows_nothing was.handed);
-    told = told;
-    script = any_text is.told;
-    marks = tt;
-  };
-  from = tt;
+ran_written_off was is gateway script handed told = record {
+  setup = ap (λ (g : GatewayState). g.setup) gateway;
+  stands = λ before s. subst (λ (g : GatewayState). Stands g before) (sym gateway) s;
+  play = λ before s. tt;
+  handed = subst (λ (o : Option (List Sent)). Grows was.handed [] o) (sym handed) (grows_nothing was.handed);
+  told = told;
+  script = any_text is.told;
+  marks = tt;
 } where
   any_text : (o : Option (List ℕ)) → IfSome o (λ text. is.script ≡ was.script)
   any_text None = tt

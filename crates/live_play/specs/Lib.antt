@@ -1,2 +1,3 @@
+pub mod Coming
 pub mod Running
 pub mod Keeping

@@ -229,9 +229,10 @@ impl<T: Teller + Drop> LivePlay<T> {
     // The datagram at this place is handed out.
     #[tactic(auto, using(crate::proofs::RunLemmas::one_handed))]
     fn hand<O: Outlet>(&mut self, out: &mut O, datagram: &OutDatagram, place: u64)
-        ensures { (before : ℕ) → place ≡ before + 1 → (marks : List Entry) × HandsOut
+        ensures handed { (before : ℕ) → place ≡ before + 1 → (marks : List Entry) × HandsOut
             (live self.old.gateway.value self.old.script (T.told self.old.teller) (O.handed out.old)) before (datagram.now ∷ []) marks
             (live self.new.gateway.value self.new.script (T.told self.new.teller) (O.handed out.new)) }
+        ensures came { O.came out.new ≡ O.came out.old }
     {
         if let Some(mark) = out.hand(datagram.to, datagram.bytes.as_bytes()) {
             self.tell_mark(mark, place);
@@ -241,9 +242,10 @@ impl<T: Teller + Drop> LivePlay<T> {
     // Datagrams are handed out in their order.
     #[tactic(auto, using(crate::proofs::RunLemmas::none_handed, crate::proofs::RunLemmas::one_more))]
     fn hand_all<O: Outlet>(&mut self, out: &mut O, datagrams: &[OutDatagram])
-        ensures { (marks : List Entry) × HandsOut
+        ensures handed { (marks : List Entry) × HandsOut
             (live self.old.gateway.value self.old.script (T.told self.old.teller) (O.handed out.old)) 0 datagrams.now marks
             (live self.new.gateway.value self.new.script (T.told self.new.teller) (O.handed out.new)) }
+        ensures came { O.came out.new ≡ O.came out.old }
     {
         let mut place: u64 = 0;
         for datagram in datagrams {
@@ -254,9 +256,10 @@ impl<T: Teller + Drop> LivePlay<T> {
 
     // The gateway took an event, at which it sends these datagrams: they are handed out in their order.
     fn hand_out<O: Outlet>(&mut self, out: &mut O, datagrams: &[OutDatagram])
-        ensures { (marks : List Entry) × HandsOut
+        ensures handed { (marks : List Entry) × HandsOut
             (live self.old.gateway.value self.old.script (T.told self.old.teller) (O.handed out.old)) 0 datagrams.now marks
             (live self.new.gateway.value self.new.script (T.told self.new.teller) (O.handed out.new)) }
+        ensures came { O.came out.new ≡ O.came out.old }
     {
         out.turned(&self.gateway);
         self.hand_all(out, datagrams);
@@ -268,6 +271,7 @@ impl<T: Teller + Drop> LivePlay<T> {
         ensures ran { HeardFrom (λ nobody. ⊥)
             (live self.old.gateway.value self.old.script (T.told self.old.teller) (O.handed out.old))
             (live self.new.gateway.value self.new.script (T.told self.new.teller) (O.handed out.new)) }
+        ensures came { O.came out.new ≡ O.came out.old }
         ensures taken { OnOk result (Takes
             (live self.old.gateway.value self.old.script (T.told self.old.teller) (O.handed out.old)) (passed moment) (tick moment)
             (live self.new.gateway.value self.new.script (T.told self.new.teller) (O.handed out.new))) }
@@ -299,6 +303,7 @@ impl<T: Teller + Drop> LivePlay<T> {
         ensures ran { HeardFrom (λ sender. sender ≡ source)
             (live self.old.gateway.value self.old.script (T.told self.old.teller) (O.handed out.old))
             (live self.new.gateway.value self.new.script (T.told self.new.teller) (O.handed out.new)) }
+        ensures came { O.came out.new ≡ O.came out.old }
         ensures taken { OnOk result (Takes
             (live self.old.gateway.value self.old.script (T.told self.old.teller) (O.handed out.old)) (arrived source bytes.now) (datagram source bytes.now)
             (live self.new.gateway.value self.new.script (T.told self.new.teller) (O.handed out.new))) }
@@ -362,6 +367,7 @@ impl<T: Teller + Drop> LivePlay<T> {
         ensures ran { HeardFrom (λ nobody. ⊥)
             (live self.old.gateway.value self.old.script (T.told self.old.teller) (O.handed out.old))
             (live self.new.gateway.value self.new.script (T.told self.new.teller) (O.handed out.new)) }
+        ensures came { O.came out.new ≡ O.came out.old }
         ensures taken { OnOk result (Takes
             (live self.old.gateway.value self.old.script (T.told self.old.teller) (O.handed out.old)) (typed text.now) (phone line act)
             (live self.new.gateway.value self.new.script (T.told self.new.teller) (O.handed out.new))) }

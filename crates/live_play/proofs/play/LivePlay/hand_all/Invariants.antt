@@ -9,3 +9,4 @@ invariant-loop-datagram g l =
     × ((marks : List Entry) × HandsOut
     (live l.fn.self.gateway.value l.fn.self.script (g.T.Teller.told l.fn.self.teller) (g.O.Outlet.handed l.fn.out)) 0 (take l.datagram-index l.datagrams) marks
     (live l.self.gateway.value l.self.script (g.T.Teller.told l.self.teller) (g.O.Outlet.handed l.out)))
+    × (g.O.Outlet.came l.out ≡ g.O.Outlet.came l.fn.out)
