@@ -1,60 +1,193 @@
 -- How a desk goes on.
-use Rattle.std.proofs.Common.{◌≡◌, ℕ, true, List, [], Option, refl, sym, ◌∙◌, subst}
+use Rattle.std.proofs.Common.{◌≡◌, ℕ, ◌+◌, inr, Bool, true, false, List, [], ◌∷◌, ◌++◌, length, Option, refl, sym, ◌∙◌, ap, subst, arith}
+use Rattle.std.specs.Prelude.{not, is_ok, Result, Ok, Err, OnOk, OnErr}
 use Rattle.std.specs.declared.net.socket_addr.SocketAddrV4.{SocketAddrV4}
-use Rattle.surroundings.specs.Sending.{Sent, Grows}
-use Rattle.live_play.specs.Running.{HeardFrom}
-use Rattle.live_play.proofs.RunLemmas.{heard_more}
-use Rattle.live_play.proofs.RunLemmas.{stays_so as run_stays_so, goes_on_then as run_goes_on_then, written_off as run_written_off}
+use Rattle.surroundings.specs.Sending.{Received, Traffic, Grows}
+use Rattle.surroundings.proofs.TrafficLemmas.{grows_nothing, nothing_more, grows_on}
+use Rattle.gateway_core.specs.Wire.{counted}
+use Rattle.gateway_core.proofs.ServeLemmas.{counted_on}
+use Rattle.plain_machine.specs.Event.{GatewayEvent, datagram}
+use Rattle.rgw_scripts.specs.Moves.{give, sends}
+use Rattle.traces.specs.Writing.{Entry, arrived, showed}
+use Rattle.live_play.specs.Coming.{Came, arrived_in, AreAllBut}
+use Rattle.live_play.specs.Running.{Live, Ran, Takes, HeardFrom}
+use Rattle.live_play.proofs.CameLemmas.{arrived_both, marks_bring_nothing, nobody_came, all_of, all_but_both}
+use Rattle.live_play.proofs.RunLemmas.{ran_on, ran_stays, ran_written_off}
 use Rattle.live_gateway.specs.declared.admission.Admission.{Admission}
 use Rattle.live_gateway.specs.declared.desk.Desk.{Desk}
-use Rattle.live_gateway.specs.Admitting.{is_heard}
-use Rattle.live_gateway.specs.Desk.{at_desk, IsHeard, GoesOn}
+use Rattle.live_gateway.specs.Admitting.{heard_of, HeardSince}
+use Rattle.live_gateway.specs.Desk.{Standing, at_desk, GoesOnBy, GoesOn}
+use Rattle.live_gateway.specs.Exchanging.{refusals}
+use Rattle.live_gateway.proofs.HearingLemmas.{heard_both}
 
-pub stays_so : {S T : Type 0} (told : T → Option (List ℕ)) (sent : S → Option (List Sent)) (old new : Desk S T)
-    → at_desk told sent new ≡ at_desk told sent old → new.admission ≡ old.admission → GoesOn told sent old new
-stays_so told sent old new same kept = record {
-  heard = run_stays_so (IsHeard old.admission) (at_desk told sent old) (at_desk told sent new) same;
+-- ---- what is counted
+
+none_more : (n : ℕ) → n ≡ counted n 0
+none_more n = omega arith
+
+-- an input was refused, or taken: so many were
+refused_of : Bool → ℕ
+refused_of true = 1
+refused_of false = 0
+
+counts_one : (is_refused : Bool) (n : ℕ) → refusals is_refused n ≡ counted n (refused_of is_refused)
+counts_one true n = refl
+counts_one false n = none_more n
+
+-- ---- one after the other
+
+stays_by : (admission : Admission) (was is : Standing) → is ≡ was → GoesOnBy admission was is [] [] 0
+stays_by admission was is same = subst (λ (x : Standing). GoesOnBy admission was x [] [] 0) (sym same) (record {
+  ran = ran_stays was.live;
+  received = grows_nothing was.came.received;
+  refused = none_more was.came.refused;
+  events = refl;
+})
+
+then_by : (admission : Admission) (was mid is : Standing) (a b : List Entry) (some more : List Received) (m n : ℕ) → GoesOnBy admission was mid a some m
+    → GoesOnBy admission mid is b more n → GoesOnBy admission was is (a ++ b) (some ++ more) (m + n)
+then_by admission was mid is a b some more m n g h = record {
+  ran = ran_on was.live mid.live is.live a b g.ran h.ran;
+  received = grows_on was.came.received mid.came.received is.came.received some more g.received h.received;
+  refused = h.refused ∙ ap (λ (k : ℕ). counted k n) g.refused ∙ counted_on was.came.refused m n;
+  events = subst (λ (l : List Received). AreAllBut (m + n) l (arrived_in (a ++ b))) (sym (heard_both admission some more))
+      (subst (λ (l : List Received). AreAllBut (m + n) (heard_of admission some ++ heard_of admission more) l) (sym (arrived_both a b))
+      (all_but_both m n (heard_of admission some) (arrived_in a) (heard_of admission more) (arrived_in b) g.events h.events));
+}
+
+pub stays_so : {S T : Type 0} (told : T → Option (List ℕ)) (traffic : S → Traffic) (old new : Desk S T)
+    → at_desk told traffic new ≡ at_desk told traffic old → new.admission ≡ old.admission → GoesOn told traffic old new
+stays_so told traffic old new same kept = record {
+  entries = [];
+  came = [];
+  missing = 0;
+  went = stays_by old.admission (at_desk told traffic old) (at_desk told traffic new) same;
   admission = kept;
 }
 
-pub stays : {S T : Type 0} (told : T → Option (List ℕ)) (sent : S → Option (List Sent)) (old : Desk S T) → GoesOn told sent old old
-stays told sent old = stays_so told sent old old refl refl
+pub stays : {S T : Type 0} (told : T → Option (List ℕ)) (traffic : S → Traffic) (old : Desk S T) → GoesOn told traffic old old
+stays told traffic old = stays_so told traffic old old refl refl
 
-pub goes_on_then : {S T : Type 0} (told : T → Option (List ℕ)) (sent : S → Option (List Sent)) (old mid new : Desk S T)
-    → GoesOn told sent old mid → GoesOn told sent mid new → GoesOn told sent old new
-goes_on_then told sent old mid new a b = record {
-  heard = run_goes_on_then (IsHeard old.admission) (at_desk told sent old) (at_desk told sent mid) (at_desk told sent new)
-      a.heard
-      (subst (λ (x : Admission). HeardFrom (IsHeard x) (at_desk told sent mid) (at_desk told sent new)) a.admission b.heard);
+pub goes_on_then : {S T : Type 0} (told : T → Option (List ℕ)) (traffic : S → Traffic) (old mid new : Desk S T)
+    → GoesOn told traffic old mid → GoesOn told traffic mid new → GoesOn told traffic old new
+goes_on_then told traffic old mid new a b = record {
+  entries = a.entries ++ b.entries;
+  came = a.came ++ b.came;
+  missing = a.missing + b.missing;
+  went = then_by old.admission (at_desk told traffic old) (at_desk told traffic mid) (at_desk told traffic new) a.entries b.entries a.came b.came a.missing b.missing
+      a.went (subst (λ (x : Admission). GoesOnBy x (at_desk told traffic mid) (at_desk told traffic new) b.entries b.came b.missing) a.admission b.went);
   admission = b.admission ∙ a.admission;
 }
 
--- nobody was heard
-pub ticks : {S T : Type 0} (told : T → Option (List ℕ)) (sent : S → Option (List Sent)) (old new : Desk S T)
-    → HeardFrom (λ (nobody : SocketAddrV4). ⊥) (at_desk told sent old) (at_desk told sent new) → new.admission ≡ old.admission → GoesOn told sent old new
-ticks told sent old new heard kept = record {
-  heard = heard_more (λ (nobody : SocketAddrV4). ⊥) (IsHeard old.admission) (at_desk told sent old)
-      (at_desk told sent new) (λ source never. absurd never) heard;
+-- ---- ticks, acts and questions: nobody is heard
+
+quiet_by : (admission : Admission) (was is : Standing) (is_refused : Bool) → HeardFrom (λ (nobody : SocketAddrV4). ⊥) was.live is.live
+    → is.came.received ≡ was.came.received → is.came.refused ≡ refusals is_refused was.came.refused
+    → (entries : List Entry) × GoesOnBy admission was is entries [] (refused_of is_refused)
+quiet_by admission was is is_refused heard same counts = (
+  heard.entries,
+  record {
+    ran = heard.ran;
+    received = nothing_more was.came.received is.came.received same;
+    refused = counts ∙ counts_one is_refused was.came.refused;
+    events = nobody_came heard.entries heard.from;
+  },
+)
+
+pub ticks : {S T : Type 0} (told : T → Option (List ℕ)) (traffic : S → Traffic) (old new : Desk S T) (is_refused : Bool)
+    → HeardFrom (λ (nobody : SocketAddrV4). ⊥) (at_desk told traffic old).live (at_desk told traffic new).live
+    → (at_desk told traffic new).came.received ≡ (at_desk told traffic old).came.received
+    → (at_desk told traffic new).came.refused ≡ refusals is_refused (at_desk told traffic old).came.refused
+    → new.admission ≡ old.admission → GoesOn told traffic old new
+ticks told traffic old new is_refused heard same counts kept =
+    let found = quiet_by old.admission (at_desk told traffic old) (at_desk told traffic new) is_refused heard same counts in
+    record { entries = found.0; came = []; missing = refused_of is_refused; went = found.1; admission = kept }
+
+-- ---- a datagram
+
+-- none is heard
+pub hears_nobody : {S T : Type 0} (told : T → Option (List ℕ)) (traffic : S → Traffic) (old new : Desk S T)
+    → HeardSince old.admission (at_desk told traffic old).came.received [] (at_desk told traffic new).came.received
+    → (at_desk told traffic new).live ≡ (at_desk told traffic old).live
+    → (at_desk told traffic new).came.refused ≡ (at_desk told traffic old).came.refused → new.admission ≡ old.admission → GoesOn told traffic old new
+hears_nobody told traffic old new heard live counts kept = record {
+  entries = [];
+  came = heard.0;
+  missing = 0;
+  went = record {
+    ran = subst (λ (x : Live). Ran (at_desk told traffic old).live [] x) (sym live) (ran_stays (at_desk told traffic old).live);
+    received = heard.1;
+    refused = counts ∙ none_more (at_desk told traffic old).came.refused;
+    events = subst (λ (l : List Received). AreAllBut 0 l []) (sym heard.2) refl;
+  };
   admission = kept;
 }
 
--- somebody was who is heard
-pub hears : {S T : Type 0} (told : T → Option (List ℕ)) (sent : S → Option (List Sent)) (old new : Desk S T) (source : SocketAddrV4)
-    → is_heard old.admission source ≡ true
-    → HeardFrom (λ (sender : SocketAddrV4). sender ≡ source) (at_desk told sent old) (at_desk told sent new) → new.admission ≡ old.admission
-    → GoesOn told sent old new
-hears told sent old new source may heard kept = record {
-  heard = heard_more (λ (sender : SocketAddrV4). sender ≡ source) (IsHeard old.admission) (at_desk told sent old)
-      (at_desk told sent new) (λ sender same. subst (IsHeard old.admission) (sym same) may) heard;
-  admission = kept;
-}
+taken_by : (admission : Admission) (was is : Standing) (source : SocketAddrV4) (bytes : List ℕ)
+    → HeardSince admission was.came.received (record { source = source; bytes = bytes } ∷ []) is.came.received
+    → Takes was.live (arrived source bytes) (datagram source bytes) is.live
+    → is.came.refused ≡ was.came.refused
+    → (entries : List Entry) × (came : List Received) × GoesOnBy admission was is entries came 0
+taken_by admission was is source bytes heard t counts = (
+  showed (arrived source bytes) (give (datagram source bytes)) (sends t.outputs) ∷ t.marks,
+  heard.0,
+  record {
+    ran = t.ran;
+    received = heard.1;
+    refused = counts ∙ none_more was.came.refused;
+    events = subst (λ (l : List Received). AreAllBut 0 l (one ∷ arrived_in t.marks)) (sym heard.2)
+        (subst (λ (l : List Received). AreAllBut 0 (one ∷ []) (one ∷ l)) (sym (marks_bring_nothing 0 (length t.outputs) t.marks t.are)) (all_of (one ∷ [])));
+  },
+) where
+  one : Received
+  one = record { source = source; bytes = bytes }
 
--- what a trace is told may be broken off where it is written
-pub written_off : {S T : Type 0} (told : T → Option (List ℕ)) (sent : S → Option (List Sent)) (old new : Desk S T)
-    → (at_desk told sent new).gateway ≡ (at_desk told sent old).gateway → (at_desk told sent new).script ≡ (at_desk told sent old).script
-    → (at_desk told sent new).handed ≡ (at_desk told sent old).handed
-    → Grows (at_desk told sent old).told [] (at_desk told sent new).told → new.admission ≡ old.admission → GoesOn told sent old new
-written_off told sent old new gateway script handed grows kept = record {
-  heard = run_written_off (IsHeard old.admission) (at_desk told sent old) (at_desk told sent new) gateway script handed grows;
+missed_by : (admission : Admission) (was is : Standing) (one : Received)
+    → HeardSince admission was.came.received (one ∷ []) is.came.received
+    → Ran was.live [] is.live
+    → is.came.refused ≡ counted was.came.refused 1
+    → (entries : List Entry) × (came : List Received) × GoesOnBy admission was is entries came 1
+missed_by admission was is one heard ran counts = (
+  [],
+  heard.0,
+  record {
+    ran = ran;
+    received = heard.1;
+    refused = counts;
+    events = subst (λ (l : List Received). AreAllBut 1 l []) (sym heard.2) (inr (0, refl, refl));
+  },
+)
+
+-- one is: the gateway took it, or was refused memory for it
+pub hears : {S T A B : Type 0} (told : T → Option (List ℕ)) (traffic : S → Traffic) (old new : Desk S T) (done : Result A B) (source : SocketAddrV4) (bytes : List ℕ)
+    → HeardSince old.admission (at_desk told traffic old).came.received (record { source = source; bytes = bytes } ∷ []) (at_desk told traffic new).came.received
+    → OnOk done (Takes (at_desk told traffic old).live (arrived source bytes) (datagram source bytes) (at_desk told traffic new).live)
+    → OnErr done (Ran (at_desk told traffic old).live [] (at_desk told traffic new).live)
+    → (at_desk told traffic new).came.refused ≡ refusals (not (is_ok done)) (at_desk told traffic old).came.refused
+    → new.admission ≡ old.admission → GoesOn told traffic old new
+hears told traffic old new (Ok done) source bytes heard takes misses counts kept =
+    let found = taken_by old.admission (at_desk told traffic old) (at_desk told traffic new) source bytes heard takes counts in
+    record { entries = found.0; came = found.1; missing = 0; went = found.2; admission = kept }
+hears told traffic old new (Err why) source bytes heard takes misses counts kept =
+    let found = missed_by old.admission (at_desk told traffic old) (at_desk told traffic new) (record { source = source; bytes = bytes }) heard misses counts in
+    record { entries = found.0; came = found.1; missing = 1; went = found.2; admission = kept }
+
+-- ---- what a trace is told may be broken off where it is written
+
+pub written_off : {S T : Type 0} (told : T → Option (List ℕ)) (traffic : S → Traffic) (old new : Desk S T)
+    → (at_desk told traffic new).live.gateway ≡ (at_desk told traffic old).live.gateway → (at_desk told traffic new).live.script ≡ (at_desk told traffic old).live.script
+    → (at_desk told traffic new).live.handed ≡ (at_desk told traffic old).live.handed
+    → Grows (at_desk told traffic old).live.told [] (at_desk told traffic new).live.told
+    → (at_desk told traffic new).came ≡ (at_desk told traffic old).came → new.admission ≡ old.admission → GoesOn told traffic old new
+written_off told traffic old new gateway script handed grows same kept = record {
+  entries = [];
+  came = [];
+  missing = 0;
+  went = record {
+    ran = ran_written_off (at_desk told traffic old).live (at_desk told traffic new).live gateway script handed grows;
+    received = nothing_more (at_desk told traffic old).came.received (at_desk told traffic new).came.received (ap (λ (x : Came). x.received) same);
+    refused = ap (λ (x : Came). x.refused) same ∙ none_more (at_desk told traffic old).came.refused;
+    events = refl;
+  };
   admission = kept;
 }

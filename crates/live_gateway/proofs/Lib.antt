@@ -1,2 +1,4 @@
 pub mod Computing
+pub mod HearingLemmas
 pub mod DeskLemmas
+pub mod HearingLaws

@@ -1,5 +1,5 @@
 -- Who may speak to a gateway where no word says it, whom it hears, and who types.
-use Rattle.std.specs.Prelude.{ℕ, Bool, ◌&&◌, ◌||◌, ◌==◌, not, if◌then◌else◌, List, [], ◌∷◌, nat_eq, bytes_eq}
+use Rattle.std.specs.Prelude.{◌≡◌, ℕ, Bool, ◌&&◌, ◌||◌, ◌==◌, not, if◌then◌else◌, List, [], ◌∷◌, filter, nat_eq, nat_lt, bytes_eq, Option}
 use Rattle.std.specs.List.{fold, list_any, starts_with}
 use Rattle.std.specs.Net.Addr.{ipv4_octets}
 use Rattle.std.specs.declared.net.ipv4_addr.Ipv4Addr.{Ipv4Addr}
@@ -9,6 +9,7 @@ use Rattle.endpoint_names.specs.declared.table.Host.{Host}
 use Rattle.endpoint_names.specs.Route.{addresses, each_with}
 use Rattle.plain_machine.specs.declared.setup.Setup.{Setup}
 use Rattle.surroundings.specs.Requests.{is_anywhere}
+use Rattle.surroundings.specs.Sending.{Received, Grows}
 use Rattle.surroundings.specs.Speaking.{Admitted, nobody, with_host, admitted_by, may_speak}
 use Rattle.live_gateway.specs.declared.admission.Admission.{Admission}
 use Rattle.live_gateway.specs.declared.telephones.Typist.{Typist}
@@ -50,10 +51,19 @@ is_sent_by sender own = own.port == sender.port && is_at (ipv4_octets own.ip) (i
 abbrev pub is_its_own : List SocketAddrV4 → SocketAddrV4 → Bool
 is_its_own own sender = list_any (is_sent_by sender) own
 
--- it hears nothing that came from its own sockets, so that it never answers itself; of others it hears who may speak
+-- it hears nothing without a port, which can't be answered, and nothing that came from its own sockets, so that it never answers
+-- itself; of others it hears who may speak
 abbrev pub is_heard : Admission → SocketAddrV4 → Bool
 is_heard admission source =
-    not (is_its_own admission.own source) && may_speak (admitted_by admission.speakers) source.ip
+    nat_lt 0 source.port && not (is_its_own admission.own source) && may_speak (admitted_by admission.speakers) source.ip
+
+-- the datagrams among these that are heard, in their order
+abbrev pub heard_of : Admission → List Received → List Received
+heard_of admission came = filter (λ one. is_heard admission one.source) came
+
+-- since then some came, of which these are heard
+abbrev pub HeardSince : Admission → Option (List Received) → List Received → Option (List Received) → Type 0
+HeardSince admission was heard is = (came : List Received) × Grows was came is × (heard_of admission came ≡ heard)
 
 -- Who types
 

@@ -1,24 +1,49 @@
 -- A desk, as its contracts see it.
-use Rattle.std.specs.Prelude.{◌≡◌, ℕ, true, List, Option}
+use Rattle.std.specs.Prelude.{◌≡◌, ℕ, Bool, true, List, Option}
 use Rattle.std.specs.declared.net.socket_addr.SocketAddrV4.{SocketAddrV4}
-use Rattle.surroundings.specs.Sending.{Sent}
-use Rattle.live_play.specs.Running.{Live, live, HeardFrom}
+use Rattle.gateway_core.specs.Wire.{counted}
+use Rattle.surroundings.specs.Sending.{Received, Traffic, Grows}
+use Rattle.traces.specs.Writing.{Entry}
+use Rattle.live_play.specs.Coming.{Came, arrived_in, AreAllBut}
+use Rattle.live_play.specs.Running.{Live, live, Ran}
 use Rattle.live_gateway.specs.declared.admission.Admission.{Admission}
 use Rattle.live_gateway.specs.declared.desk.Desk.{Desk}
-use Rattle.live_gateway.specs.Admitting.{is_heard}
-use Rattle.live_gateway.specs.Exchanging.{handed_by}
+use Rattle.live_gateway.specs.Admitting.{is_heard, heard_of}
+use Rattle.live_gateway.specs.Exchanging.{handed_by, came_by, refusals}
 
--- its play, by what its trace was told and what was handed out
-abbrev pub at_desk : {S T : Type 0} → (T → Option (List ℕ)) → (S → Option (List Sent)) → Desk S T → Live
-at_desk told sent desk =
-    live desk.play.value.gateway.value desk.play.value.script (told desk.play.value.teller)
-    (handed_by desk.exchange.value.network (sent desk.exchange.value.around))
+-- its play, by what its trace was told and what was handed out; and what came to it
+pub record Standing : Type 0 where
+  pub live : Live
+  pub came : Came
+
+abbrev pub at_desk : {S T : Type 0} → (T → Option (List ℕ)) → (S → Traffic) → Desk S T → Standing
+at_desk told traffic desk = record {
+  live = live desk.play.value.gateway.value desk.play.value.script (told desk.play.value.teller)
+      (handed_by desk.exchange.value.network (traffic desk.exchange.value.around).sent);
+  came = came_by traffic desk.exchange.value;
+}
+
+-- an input was refused, or taken
+abbrev pub with_input : Bool → Standing → Standing
+with_input is_refused standing = record standing { came = record standing.came { refused = refusals is_refused standing.came.refused } }
+
+-- It went on by these entries of a play, while this came. The datagrams that came in at the entries are those that came, without what
+-- isn't heard, each with its bytes, in their order; but that some may be missing that memory was refused for: no more of them than inputs
+-- were counted as refused.
+pub record GoesOnBy (admission : Admission) (was is : Standing) (entries : List Entry) (came : List Received) (missing : ℕ) : Type 0 where
+  pub ran : Ran was.live entries is.live
+  pub received : Grows was.came.received came is.came.received
+  pub refused : is.came.refused ≡ counted was.came.refused missing
+  pub events : AreAllBut missing (heard_of admission came) (arrived_in entries)
+
+-- it went on by some, and who is heard stays as it was
+pub record GoesOn {S T : Type 0} (told : T → Option (List ℕ)) (traffic : S → Traffic) (old new : Desk S T) : Type 0 where
+  pub entries : List Entry
+  pub came : List Received
+  pub missing : ℕ
+  pub went : GoesOnBy old.admission (at_desk told traffic old) (at_desk told traffic new) entries came missing
+  pub admission : new.admission ≡ old.admission
 
 -- who sent it is heard
 abbrev pub IsHeard : Admission → SocketAddrV4 → Type 0
 IsHeard admission source = is_heard admission source ≡ true
-
--- it went on by entries of a play, and each datagram among them came from who is heard; who that is stays as it was
-pub record GoesOn {S T : Type 0} (told : T → Option (List ℕ)) (sent : S → Option (List Sent)) (old new : Desk S T) : Type 0 where
-  pub heard : HeardFrom (IsHeard old.admission) (at_desk told sent old) (at_desk told sent new)
-  pub admission : new.admission ≡ old.admission

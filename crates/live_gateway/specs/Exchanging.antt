@@ -1,10 +1,11 @@
--- What was handed to an exchange: to the sockets, or to the bad network before them.
+-- What was handed to an exchange: to the sockets, or to the bad network before them; and what came to it.
 use Rattle.std.specs.Prelude.{◌≡◌, ℕ, Bool, true, false, List, Option, Some, None}
 use Rattle.std.specs.Global.{Box}
 use Rattle.bad_network.specs.Waiting.{first_due}
 use Rattle.gateway_core.specs.Wire.{counted}
 use Rattle.live_journal.specs.declared.reporting.Faults.{Faults}
-use Rattle.surroundings.specs.Sending.{Sent}
+use Rattle.live_play.specs.Coming.{Came}
+use Rattle.surroundings.specs.Sending.{Sent, Received, Traffic}
 use Rattle.live_gateway.specs.declared.exchange.Exchange.{Exchange}
 use Rattle.live_gateway.specs.declared.spoilt_way.SpoiltWay.{SpoiltWay}
 use Rattle.live_gateway.specs.Offering.{offered_by}
@@ -14,10 +15,27 @@ abbrev pub handed_by : Option (Box SpoiltWay) → Option (List Sent) → Option 
 handed_by None sent = sent
 handed_by (Some way) sent = offered_by way.value
 
+-- what the socket received; what a bad network before it hands over isn't told
+abbrev pub received_by : Option (Box SpoiltWay) → Option (List Received) → Option (List Received)
+received_by None received = received
+received_by (Some way) received = None
+
+-- what came to it, and how many inputs were refused
+abbrev pub came_by : {S : Type 0} → (S → Traffic) → Exchange S → Came
+came_by traffic exchange = record {
+  received = received_by exchange.network (traffic exchange.around).received;
+  refused = exchange.faults.refused;
+}
+
 -- when the bad network hands out what it holds, if it will
 abbrev pub next_due : Option (Box SpoiltWay) → Option ℕ
 next_due None = None
 next_due (Some way) = first_due way.value.network.waiting.items
+
+-- so many inputs were refused, with one that was refused or taken
+abbrev pub refusals : Bool → ℕ → ℕ
+refusals true refused = counted refused 1
+refusals false refused = refused
 
 -- an input was refused, or taken
 abbrev pub with_refused : Bool → Faults → Faults

@@ -57,11 +57,11 @@ fn is_its_own(own: &[SocketAddrV4], sender: SocketAddrV4) -> bool
 }
 
 impl Admission {
-    /// Whether a datagram that has this sender is heard: who sent it may speak, and it isn't the gateway itself.
+    /// Whether a datagram that has this sender is heard: it can be answered, who sent it may speak, and it isn't the gateway itself.
     pub fn hears(&self, source: SocketAddrV4) -> bool
         ensures { result ≡ is_heard self.now source }
     {
-        !is_its_own(&self.own, source) && self.speakers.hears(*source.ip())
+        0 < source.port() && !is_its_own(&self.own, source) && self.speakers.hears(*source.ip())
     }
 }
 

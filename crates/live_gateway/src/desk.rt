@@ -1,14 +1,14 @@
 //! The loop: it asks what comes next, and does that.
 #![tactic(auto, using(crate::proofs::DeskLemmas::stays_so))]
 
-ghost use Rattle.std.specs.Prelude.{◌≡◌, ◌≤◌, Bool, List, IfOk};
+ghost use Rattle.std.specs.Prelude.{◌≡◌, ◌≤◌, Bool, List, IfOk, is_ok, not};
 ghost use Rattle.plain_machine.specs.Event.{GatewayEvent};
 ghost use Rattle.plain_machine.specs.Lists.{plain};
 ghost use Rattle.gateway_core.specs.Stands.{Stands};
 ghost use Rattle.line_changes.specs.Watching.{longest_watch};
 ghost use Rattle.live_journal.specs.Reporting.{counts_text};
 ghost use Rattle.live_gateway.specs.Admitting.{typist_of};
-ghost use Rattle.live_gateway.specs.Desk.{at_desk, GoesOn};
+ghost use Rattle.live_gateway.specs.Desk.{at_desk, with_input, GoesOn};
 
 use crate::admission::Admission;
 use crate::answering::{
@@ -123,7 +123,7 @@ impl<S: Surroundings + Drop, T: Teller + Drop> Desk<S, T> {
 
     // How things stand.
     fn situation<V: Visitors<S>>(&mut self, visitors: &Option<Box<V>>) -> Situation
-        ensures play { at_desk T.told S.sent self.new ≡ at_desk T.told S.sent self.old }
+        ensures play { at_desk T.told S.traffic self.new ≡ at_desk T.told S.traffic self.old }
         ensures admission { self.new.admission ≡ self.old.admission }
     {
         let ticked = self.play.gateway.now();
@@ -140,7 +140,7 @@ impl<S: Surroundings + Drop, T: Teller + Drop> Desk<S, T> {
 
     // It begins now: what its start took isn't a pause.
     fn begin(&mut self)
-        ensures play { at_desk T.told S.sent self.new ≡ at_desk T.told S.sent self.old }
+        ensures play { at_desk T.told S.traffic self.new ≡ at_desk T.told S.traffic self.old }
         ensures admission { self.new.admission ≡ self.old.admission }
     {
         let moment = self.exchange.moment(self.play.gateway.now());
@@ -149,7 +149,7 @@ impl<S: Surroundings + Drop, T: Teller + Drop> Desk<S, T> {
 
     // Of commands that were sent to who may not speak it is noted that no answer is heard.
     fn note_unheard(&mut self)
-        ensures play { at_desk T.told S.sent self.new ≡ at_desk T.told S.sent self.old }
+        ensures play { at_desk T.told S.traffic self.new ≡ at_desk T.told S.traffic self.old }
         ensures admission { self.new.admission ≡ self.old.admission }
     {
         let now = self.exchange.now;
@@ -159,7 +159,7 @@ impl<S: Surroundings + Drop, T: Teller + Drop> Desk<S, T> {
 
     // The gateway took an input, or refused it.
     fn note_taken(&mut self, is_taken: bool)
-        ensures play { at_desk T.told S.sent self.new ≡ at_desk T.told S.sent self.old }
+        ensures play { at_desk T.told S.traffic self.new ≡ with_input (not is_taken) (at_desk T.told S.traffic self.old) }
         ensures admission { self.new.admission ≡ self.old.admission }
     {
         self.exchange.count_refused(!is_taken);
@@ -171,7 +171,7 @@ impl<S: Surroundings + Drop, T: Teller + Drop> Desk<S, T> {
     // The clock goes on.
     #[tactic(auto, using(crate::proofs::DeskLemmas::ticks))]
     fn tick(&mut self, moment: u64)
-        ensures { GoesOn T.told S.sent self.old self.new }
+        ensures { GoesOn T.told S.traffic self.old self.new }
     {
         self.exchange.begin(moment);
         let done = self.play.tick(&mut *self.exchange, moment);
@@ -180,7 +180,7 @@ impl<S: Surroundings + Drop, T: Teller + Drop> Desk<S, T> {
 
     // Why commands of the datagram that came last were refused is told, where the gateway took it; else that it didn't.
     fn note_datagram(&mut self, is_taken: bool, source: SocketAddrV4, bytes: &[u8])
-        ensures play { at_desk T.told S.sent self.new ≡ at_desk T.told S.sent self.old }
+        ensures play { at_desk T.told S.traffic self.new ≡ at_desk T.told S.traffic self.old }
         ensures admission { self.new.admission ≡ self.old.admission }
     {
         let now = self.exchange.now;
@@ -193,9 +193,9 @@ impl<S: Surroundings + Drop, T: Teller + Drop> Desk<S, T> {
     }
 
     // A datagram is taken, if one is there, and who sent it is heard.
-    #[tactic(auto, using(crate::proofs::DeskLemmas::stays_so, crate::proofs::DeskLemmas::hears))]
+    #[tactic(auto, using(crate::proofs::DeskLemmas::hears_nobody, crate::proofs::DeskLemmas::hears))]
     fn datagram(&mut self)
-        ensures { GoesOn T.told S.sent self.old self.new }
+        ensures { GoesOn T.told S.traffic self.old self.new }
     {
         let mut room = [0u8; DATAGRAM_ROOM];
         let admission = &self.admission;
@@ -211,14 +211,14 @@ impl<S: Surroundings + Drop, T: Teller + Drop> Desk<S, T> {
 
     // This is answered to the line, which is done with.
     fn answer(&mut self, text: &[u8])
-        ensures { GoesOn T.told S.sent self.old self.new }
+        ensures { GoesOn T.told S.traffic self.old self.new }
     {
         self.lines.answer(&mut self.exchange.around, text);
     }
 
     // This is answered to all lines of the datagram, which are done with.
     fn answer_all(&mut self, text: &[u8])
-        ensures { GoesOn T.told S.sent self.old self.new }
+        ensures { GoesOn T.told S.traffic self.old self.new }
     {
         self.lines.answer_all(&mut self.exchange.around, text);
     }
@@ -249,7 +249,7 @@ impl<S: Surroundings + Drop, T: Teller + Drop> Desk<S, T> {
 
     // The act that the line asked for was done, or refused: that is answered.
     fn answer_act(&mut self, done: Result<(), Refusal>)
-        ensures play { at_desk T.told S.sent self.new ≡ at_desk T.told S.sent self.old }
+        ensures play { at_desk T.told S.traffic self.new ≡ with_input (not (is_ok done)) (at_desk T.told S.traffic self.old) }
         ensures admission { self.new.admission ≡ self.old.admission }
     {
         self.note_taken(done.is_ok());
@@ -261,7 +261,7 @@ impl<S: Surroundings + Drop, T: Teller + Drop> Desk<S, T> {
 
     // What was counted so far is answered.
     fn answer_counts(&mut self)
-        ensures { GoesOn T.told S.sent self.old self.new }
+        ensures { GoesOn T.told S.traffic self.old self.new }
     {
         match self.counts() {
             Ok(counts) => self.answer(counts.as_slice()),
@@ -271,7 +271,7 @@ impl<S: Surroundings + Drop, T: Teller + Drop> Desk<S, T> {
 
     // What each line is is answered.
     fn answer_all_shown(&mut self)
-        ensures { GoesOn T.told S.sent self.old self.new }
+        ensures { GoesOn T.told S.traffic self.old self.new }
     {
         match all_shown(self.alloc, &self.play.gateway) {
             Ok(text) => self.answer(text.as_slice()),
@@ -282,7 +282,7 @@ impl<S: Surroundings + Drop, T: Teller + Drop> Desk<S, T> {
     // Somebody asks to be told what changes for so long, in s: the answer.
     fn watch_answer(&mut self, seconds: u64) -> Result<Vec<u8>, AllocError>
         requires { seconds ≤ longest_watch }
-        ensures play { at_desk T.told S.sent self.new ≡ at_desk T.told S.sent self.old }
+        ensures play { at_desk T.told S.traffic self.new ≡ at_desk T.told S.traffic self.old }
         ensures admission { self.new.admission ≡ self.old.admission }
     {
         let sender = self.lines.sender();
@@ -294,7 +294,7 @@ impl<S: Surroundings + Drop, T: Teller + Drop> Desk<S, T> {
     #[tactic(auto, using(crate::proofs::DeskLemmas::stays_so, crate::proofs::DeskLemmas::goes_on_then))]
     fn answer_watch(&mut self, seconds: u64)
         requires { seconds ≤ longest_watch }
-        ensures { GoesOn T.told S.sent self.old self.new }
+        ensures { GoesOn T.told S.traffic self.old self.new }
     {
         match self.watch_answer(seconds) {
             Ok(text) => self.answer(text.as_slice()),
@@ -304,7 +304,7 @@ impl<S: Surroundings + Drop, T: Teller + Drop> Desk<S, T> {
 
     // Who watches is told what changed at the lines.
     fn tell_watchers(&mut self)
-        ensures play { at_desk T.told S.sent self.new ≡ at_desk T.told S.sent self.old }
+        ensures play { at_desk T.told S.traffic self.new ≡ at_desk T.told S.traffic self.old }
         ensures admission { self.new.admission ≡ self.old.admission }
     {
         self.watch
@@ -314,7 +314,7 @@ impl<S: Surroundings + Drop, T: Teller + Drop> Desk<S, T> {
     // What the line asks for that is to be answered next is done.
     #[tactic(auto, using(crate::proofs::DeskLemmas::stays_so, crate::proofs::DeskLemmas::stays, crate::proofs::DeskLemmas::ticks))]
     fn take_line(&mut self)
-        ensures { GoesOn T.told S.sent self.old self.new }
+        ensures { GoesOn T.told S.traffic self.old self.new }
     {
         let typist = self.typist();
         let Some(text) = self.lines.line() else {
@@ -346,7 +346,7 @@ impl<S: Surroundings + Drop, T: Teller + Drop> Desk<S, T> {
 
     // What the page asks for is the next line, where none is left and it is its turn, or nobody typed.
     fn take_from_page(&mut self, is_its_turn: bool)
-        ensures play { at_desk T.told S.sent self.new ≡ at_desk T.told S.sent self.old }
+        ensures play { at_desk T.told S.traffic self.new ≡ at_desk T.told S.traffic self.old }
         ensures admission { self.new.admission ≡ self.old.admission }
     {
         let is_taken = is_its_turn || !self.exchange.around.told().lines;
@@ -358,7 +358,7 @@ impl<S: Surroundings + Drop, T: Teller + Drop> Desk<S, T> {
     // A line is taken, if one is there. Who types and the page take turns: behind what was typed comes one act of the page's.
     #[tactic(auto, using(crate::proofs::DeskLemmas::stays_so, crate::proofs::DeskLemmas::goes_on_then))]
     fn command(&mut self)
-        ensures { GoesOn T.told S.sent self.old self.new }
+        ensures { GoesOn T.told S.traffic self.old self.new }
     {
         let was_page = self.is_of_page;
         self.is_of_page = false;
@@ -369,7 +369,7 @@ impl<S: Surroundings + Drop, T: Teller + Drop> Desk<S, T> {
 
     // A visitor is served, if one is there.
     fn visit<V: Visitors<S>>(&mut self, visitors: &mut Option<Box<V>>, moment: u64)
-        ensures { GoesOn T.told S.sent self.old self.new }
+        ensures { GoesOn T.told S.traffic self.old self.new }
     {
         let faults = self.exchange.faults;
         let behind = moment.saturating_sub(self.play.gateway.now());
@@ -386,7 +386,7 @@ impl<S: Surroundings + Drop, T: Teller + Drop> Desk<S, T> {
 
     // A turn of somebody's, or a wait, where it is now this moment.
     fn do_turn<V: Visitors<S>>(&mut self, turn: Turn, visitors: &mut Option<Box<V>>, moment: u64)
-        ensures { GoesOn T.told S.sent self.old self.new }
+        ensures { GoesOn T.told S.traffic self.old self.new }
     {
         match turn {
             Turn::Tick { moment } => self.tick(moment),
@@ -407,7 +407,7 @@ impl<S: Surroundings + Drop, T: Teller + Drop> Desk<S, T> {
     /// Asks what comes next and does that, and who watches is told what changed: whether the end hasn't come.
     #[tactic(auto, using(crate::proofs::DeskLemmas::stays_so, crate::proofs::DeskLemmas::goes_on_then))]
     pub fn turn<V: Visitors<S>>(&mut self, visitors: &mut Option<Box<V>>) -> bool
-        ensures { GoesOn T.told S.sent self.old self.new }
+        ensures { GoesOn T.told S.traffic self.old self.new }
     {
         let at = self.situation(visitors);
         let turn = self.schedule.next(at);
@@ -420,7 +420,7 @@ impl<S: Surroundings + Drop, T: Teller + Drop> Desk<S, T> {
     /// Writes what was recorded at the turn that is over, as far as it is taken at once.
     #[tactic(auto, using(crate::proofs::DeskLemmas::written_off))]
     pub fn write<W: Recorder<T>>(&mut self, recorder: &mut W)
-        ensures play { GoesOn T.told S.sent self.old self.new }
+        ensures play { GoesOn T.told S.traffic self.old self.new }
         ensures lines { self.new.lines ≡ self.old.lines }
         ensures end { self.new.end ≡ self.old.end }
         ensures read { self.new.exchange.value.read ≡ self.old.exchange.value.read }
@@ -438,7 +438,7 @@ impl<S: Surroundings + Drop, T: Teller + Drop> Desk<S, T> {
         visitors: &mut Option<Box<V>>,
         recorder: &mut W,
     )
-        ensures { GoesOn T.told S.sent self.old self.new }
+        ensures { GoesOn T.told S.traffic self.old self.new }
     {
         self.begin();
         for _ in 0..u64::MAX {

@@ -1,19 +1,26 @@
 //! Worked examples of the definitions, as theorems: each sentence of a definition has one that a slip in it breaks.
 #![tactic(auto, unfolding(crate::proofs::Computing::on_examples))]
 
-ghost use Rattle.std.specs.Prelude.{◌≡◌, ℕ, codes, true, false, [], ◌∷◌};
+ghost use Rattle.std.specs.Prelude.{◌≡◌, ℕ, List, Option, None, Some, codes, true, false, [], ◌∷◌};
+ghost use Rattle.std.specs.Global.{Box};
 ghost use Rattle.endpoint_names.specs.declared.route.Route.TheVariants.{One, Two};
 ghost use Rattle.mg_line.specs.declared.phone.Act.TheVariants.{OffHook};
 ghost use Rattle.live_journal.specs.declared.reporting.Faults.{Faults};
+ghost use Rattle.rgw_scripts.specs.Moves.{Move, Shown};
+ghost use Rattle.traces.specs.declared.telling.Mark.{Mark};
+ghost use Rattle.traces.specs.Writing.{arrived, typed, passed, showed, became};
+ghost use Rattle.live_play.specs.Coming.{arrived_in};
+ghost use Rattle.surroundings.specs.Sending.{Received};
 ghost use Rattle.surroundings.specs.Speaking.{nobody, may_speak, admitted_by};
 ghost use Rattle.live_gateway.specs.declared.telephones.Typist.TheVariants.{Here, Elsewhere, Stranger};
 ghost use Rattle.live_gateway.specs.declared.telephones.TelephoneRequest.TheVariants.{Act, Show, ShowAll, Watch, Counts, Stop, StopFromAfar, Refused, Unknown};
 ghost use Rattle.live_gateway.specs.declared.admission.Admission.{Admission};
-ghost use Rattle.live_gateway.specs.Admitting.{with_hosts, hosts_of, with_named, is_its_own, is_heard, typist_of};
+ghost use Rattle.live_gateway.specs.Admitting.{with_hosts, hosts_of, with_named, is_its_own, is_heard, heard_of, typist_of};
 ghost use Rattle.live_gateway.specs.Asking.{request_in};
 ghost use Rattle.live_gateway.specs.Example.{host, at_port, looped, anywhere, sockets};
 ghost use Rattle.live_gateway.specs.declared.exchange.Exchange.{Exchange};
-ghost use Rattle.live_gateway.specs.Exchanging.{faultless, with_refused, with_unreceived, IsSameTurn};
+ghost use Rattle.live_gateway.specs.declared.spoilt_way.SpoiltWay.{SpoiltWay};
+ghost use Rattle.live_gateway.specs.Exchanging.{faultless, received_by, refusals, with_refused, with_unreceived, IsSameTurn};
 
 /// A line has one of six words, or asks for nothing that can be done: other steps of a script can't be asked for.
 pub fn lines_ask_for_this()
@@ -47,6 +54,8 @@ pub fn lines_ask_for_this()
 pub fn refused_inputs_are_counted()
     ensures refused { (faults : Faults) → with_refused true (record faults { refused = 4 }) ≡ record faults { refused = 5 } }
     ensures taken { (faults : Faults) → with_refused false faults ≡ faults }
+    ensures one_more { refusals true 4 ≡ 5 }
+    ensures no_more { refusals false 4 ≡ 4 }
 {}
 
 /// Nothing failed at the start; what can't be received is counted, and nothing else.
@@ -73,7 +82,7 @@ pub fn each_address_of_a_host_may_speak()
 {}
 
 /// A gateway never hears itself: what has the address and the port of one of its sockets came from there. Of others it hears who may
-/// speak.
+/// speak, and has a port.
 pub fn a_gateway_never_hears_itself()
     ensures itself { (admission : Admission) → is_heard (record admission { own = sockets }) (at_port 5 2427) ≡ false }
     ensures telephones { (admission : Admission) → is_heard (record admission { own = sockets }) (at_port 5 2428) ≡ false }
@@ -82,6 +91,24 @@ pub fn a_gateway_never_hears_itself()
     ensures other_host { (admission : Admission) → is_heard (record admission { own = sockets }) (at_port 7 2427)
         ≡ may_speak (admitted_by admission.speakers) (host 7) }
     ensures nothing { is_its_own [] (at_port 5 2427) ≡ false }
+    ensures portless { (admission : Admission) → is_heard (record admission { own = sockets }) (at_port 7 0) ≡ false }
+    ensures none { (admission : Admission) → heard_of (record admission { own = sockets })
+        (record { source = at_port 5 2427; bytes = 1 ∷ [] } ∷ record { source = at_port 7 0; bytes = 2 ∷ [] } ∷ []) ≡ [] }
+{}
+
+/// Datagrams come in at entries that say so, in their order, and at no other ones.
+pub fn datagrams_come_in_at_their_entries()
+    ensures arrived { (move : Move) (shown : Shown) → arrived_in (showed (arrived (at_port 7 2727) (1 ∷ 2 ∷ [])) move shown
+        ∷ showed (typed (codes "show 1")) move shown ∷ showed (arrived (at_port 8 2728) []) move shown ∷ [])
+        ≡ record { source = at_port 7 2727; bytes = 1 ∷ 2 ∷ [] } ∷ record { source = at_port 8 2728; bytes = [] } ∷ [] }
+    ensures passed { (move : Move) (shown : Shown) → arrived_in (showed (passed 10) move shown ∷ []) ≡ [] }
+    ensures became { (mark : Mark) → arrived_in (became mark 1 ∷ []) ≡ [] }
+{}
+
+/// What came is what the socket received; what a bad network hands over isn't told.
+pub fn what_a_socket_receives_has_come()
+    ensures direct { (received : Option (List Received)) → received_by None received ≡ received }
+    ensures spoilt { (way : Box SpoiltWay) (received : Option (List Received)) → received_by (Some way) received ≡ None }
 {}
 
 /// A socket at each address of a machine has sent what has its port and an address that no other machine has; who has another address

@@ -1,9 +1,9 @@
 //! What goes between the gateway and others: over sockets, behind a bad network where one is asked for; and its journal.
-ghost use Rattle.std.specs.Prelude.{◌≡◌, ◌≤◌, ◌∷◌, ◌⊎◌, [], true, false, length, List, Option, IfSome};
+ghost use Rattle.std.specs.Prelude.{◌≡◌, ◌≤◌, ◌∷◌, ◌⊎◌, [], true, false, length, List, Option, IfSome, is_some};
 ghost use Rattle.gateway_core.specs.Wire.{counted};
-ghost use Rattle.surroundings.specs.Sending.{Sent, Grows};
-ghost use Rattle.live_gateway.specs.Admitting.{is_heard};
-ghost use Rattle.live_gateway.specs.Exchanging.{handed_by, next_due, faultless, with_refused, with_unreceived, IsSameTurn};
+ghost use Rattle.surroundings.specs.Sending.{Sent, Grows, found_by};
+ghost use Rattle.live_gateway.specs.Admitting.{is_heard, HeardSince};
+ghost use Rattle.live_gateway.specs.Exchanging.{handed_by, received_by, came_by, next_due, faultless, refusals, with_refused, with_unreceived, IsSameTurn};
 
 use crate::admission::Admission;
 use crate::spoilt_way::SpoiltWay;
@@ -109,6 +109,7 @@ impl<S: Surroundings + Drop> Exchange<S> {
         ensures network { self.new.network ≡ self.old.network }
         ensures around { self.new.around ≡ self.old.around }
         ensures faults { self.new.faults ≡ with_refused is_refused self.old.faults }
+        ensures refused { self.new.faults.refused ≡ refusals is_refused self.old.faults.refused }
         ensures journal { self.new.journal ≡ self.old.journal }
         ensures read { self.new.read ≡ self.old.read }
         ensures turn { IsSameTurn self.old self.new }
@@ -133,6 +134,7 @@ impl<S: Surroundings + Drop> Exchange<S> {
         ensures network { self.new.network ≡ self.old.network }
         ensures around { self.new.around ≡ self.old.around }
         ensures faults { (self.new.faults ≡ self.old.faults) ⊎ ((self.new.faults ≡ with_unreceived self.old.faults) × (result ≡ ticked)) }
+        ensures refused { self.new.faults.refused ≡ self.old.faults.refused }
         ensures journal { self.new.journal ≡ self.old.journal }
         ensures read { self.new.read ≡ self.old.read }
         ensures turn { IsSameTurn self.old self.new }
@@ -149,7 +151,7 @@ impl<S: Surroundings + Drop> Exchange<S> {
     /// A visitor is served, at this moment in ms, if one is there.
     pub fn serve_visitor<V: Visitors<S>>(&mut self, visitors: &mut Option<Box<V>>, moment: u64)
         ensures network { self.new.network ≡ self.old.network }
-        ensures sent { S.sent self.new.around ≡ S.sent self.old.around }
+        ensures traffic { S.traffic self.new.around ≡ S.traffic self.old.around }
         ensures faults { self.new.faults ≡ self.old.faults }
         ensures read { self.new.read ≡ self.old.read }
         ensures turn { IsSameTurn self.old self.new }
@@ -165,7 +167,7 @@ impl<S: Surroundings + Drop> Exchange<S> {
     /// A datagram of lines is taken, where no line is left and one has come.
     pub fn hear(&mut self, lines: &mut Lines)
         ensures network { self.new.network ≡ self.old.network }
-        ensures sent { S.sent self.new.around ≡ S.sent self.old.around }
+        ensures traffic { S.traffic self.new.around ≡ S.traffic self.old.around }
         ensures faults { self.new.faults ≡ self.old.faults }
         ensures journal { self.new.journal ≡ self.old.journal }
         ensures read { ((self.new.read ≡ self.old.read) × (lines.new ≡ lines.old)) ⊎ (self.new.read ≡ counted self.old.read 1) }
@@ -178,8 +180,9 @@ impl<S: Surroundings + Drop> Exchange<S> {
 
     /// Waits until something comes, but no longer than this, in ms, nor than until what waits to be taken is offered again.
     pub fn wait(&mut self, longest: u64)
-        ensures handed { handed_by self.new.network (S.sent self.new.around) ≡ handed_by self.old.network (S.sent self.old.around) }
+        ensures handed { handed_by self.new.network (S.traffic self.new.around).sent ≡ handed_by self.old.network (S.traffic self.old.around).sent }
         ensures faults { (self.new.faults ≡ self.old.faults) ⊎ (self.new.faults ≡ with_unreceived self.old.faults) }
+        ensures came { came_by S.traffic self.new ≡ came_by S.traffic self.old }
         ensures journal { self.new.journal ≡ self.old.journal }
         ensures read { self.new.read ≡ self.old.read }
         ensures turn { IsSameTurn self.old self.new }
@@ -197,9 +200,11 @@ impl<S: Surroundings + Drop> Exchange<S> {
     // The next packet that the network hands out now, if there is one.
     fn take_due(&mut self) -> Option<Packet>
         ensures around { self.new.around ≡ self.old.around }
-        ensures handed { handed_by self.new.network (S.sent self.new.around) ≡ handed_by self.old.network (S.sent self.old.around) }
+        ensures faults { self.new.faults ≡ self.old.faults }
+        ensures spoilt { is_some self.new.network ≡ is_some self.old.network }
+        ensures handed { handed_by self.new.network (S.traffic self.new.around).sent ≡ handed_by self.old.network (S.traffic self.old.around).sent }
         ensures behind { IfSome result (λ _. (sent : Option (List Sent)) →
-            handed_by self.new.network sent ≡ handed_by self.old.network (S.sent self.old.around)) }
+            handed_by self.new.network sent ≡ handed_by self.old.network (S.traffic self.old.around).sent) }
     {
         match &mut self.network {
             Some(network) => network.take_due(self.now.clock),
@@ -213,6 +218,7 @@ impl<S: Surroundings + Drop> Exchange<S> {
         ensures within { result ≤ length room.new }
         ensures network { self.new.network ≡ self.old.network }
         ensures around { self.new.around ≡ self.old.around }
+        ensures faults { self.new.faults ≡ self.old.faults }
     {
         let late = packet.due.saturating_sub(packet.offered);
         let len = put_into(room, packet.bytes.as_bytes());
@@ -220,14 +226,16 @@ impl<S: Surroundings + Drop> Exchange<S> {
         len
     }
 
-    // Whether a datagram that has come is heard; another one is a stranger's, which is counted, and told of now and then.
+    // Whether a datagram that has come is heard; another one is a stranger's, which is counted, and told of now and then. One without a
+    // port can't be answered, and isn't counted.
     fn is_heard(&mut self, admission: &Admission, source: SocketAddrV4) -> bool
         ensures heard { result ≡ is_heard admission.now source }
         ensures network { self.new.network ≡ self.old.network }
         ensures around { self.new.around ≡ self.old.around }
+        ensures faults { self.new.faults ≡ self.old.faults }
     {
         let is_taken = admission.hears(source);
-        if !is_taken {
+        if !is_taken && 0 < source.port() {
             self.journal.stranger(self.now, source);
         }
         is_taken
@@ -243,7 +251,9 @@ impl<S: Surroundings + Drop> Exchange<S> {
         ensures length { length room.new ≡ length room.old }
         ensures within { IfSome result (λ p. p.1 ≤ length room.new) }
         ensures admitted { IfSome result (λ p. is_heard admission.now p.0 ≡ true) }
-        ensures handed { handed_by self.new.network (S.sent self.new.around) ≡ handed_by self.old.network (S.sent self.old.around) }
+        ensures handed { handed_by self.new.network (S.traffic self.new.around).sent ≡ handed_by self.old.network (S.traffic self.old.around).sent }
+        ensures faults { self.new.faults ≡ self.old.faults }
+        ensures spoilt { is_some self.new.network ≡ is_some self.old.network }
     {
         for _ in 0..u16::MAX {
             let packet = self.take_due()?;
@@ -261,6 +271,7 @@ impl<S: Surroundings + Drop> Exchange<S> {
         ensures heard { result ≡ is_heard admission.now source }
         ensures network { self.new.network ≡ self.old.network }
         ensures around { self.new.around ≡ self.old.around }
+        ensures faults { self.new.faults ≡ self.old.faults }
     {
         let is_taken = self.is_heard(admission, source);
         if is_taken {
@@ -271,7 +282,9 @@ impl<S: Surroundings + Drop> Exchange<S> {
 
     // A datagram that has come goes over the network: whether that loses it.
     fn is_lost(&mut self, source: SocketAddrV4, bytes: &[u8]) -> bool
-        ensures handed { handed_by self.new.network (S.sent self.new.around) ≡ handed_by self.old.network (S.sent self.old.around) }
+        ensures handed { handed_by self.new.network (S.traffic self.new.around).sent ≡ handed_by self.old.network (S.traffic self.old.around).sent }
+        ensures faults { self.new.faults ≡ self.old.faults }
+        ensures spoilt { is_some self.new.network ≡ is_some self.old.network }
     {
         let now = self.now.clock;
         match &mut self.network {
@@ -296,14 +309,10 @@ impl<S: Surroundings + Drop> Exchange<S> {
         ensures length { length room.new ≡ length room.old }
         ensures within { IfSome result (λ p. p.1 ≤ length room.new) }
         ensures admitted { IfSome result (λ p. is_heard admission.now p.0 ≡ true) }
-        ensures handed { handed_by self.new.network (S.sent self.new.around) ≡ handed_by self.old.network (S.sent self.old.around) }
+        ensures handed { handed_by self.new.network (S.traffic self.new.around).sent ≡ handed_by self.old.network (S.traffic self.old.around).sent }
+        ensures faults { self.new.faults ≡ self.old.faults }
+        ensures spoilt { is_some self.new.network ≡ is_some self.old.network }
     {
-        if self.network.is_none() {
-            if self.come(admission, source, &room[..len]) {
-                return Some((source, len));
-            }
-            return None;
-        }
         if self.is_lost(source, &room[..len]) {
             if admission.hears(source) {
                 self.journal
@@ -314,19 +323,19 @@ impl<S: Surroundings + Drop> Exchange<S> {
         self.handed_over(admission, room)
     }
 
-    // A datagram of the socket, if one has come. One without a port can't be answered, and doesn't count.
+    // A datagram of the socket, if one has come.
     fn read_socket(&mut self, room: &mut [u8]) -> Option<(SocketAddrV4, usize)>
         ensures length { length room.new ≡ length room.old }
         ensures within { IfSome result (λ p. p.1 ≤ length room.new) }
-        ensures handed { handed_by self.new.network (S.sent self.new.around) ≡ handed_by self.old.network (S.sent self.old.around) }
+        ensures network { self.new.network ≡ self.old.network }
+        ensures sent { (S.traffic self.new.around).sent ≡ (S.traffic self.old.around).sent }
+        ensures received { Grows (S.traffic self.old.around).received (found_by result room.new) (S.traffic self.new.around).received }
+        ensures refused { self.new.faults.refused ≡ self.old.faults.refused }
     {
         match self.around.receive(room) {
-            Ok(Some((source, len))) => {
+            Ok(Some(found)) => {
                 count(&mut self.read);
-                if source.port() > 0 {
-                    return Some((source, len));
-                }
-                None
+                Some(found)
             }
             Ok(None) => None,
             Err(_) => {
@@ -336,8 +345,56 @@ impl<S: Surroundings + Drop> Exchange<S> {
         }
     }
 
+    // A datagram of the socket, where no network is before it, if one has come that is heard.
+    #[tactic(auto, using(crate::proofs::HearingLemmas::hears_nothing, crate::proofs::HearingLemmas::hears_one, crate::proofs::HearingLemmas::passes_over))]
+    fn receive_directly(
+        &mut self,
+        admission: &Admission,
+        room: &mut [u8],
+    ) -> Option<(SocketAddrV4, usize)>
+        requires { is_some self.old.network ≡ false }
+        ensures length { length room.new ≡ length room.old }
+        ensures within { IfSome result (λ p. p.1 ≤ length room.new) }
+        ensures admitted { IfSome result (λ p. is_heard admission.now p.0 ≡ true) }
+        ensures handed { handed_by self.new.network (S.traffic self.new.around).sent ≡ handed_by self.old.network (S.traffic self.old.around).sent }
+        ensures refused { self.new.faults.refused ≡ self.old.faults.refused }
+        ensures came { HeardSince admission.now (received_by self.old.network (S.traffic self.old.around).received) (found_by result room.new)
+            (received_by self.new.network (S.traffic self.new.around).received) }
+    {
+        let (source, len) = self.read_socket(room)?;
+        if self.come(admission, source, &room[..len]) {
+            return Some((source, len));
+        }
+        None
+    }
+
+    // A datagram that the network before the socket hands over from who is heard, if one is due. What comes of the socket goes over that
+    // network, but what has no port.
+    fn receive_spoilt(
+        &mut self,
+        admission: &Admission,
+        room: &mut [u8],
+    ) -> Option<(SocketAddrV4, usize)>
+        ensures length { length room.new ≡ length room.old }
+        ensures within { IfSome result (λ p. p.1 ≤ length room.new) }
+        ensures admitted { IfSome result (λ p. is_heard admission.now p.0 ≡ true) }
+        ensures handed { handed_by self.new.network (S.traffic self.new.around).sent ≡ handed_by self.old.network (S.traffic self.old.around).sent }
+        ensures refused { self.new.faults.refused ≡ self.old.faults.refused }
+        ensures spoilt { is_some self.new.network ≡ is_some self.old.network }
+    {
+        if let Some(found) = self.handed_over(admission, room) {
+            return Some(found);
+        }
+        let (source, len) = self.read_socket(room)?;
+        if source.port() == 0 {
+            return None;
+        }
+        self.pass(admission, source, len, room)
+    }
+
     /// A datagram for the gateway, put at the start of the room, if one has come from one of those who are heard: from where, and how
     /// long it is. What comes from others, or from the gateway's own sockets, is counted, and told of once a second; it does nothing else.
+    #[tactic(auto, using(crate::proofs::HearingLemmas::hears_spoilt))]
     pub fn receive(
         &mut self,
         admission: &Admission,
@@ -346,19 +403,23 @@ impl<S: Surroundings + Drop> Exchange<S> {
         ensures length { length room.new ≡ length room.old }
         ensures within { IfSome result (λ p. p.1 ≤ length room.new) }
         ensures admitted { IfSome result (λ p. is_heard admission.now p.0 ≡ true) }
-        ensures handed { handed_by self.new.network (S.sent self.new.around) ≡ handed_by self.old.network (S.sent self.old.around) }
+        ensures handed { handed_by self.new.network (S.traffic self.new.around).sent ≡ handed_by self.old.network (S.traffic self.old.around).sent }
+        ensures refused { self.new.faults.refused ≡ self.old.faults.refused }
+        ensures came { HeardSince admission.now (received_by self.old.network (S.traffic self.old.around).received) (found_by result room.new)
+            (received_by self.new.network (S.traffic self.new.around).received) }
     {
-        if let Some(found) = self.handed_over(admission, room) {
-            return Some(found);
+        if self.network.is_some() {
+            self.receive_spoilt(admission, room)
+        } else {
+            self.receive_directly(admission, room)
         }
-        let (source, len) = self.read_socket(room)?;
-        self.pass(admission, source, len, room)
     }
 
     // Sends a datagram, over the network where there is one: what becomes of it.
     fn send(&mut self, to: SocketAddrV4, bytes: &[u8]) -> Result<Fate, Fault>
-        ensures { Grows (handed_by self.old.network (S.sent self.old.around)) (record { to = to; bytes = bytes.now } ∷ [])
-            (handed_by self.new.network (S.sent self.new.around)) }
+        ensures handed { Grows (handed_by self.old.network (S.traffic self.old.around).sent) (record { to = to; bytes = bytes.now } ∷ [])
+            (handed_by self.new.network (S.traffic self.new.around).sent) }
+        ensures came { came_by S.traffic self.new ≡ came_by S.traffic self.old }
     {
         if let Some(network) = &mut self.network {
             return match network.offer_out(to, bytes, self.now.clock) {
@@ -372,9 +433,11 @@ impl<S: Surroundings + Drop> Exchange<S> {
 }
 
 impl<S: Surroundings + Drop> Outlet for Exchange<S> {
-    ghost use Rattle.live_gateway.specs.Exchanging.{handed_by};
+    ghost use Rattle.live_gateway.specs.Exchanging.{handed_by, came_by};
 
-    ghost handed = { λ e. handed_by e.network (S.sent e.around) };
+    ghost handed = { λ e. handed_by e.network (S.traffic e.around).sent };
+
+    ghost came = { λ e. came_by S.traffic e };
 
     fn turned(&mut self, gateway: &Gateway) {
         self.journal.turned(self.now, gateway);

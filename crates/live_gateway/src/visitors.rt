@@ -14,5 +14,5 @@ pub trait Visitors<S: Surroundings> {
 
     /// A turn: those whose time is over go, somebody is let in, and one who has more to do is answered by the board.
     fn turn(&mut self, around: &mut S, board: &mut Board, moment: u64)
-        ensures { S.sent around.new ≡ S.sent around.old };
+        ensures { S.traffic around.new ≡ S.traffic around.old };
 }

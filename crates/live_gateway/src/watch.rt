@@ -113,7 +113,7 @@ impl Watch {
 
     // Who watches from this place is told this, if anybody does.
     fn tell_place<S: Surroundings>(&self, around: &mut S, place: usize, now: u64, text: &[u8])
-        ensures { S.sent around.new ≡ S.sent around.old }
+        ensures { S.traffic around.new ≡ S.traffic around.old }
     {
         if let Some(address) = self.watchers.told_at(place, now) {
             around.answer(SocketAddr::V4(address), text);
@@ -122,7 +122,7 @@ impl Watch {
 
     // Each who watches is told this.
     fn tell_all<S: Surroundings>(&self, around: &mut S, now: u64, text: &[u8])
-        ensures { S.sent around.new ≡ S.sent around.old }
+        ensures { S.traffic around.new ≡ S.traffic around.old }
     {
         for place in 0..MOST_WATCHERS {
             self.tell_place(around, place, now, text);
@@ -172,7 +172,7 @@ impl Watch {
     ) -> Result<(), OutOfMemory>
         requires low { 1 ≤ line }
         requires high { line ≤ gateway.now.setup.names.lines }
-        ensures { S.sent around.new ≡ S.sent around.old }
+        ensures { S.traffic around.new ≡ S.traffic around.old }
     {
         let is = seen_line(alloc, gateway, line)?;
         let now = gateway.now();
@@ -192,7 +192,7 @@ impl Watch {
         around: &mut S,
         gateway: &Gateway,
     ) -> Result<(), OutOfMemory>
-        ensures { S.sent around.new ≡ S.sent around.old }
+        ensures { S.traffic around.new ≡ S.traffic around.old }
     {
         for before in 0..gateway.lines() {
             self.tell_line(alloc, around, gateway, before + 1)?;
@@ -202,7 +202,7 @@ impl Watch {
 
     /// Who watches is told what changed since that was told last. Where memory is refused all are told that, and watch no more.
     pub fn tell<S: Surroundings>(&mut self, alloc: Global, around: &mut S, gateway: &Gateway)
-        ensures { S.sent around.new ≡ S.sent around.old }
+        ensures { S.traffic around.new ≡ S.traffic around.old }
     {
         let now = gateway.now();
         if !self.watchers.is_watched(now) {

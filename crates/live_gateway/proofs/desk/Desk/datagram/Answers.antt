@@ -4,7 +4,12 @@ use Rattle.live_gateway.proofs.desk.Desk.datagram.Goals as goal
 
 pub returns : goal.returns
 returns g c =
-    hears g.T.Teller.told g.S.Surroundings.sent _ _ c.in-Some.source c.in-Some.ensures.admitted
+    hears g.T.Teller.told g.S.Surroundings.traffic _ _ c.datagram-done.result c.in-Some.source _
     (rw (c.note_taken.ensures.play, c.note_datagram.ensures.play)
-    (rw (c.deref_mut-2.ensures.value, c.deref_mut-3.ensures.value, c.receive.ensures.handed, c.deref_mut.ensures.value) at c.datagram-done.ensures.ran))
+    (rw (c.deref_mut-2.ensures.value, c.deref_mut-3.ensures.value, c.deref_mut.ensures.value) c.receive.ensures.came))
+    (rw (c.note_taken.ensures.play, c.note_datagram.ensures.play)
+    (rw (c.deref_mut-2.ensures.value, c.deref_mut-3.ensures.value, c.receive.ensures.handed, c.deref_mut.ensures.value) at c.datagram-done.ensures.taken))
+    (rw (c.note_taken.ensures.play, c.note_datagram.ensures.play)
+    (rw (c.deref_mut-2.ensures.value, c.deref_mut-3.ensures.value, c.receive.ensures.handed, c.deref_mut.ensures.value) at c.datagram-done.ensures.refused))
+    (rw (c.note_taken.ensures.play, c.note_datagram.ensures.play) _)
     (c.note_taken.ensures.admission ∙ c.note_datagram.ensures.admission)

@@ -1,9 +1,13 @@
 use Rattle.std.proofs.Common.{◌≡◌, length}
+use Rattle.std.specs.Prelude.{is_some}
 use Rattle.live_gateway.specs.Exchanging.{handed_by}
 use Rattle.live_gateway.proofs.exchange.Exchange.handed_over.Given as goal
 
 abbrev pub invariant-loop : goal.invariant-loop
 invariant-loop g l = record {
   length : length l.room ≡ length l.fn.room;
-  handed : handed_by l.self.network (g.S.Surroundings.sent l.self.around) ≡ handed_by l.fn.self.network (g.S.Surroundings.sent l.fn.self.around);
+  handed : handed_by l.self.network (g.S.Surroundings.traffic l.self.around).sent
+      ≡ handed_by l.fn.self.network (g.S.Surroundings.traffic l.fn.self.around).sent;
+  faults : l.self.faults ≡ l.fn.self.faults;
+  spoilt : is_some l.self.network ≡ is_some l.fn.self.network;
 }
