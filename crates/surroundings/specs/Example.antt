@@ -1,6 +1,7 @@
--- The addresses of the worked examples.
-use Rattle.std.specs.Prelude.{ℕ, Bool, List, [], ◌∷◌, Option, option_map}
+-- The addresses of the worked examples, and who counts the bytes that it answers.
+use Rattle.std.specs.Prelude.{◌≡◌, ◌+◌, ℕ, Bool, List, [], ◌∷◌, length, Option, option_map}
 use Rattle.std.specs.declared.net.ipv4_addr.Ipv4Addr.{Ipv4Addr}
+use Rattle.std.specs.declared.net.socket_addr.SocketAddr.{SocketAddr}
 use Rattle.std.specs.declared.net.socket_addr.SocketAddrV4.{SocketAddrV4}
 use Rattle.surroundings.specs.Speaking.{admitted_in, may_speak}
 
@@ -24,3 +25,6 @@ host_at a b c d = record { octets = a ∷ b ∷ c ∷ d ∷ [] }
 -- whether who has this address may speak, as a word says it, if it says anything
 abbrev pub admits : List ℕ → Ipv4Addr → Option Bool
 admits word host = option_map (λ admitted. may_speak admitted host) (admitted_in word)
+
+abbrev pub counts_bytes : ℕ → SocketAddr → List ℕ → ℕ → Type 0
+counts_bytes was to text is = is ≡ was + length text

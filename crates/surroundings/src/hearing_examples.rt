@@ -1,12 +1,11 @@
 //! Worked examples of what becomes of lines that come, as theorems.
 #![tactic(auto, unfolding(crate::proofs::Computing::on_examples))]
 
-ghost use Rattle.std.specs.Prelude.{◌≡◌, ◌≤◌, ℕ, Bool, List, codes, false, [], ◌∷◌, Some, None};
+ghost use Rattle.std.specs.Prelude.{◌≡◌, ◌≤◌, ◌+◌, ℕ, Bool, codes, false, [], ◌∷◌, Some, None};
 ghost use Rattle.std.specs.Vec.{vec_capacity};
-ghost use Rattle.std.specs.declared.net.socket_addr.SocketAddr.{SocketAddr};
 ghost use Rattle.std.specs.declared.net.socket_addr.SocketAddr.TheVariants.{V4};
 ghost use Rattle.surroundings.specs.declared.lines.Lines.{Lines};
-ghost use Rattle.surroundings.specs.Example.{socket_at, here};
+ghost use Rattle.surroundings.specs.Example.{socket_at, here, counts_bytes};
 ghost use Rattle.surroundings.specs.Typing.{left_of};
 ghost use Rattle.surroundings.specs.Hearing.{Looked, AnswersTo};
 
@@ -27,7 +26,6 @@ pub fn what_comes_is_taken()
 
 /// Who sent lines is answered, and nobody else.
 pub fn who_sent_lines_is_answered()
-    ensures nobody { (answers : ℕ → SocketAddr → List ℕ → ℕ → Type 0) (was is : ℕ) → AnswersTo answers None was (codes "done") is → is ≡ was }
-    ensures sender { (answers : ℕ → SocketAddr → List ℕ → ℕ → Type 0) (was is : ℕ) → AnswersTo answers (Some (V4 (socket_at here 4000))) was (codes "done") is
-        → answers was (V4 (socket_at here 4000)) (codes "done") is }
+    ensures nobody { (was is : ℕ) → AnswersTo counts_bytes None was (codes "done") is → is ≡ was }
+    ensures sender { (was is : ℕ) → AnswersTo counts_bytes (Some (V4 (socket_at here 4000))) was (codes "done") is → is ≡ was + 4 }
 {}
