@@ -42,6 +42,10 @@ use traces::{put_verdict, replay};
 pub struct Live;
 
 impl Recorder<Trace> for Records {
+    ghost use Rattle.std.specs.Prelude.{⊤};
+
+    ghost writes = { λ was is. ⊤ };
+
     fn write(&mut self, journal: &mut Journal, trace: &mut Trace, time: u64) {
         self.keep_trace(time, trace);
         self.keep(time, b"log ", &mut journal.log.record);

@@ -1,4 +1,6 @@
 pub mod Computing
 pub mod HearingLemmas
+pub mod CountingLemmas
+pub mod EndingLemmas
 pub mod DeskLemmas
 pub mod HearingLaws

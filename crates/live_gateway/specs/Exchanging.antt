@@ -1,11 +1,13 @@
 -- What was handed to an exchange: to the sockets, or to the bad network before them; and what came to it.
-use Rattle.std.specs.Prelude.{◌≡◌, ℕ, Bool, true, false, List, Option, Some, None}
+use Rattle.std.specs.Prelude.{◌≡◌, ◌⊎◌, ℕ, Bool, true, false, List, Option, Some, None, IsSome, is_some, Result, Ok, Err}
 use Rattle.std.specs.Global.{Box}
 use Rattle.bad_network.specs.Waiting.{first_due}
 use Rattle.gateway_core.specs.Wire.{counted}
 use Rattle.live_journal.specs.declared.reporting.Faults.{Faults}
 use Rattle.live_play.specs.Coming.{Came}
+use Rattle.std.specs.declared.net.socket_addr.SocketAddrV4.{SocketAddrV4}
 use Rattle.surroundings.specs.Sending.{Sent, Received, Traffic}
+use Rattle.surroundings.specs.declared.surroundings.Fault.{Fault}
 use Rattle.live_gateway.specs.declared.exchange.Exchange.{Exchange}
 use Rattle.live_gateway.specs.declared.spoilt_way.SpoiltWay.{SpoiltWay}
 use Rattle.live_gateway.specs.Offering.{offered_by}
@@ -50,6 +52,35 @@ faultless = record { refused = 0; receive = 0; send = 0 }
 abbrev pub with_unreceived : Faults → Faults
 with_unreceived faults = record faults { receive = counted faults.receive 1 }
 
+-- a datagram was read, or none was
+abbrev pub with_read : Bool → ℕ → ℕ
+with_read true read = counted read 1
+with_read false read = read
+
 -- the turn under way is the same, and whether something waits to be taken
 abbrev pub IsSameTurn : {S : Type 0} → Exchange S → Exchange S → Type 0
 IsSameTurn was is = (is.now ≡ was.now) × (is.is_offering ≡ was.is_offering)
+
+-- so many datagrams were read, where a look for one gave this: a datagram counts, whatever becomes of it
+abbrev pub read_at : Result (Option (SocketAddrV4 × ℕ)) Fault → ℕ → ℕ
+read_at (Ok found) read = with_read (is_some found) read
+read_at (Err fault) read = read
+
+-- that it failed counts
+abbrev pub faults_at : Result (Option (SocketAddrV4 × ℕ)) Fault → Faults → Faults
+faults_at (Ok found) faults = faults
+faults_at (Err fault) faults = with_unreceived faults
+
+-- it was looked for a datagram of the socket, and what that gave is counted, once
+pub record LooksOnce {S : Type 0} (receives : S → Result (Option (SocketAddrV4 × ℕ)) Fault → List ℕ → S → Type 0) (was is : Exchange S) : Type 0 where
+  pub before : S
+  pub outcome : Result (Option (SocketAddrV4 × ℕ)) Fault
+  pub room : List ℕ
+  pub after : S
+  pub looked : receives before outcome room after
+  pub read : is.read ≡ read_at outcome was.read
+  pub faults : is.faults ≡ faults_at outcome was.faults
+
+-- a bad network handed a datagram over, and nothing is counted; or it was looked for one
+abbrev pub CountsReceived : {S : Type 0} → (S → Result (Option (SocketAddrV4 × ℕ)) Fault → List ℕ → S → Type 0) → Exchange S → Option (SocketAddrV4 × ℕ) → Exchange S → Type 0
+CountsReceived receives was given is = (IsSome given × (is.read ≡ was.read) × (is.faults ≡ was.faults)) ⊎ LooksOnce receives was is

@@ -1,14 +1,19 @@
 //! The loop: it asks what comes next, and does that.
 #![tactic(auto, using(crate::proofs::DeskLemmas::stays_so))]
 
-ghost use Rattle.std.specs.Prelude.{◌≡◌, ◌≤◌, Bool, List, IfOk, is_ok, not};
+ghost use Rattle.std.specs.Prelude.{◌≡◌, ◌≤◌, ◌⊎◌, ◌-◌, ◌^◌, ℕ, Bool, true, false, not, List, [], IfOk, is_ok};
+ghost use Rattle.turns.specs.declared.turn.Turn.TheVariants.{End};
 ghost use Rattle.plain_machine.specs.Event.{GatewayEvent};
 ghost use Rattle.plain_machine.specs.Lists.{plain};
 ghost use Rattle.gateway_core.specs.Stands.{Stands};
 ghost use Rattle.line_changes.specs.Watching.{longest_watch};
 ghost use Rattle.live_journal.specs.Reporting.{counts_text};
 ghost use Rattle.live_gateway.specs.Admitting.{typist_of};
+ghost use Rattle.surroundings.specs.Hearing.{AnswersTo};
+ghost use Rattle.surroundings.specs.Requests.{requests_from};
+ghost use Rattle.surroundings.specs.Typing.{left_of, behind};
 ghost use Rattle.live_gateway.specs.Desk.{at_desk, with_input, GoesOn};
+ghost use Rattle.live_gateway.specs.Ending.{EndsAt, WroteTimes};
 
 use crate::admission::Admission;
 use crate::answering::{
@@ -125,6 +130,10 @@ impl<S: Surroundings + Drop, T: Teller + Drop> Desk<S, T> {
     fn situation<V: Visitors<S>>(&mut self, visitors: &Option<Box<V>>) -> Situation
         ensures play { at_desk T.told S.traffic self.new ≡ at_desk T.told S.traffic self.old }
         ensures admission { self.new.admission ≡ self.old.admission }
+        ensures rest { (self.new.play ≡ self.old.play) × (self.new.end ≡ self.old.end) }
+        ensures end { result.end ≡ self.old.end }
+        ensures ticked { (events : List GatewayEvent) → Stands self.old.play.value.gateway.value events
+            → result.ticked ≡ (plain self.old.play.value.gateway.value.setup events).now }
     {
         let ticked = self.play.gateway.now();
         let moment = self.exchange.moment(ticked);
@@ -211,14 +220,18 @@ impl<S: Surroundings + Drop, T: Teller + Drop> Desk<S, T> {
 
     // This is answered to the line, which is done with.
     fn answer(&mut self, text: &[u8])
-        ensures { GoesOn T.told S.traffic self.old self.new }
+        ensures play { GoesOn T.told S.traffic self.old self.new }
+        ensures answered { AnswersTo S.answers self.old.lines.value.sender self.old.exchange.value.around text.now self.new.exchange.value.around }
+        ensures left { left_of self.new.lines.value ≡ requests_from (behind (left_of self.old.lines.value)) }
     {
         self.lines.answer(&mut self.exchange.around, text);
     }
 
     // This is answered to all lines of the datagram, which are done with.
     fn answer_all(&mut self, text: &[u8])
-        ensures { GoesOn T.told S.traffic self.old self.new }
+        ensures play { GoesOn T.told S.traffic self.old self.new }
+        ensures answered { AnswersTo S.answers self.old.lines.value.sender self.old.exchange.value.around text.now self.new.exchange.value.around }
+        ensures left { left_of self.new.lines.value ≡ [] }
     {
         self.lines.answer_all(&mut self.exchange.around, text);
     }
@@ -306,6 +319,7 @@ impl<S: Surroundings + Drop, T: Teller + Drop> Desk<S, T> {
     fn tell_watchers(&mut self)
         ensures play { at_desk T.told S.traffic self.new ≡ at_desk T.told S.traffic self.old }
         ensures admission { self.new.admission ≡ self.old.admission }
+        ensures rest { (self.new.play ≡ self.old.play) × (self.new.end ≡ self.old.end) }
     {
         self.watch
             .tell(self.alloc, &mut self.exchange.around, &self.play.gateway);
@@ -386,7 +400,8 @@ impl<S: Surroundings + Drop, T: Teller + Drop> Desk<S, T> {
 
     // A turn of somebody's, or a wait, where it is now this moment.
     fn do_turn<V: Visitors<S>>(&mut self, turn: Turn, visitors: &mut Option<Box<V>>, moment: u64)
-        ensures { GoesOn T.told S.traffic self.old self.new }
+        ensures play { GoesOn T.told S.traffic self.old self.new }
+        ensures over { turn ≡ End → (self.new.play ≡ self.old.play) × (self.new.end ≡ self.old.end) }
     {
         match turn {
             Turn::Tick { moment } => self.tick(moment),
@@ -404,10 +419,13 @@ impl<S: Surroundings + Drop, T: Teller + Drop> Desk<S, T> {
         }
     }
 
-    /// Asks what comes next and does that, and who watches is told what changed: whether the end hasn't come.
+    /// Asks what comes next and does that, and who watches is told what changed: whether the end hasn't come. Once ticks have come to the
+    /// end nothing more is done.
     #[tactic(auto, using(crate::proofs::DeskLemmas::stays_so, crate::proofs::DeskLemmas::goes_on_then))]
     pub fn turn<V: Visitors<S>>(&mut self, visitors: &mut Option<Box<V>>) -> bool
-        ensures { GoesOn T.told S.traffic self.old self.new }
+        ensures play { GoesOn T.told S.traffic self.old self.new }
+        ensures end { EndsAt self.old.end self.old.play.value.gateway.value (not result) }
+        ensures over { result ≡ false → (self.new.play ≡ self.old.play) × (self.new.end ≡ self.old.end) }
     {
         let at = self.situation(visitors);
         let turn = self.schedule.next(at);
@@ -423,6 +441,8 @@ impl<S: Surroundings + Drop, T: Teller + Drop> Desk<S, T> {
         ensures play { GoesOn T.told S.traffic self.old self.new }
         ensures lines { self.new.lines ≡ self.old.lines }
         ensures end { self.new.end ≡ self.old.end }
+        ensures gateway { self.new.play.value.gateway ≡ self.old.play.value.gateway }
+        ensures wrote { W.writes recorder.old recorder.new }
         ensures read { self.new.exchange.value.read ≡ self.old.exchange.value.read }
         ensures faults { self.new.exchange.value.faults ≡ self.old.exchange.value.faults }
     {
@@ -438,7 +458,9 @@ impl<S: Surroundings + Drop, T: Teller + Drop> Desk<S, T> {
         visitors: &mut Option<Box<V>>,
         recorder: &mut W,
     )
-        ensures { GoesOn T.told S.traffic self.old self.new }
+        ensures play { GoesOn T.told S.traffic self.old self.new }
+        ensures end { (count : ℕ) × WroteTimes W.writes count recorder.old recorder.new
+            × ((EndsAt self.new.end self.new.play.value.gateway.value true) ⊎ (count ≡ 2 ^ 64 - 1)) }
     {
         self.begin();
         for _ in 0..u64::MAX {

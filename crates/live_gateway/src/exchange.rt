@@ -1,9 +1,10 @@
 //! What goes between the gateway and others: over sockets, behind a bad network where one is asked for; and its journal.
-ghost use Rattle.std.specs.Prelude.{◌≡◌, ◌≤◌, ◌∷◌, ◌⊎◌, [], true, false, length, List, Option, IfSome, is_some};
+ghost use Rattle.std.specs.Prelude.{◌≡◌, ◌≤◌, ◌∷◌, ◌⊎◌, [], true, false, length, Bool, List, Option, IfSome, is_some};
 ghost use Rattle.gateway_core.specs.Wire.{counted};
+ghost use Rattle.surroundings.specs.Hearing.{Hears};
 ghost use Rattle.surroundings.specs.Sending.{Sent, Grows, found_by};
 ghost use Rattle.live_gateway.specs.Admitting.{is_heard, HeardSince};
-ghost use Rattle.live_gateway.specs.Exchanging.{handed_by, received_by, came_by, next_due, faultless, refusals, with_refused, with_unreceived, IsSameTurn};
+ghost use Rattle.live_gateway.specs.Exchanging.{handed_by, received_by, came_by, next_due, faultless, refusals, with_refused, with_unreceived, with_read, IsSameTurn, LooksOnce, CountsReceived};
 
 use crate::admission::Admission;
 use crate::spoilt_way::SpoiltWay;
@@ -170,6 +171,8 @@ impl<S: Surroundings + Drop> Exchange<S> {
         ensures traffic { S.traffic self.new.around ≡ S.traffic self.old.around }
         ensures faults { self.new.faults ≡ self.old.faults }
         ensures journal { self.new.journal ≡ self.old.journal }
+        ensures heard { (taken : Bool) × Hears S.sockets S.hears self.old.around lines.old taken self.new.around lines.new
+            × (self.new.read ≡ with_read taken self.old.read) }
         ensures read { ((self.new.read ≡ self.old.read) × (lines.new ≡ lines.old)) ⊎ (self.new.read ≡ counted self.old.read 1) }
         ensures turn { IsSameTurn self.old self.new }
     {
@@ -201,6 +204,8 @@ impl<S: Surroundings + Drop> Exchange<S> {
     fn take_due(&mut self) -> Option<Packet>
         ensures around { self.new.around ≡ self.old.around }
         ensures faults { self.new.faults ≡ self.old.faults }
+        ensures read { self.new.read ≡ self.old.read }
+        ensures turn { IsSameTurn self.old self.new }
         ensures spoilt { is_some self.new.network ≡ is_some self.old.network }
         ensures handed { handed_by self.new.network (S.traffic self.new.around).sent ≡ handed_by self.old.network (S.traffic self.old.around).sent }
         ensures behind { IfSome result (λ _. (sent : Option (List Sent)) →
@@ -219,6 +224,8 @@ impl<S: Surroundings + Drop> Exchange<S> {
         ensures network { self.new.network ≡ self.old.network }
         ensures around { self.new.around ≡ self.old.around }
         ensures faults { self.new.faults ≡ self.old.faults }
+        ensures read { self.new.read ≡ self.old.read }
+        ensures turn { IsSameTurn self.old self.new }
     {
         let late = packet.due.saturating_sub(packet.offered);
         let len = put_into(room, packet.bytes.as_bytes());
@@ -233,6 +240,8 @@ impl<S: Surroundings + Drop> Exchange<S> {
         ensures network { self.new.network ≡ self.old.network }
         ensures around { self.new.around ≡ self.old.around }
         ensures faults { self.new.faults ≡ self.old.faults }
+        ensures read { self.new.read ≡ self.old.read }
+        ensures turn { IsSameTurn self.old self.new }
     {
         let is_taken = admission.hears(source);
         if !is_taken && 0 < source.port() {
@@ -253,6 +262,8 @@ impl<S: Surroundings + Drop> Exchange<S> {
         ensures admitted { IfSome result (λ p. is_heard admission.now p.0 ≡ true) }
         ensures handed { handed_by self.new.network (S.traffic self.new.around).sent ≡ handed_by self.old.network (S.traffic self.old.around).sent }
         ensures faults { self.new.faults ≡ self.old.faults }
+        ensures read { self.new.read ≡ self.old.read }
+        ensures turn { IsSameTurn self.old self.new }
         ensures spoilt { is_some self.new.network ≡ is_some self.old.network }
     {
         for _ in 0..u16::MAX {
@@ -272,6 +283,8 @@ impl<S: Surroundings + Drop> Exchange<S> {
         ensures network { self.new.network ≡ self.old.network }
         ensures around { self.new.around ≡ self.old.around }
         ensures faults { self.new.faults ≡ self.old.faults }
+        ensures read { self.new.read ≡ self.old.read }
+        ensures turn { IsSameTurn self.old self.new }
     {
         let is_taken = self.is_heard(admission, source);
         if is_taken {
@@ -284,6 +297,8 @@ impl<S: Surroundings + Drop> Exchange<S> {
     fn is_lost(&mut self, source: SocketAddrV4, bytes: &[u8]) -> bool
         ensures handed { handed_by self.new.network (S.traffic self.new.around).sent ≡ handed_by self.old.network (S.traffic self.old.around).sent }
         ensures faults { self.new.faults ≡ self.old.faults }
+        ensures read { self.new.read ≡ self.old.read }
+        ensures turn { IsSameTurn self.old self.new }
         ensures spoilt { is_some self.new.network ≡ is_some self.old.network }
     {
         let now = self.now.clock;
@@ -311,6 +326,8 @@ impl<S: Surroundings + Drop> Exchange<S> {
         ensures admitted { IfSome result (λ p. is_heard admission.now p.0 ≡ true) }
         ensures handed { handed_by self.new.network (S.traffic self.new.around).sent ≡ handed_by self.old.network (S.traffic self.old.around).sent }
         ensures faults { self.new.faults ≡ self.old.faults }
+        ensures read { self.new.read ≡ self.old.read }
+        ensures turn { IsSameTurn self.old self.new }
         ensures spoilt { is_some self.new.network ≡ is_some self.old.network }
     {
         if self.is_lost(source, &room[..len]) {
@@ -331,6 +348,8 @@ impl<S: Surroundings + Drop> Exchange<S> {
         ensures sent { (S.traffic self.new.around).sent ≡ (S.traffic self.old.around).sent }
         ensures received { Grows (S.traffic self.old.around).received (found_by result room.new) (S.traffic self.new.around).received }
         ensures refused { self.new.faults.refused ≡ self.old.faults.refused }
+        ensures counts { LooksOnce S.receives self.old self.new }
+        ensures turn { IsSameTurn self.old self.new }
     {
         match self.around.receive(room) {
             Ok(Some(found)) => {
@@ -346,7 +365,7 @@ impl<S: Surroundings + Drop> Exchange<S> {
     }
 
     // A datagram of the socket, where no network is before it, if one has come that is heard.
-    #[tactic(auto, using(crate::proofs::HearingLemmas::hears_nothing, crate::proofs::HearingLemmas::hears_one, crate::proofs::HearingLemmas::passes_over))]
+    #[tactic(auto, using(crate::proofs::HearingLemmas::hears_nothing, crate::proofs::HearingLemmas::hears_one, crate::proofs::HearingLemmas::passes_over, crate::proofs::CountingLemmas::looked_before))]
     fn receive_directly(
         &mut self,
         admission: &Admission,
@@ -358,6 +377,8 @@ impl<S: Surroundings + Drop> Exchange<S> {
         ensures admitted { IfSome result (λ p. is_heard admission.now p.0 ≡ true) }
         ensures handed { handed_by self.new.network (S.traffic self.new.around).sent ≡ handed_by self.old.network (S.traffic self.old.around).sent }
         ensures refused { self.new.faults.refused ≡ self.old.faults.refused }
+        ensures counts { LooksOnce S.receives self.old self.new }
+        ensures turn { IsSameTurn self.old self.new }
         ensures came { HeardSince admission.now (received_by self.old.network (S.traffic self.old.around).received) (found_by result room.new)
             (received_by self.new.network (S.traffic self.new.around).received) }
     {
@@ -370,6 +391,7 @@ impl<S: Surroundings + Drop> Exchange<S> {
 
     // A datagram that the network before the socket hands over from who is heard, if one is due. What comes of the socket goes over that
     // network, but what has no port.
+    #[tactic(auto, using(crate::proofs::CountingLemmas::nothing_read, crate::proofs::CountingLemmas::read_behind_others))]
     fn receive_spoilt(
         &mut self,
         admission: &Admission,
@@ -380,6 +402,8 @@ impl<S: Surroundings + Drop> Exchange<S> {
         ensures admitted { IfSome result (λ p. is_heard admission.now p.0 ≡ true) }
         ensures handed { handed_by self.new.network (S.traffic self.new.around).sent ≡ handed_by self.old.network (S.traffic self.old.around).sent }
         ensures refused { self.new.faults.refused ≡ self.old.faults.refused }
+        ensures counts { CountsReceived S.receives self.old result self.new }
+        ensures turn { IsSameTurn self.old self.new }
         ensures spoilt { is_some self.new.network ≡ is_some self.old.network }
     {
         if let Some(found) = self.handed_over(admission, room) {
@@ -394,7 +418,7 @@ impl<S: Surroundings + Drop> Exchange<S> {
 
     /// A datagram for the gateway, put at the start of the room, if one has come from one of those who are heard: from where, and how
     /// long it is. What comes from others, or from the gateway's own sockets, is counted, and told of once a second; it does nothing else.
-    #[tactic(auto, using(crate::proofs::HearingLemmas::hears_spoilt))]
+    #[tactic(auto, using(crate::proofs::HearingLemmas::hears_spoilt, crate::proofs::CountingLemmas::was_read))]
     pub fn receive(
         &mut self,
         admission: &Admission,
@@ -405,6 +429,8 @@ impl<S: Surroundings + Drop> Exchange<S> {
         ensures admitted { IfSome result (λ p. is_heard admission.now p.0 ≡ true) }
         ensures handed { handed_by self.new.network (S.traffic self.new.around).sent ≡ handed_by self.old.network (S.traffic self.old.around).sent }
         ensures refused { self.new.faults.refused ≡ self.old.faults.refused }
+        ensures counts { CountsReceived S.receives self.old result self.new }
+        ensures turn { IsSameTurn self.old self.new }
         ensures came { HeardSince admission.now (received_by self.old.network (S.traffic self.old.around).received) (found_by result room.new)
             (received_by self.new.network (S.traffic self.new.around).received) }
     {

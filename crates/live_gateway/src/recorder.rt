@@ -7,17 +7,25 @@ use live_journal::{Journal, Trace};
 use live_play::Teller;
 use std::io::Write;
 
-/// Where what was recorded is written.
+/// Where what was recorded is written. What it does where it is told to write is its own; that it was told is said.
 pub trait Recorder<T: Teller> {
+    /// It was told once to write.
+    ghost writes: { Self → Self → Type 0 };
+
     /// Keeps what was recorded at a turn, at this moment, in microseconds since 1970, and writes of what is kept as much as is taken.
     fn write(&mut self, journal: &mut Journal, trace: &mut T, time: u64)
-        ensures { Grows (T.told trace.old) [] (T.told trace.new) };
+        ensures told { Grows (T.told trace.old) [] (T.told trace.new) }
+        ensures wrote { writes self.old self.new };
 
     /// Whether something waits to be taken: so it is offered again soon, whether anything comes or not.
     fn is_offering(&self) -> bool;
 }
 
 impl<F: Write + Drop> Recorder<Trace> for Outlets<F> {
+    ghost use Rattle.std.specs.Prelude.{⊤};
+
+    ghost writes = { λ was is. ⊤ };
+
     fn write(&mut self, journal: &mut Journal, trace: &mut Trace, time: u64) {
         journal.write(trace, self, time);
     }

@@ -59,6 +59,10 @@ fn turn_over<R: Files>(
 }
 
 impl<R: Files> Recorder<Trace> for Recording<R> {
+    ghost use Rattle.std.specs.Prelude.{⊤};
+
+    ghost writes = { λ was is. ⊤ };
+
     fn write(&mut self, journal: &mut Journal, trace: &mut Trace, time: u64) {
         if let Some(files) = &mut self.files {
             turn_over(&self.rt, files, &mut self.outlets, journal);

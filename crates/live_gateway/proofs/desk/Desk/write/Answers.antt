@@ -8,6 +8,6 @@ returns-clause-play g c =
     (rw (c.deref_mut-3.ensures.value) refl)
     (rw (c.deref_mut-3.ensures.value) refl)
     (rw (c.deref_mut-4.ensures.value, c.deref_mut.ensures.value) refl)
-    (rw (c.deref_mut-3.ensures.value) at c.write.ensures)
+    (rw (c.deref_mut-3.ensures.value) at c.write.ensures.told)
     (rw (c.deref_mut-4.ensures.value, c.deref_mut.ensures.value) refl)
     refl

@@ -1,6 +1,6 @@
 use Rattle.std.proofs.Common.{◌≡◌, length}
 use Rattle.std.specs.Prelude.{is_some}
-use Rattle.live_gateway.specs.Exchanging.{handed_by}
+use Rattle.live_gateway.specs.Exchanging.{handed_by, IsSameTurn}
 use Rattle.live_gateway.proofs.exchange.Exchange.handed_over.Given as goal
 
 abbrev pub invariant-loop : goal.invariant-loop
@@ -9,5 +9,7 @@ invariant-loop g l = record {
   handed : handed_by l.self.network (g.S.Surroundings.traffic l.self.around).sent
       ≡ handed_by l.fn.self.network (g.S.Surroundings.traffic l.fn.self.around).sent;
   faults : l.self.faults ≡ l.fn.self.faults;
+  read : l.self.read ≡ l.fn.self.read;
+  turn : IsSameTurn l.fn.self l.self;
   spoilt : is_some l.self.network ≡ is_some l.fn.self.network;
 }
