@@ -2,6 +2,7 @@ pub mod Offering
 pub mod Exchanging
 pub mod Asking
 pub mod Admitting
+pub mod Naming
 pub mod Desk
 pub mod Ending
 pub mod Watching

@@ -87,7 +87,7 @@ fn admit_route(speakers: &mut Speakers, route: Route<Ipv4Addr>) -> Result<(), Al
 }
 
 // The addresses of a receiver, without its port.
-fn hosts_of(route: &Route<SocketAddrV4>) -> Route<Ipv4Addr>
+pub(crate) fn hosts_of(route: &Route<SocketAddrV4>) -> Route<Ipv4Addr>
     ensures { result ≡ hosts_of route.now }
 {
     match route {

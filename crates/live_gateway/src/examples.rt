@@ -17,6 +17,7 @@ ghost use Rattle.live_gateway.specs.declared.telephones.TelephoneRequest.TheVari
 ghost use Rattle.live_gateway.specs.declared.admission.Admission.{Admission};
 ghost use Rattle.live_gateway.specs.Admitting.{with_hosts, hosts_of, with_named, is_its_own, is_heard, heard_of, typist_of};
 ghost use Rattle.live_gateway.specs.Asking.{request_in};
+ghost use Rattle.live_gateway.specs.Naming.{no_word, listed, with_all, with_each};
 ghost use Rattle.live_gateway.specs.Example.{host, at_port, looped, anywhere, sockets};
 ghost use Rattle.live_gateway.specs.declared.exchange.Exchange.{Exchange};
 ghost use Rattle.live_gateway.specs.declared.spoilt_way.SpoiltWay.{SpoiltWay};
@@ -128,4 +129,13 @@ pub fn who_types_is_known_by_the_address()
     ensures afar { typist_of false true false ≡ Stranger }
     ensures afar_where_open { typist_of false true true ≡ Elsewhere }
     ensures page { typist_of false false false ≡ Elsewhere }
+{}
+
+/// A word names each address once, in the order in which they come, and commas part them.
+pub fn a_word_names_each_address_once()
+    ensures first { listed [] (codes "10.0.0.7") ≡ codes "10.0.0.7" }
+    ensures second { listed (codes "10.0.0.7") (codes "10.0.0.8") ≡ codes "10.0.0.7,10.0.0.8" }
+    ensures again { (with_all no_word (host 7 ∷ host 8 ∷ host 7 ∷ [])).text ≡ codes "10.0.0.7,10.0.0.8" }
+    ensures route { (with_each no_word (record { name = []; route = Two (host 8) (host 9) })).text ≡ codes "10.0.0.8,10.0.0.9" }
+    ensures none { (with_all no_word []).text ≡ [] }
 {}

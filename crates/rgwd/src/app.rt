@@ -12,7 +12,7 @@ use live_ends::{
     CaptureFiles, CommonEnding, Live, Outlets, Parting, SystemFault, end, hold_standard,
     open_capture, open_outlets, read_file, words_of,
 };
-use live_gateway::boxed;
+use live_gateway::{agents_line, boxed};
 use live_journal::{Journal, Trace};
 use mg_bytes::OutOfMemory;
 use rgw_scenes::{Flaw, flaw_of, gateway_from, told, told_setup};
@@ -122,7 +122,7 @@ fn serve_opened<'w, R: Files + Net + Clock + RandomSource>(
     Ok(ending?)
 }
 
-// Says on standard output what this gateway will be, and its sockets.
+// Says on standard output what this gateway will be, who may speak to it, and its sockets.
 fn check_gateway<'w, F: Write + Drop>(
     alloc: Global,
     settings: &Settings<'_>,
@@ -130,6 +130,7 @@ fn check_gateway<'w, F: Write + Drop>(
     outlets: &mut Outlets<F>,
 ) -> Result<Ending<'w>, AllocError> {
     let lines = told_setup(alloc, gateway.setup())?;
+    let agents = agents_line(alloc, settings.agents, gateway.setup())?;
     let (listen, phones) = (settings.listen, settings.phones);
     let sockets = match settings.http {
         Some(http) => {
@@ -138,6 +139,7 @@ fn check_gateway<'w, F: Write + Drop>(
         None => format!(in alloc; "sockets: --listen {listen} --phones {phones}\n")?,
     };
     outlets.output.say(lines.as_slice());
+    outlets.output.say(agents.as_slice());
     outlets.output.say(sockets.as_bytes());
     Ok(Ending::Checked)
 }

@@ -1,0 +1,123 @@
+//! The word that says of a gateway who may speak to it, where none is said.
+ghost use Rattle.std.specs.Prelude.{◌≡◌, string_bytes, IfOk, OnOk, option_copied};
+ghost use Rattle.std.specs.List.{fold};
+ghost use Rattle.std.specs.Net.Addr.{ipv4_octets};
+ghost use Rattle.std.specs.Net.Text.{ipv4_text};
+ghost use Rattle.endpoint_names.specs.Route.{addresses};
+ghost use Rattle.live_gateway.specs.Naming.{word_of, no_word, listed, with_named_host, with_all, with_each, known_word, agents_line};
+
+use crate::admission::hosts_of;
+use endpoint_names::{Host, Route};
+use mg_bytes::OutOfMemory;
+use plain_machine::Setup;
+use std::alloc::Global;
+use std::net::Ipv4Addr;
+use surroundings::Speakers;
+
+// A word so far, and those whom it admits.
+#[derive(Drop)]
+struct Named {
+    alloc: Global,
+    text: Vec<u8>,
+    speakers: Speakers,
+}
+
+// An address as text.
+fn host_text(alloc: Global, host: Ipv4Addr) -> Result<String, OutOfMemory>
+    ensures { IfOk result (λ text. string_bytes text ≡ ipv4_text (ipv4_octets host)) }
+{
+    let mut text = String::new(alloc);
+    write!(text, "{host}")?;
+    Ok(text)
+}
+
+// Puts an item behind others, which commas part.
+fn put_item(out: &mut Vec<u8>, item: &[u8]) -> Result<(), OutOfMemory>
+    ensures { OnOk result (out.new.items ≡ listed out.old.items item.now) }
+{
+    if !out.is_empty() {
+        out.push(b',')?;
+    }
+    out.extend_from_slice(item)?;
+    Ok(())
+}
+
+impl Named {
+    // No address is named yet.
+    fn nothing(alloc: Global) -> Named
+        ensures { word_of result ≡ no_word }
+    {
+        Named {
+            alloc,
+            text: Vec::new(alloc),
+            speakers: Speakers::nobody(alloc),
+        }
+    }
+
+    // An address is named, where it isn't admitted yet.
+    fn name(&mut self, host: Ipv4Addr) -> Result<(), OutOfMemory>
+        ensures { OnOk result (word_of self.new ≡ with_named_host (word_of self.old) host) }
+    {
+        if self.speakers.hears(host) {
+            return Ok(());
+        }
+        let item = host_text(self.alloc, host)?;
+        put_item(&mut self.text, item.as_bytes())?;
+        self.speakers.admit(host)?;
+        Ok(())
+    }
+
+    fn name_all(&mut self, hosts: &[Ipv4Addr]) -> Result<(), OutOfMemory>
+        ensures { OnOk result (word_of self.new ≡ with_all (word_of self.old) hosts.now) }
+    {
+        for host in hosts {
+            self.name(*host)?;
+        }
+        Ok(())
+    }
+
+    fn name_route(&mut self, route: Route<Ipv4Addr>) -> Result<(), OutOfMemory>
+        ensures { OnOk result (word_of self.new ≡ with_all (word_of self.old) (addresses route)) }
+    {
+        match route {
+            Route::One(a) => self.name_all(&[a]),
+            Route::Two(a, b) => self.name_all(&[a, b]),
+            Route::Three(a, b, c) => self.name_all(&[a, b, c]),
+            Route::Four(a, b, c, d) => self.name_all(&[a, b, c, d]),
+        }
+    }
+
+    fn name_each(&mut self, hosts: &[Host]) -> Result<(), OutOfMemory>
+        ensures { OnOk result (word_of self.new ≡ fold with_each (word_of self.old) hosts.now) }
+    {
+        for host in hosts {
+            self.name_route(host.route)?;
+        }
+        Ok(())
+    }
+}
+
+// The word that admits those who may speak to a gateway that is set up so, where no word says another.
+#[tactic(auto, unfolding(crate::specs::Naming::known_word))]
+fn known_word(alloc: Global, setup: &Setup) -> Result<Vec<u8>, OutOfMemory>
+    ensures { IfOk result (λ word. word.items ≡ known_word setup.now) }
+{
+    let mut named = Named::nothing(alloc);
+    named.name_route(hosts_of(&setup.agent.route))?;
+    named.name_each(setup.names.table.hosts())?;
+    Ok(named.text)
+}
+
+/// Who may speak to a gateway of this setup, as a line: by this word, where one was given, and else the addresses of its agent and of all
+/// hosts that its configuration names, each once. Its only error is want of memory.
+pub fn agents_line(alloc: Global, word: Option<&str>, setup: &Setup) -> Result<Vec<u8>, OutOfMemory>
+    ensures { IfOk result (λ line. line.items ≡ agents_line (option_copied word) setup.now) }
+{
+    let mut line = Vec::from_slice(alloc, b"agents: --agents ")?;
+    match word {
+        Some(word) => line.extend_from_slice(word.as_bytes())?,
+        None => line.extend_from_slice(known_word(alloc, setup)?.as_slice())?,
+    }
+    line.extend_from_slice(b"\n")?;
+    Ok(line)
+}
