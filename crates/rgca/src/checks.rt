@@ -2,7 +2,7 @@
 use crate::check_words::{CheckWords, read_check_words};
 use crate::ending::{Ending, check_words_ending};
 use crate::help::of_all;
-use live_agent::{CheckFault, check_gateway, check_list, fault_text};
+use live_agent::{check_gateway, check_list, fault_text};
 use live_ends::{CommonEnding, Outlet, Outlets, SystemFault};
 use mg_bytes::OutOfMemory;
 use std::alloc::Global;
@@ -28,7 +28,7 @@ fn write_report<'w, R: Files>(rt: &R, file: &'w str, report: &str) -> Result<(),
     }
 }
 
-// An object that says why nothing can be checked, as a line.
+// An object that says why it fails, as a line.
 fn fault_line(alloc: Global, ending: &Ending<'_>) -> Result<String, OutOfMemory> {
     let mut why = Vec::new(alloc);
     ending.put_text(alloc, &mut why, of_all())?;
@@ -38,7 +38,7 @@ fn fault_line(alloc: Global, ending: &Ending<'_>) -> Result<String, OutOfMemory>
     Ok(line)
 }
 
-// Says why nothing can be checked as an object of the report, where that is JSON. Where memory is refused for that, its line on standard
+// Says why it fails as an object of the report, where that is JSON. Where memory is refused for that, its line on standard
 // error says it alone.
 fn report_fault<F: Write + Drop>(alloc: Global, out: &mut Outlet<F>, ending: &Ending<'_>) {
     if let Ok(line) = fault_line(alloc, ending) {
@@ -47,14 +47,13 @@ fn report_fault<F: Write + Drop>(alloc: Global, out: &mut Outlet<F>, ending: &En
     }
 }
 
-// How the program ends where nothing can be checked.
-fn unchecked<'w, F: Write + Drop>(
+// How the program ends where nothing can be checked, or a report can't be kept.
+fn failed<'w, F: Write + Drop>(
     alloc: Global,
     out: &mut Outlet<F>,
-    fault: CheckFault,
+    ending: Ending<'w>,
     is_json: bool,
 ) -> Ending<'w> {
-    let ending = Ending::from(fault);
     if is_json {
         report_fault(alloc, out, &ending);
     }
@@ -68,15 +67,16 @@ fn check_by<'w, R: AllocGlobal + Files + Net + Clock, F: Write + Drop>(
     out: &mut Outlet<F>,
 ) -> Ending<'w> {
     let CheckWords { settings, junit } = words;
+    let is_json = settings.is_json;
     let checked = match check_gateway(rt, settings, out) {
         Ok(checked) => checked,
-        Err(fault) => return unchecked(rt.alloc(), out, fault, settings.is_json),
+        Err(fault) => return failed(rt.alloc(), out, Ending::from(fault), is_json),
     };
     let status = checked.status;
     match junit {
         Some(file) => match write_report(rt, file, checked.junit.as_str()) {
             Ok(()) => Ending::Checked { status },
-            Err(ending) => ending,
+            Err(ending) => failed(rt.alloc(), out, ending, is_json),
         },
         None => Ending::Checked { status },
     }
