@@ -12,8 +12,8 @@
 //! Where nothing is printed the answer is `ok`; more than a line is all that is printed, with `\n` for each line end.
 use crate::played::{simulated, words_of};
 use mg_bytes::{OutOfMemory, Sequence};
-use rgw_play::{Task, WordFault, asked, gateway_of};
-use rgw_scenes::{flaw_of, told, told_setup};
+use rgw_play::{Task, WordFault, asked};
+use rgw_scenes::{flaw_of, gateway_of, told, told_setup};
 use scenario_files::{
     Outcome, Row, Scenario, WrittenScenario, input_of, number_in, put_line, read_scenario, value_of,
 };

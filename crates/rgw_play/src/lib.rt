@@ -4,6 +4,8 @@
 //! how what it shows is printed is in `rgw_scripts`.
 //!
 //! The program's command line is here too: its words, its exit statuses and what it says on standard error.
+//!
+//! Nothing that a crate above can name has a gateway in it: a check loads all of what it has.
 #![tactic(auto)]
 
 mod app;
@@ -18,11 +20,7 @@ mod words;
 
 pub use crate::app::{asked, loopback, perform, run, simulate};
 pub use crate::ending::Ending;
-pub use crate::session::{carry, play};
+pub use crate::session::play;
 pub use crate::udp_wire::UdpWire;
-pub use crate::words::{Task, WordFault, read_words};
-pub use rgw_scenes::{Scene, gateway_from, gateway_of, judge, status_of};
-pub use rgw_scripts::{
-    Direct, LIMIT, LineStatus, Link, LinkFault, PlayFault, Played, ScriptLine, ScriptStep,
-    StepFault, line_in, name_of_config_fault, put_line, put_refusal, read_limited,
-};
+pub use crate::words::{Task, WordFault};
+pub use rgw_scripts::{PlayFault, Played};

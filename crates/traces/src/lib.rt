@@ -3,6 +3,8 @@
 //! A trace is a configuration, a line `%%`, and lines: what came in, as a script has it, and behind `| ` what went out, without its
 //! moment. Who writes a trace and who replays one put what went out alike, here. It is read a line at a time, so it may have any
 //! length.
+//!
+//! Nothing that a crate above can name has a gateway in it: a check loads all of what it has.
 #![tactic(auto)]
 
 pub mod examples;
@@ -16,13 +18,8 @@ mod telling;
 mod verdict;
 mod wording;
 
-pub use crate::head::{first_in, is_head_end};
-pub use crate::replaying::{Progress, Replay};
 pub use crate::reporting::replay;
 pub use crate::script::Script;
-pub use crate::steps::shown_by;
-pub use crate::telling::{
-    Mark, broken_off_line, is_mark, put_first, put_mark, put_outputs, put_sent, put_shown,
-};
+pub use crate::telling::{Mark, broken_off_line, put_first, put_mark};
 pub use crate::verdict::{ReplayFault, Verdict};
 pub use crate::wording::put_verdict;

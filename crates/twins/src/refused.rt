@@ -10,7 +10,7 @@
 use crate::runs::runs_alike;
 use crate::twins::{Played, Twins, are_events, event_of, scene_again, scene_of};
 use gateway_core::Refusal;
-use rgw_play::ScriptStep;
+use rgw_scripts::ScriptStep;
 use scenario_files::{Count, Pieces, again, input_of, read_scenario};
 use std::alloc::Global;
 use std::io;

@@ -1,7 +1,7 @@
 //! All events of a script in one run, which goes on at its place where it was refused memory.
 use crate::twins::{are_same, are_same_lists, event_of, scene_again, stepped};
 use gateway_core::{Event, Gateway, Outputs, Refusal};
-use rgw_play::ScriptStep;
+use rgw_scripts::ScriptStep;
 use scenario_files::again;
 use std::alloc::Global;
 use std::io;

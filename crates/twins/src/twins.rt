@@ -4,7 +4,8 @@
 //! next, be that the same event or another.
 use connections::Connection;
 use gateway_core::{Event, Gateway, OutDatagram, Outputs, Refusal};
-use rgw_play::{PlayFault, Scene, ScriptStep, judge};
+use rgw_scenes::{Scene, judge};
+use rgw_scripts::{PlayFault, ScriptStep};
 use scenario_files::{again, item_at, refused};
 use std::alloc::Global;
 use std::{io, slice};
