@@ -1,3 +1,4 @@
+pub mod SettingsSeen
 pub mod Flaws
 pub mod Bounds
 pub mod Ports

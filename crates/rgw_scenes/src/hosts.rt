@@ -1,10 +1,10 @@
 //! What is wrong with the hosts of a configuration.
 use crate::pieces::{put, put_text, put_value};
+use crate::settings::route_in;
 use crate::wording::put_domain_wanted;
 use endpoint_names::{MOST_ADDRESSES, MOST_HOSTS, TableFault};
 use exchange_log::put_number;
 use mg_bytes::OutOfMemory;
-use rgw_scripts::route_in;
 use std::alloc::Global;
 use toml::{Table, Value};
 

@@ -6,10 +6,9 @@ ghost use Rattle.rgw_scripts.specs.declared.step.ScriptStep.{ScriptStep};
 ghost use Rattle.rgw_scripts.specs.Configuration.{config_in};
 ghost use Rattle.rgw_scripts.specs.Play.{scene_of, configured, configured_from, judged, Explains};
 
+use crate::settings::read_config;
 use gateway_core::{ConfigFault, Gateway};
-use rgw_scripts::{
-    PlayFault, ScriptFault, ScriptStep, is_too_long, parts_of, read_config, read_script,
-};
+use rgw_scripts::{PlayFault, ScriptFault, ScriptStep, is_too_long, parts_of, read_script};
 use std::alloc::Global;
 
 // The number of the fault that a configuration can't be read.

@@ -1,7 +1,5 @@
 pub mod WholeInput
 pub mod PartLemmas
-pub mod ConfigLemmas
-pub mod HostLemmas
 pub mod MoveLemmas
 pub mod JudgedLemmas
 pub mod HexLemmas

@@ -1,7 +1,5 @@
-pub use Rattle.toml.specs.View
 pub mod Input
 pub mod Configuration
-pub mod SettingsSeen
 pub mod Script
 pub mod Status
 pub mod Printing

@@ -2,6 +2,9 @@
 //!
 //! Nothing here has a gateway. What the steps show is what the plain machine does (`plain_machine`); `rgw_play` plays them
 //! at a gateway.
+//!
+//! What a configuration says is defined here (`Configuration`). It is read from TOML in `rgw_scenes`, so that nothing that a crate above
+//! can name has a table of TOML in it: a check loads all of what it has.
 #![tactic(auto)]
 
 mod acts;
@@ -12,7 +15,6 @@ mod link;
 mod played;
 mod printing;
 mod script;
-mod settings;
 mod status;
 mod step;
 mod words;
@@ -22,7 +24,6 @@ pub use crate::link::{Direct, Link};
 pub use crate::played::{LinkFault, PlayFault, Played, StepFault, name_of_config_fault};
 pub use crate::printing::{put_datagrams, put_line, put_refusal};
 pub use crate::script::{ScriptFault, read_script};
-pub use crate::settings::{config_of, read_config, route_in, unread_key, value_at};
 pub use crate::status::LineStatus;
 pub use crate::step::{ScriptLine, ScriptStep};
 pub use crate::words::line_in;

@@ -7,7 +7,7 @@ use Rattle.toml.specs.View.{view, members_view}
 use Rattle.endpoint_names.specs.declared.route.Route.{Route}
 use Rattle.plain_machine.specs.declared.config.NamedRoute.{NamedRoute}
 use Rattle.rgw_scripts.specs.Configuration.{route_in, names_from}
-use Rattle.rgw_scripts.proofs.settings.names_of.Goals as goal
+use Rattle.rgw_scenes.proofs.settings.names_of.Goals as goal
 
 -- one name more is read
 name_more : (names : List NamedRoute) (name : List ℕ) (value : Data) (route : Route Ipv4Addr) (members : Members) → Some route ≡ route_in value

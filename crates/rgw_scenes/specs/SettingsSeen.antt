@@ -1,5 +1,5 @@
 -- Settings, without where their texts lie.
-use Rattle.rgw_scripts.specs.declared.settings.Settings.{Settings as SettingsRead}
+use Rattle.rgw_scenes.specs.declared.settings.Settings.{Settings as SettingsRead}
 use Rattle.toml.specs.View.{table_view}
 use Rattle.rgw_scripts.specs.Configuration.{Settings}
 

@@ -2,8 +2,8 @@ use Rattle.std.proofs.Common.{ap, sym, ◌∙◌, ◌≡◌}
 use Rattle.toml.specs.Parse.{parse_document}
 use Rattle.toml.specs.View.{table_view}
 use Rattle.rgw_scripts.specs.Configuration.{config_in, config_of}
-use Rattle.rgw_scripts.proofs.ConfigLemmas.{config_in-other, config_in-document}
-use Rattle.rgw_scripts.proofs.settings.read_config.Goals as goal
+use Rattle.rgw_scenes.proofs.ConfigLemmas.{config_in-other, config_in-document}
+use Rattle.rgw_scenes.proofs.settings.read_config.Goals as goal
 
 pub returns-in_default : goal.returns-in_default
 returns-in_default c = config_in-other c.args.text.now c.in_default.ensures.cases.0

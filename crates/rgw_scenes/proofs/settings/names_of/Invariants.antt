@@ -2,7 +2,7 @@ use Rattle.std.proofs.Common.{◌≡◌, ◌++◌}
 use Rattle.std.specs.Prelude.{option_map}
 use Rattle.toml.specs.View.{members_view}
 use Rattle.rgw_scripts.specs.Configuration.{names_from}
-use Rattle.rgw_scripts.proofs.settings.names_of.Given as goal
+use Rattle.rgw_scenes.proofs.settings.names_of.Given as goal
 
 abbrev pub invariant-loop-name : goal.invariant-loop-name
 invariant-loop-name l =

@@ -4,7 +4,7 @@ ghost use Rattle.toml.specs.View.{items_view, table_view, view};
 ghost use Rattle.toml.specs.Data.{get_member, as_str, item, no_items};
 ghost use Rattle.endpoint_names.specs.Route.{route_of};
 ghost use Rattle.rgw_scripts.specs.Configuration.{count_of, text_at, number_in, number_at, address_in, address_at, addresses_in, route_in, names_from, names_at, settings_of, config_of, config_in, unread_key};
-ghost use Rattle.rgw_scripts.specs.SettingsSeen.{settings_seen};
+ghost use Rattle.rgw_scenes.specs.SettingsSeen.{settings_seen};
 
 use endpoint_names::Route;
 use mg_bytes::{OutOfMemory, Sequence, Text, ipv4_address};
@@ -74,21 +74,21 @@ fn address_at(table: &Table, key: &str) -> Option<Ipv4Addr>
 }
 
 // The addresses of a host that has one, two, three or four.
-#[tactic(auto, unfolding(crate::specs::Configuration::addresses_in))]
+#[tactic(auto, unfolding(rgw_scripts::specs::Configuration::addresses_in))]
 fn route_of_one(a: &Value) -> Option<Route<Ipv4Addr>>
     ensures { result ≡ option_and_then route_of (addresses_in (item (view a.now) no_items)) }
 {
     Some(Route::One(address_in(a)?))
 }
 
-#[tactic(auto, unfolding(crate::specs::Configuration::addresses_in))]
+#[tactic(auto, unfolding(rgw_scripts::specs::Configuration::addresses_in))]
 fn route_of_two(a: &Value, b: &Value) -> Option<Route<Ipv4Addr>>
     ensures { result ≡ option_and_then route_of (addresses_in (item (view a.now) (item (view b.now) no_items))) }
 {
     Some(Route::Two(address_in(a)?, address_in(b)?))
 }
 
-#[tactic(auto, unfolding(crate::specs::Configuration::addresses_in))]
+#[tactic(auto, unfolding(rgw_scripts::specs::Configuration::addresses_in))]
 fn route_of_three(a: &Value, b: &Value, c: &Value) -> Option<Route<Ipv4Addr>>
     ensures { result ≡ option_and_then route_of
         (addresses_in (item (view a.now) (item (view b.now) (item (view c.now) no_items)))) }
@@ -96,7 +96,7 @@ fn route_of_three(a: &Value, b: &Value, c: &Value) -> Option<Route<Ipv4Addr>>
     Some(Route::Three(address_in(a)?, address_in(b)?, address_in(c)?))
 }
 
-#[tactic(auto, unfolding(crate::specs::Configuration::addresses_in))]
+#[tactic(auto, unfolding(rgw_scripts::specs::Configuration::addresses_in))]
 fn route_of_four(a: &Value, b: &Value, c: &Value, d: &Value) -> Option<Route<Ipv4Addr>>
     ensures { result ≡ option_and_then route_of
         (addresses_in (item (view a.now) (item (view b.now) (item (view c.now) (item (view d.now) no_items))))) }
@@ -150,7 +150,7 @@ fn owned(alloc: Global, text: &str) -> Result<Text, OutOfMemory>
 }
 
 // The names of a table with their addresses, if each has such.
-#[tactic(auto, unfolding(crate::specs::Configuration::names_from))]
+#[tactic(auto, unfolding(rgw_scripts::specs::Configuration::names_from))]
 fn names_of(alloc: Global, table: &Table) -> Result<Option<Sequence<NamedRoute>>, OutOfMemory>
     ensures { IfOk result (λ found.
         MatchOption found (names_from (table_view table.now) ≡ None)
@@ -181,7 +181,7 @@ struct Settings<'a> {
 }
 
 // The settings of a document that has each of the eight keys.
-#[tactic(auto, unfolding(crate::specs::Configuration::settings_of))]
+#[tactic(auto, unfolding(rgw_scripts::specs::Configuration::settings_of))]
 fn settings_of(table: &Table) -> Option<Settings<'_>>
     ensures { option_map settings_seen result ≡ settings_of (table_view table.now) }
 {
@@ -198,7 +198,7 @@ fn settings_of(table: &Table) -> Option<Settings<'_>>
 }
 
 /// The configuration of a document, if it has the eight keys and no ninth. Its only error is want of memory.
-#[tactic(auto, unfolding(crate::specs::Configuration::config_of))]
+#[tactic(auto, unfolding(rgw_scripts::specs::Configuration::config_of))]
 pub fn config_of(alloc: Global, table: &Table) -> Result<Option<Config>, OutOfMemory>
     ensures { IfOk result (λ found.
         MatchOption found (config_of (table_view table.now) ≡ None)
@@ -226,7 +226,7 @@ pub fn config_of(alloc: Global, table: &Table) -> Result<Option<Config>, OutOfMe
 }
 
 /// The configuration that a text writes; `None` where it isn't one (7, BadToml).
-#[tactic(auto, unfolding(crate::specs::Configuration::config_in))]
+#[tactic(auto, unfolding(rgw_scripts::specs::Configuration::config_in))]
 pub fn read_config(alloc: Global, text: &[u8]) -> Result<Option<Config>, OutOfMemory>
     ensures { IfOk result (λ found.
         MatchOption found (config_in text.now ≡ None) (λ config. config_in text.now ≡ Some config)) }
@@ -263,7 +263,7 @@ fn has_address(table: &Table, key: &str) -> bool
 }
 
 // Whether each host of a table has its addresses.
-#[tactic(auto, unfolding(crate::specs::Configuration::names_from))]
+#[tactic(auto, unfolding(rgw_scripts::specs::Configuration::names_from))]
 fn are_hosts(table: &Table) -> bool
     ensures { result ≡ is_some (names_from (table_view table.now)) }
 {
@@ -288,7 +288,7 @@ fn has_names(table: &Table) -> bool
 
 /// The first key of a document that is missing, or whose value is of another kind, for people; `None` where nothing is wrong but
 /// that it has other keys too.
-#[tactic(auto, unfolding(crate::specs::Configuration::unread_key))]
+#[tactic(auto, unfolding(rgw_scripts::specs::Configuration::unread_key))]
 pub fn unread_key(table: &Table) -> Option<ConfigKey>
     ensures { result ≡ unread_key (table_view table.now) }
 {

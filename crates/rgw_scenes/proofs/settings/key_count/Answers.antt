@@ -2,7 +2,7 @@ use Rattle.std.proofs.Common.{◌≡◌, List, [], ◌∷◌, length, refl, ◌�
 use Rattle.toml.specs.View.{members_view}
 use Rattle.toml.proofs.Views.{Entry}
 use Rattle.rgw_scripts.specs.Configuration.{count_of}
-use Rattle.rgw_scripts.proofs.settings.key_count.Goals as goal
+use Rattle.rgw_scenes.proofs.settings.key_count.Goals as goal
 
 counted : (es : List Entry) → length es ≡ count_of (members_view es)
 counted [] = refl
