@@ -1,6 +1,7 @@
 //! How a program ends, as far as programs have that in common: the status, and what is said then.
-ghost use Rattle.std.specs.Prelude.{◌≡◌, ◌++◌, OnOk, IfOk, IfErr};
+ghost use Rattle.std.specs.Prelude.{◌≡◌, ◌++◌, ◌∷◌, [], codes, OnOk, IfOk, IfErr};
 ghost use Rattle.std.specs.Net.Grammar.{IsSocketV4Text};
+ghost use Rattle.live_ends.specs.Wording.{joined};
 ghost use Rattle.live_ends.specs.Ending.{status_of, is_asked, wordless, unreadable, unwritable, unbound, unbound_text, ending_text};
 
 use crate::program::SystemFault;
@@ -171,10 +172,10 @@ impl<'a> CommonEnding<'a> {
             }
             CommonEnding::BadNetwork { wanted } => put_pieces(out, &["--network: ", wanted, "\n"]),
             CommonEnding::Unreadable { file, reason } => {
-                put_pieces(out, &[file, ": read fault", reason, "\n"])
+                put_refused(out, file, ": read fault", reason)
             }
             CommonEnding::Unwritable { file, reason } => {
-                put_pieces(out, &[file, ": write fault", reason, "\n"])
+                put_refused(out, file, ": write fault", reason)
             }
             CommonEnding::Unbound {
                 word,
@@ -196,6 +197,18 @@ pub fn address_in<'a>(word: &'static str, text: &str) -> Result<SocketAddrV4, Co
         Ok(address) => Ok(address),
         Err(_) => Err(CommonEnding::BadAddress { word }),
     }
+}
+
+// The system refuses what this names, for a reason.
+fn put_refused<'t>(
+    out: &mut Vec<u8>,
+    name: &'t str,
+    fault: &'t str,
+    reason: &'t str,
+) -> Result<(), OutOfMemory>
+    ensures { OnOk result (out.new.items ≡ out.old.items ++ joined (name.now ∷ fault.now ∷ reason.now ∷ codes "\n" ∷ [])) }
+{
+    put_pieces(out, &[name, fault, reason, "\n"])
 }
 
 // No socket can be had at the address that this word asks for.

@@ -54,7 +54,7 @@ pub fn an_ending_says_why()
         ≡ file.now ++ codes ": write fault" ++ reason.now ++ codes "\n" }
     ensures unbound { (about : About) (word reason : Bor (List ℕ)) (address : SocketAddrV4) →
         ending_text about (Unbound word address reason)
-        ≡ word.now ++ codes " " ++ socket_v4_text address ++ codes ": no socket" ++ reason.now ++ codes "\n" }
+        ≡ word.now ++ (codes " " ++ (socket_v4_text address ++ (codes ": no socket" ++ (reason.now ++ codes "\n")))) }
     ensures clock { (about : About) → ending_text about Clock ≡ codes "clock fault\n" }
     ensures memory { (about : About) → ending_text about OutOfMemory ≡ codes "out of memory\n" }
 {}
