@@ -34,11 +34,14 @@ ends_text connection = socket_v4_text connection.local ++ codes " to " ++ remote
 unfoldable pub media_text : SeenConnection → List ℕ
 media_text connection = codes " " ++ codec_text connection.codec ++ codes " " ++ decimal connection.packet_time
 
--- `connection A sendrecv 127.0.0.1:3000 to 127.0.0.2:3000 PCMU 20`
-unfoldable pub connection_text : SeenConnection → List ℕ
-connection_text connection =
+-- which it is, and its mode
+unfoldable pub mode_part : SeenConnection → List ℕ
+mode_part connection =
     codes "connection " ++ number_text connection.number ++ codes " " ++ mode_text connection.mode ++ codes " "
-    ++ ends_text connection ++ media_text connection
+
+-- `connection A sendrecv 127.0.0.1:3000 to 127.0.0.2:3000 PCMU 20`
+abbrev pub connection_text : SeenConnection → List ℕ
+connection_text connection = mode_part connection ++ ends_text connection ++ media_text connection
 
 -- what changed
 unfoldable pub what_text : Change → List ℕ
@@ -77,5 +80,5 @@ abbrev pub with_changes : ℕ → ℕ → Told → List Change → Told
 with_changes moment line told list = fold (with_change moment line) told list
 
 -- the answer to who begins to watch, or goes on: which number the next change will have, and the gateway's moment
-abbrev pub watching_line : ℕ → ℕ → List ℕ
+unfoldable pub watching_line : ℕ → ℕ → List ℕ
 watching_line number moment = codes "watching from " ++ decimal number ++ codes " at " ++ decimal moment ++ 10 ∷ []

@@ -1,7 +1,7 @@
 //! Tells what changed, a line for each change.
 ghost use Rattle.std.specs.Prelude.{◌≡◌, ◌++◌, [], OnOk, OnErr};
 ghost use Rattle.std.specs.Net.Text.{socket_v4_text};
-ghost use Rattle.line_changes.specs.Telling.{hook_word, end_text, remote_text, ends_text, media_text, connection_text, what_text, head_text, change_line, with_change, with_changes, watching_line};
+ghost use Rattle.line_changes.specs.Telling.{hook_word, end_text, remote_text, ends_text, media_text, mode_part, connection_text, what_text, head_text, change_line, with_change, with_changes, watching_line};
 
 use crate::change::{Change, codec_text};
 use crate::seen::SeenConnection;
@@ -87,7 +87,18 @@ fn put_media(
     put_decimal(alloc, out, u64::from(connection.packet_time))
 }
 
-#[tactic(auto, unfolding(crate::specs::Telling::connection_text))]
+// Which it is, and its mode.
+fn put_mode(alloc: Global, out: &mut Vec<u8>, connection: SeenConnection) -> Result<(), OutOfMemory>
+    ensures { OnOk result (out.new.items ≡ out.old.items ++ mode_part connection) }
+{
+    out.extend_from_slice(b"connection ")?;
+    write_number(alloc, out, connection.number)?;
+    out.push(b' ')?;
+    out.extend_from_slice(mode_text(connection.mode))?;
+    out.push(b' ')?;
+    Ok(())
+}
+
 fn put_connection(
     alloc: Global,
     out: &mut Vec<u8>,
@@ -95,15 +106,12 @@ fn put_connection(
 ) -> Result<(), OutOfMemory>
     ensures { OnOk result (out.new.items ≡ out.old.items ++ connection_text connection) }
 {
-    out.extend_from_slice(b"connection ")?;
-    write_number(alloc, out, connection.number)?;
-    out.push(b' ')?;
-    out.extend_from_slice(mode_text(connection.mode))?;
-    out.push(b' ')?;
+    put_mode(alloc, out, connection)?;
     put_ends(alloc, out, connection)?;
     put_media(alloc, out, connection)
 }
 
+#[tactic(auto, unfolding(crate::specs::Telling::what_text))]
 fn put_begun(alloc: Global, out: &mut Vec<u8>, active: ActiveSignal) -> Result<(), OutOfMemory>
     ensures { OnOk result (out.new.items ≡ out.old.items ++ what_text (Change.Begins active)) }
 {

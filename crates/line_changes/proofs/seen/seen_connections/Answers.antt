@@ -12,6 +12,7 @@ goes_on : (address : Ipv4Addr) (port : ℕ) (places : List (Option Connection)) 
     (out next whole : List SeenConnection) → place < length places → held ≡ get_or places place held
     → next ≡ out ++ seen_in_place address port held → out ++ seen_from address port (drop place places) ≡ whole
     → next ++ seen_from address (next_port port) (drop (place + 1) places) ≡ whole
+unfolding seen_from
 goes_on address port places place held out next whole within is put so_far =
     ap (λ front. front ++ seen_from address (next_port port) (drop (place + 1) places)) put
     ∙ append_assoc out (seen_in_place address port held) (seen_from address (next_port port) (drop (place + 1) places))
@@ -21,5 +22,5 @@ goes_on address port places place held out next whole within is put so_far =
 
 pub loop-held-preserved : goal.loop-held-preserved
 loop-held-preserved c =
-    rw (c.next_port.ensures)
+    rw (c.next_port-port.ensures)
     (goes_on _ _ _ _ _ _ _ _ c.loop-held-test.true c.held-item.is c.in_ok-put_seen.ensures c.loop-held.invariant)
