@@ -7,6 +7,7 @@ ghost use Rattle.phone_scripts.specs.Expecting.{last_moment, hears, is_same_mode
 
 use crate::telephone::{Connected, Telephone};
 use connections::{Mode, mode_text};
+use in_time::is_in_time;
 use mg_packages::Signal;
 
 /// What is expected of a telephone.
@@ -120,7 +121,7 @@ impl Open {
         if self.is_met || self.is_over {
             return;
         }
-        if moment <= self.last {
+        if is_in_time(moment, self.last) {
             self.is_met = is_so(self.expected, telephone);
         } else {
             self.is_over = true;
