@@ -5,7 +5,10 @@ use Rattle.std.specs.declared.net.socket_addr.SocketAddrV4.{SocketAddrV4}
 use Rattle.live_journal.specs.declared.reporting.Faults.{Faults}
 use Rattle.surroundings.specs.declared.surroundings.Fault.{Fault}
 use Rattle.live_gateway.specs.declared.exchange.Exchange.{Exchange}
-use Rattle.live_gateway.specs.Exchanging.{read_at, faults_at, LooksOnce, CountsReceived}
+use Rattle.live_gateway.specs.Exchanging.{IsSameTurn, read_at, faults_at, LooksOnce, CountsReceived}
+
+pub same_turn : {S : Type 0} (was mid is : Exchange S) → IsSameTurn was mid → IsSameTurn mid is → IsSameTurn was is
+same_turn was mid is a b = (b.0 ∙ a.0, b.1 ∙ a.1)
 
 -- nothing was counted behind it
 pub looked_before : {S : Type 0} (receives : S → Result (Option (SocketAddrV4 × ℕ)) Fault → List ℕ → S → Type 0) (was mid is : Exchange S)

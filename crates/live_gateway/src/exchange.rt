@@ -252,6 +252,7 @@ impl<S: Surroundings + Drop> Exchange<S> {
 
     // A datagram that the network hands to the gateway now, if there is one, from who is heard. Those that go out now are sent; one that
     // can't be is lost.
+    #[tactic(auto, using(crate::proofs::CountingLemmas::same_turn))]
     fn handed_over(
         &mut self,
         admission: &Admission,
@@ -313,6 +314,7 @@ impl<S: Surroundings + Drop> Exchange<S> {
 
     // A datagram that has come goes over the network, which may lose it, or hand over another one. So does a stranger's: it is dropped
     // where it comes out.
+    #[tactic(auto, using(crate::proofs::CountingLemmas::same_turn))]
     fn pass(
         &mut self,
         admission: &Admission,
@@ -365,7 +367,7 @@ impl<S: Surroundings + Drop> Exchange<S> {
     }
 
     // A datagram of the socket, where no network is before it, if one has come that is heard.
-    #[tactic(auto, using(crate::proofs::HearingLemmas::hears_nothing, crate::proofs::HearingLemmas::hears_one, crate::proofs::HearingLemmas::passes_over, crate::proofs::CountingLemmas::looked_before))]
+    #[tactic(auto, using(crate::proofs::HearingLemmas::hears_nothing, crate::proofs::HearingLemmas::hears_one, crate::proofs::HearingLemmas::passes_over, crate::proofs::CountingLemmas::looked_before, crate::proofs::CountingLemmas::same_turn))]
     fn receive_directly(
         &mut self,
         admission: &Admission,
@@ -391,7 +393,7 @@ impl<S: Surroundings + Drop> Exchange<S> {
 
     // A datagram that the network before the socket hands over from who is heard, if one is due. What comes of the socket goes over that
     // network, but what has no port.
-    #[tactic(auto, using(crate::proofs::CountingLemmas::nothing_read, crate::proofs::CountingLemmas::read_behind_others))]
+    #[tactic(auto, using(crate::proofs::CountingLemmas::nothing_read, crate::proofs::CountingLemmas::read_behind_others, crate::proofs::CountingLemmas::same_turn))]
     fn receive_spoilt(
         &mut self,
         admission: &Admission,
