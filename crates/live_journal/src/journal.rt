@@ -1,6 +1,8 @@
 //! What is kept of what goes between a gateway and others: its counts and its records.
 ghost use Rattle.std.specs.Prelude.{◌≡◌};
 ghost use Rattle.gateway_core.specs.Wire.{counted};
+ghost use Rattle.live_journal.specs.Recording.{Records};
+ghost use Rattle.live_journal.specs.Strangers.{quiet_after, stranger_text};
 
 use crate::capture::Capture;
 use crate::log::Log;
@@ -71,6 +73,9 @@ impl Journal {
     /// A datagram came from who may not speak: it is counted, and noted at most once a second.
     pub fn stranger(&mut self, now: Now, source: SocketAddrV4)
         ensures counted { self.new.tally.value.strangers ≡ counted self.old.tally.value.strangers 1 }
+        ensures told { Records self.old.log.value.record (stranger_text self.old.log.value.quiet now.time source) self.new.log.value.record }
+        ensures quiet { self.new.log.value.quiet ≡ quiet_after self.old.log.value.quiet now.time }
+        ensures rest { (self.new.capture ≡ self.old.capture) × (self.new.board ≡ self.old.board) × (self.new.written ≡ self.old.written) }
     {
         self.tally.stranger();
         self.log.stranger(now, source);

@@ -99,6 +99,8 @@ impl Log {
     fn put_stranger(&mut self, now: Now, source: SocketAddrV4, untold: Option<u64>)
         ensures record { Records self.old.record (text_of_stranger now.time source untold) self.new.record }
         ensures quiet { self.new.quiet ≡ self.old.quiet }
+        ensures moments { (self.new.sent ≡ self.old.sent) × (self.new.came ≡ self.old.came) × (self.new.arrival ≡ self.old.arrival) }
+        ensures rest { (self.new.domain ≡ self.old.domain) × (self.new.own ≡ self.old.own) × (self.new.messages ≡ self.old.messages) }
     {
         let Some(untold) = untold else {
             return;
@@ -125,6 +127,8 @@ impl Log {
     pub fn stranger(&mut self, now: Now, source: SocketAddrV4)
         ensures record { Records self.old.record (stranger_text self.old.quiet now.time source) self.new.record }
         ensures quiet { self.new.quiet ≡ quiet_after self.old.quiet now.time }
+        ensures moments { (self.new.sent ≡ self.old.sent) × (self.new.came ≡ self.old.came) × (self.new.arrival ≡ self.old.arrival) }
+        ensures rest { (self.new.domain ≡ self.old.domain) × (self.new.own ≡ self.old.own) × (self.new.messages ≡ self.old.messages) }
     {
         let untold = self.quiet.comes(now.time);
         self.put_stranger(now, source, untold);
