@@ -7,6 +7,7 @@
 
 mod ends;
 pub mod laws;
+mod placed;
 mod play;
 mod trace_text;
 

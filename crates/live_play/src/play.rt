@@ -18,6 +18,7 @@ ghost use Rattle.traces.specs.Writing.{Entry, arrived, typed, passed, tick_text,
 ghost use Rattle.live_play.specs.Running.{live, Ran, HeardFrom, HandsOut, Takes, Refuses, Asked, IsAnswer, TellsRefusal};
 
 use crate::ends::{Outlet, Teller};
+use crate::placed::{Placed, tell_trace, untold};
 use gateway_core::{Event, Gateway, OutDatagram, Outputs, Refusal};
 use mg_bytes::OutOfMemory;
 use mg_line::Act;
@@ -136,63 +137,63 @@ impl<T: Teller + Drop> LivePlay<T> {
 
     // The trace is told what was put for it, if memory was there for that.
     #[tactic(auto, using(crate::proofs::RunLemmas::ends_all, crate::proofs::RunLemmas::if_none))]
-    fn tell(&mut self, put: Result<(), OutOfMemory>)
+    fn tell(&mut self, put: Result<(), OutOfMemory>) -> Placed
         ensures told { (text : List ℕ) → OnOk put (self.old.text.items ≡ text) → Grows (T.told self.old.teller) text (T.told self.new.teller) }
         ensures broken_off { OnErr put (T.told self.new.teller ≡ None) }
         ensures gateway { self.new.gateway ≡ self.old.gateway }
         ensures script { self.new.script ≡ self.old.script }
         ensures printed { self.new.printed ≡ self.old.printed }
     {
-        match put {
-            Ok(()) => self.teller.tell(self.text.as_slice()),
-            Err(_) => self.teller.break_off(),
-        }
+        tell_trace(&mut self.teller, put, self.text.as_slice())
     }
 
     // A tick, and what was sent at it.
     #[tactic(auto, using(crate::proofs::RunLemmas::ends_all, crate::proofs::RunLemmas::if_none))]
-    fn tell_tick(&mut self, moment: u64, sent: &[OutDatagram])
+    fn tell_tick(&mut self, moment: u64, sent: &[OutDatagram]) -> Placed
         ensures told { Grows (T.told self.old.teller) (tick_text self.old.script moment sent.now) (T.told self.new.teller) }
         ensures script { IfSome (T.told self.new.teller) (λ text. self.new.script ≡ after_tick self.old.script moment sent.now) }
         ensures gateway { self.new.gateway ≡ self.old.gateway }
     {
-        if self.teller.is_telling() {
-            self.text.clear();
-            let put = self
-                .script
-                .put_tick(self.alloc, &mut self.text, moment, sent);
-            self.tell(put);
+        if !self.teller.is_telling() {
+            return untold(&self.teller);
         }
+        self.text.clear();
+        let put = self
+            .script
+            .put_tick(self.alloc, &mut self.text, moment, sent);
+        self.tell(put)
     }
 
     // A datagram that came, and what was sent at it.
     #[tactic(auto, using(crate::proofs::RunLemmas::ends_all, crate::proofs::RunLemmas::if_none))]
-    fn tell_datagram(&mut self, source: SocketAddrV4, bytes: &[u8], sent: &[OutDatagram])
+    fn tell_datagram(&mut self, source: SocketAddrV4, bytes: &[u8], sent: &[OutDatagram]) -> Placed
         ensures told { Grows (T.told self.old.teller) (input_text self.old.script (arrived source bytes.now) (sends sent.now)) (T.told self.new.teller) }
         ensures script { IfSome (T.told self.new.teller) (λ text. self.new.script ≡ at_clock self.old.script) }
         ensures gateway { self.new.gateway ≡ self.old.gateway }
     {
-        if self.teller.is_telling() {
-            self.text.clear();
-            let put = self
-                .script
-                .put_datagram(self.alloc, &mut self.text, source, bytes, sent);
-            self.tell(put);
+        if !self.teller.is_telling() {
+            return untold(&self.teller);
         }
+        self.text.clear();
+        let put = self
+            .script
+            .put_datagram(self.alloc, &mut self.text, source, bytes, sent);
+        self.tell(put)
     }
 
     // A line by which something was done, and what was sent at it.
     #[tactic(auto, using(crate::proofs::RunLemmas::ends_all, crate::proofs::RunLemmas::if_none))]
-    fn tell_act(&mut self, line: &[u8], sent: &[OutDatagram])
+    fn tell_act(&mut self, line: &[u8], sent: &[OutDatagram]) -> Placed
         ensures told { Grows (T.told self.old.teller) (input_text self.old.script (typed line.now) (sends sent.now)) (T.told self.new.teller) }
         ensures script { IfSome (T.told self.new.teller) (λ text. self.new.script ≡ at_clock self.old.script) }
         ensures gateway { self.new.gateway ≡ self.old.gateway }
     {
-        if self.teller.is_telling() {
-            self.text.clear();
-            let put = self.script.put_act(self.alloc, &mut self.text, line, sent);
-            self.tell(put);
+        if !self.teller.is_telling() {
+            return untold(&self.teller);
         }
+        self.text.clear();
+        let put = self.script.put_act(self.alloc, &mut self.text, line, sent);
+        self.tell(put)
     }
 
     // A line, and what is answered to it.
@@ -208,7 +209,7 @@ impl<T: Teller + Drop> LivePlay<T> {
             let put = self
                 .script
                 .put_answered(self.alloc, &mut self.text, line, self.printed.as_slice());
-            self.tell(put);
+            let _ = self.tell(put);
         }
     }
 
@@ -222,7 +223,7 @@ impl<T: Teller + Drop> LivePlay<T> {
         if self.teller.is_telling() {
             self.text.clear();
             let put = put_mark(self.alloc, &mut self.text, mark, place);
-            self.tell(put);
+            let _ = self.tell(put);
         }
     }
 
@@ -254,8 +255,8 @@ impl<T: Teller + Drop> LivePlay<T> {
         }
     }
 
-    // The gateway took an event, at which it sends these datagrams: they are handed out in their order.
-    fn hand_out<O: Outlet>(&mut self, out: &mut O, datagrams: &[OutDatagram])
+    // The gateway took an event, at which it sends these datagrams: the trace was told of that, and they are handed out in their order.
+    fn hand_out<O: Outlet>(&mut self, out: &mut O, datagrams: &[OutDatagram], _told: Placed)
         ensures handed { (marks : List Entry) × HandsOut
             (live self.old.gateway.value self.old.script (T.told self.old.teller) (O.handed out.old)) 0 datagrams.now marks
             (live self.new.gateway.value self.new.script (T.told self.new.teller) (O.handed out.new)) }
@@ -284,8 +285,8 @@ impl<T: Teller + Drop> LivePlay<T> {
         match take(&mut self.gateway, Event::Tick { moment }) {
             Ok(outputs) => {
                 let sent = outputs.as_slice();
-                self.tell_tick(moment, sent);
-                self.hand_out(out, sent);
+                let told = self.tell_tick(moment, sent);
+                self.hand_out(out, sent, told);
                 Ok(())
             }
             Err(refusal) => Err(refusal),
@@ -316,8 +317,8 @@ impl<T: Teller + Drop> LivePlay<T> {
         match take(&mut self.gateway, Event::Datagram { source, bytes }) {
             Ok(outputs) => {
                 let sent = outputs.as_slice();
-                self.tell_datagram(source, bytes, sent);
-                self.hand_out(out, sent);
+                let told = self.tell_datagram(source, bytes, sent);
+                self.hand_out(out, sent, told);
                 Ok(())
             }
             Err(refusal) => Err(refusal),
@@ -378,8 +379,8 @@ impl<T: Teller + Drop> LivePlay<T> {
         match take(&mut self.gateway, Event::Phone { line, act }) {
             Ok(outputs) => {
                 let sent = outputs.as_slice();
-                self.tell_act(text, sent);
-                self.hand_out(out, sent);
+                let told = self.tell_act(text, sent);
+                self.hand_out(out, sent, told);
                 Ok(())
             }
             Err(refusal) => Err(self.refuse(text, refusal)),
@@ -395,7 +396,7 @@ impl<T: Teller + Drop> LivePlay<T> {
         if self.teller.is_telling() {
             self.text.clear();
             let put = self.script.put_clock(self.alloc, &mut self.text);
-            self.tell(put);
+            let _ = self.tell(put);
         }
     }
 

@@ -9,16 +9,16 @@ use Rattle.live_play.proofs.play.LivePlay.act.Goals as goal
 pub returns-in-Ok-clause-taken : goal.returns-in-Ok-clause-taken
 returns-in-Ok-clause-taken g c =
     takes_so _
-    (live c.tell_act.new.self.gateway.value c.tell_act.new.self.script (g.T.Teller.told c.tell_act.new.self.teller) (g.O.Outlet.handed c.args.out.now)) _ c.take.new.gateway.value
-    (typed c.args.text.now) (phone c.args.line c.args.act) _ c.as_slice-sent.result.now (says_act c.args.text.now c.args.line c.args.act c.requires) c.in-Ok.ensures.ok (ap (λ gateway. gateway.value) c.tell_act.ensures.gateway) c.as_slice-sent.ensures c.in-Ok.ensures.ends refl
-    c.tell_act.ensures.told c.tell_act.ensures.script c.hand_out.ensures.handed
+    (live c.tell_act-told.new.self.gateway.value c.tell_act-told.new.self.script (g.T.Teller.told c.tell_act-told.new.self.teller) (g.O.Outlet.handed c.args.out.now)) _ c.take.new.gateway.value
+    (typed c.args.text.now) (phone c.args.line c.args.act) _ c.as_slice-sent.result.now (says_act c.args.text.now c.args.line c.args.act c.requires) c.in-Ok.ensures.ok (ap (λ gateway. gateway.value) c.tell_act-told.ensures.gateway) c.as_slice-sent.ensures c.in-Ok.ensures.ends refl
+    c.tell_act-told.ensures.told c.tell_act-told.ensures.script c.hand_out.ensures.handed
 
 pub returns-in-Ok-clause-ran : goal.returns-in-Ok-clause-ran
 returns-in-Ok-clause-ran g c = goes_on_by (λ (nobody : SocketAddrV4). ⊥) _ _ (typed c.args.text.now) (phone c.args.line c.args.act) tt (
     takes_so _
-    (live c.tell_act.new.self.gateway.value c.tell_act.new.self.script (g.T.Teller.told c.tell_act.new.self.teller) (g.O.Outlet.handed c.args.out.now)) _ c.take.new.gateway.value
-    (typed c.args.text.now) (phone c.args.line c.args.act) _ c.as_slice-sent.result.now (says_act c.args.text.now c.args.line c.args.act c.requires) c.in-Ok.ensures.ok (ap (λ gateway. gateway.value) c.tell_act.ensures.gateway) c.as_slice-sent.ensures c.in-Ok.ensures.ends refl
-    c.tell_act.ensures.told c.tell_act.ensures.script c.hand_out.ensures.handed)
+    (live c.tell_act-told.new.self.gateway.value c.tell_act-told.new.self.script (g.T.Teller.told c.tell_act-told.new.self.teller) (g.O.Outlet.handed c.args.out.now)) _ c.take.new.gateway.value
+    (typed c.args.text.now) (phone c.args.line c.args.act) _ c.as_slice-sent.result.now (says_act c.args.text.now c.args.line c.args.act c.requires) c.in-Ok.ensures.ok (ap (λ gateway. gateway.value) c.tell_act-told.ensures.gateway) c.as_slice-sent.ensures c.in-Ok.ensures.ends refl
+    c.tell_act-told.ensures.told c.tell_act-told.ensures.script c.hand_out.ensures.handed)
 
 pub returns-in-Err-clause-refused : goal.returns-in-Err-clause-refused
 returns-in-Err-clause-refused g c =
