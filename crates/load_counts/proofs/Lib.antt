@@ -1,2 +1,3 @@
 pub mod Computing
-mod BucketLaws
+pub mod BucketLaws
+pub mod RankLaws

@@ -1,3 +1,4 @@
 pub mod Buckets
 pub mod Times
+pub mod Ranks
 pub mod Series

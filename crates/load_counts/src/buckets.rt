@@ -12,6 +12,7 @@ pub(crate) const LAST: usize = 370;
 pub const LONGEST: u64 = 100_000;
 
 /// The place of the bucket that a time of so many ms falls into.
+#[tactic(auto, unfolding(crate::specs::Buckets::bucket_of))]
 pub(crate) fn bucket_of(ms: u64) -> usize
     ensures place { result ≡ bucket_of ms }
     ensures within { result < BUCKETS }
@@ -30,6 +31,7 @@ pub(crate) fn bucket_of(ms: u64) -> usize
 }
 
 /// The greatest time of the bucket at a place, in ms; that of the last is the last below it.
+#[tactic(auto, unfolding(crate::specs::Buckets::greatest_in))]
 pub(crate) fn greatest_in(place: usize) -> u64
     ensures { result ≡ greatest_in place }
 {
