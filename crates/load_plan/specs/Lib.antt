@@ -1,2 +1,2 @@
-pub mod Planning
 pub mod Drawing
+pub mod Planning

@@ -1,11 +1,11 @@
 //! Worked examples of the definitions, as theorems: each sentence of a definition has one that a slip in it breaks.
 ghost use Rattle.std.specs.Prelude.{◌≡◌, [], ◌∷◌, map, true, false, Some, None};
-ghost use Rattle.load_plan.specs.Planning.{rate_of, moment_of, due_after, is_late, first_of, second_of};
+ghost use Rattle.load_plan.specs.Planning.{rate_of, moment_of, due_after, is_late, first_of, second_of, without_both};
 
 /// Attempts have their moments by the rate, in thousandths of one a second, and none is made once the time is over.
 pub fn attempts_have_moments()
-    ensures none { rate_of 0 ≡ None }
-    ensures some { rate_of 1 ≡ Some 1 }
+    ensures none { rate_of 0 ≡ 1 }
+    ensures some { rate_of 20000 ≡ 20000 }
     ensures twenty { map (moment_of 20000) (0 ∷ 1 ∷ 20 ∷ []) ≡ 0 ∷ 50 ∷ 1000 ∷ [] }
     ensures seven { map (moment_of 7000) (1 ∷ 2 ∷ 7 ∷ []) ≡ 142 ∷ 285 ∷ 1000 ∷ [] }
     ensures slow { moment_of 500 3 ≡ 6000 }
@@ -25,4 +25,6 @@ pub fn any_line_calls_any_other()
     ensures last { second_of 5 2 3 ≡ 4 }
     ensures two { second_of 2 0 4294967295 ≡ 1 }
     ensures other_two { second_of 2 1 4294967295 ≡ 0 }
+    ensures left { without_both (7 ∷ 8 ∷ 9 ∷ 10 ∷ []) 2 0 ≡ 8 ∷ 10 ∷ [] }
+    ensures as_left { without_both (7 ∷ 8 ∷ 9 ∷ 10 ∷ []) 0 2 ≡ 8 ∷ 10 ∷ [] }
 {}

@@ -1,6 +1,7 @@
 //! The lines that are idle, of which two are taken for an attempt.
-ghost use Rattle.std.specs.Prelude.{◌≡◌, ◌≢◌, ◌≤◌, ◌<◌};
-ghost use Rattle.load_plan.specs.Planning.{first_of, second_of};
+ghost use Rattle.std.specs.Prelude.{◌≡◌, ◌≢◌, ◌≤◌, ◌<◌, ◌++◌, ◌∷◌, [], OnOk};
+ghost use Rattle.load_plan.specs.Drawing.{seeded};
+ghost use Rattle.load_plan.specs.Planning.{first_of, second_of, pair_of, lines_left, generator_left};
 
 use crate::drawing::{draw_word, seeded};
 use mg_bytes::OutOfMemory;
@@ -36,20 +37,23 @@ fn second_of(many: usize, first: usize, draw: u32) -> usize
 }
 
 impl Idle {
-    /// All of so many lines, with a generator that this seed begins. An error is for want of memory.
-    pub fn new(alloc: Global, count: usize, seed: u64) -> Result<Idle, OutOfMemory> {
-        let mut lines = Vec::new(alloc);
-        for line in 0..count {
-            lines.push(line)?;
-        }
-        Ok(Idle {
-            lines,
+    /// None so far, with a generator that this seed begins.
+    pub fn new(alloc: Global, seed: u64) -> Idle
+        ensures lines { result.lines.items ≡ [] }
+        ensures generator { result.generator ≡ seeded seed }
+    {
+        Idle {
+            lines: Vec::new(alloc),
             generator: seeded(seed),
-        })
+        }
     }
 
     /// Takes two different lines, who calls and who is called; `None` where fewer are idle.
-    pub fn take_pair(&mut self) -> Option<(usize, usize)> {
+    pub fn take_pair(&mut self) -> Option<(usize, usize)>
+        ensures pair { result ≡ pair_of self.old.lines.items self.old.generator }
+        ensures lines { self.new.lines.items ≡ lines_left self.old.lines.items self.old.generator }
+        ensures generator { self.new.generator ≡ generator_left self.old.lines.items self.old.generator }
+    {
         let many = self.lines.len();
         if many < 2 {
             return None;
@@ -62,8 +66,11 @@ impl Idle {
         Some(pair)
     }
 
-    /// A line is idle again.
-    pub fn put(&mut self, line: usize) -> Result<(), OutOfMemory> {
+    /// A line is idle, or is so again.
+    pub fn put(&mut self, line: usize) -> Result<(), OutOfMemory>
+        ensures lines { OnOk result (self.new.lines.items ≡ self.old.lines.items ++ line ∷ []) }
+        ensures generator { self.new.generator ≡ self.old.generator }
+    {
         self.lines.push(line)?;
         Ok(())
     }

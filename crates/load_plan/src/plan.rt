@@ -1,5 +1,5 @@
 //! When attempts are due.
-ghost use Rattle.std.specs.Prelude.{◌≡◌, ◌<◌};
+ghost use Rattle.std.specs.Prelude.{◌≡◌, ◌<◌, ◌+◌};
 ghost use Rattle.load_plan.specs.Planning.{rate_of, moment_of, due_after, is_late};
 
 use std::marker::Model;
@@ -26,14 +26,13 @@ impl Model for Rate {
 }
 
 impl Rate {
-    /// So many thousandths of a call a second; none of 0.
-    pub fn of(thousandths: u64) -> Option<Rate>
+    /// So many thousandths of a call a second, and one at least.
+    pub fn of(thousandths: u64) -> Rate
         ensures { result ≡ rate_of thousandths }
     {
-        if thousandths == 0 {
-            return None;
+        Rate {
+            thousandths: thousandths.max(1),
         }
-        Some(Rate { thousandths })
     }
 
     // The number itself.
