@@ -1,8 +1,11 @@
 //! What lines for the telephones are answered.
 ghost use Rattle.std.specs.Prelude.{◌≡◌, ◌≢◌, ◌≤◌, ◌++◌, ℕ, List, codes, IfOk, IfErr, OnOk, Err};
 ghost use Rattle.live_play.specs.Running.{IsAnswer};
+ghost use Rattle.live_gateway.specs.Watching.{full_text};
 
 use gateway_core::{Gateway, Refusal};
+use line_changes::MOST_WATCHERS;
+use live_ends::put_around;
 use live_journal::{Faults, Journal, picture_of};
 use mg_bytes::OutOfMemory;
 use rgw_scenes::status_of;
@@ -21,9 +24,6 @@ pub const UNKNOWN: &[u8] =
 pub const PHONES_FROM_AFAR: &[u8] =
     b"! the telephones are for a loopback address alone, 127.0.0.0/8, but with --phones-open\n";
 
-/// The answer to who would be the ninth to watch.
-pub const FULL: &[u8] = b"! 8 watch already\n";
-
 /// The answer where memory is refused for any other, and what who watches is told then.
 pub const OUT_OF_MEMORY: &[u8] = b"! 1 OutOfMemory\n";
 
@@ -41,6 +41,21 @@ fn put_shown(
     let status = status_of(gateway, line);
     put_line(alloc, out, &status)?;
     Ok(())
+}
+
+/// The answer to who wants to watch where as many watch as may.
+pub(crate) fn full_answer(alloc: Global) -> Result<Vec<u8>, OutOfMemory>
+    ensures { IfOk result (λ text. text.items ≡ full_text) }
+{
+    let mut text = Vec::new(alloc);
+    put_around(
+        alloc,
+        &mut text,
+        "! ",
+        MOST_WATCHERS as u64,
+        " watch already\n",
+    )?;
+    Ok(text)
 }
 
 /// What each line is, from the first.

@@ -18,6 +18,7 @@ ghost use Rattle.live_gateway.specs.declared.admission.Admission.{Admission};
 ghost use Rattle.live_gateway.specs.Admitting.{with_hosts, hosts_of, with_named, is_its_own, is_heard, heard_of, typist_of};
 ghost use Rattle.live_gateway.specs.Asking.{request_in};
 ghost use Rattle.live_gateway.specs.Naming.{no_word, listed, with_all, with_each};
+ghost use Rattle.live_gateway.specs.Watching.{full_text};
 ghost use Rattle.live_gateway.specs.Example.{host, at_port, looped, anywhere, sockets};
 ghost use Rattle.live_gateway.specs.declared.exchange.Exchange.{Exchange};
 ghost use Rattle.live_gateway.specs.declared.spoilt_way.SpoiltWay.{SpoiltWay};
@@ -49,6 +50,11 @@ pub fn lines_ask_for_this()
     ensures stranger { request_in Stranger (codes "counts") ≡ Refused }
     ensures stranger_watches { request_in Stranger (codes "watch 60") ≡ Refused }
     ensures stranger_shows { request_in Stranger (codes "show *") ≡ Refused }
+{}
+
+/// Who wants to watch where eight do is told that.
+pub fn a_ninth_is_told()
+    ensures { full_text ≡ codes "! 8 watch already\n" }
 {}
 
 /// Inputs that were refused are counted, and no other ones.

@@ -4,10 +4,10 @@ ghost use Rattle.plain_machine.specs.Event.{GatewayEvent};
 ghost use Rattle.plain_machine.specs.Lists.{plain};
 ghost use Rattle.gateway_core.specs.Stands.{Stands};
 ghost use Rattle.line_changes.specs.Telling.{with_changes, watching_line};
-ghost use Rattle.line_changes.specs.Watching.{longest_watch};
+ghost use Rattle.line_changes.specs.Watching.{longest_watch, nobody};
 ghost use Rattle.live_gateway.specs.Watching.{changes_behind};
 
-use crate::answering::{FULL, OUT_OF_MEMORY, UNKNOWN};
+use crate::answering::{OUT_OF_MEMORY, UNKNOWN, full_answer};
 use gateway_core::Gateway;
 use line_changes::{
     Change, ChangeText, MOST_WATCHERS, SeenLine, Watchers, put_changes, put_watching,
@@ -53,7 +53,9 @@ fn seen_lines(alloc: Global, gateway: &Gateway) -> Result<Vec<SeenLine>, OutOfMe
 
 impl Watch {
     /// Nobody watches.
-    pub fn new(alloc: Global) -> Watch {
+    pub fn new(alloc: Global) -> Watch
+        ensures { result.watchers.places ≡ nobody }
+    {
         Watch {
             watchers: Watchers::none(),
             seen: Vec::new(alloc),
@@ -107,7 +109,7 @@ impl Watch {
         if self.begin(alloc, gateway, address, seconds)? {
             self.begun(alloc, gateway)
         } else {
-            Ok(Vec::from_slice(alloc, FULL)?)
+            full_answer(alloc)
         }
     }
 

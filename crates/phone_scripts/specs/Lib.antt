@@ -2,6 +2,7 @@ pub mod Connected
 pub mod Telephones
 pub mod Expecting
 pub mod Limits
+pub mod Words
 pub mod Grammar
 pub mod Faults
 pub mod Pushed

@@ -10,7 +10,8 @@ use Rattle.phone_scripts.specs.declared.telephone.What.{What}
 use Rattle.phone_scripts.specs.declared.telephone.What.TheVariants.{Hook, Begins, Ends, Stands, Over}
 use Rattle.phone_scripts.specs.declared.change.Telling.{Telling}
 use Rattle.phone_scripts.specs.declared.change.Watching.{Watching}
-use Rattle.phone_scripts.specs.Grammar.{line_of}
+use Rattle.phone_scripts.specs.declared.change.Head.{Head}
+use Rattle.phone_scripts.specs.Words.{line_of}
 
 abbrev pub found : {A : Type 0} → Result A ℕ → Option A
 found (Ok value) = Some value
@@ -48,19 +49,19 @@ what_in (word ∷ []) = hook_in word
 what_in (word ∷ name ∷ more) = changed_in word name more
 
 -- its number, its moment, and the number of its line
-abbrev pub numbers_in : List ℕ → List ℕ → List ℕ → Option (ℕ × ℕ × ℕ)
-numbers_in number moment line = do
+abbrev pub head_in : List ℕ → List ℕ → List ℕ → Option Head
+head_in number moment line = do
   n ← decimal_of number
   m ← decimal_of moment
   l ← line_of line
-  Some (n, m, l)
+  Some (record { number = n; moment = m; line = l })
 
-abbrev pub telling_with : ℕ → ℕ → ℕ → What → Telling
-telling_with number moment line what = record { number = number; moment = moment; line = line; what = what }
+abbrev pub telling_with : Head → What → Telling
+telling_with head what = record { number = head.number; moment = head.moment; line = head.line; what = what }
 
-abbrev pub telling_by : Option (ℕ × ℕ × ℕ) → List (List ℕ) → Option Telling
+abbrev pub telling_by : Option Head → List (List ℕ) → Option Telling
 telling_by None words = None
-telling_by (Some n) words = option_map (telling_with n.0 n.1.0 n.1.1) (what_in words)
+telling_by (Some head) words = option_map (telling_with head) (what_in words)
 
 abbrev pub is_telling : List ℕ → List ℕ → List ℕ → Bool
 is_telling a b c = bytes_eq a (codes "change") && bytes_eq b (codes "at") && bytes_eq c (codes "line")
@@ -73,7 +74,7 @@ telling_in (a ∷ n ∷ []) = None
 telling_in (a ∷ n ∷ b ∷ []) = None
 telling_in (a ∷ n ∷ b ∷ m ∷ []) = None
 telling_in (a ∷ n ∷ b ∷ m ∷ c ∷ []) = None
-telling_in (a ∷ n ∷ b ∷ m ∷ c ∷ l ∷ what) = if is_telling a b c then telling_by (numbers_in n m l) what else None
+telling_in (a ∷ n ∷ b ∷ m ∷ c ∷ l ∷ what) = if is_telling a b c then telling_by (head_in n m l) what else None
 
 abbrev pub watching_of : List ℕ → List ℕ → Option Watching
 watching_of number moment = do

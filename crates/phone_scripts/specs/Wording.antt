@@ -30,7 +30,7 @@ signal_part signal = codes ", " ++ signal_name signal
 abbrev pub signals_text : List Signal → List ℕ
 signals_text signals = if is_empty signals then codes ", no signal" else flat_map signal_part signals
 
-abbrev pub connection_part : Connected → List ℕ
+unfoldable pub connection_part : Connected → List ℕ
 connection_part connection = codes ", connection " ++ mode_text connection.mode
 
 -- the modes of its connections, or that there is none

@@ -1,7 +1,7 @@
 //! What is done at a telephone.
 ghost use Rattle.std.specs.Prelude.{◌≡◌};
 ghost use Rattle.std.specs.List.{list_all};
-ghost use Rattle.phone_scripts.specs.Grammar.{is_key, are_keys, key_of, act_of};
+ghost use Rattle.phone_scripts.specs.Words.{is_key, are_keys, key_of, act_of};
 
 use crate::limits::MOST_KEYS;
 
@@ -38,7 +38,7 @@ pub(crate) fn are_keys(word: &[u8]) -> bool
 }
 
 /// What is done at a telephone, by its word or the sign of a key.
-#[tactic(auto, unfolding(crate::specs::Grammar::act_of))]
+#[tactic(auto, unfolding(crate::specs::Words::act_of))]
 pub(crate) fn act_of(word: &[u8]) -> Option<PhoneAct>
     ensures { result ≡ act_of word.now }
 {

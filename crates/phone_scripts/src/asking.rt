@@ -25,7 +25,7 @@ fn put_act(out: &mut Vec<u8>, act: PhoneAct) -> Result<(), OutOfMemory>
         PhoneAct::Off => out.extend_from_slice(b"off"),
         PhoneAct::On => out.extend_from_slice(b"on"),
         PhoneAct::Flash => out.extend_from_slice(b"flash"),
-        PhoneAct::Key { sign } => out.push(sign),
+        PhoneAct::Key { sign } => out.extend_from_slice(&[sign]),
     }
 }
 

@@ -1,7 +1,7 @@
 //! Reads what a gateway's telephones tell who watches.
 ghost use Rattle.std.specs.Prelude.{◌≡◌, IfOk, option_map};
 ghost use Rattle.mg_bytes.specs.Words.{words as words_of};
-ghost use Rattle.phone_scripts.specs.Pushed.{signal_named, hook_in, connection_in, changed_in, what_in, numbers_in, telling_by, is_telling, telling_in, is_watching, watching_of, watching_in};
+ghost use Rattle.phone_scripts.specs.Pushed.{signal_named, hook_in, connection_in, changed_in, what_in, head_in, telling_by, is_telling, telling_in, is_watching, watching_of, watching_in};
 
 use crate::telephone::{Connected, What};
 use crate::words::line_of;
@@ -123,29 +123,43 @@ fn what_in(alloc: Global, rest: &mut Words<'_>) -> Result<Option<What>, OutOfMem
 }
 
 // The numbers of a change, of its moment and of its line.
-fn numbers_in(number: &[u8], moment: &[u8], line: &[u8]) -> Option<(u64, u64, u16)>
-    ensures { result ≡ numbers_in number.now moment.now line.now }
+#[derive(Clone, Copy)]
+struct Head {
+    number: u64,
+    moment: u64,
+    line: u16,
+}
+
+fn head_in(number: &[u8], moment: &[u8], line: &[u8]) -> Option<Head>
+    ensures { result ≡ head_in number.now moment.now line.now }
 {
-    Some((decimal(number)?, decimal(moment)?, line_of(line)?))
+    let number = decimal(number)?;
+    let moment = decimal(moment)?;
+    let line = line_of(line)?;
+    Some(Head {
+        number,
+        moment,
+        line,
+    })
 }
 
 fn telling_of(
     alloc: Global,
-    numbers: Option<(u64, u64, u16)>,
+    head: Option<Head>,
     rest: &mut Words<'_>,
 ) -> Result<Option<Telling>, OutOfMemory>
-    ensures { IfOk result (λ found. found ≡ telling_by numbers rest.old) }
+    ensures { IfOk result (λ found. found ≡ telling_by head rest.old) }
 {
-    let Some((number, moment, line)) = numbers else {
+    let Some(head) = head else {
         return Ok(None);
     };
     let Some(what) = what_in(alloc, rest)? else {
         return Ok(None);
     };
     Ok(Some(Telling {
-        number,
-        moment,
-        line,
+        number: head.number,
+        moment: head.moment,
+        line: head.line,
         what,
     }))
 }
@@ -181,7 +195,7 @@ pub fn telling_in(alloc: Global, line: &[u8]) -> Result<Option<Telling>, OutOfMe
         return Ok(None);
     };
     if is_telling(a, b, c) {
-        telling_of(alloc, numbers_in(n, m, l), &mut rest)
+        telling_of(alloc, head_in(n, m, l), &mut rest)
     } else {
         Ok(None)
     }

@@ -83,7 +83,7 @@ fn put_depths(alloc: Global, out: &mut Vec<u8>) -> Result<(), OutOfMemory>
 impl LineFault {
     /// Puts what is said of it, behind file and line. Its only error is want of memory.
     pub(crate) fn put_text(self, alloc: Global, out: &mut Vec<u8>) -> Result<(), OutOfMemory>
-        ensures { OnOk result (out.new.items ≡ out.old.items ++ fault_text self.entry) }
+        ensures { OnOk result (out.new.items ≡ out.old.items ++ fault_text self) }
     {
         match self {
             LineFault::Line => out.extend_from_slice(

@@ -36,7 +36,9 @@ pub enum ScriptFault {
 }
 
 impl From<OutOfMemory> for ScriptFault {
-    ghost from_gives = { λ refused fault. fault ≡ ScriptFault.OutOfMemory };
+    ghost use Rattle.phone_scripts.specs.declared.script.ScriptFault.TheVariants as faults;
+
+    ghost from_gives = { λ _ fault. fault ≡ faults.OutOfMemory };
 
     fn from(_refused: OutOfMemory) -> ScriptFault {
         ScriptFault::OutOfMemory
@@ -166,7 +168,8 @@ impl<'n> Reader<'n> {
             begin: 0,
             line: 0,
             depth,
-        })
+        })?;
+        Ok(())
     }
 
     // Puts a statement.
@@ -174,8 +177,10 @@ impl<'n> Reader<'n> {
         if self.script.statements.len() >= MOST_STATEMENTS {
             return Err(fault_at(place, LineFault::TooLong));
         }
-        self.script.statements.push(Placed { place, statement })?;
-        Ok(())
+        match self.script.statements.push(Placed { place, statement }) {
+            Ok(()) => Ok(()),
+            Err(_) => Err(ScriptFault::OutOfMemory),
+        }
     }
 
     // A block begins.
@@ -183,8 +188,10 @@ impl<'n> Reader<'n> {
         if self.begun.len() >= MOST_DEPTH {
             return Err(fault_at(place, LineFault::TooDeep));
         }
-        self.begun.push(place)?;
-        self.put(place, begin)
+        match self.begun.push(place) {
+            Ok(()) => self.put(place, begin),
+            Err(_) => Err(ScriptFault::OutOfMemory),
+        }
     }
 
     // A block ends that this file began.
@@ -214,7 +221,9 @@ impl<'n> Reader<'n> {
         if self.levels.len() > DEEPEST_INCLUDE {
             return Err(fault_at(place, LineFault::TooDeep));
         }
-        self.script.files.push(file)?;
+        if self.script.files.push(file).is_err() {
+            return Err(ScriptFault::OutOfMemory);
+        }
         self.put(place, Statement::Repeat { times: 1 })?;
         Ok(Wanted::File { place })
     }
@@ -289,8 +298,10 @@ impl<'n> Reader<'n> {
         let said = self.said(place, line)?;
         level.begin = next;
         let depth = level.depth;
-        self.levels.push(level)?;
-        self.take(place, depth, said)
+        match self.levels.push(level) {
+            Ok(()) => self.take(place, depth, said),
+            Err(_) => Err(ScriptFault::OutOfMemory),
+        }
     }
 
     /// Reads on until a file is wanted or all is read.
@@ -308,7 +319,9 @@ impl<'n> Reader<'n> {
     }
 
     /// What was read.
-    pub fn into_script(self) -> Script {
+    pub fn into_script(self) -> Script
+        ensures { result ≡ self.script }
+    {
         let Reader {
             alloc: _,
             names: _,

@@ -1,6 +1,6 @@
 //! What is said of a telephone, of a script that can't be played, and of one that isn't played to its end.
 ghost use Rattle.std.specs.Prelude.{◌≡◌, ◌++◌, IfOk, OnOk};
-ghost use Rattle.phone_scripts.specs.Wording.{hook_word, signals_text, connections_text, telephone_text, text_at, place_text, naming, phone_text, gateway_text, fault_line, expected_text, wanted_text, since_text, was_text, unmet_text, refused_text, too_many_text, unanswered_text, unwatched_text, lost_text, failure_text, failure_lines};
+ghost use Rattle.phone_scripts.specs.Wording.{hook_word, signals_text, connection_part, connections_text, telephone_text, text_at, place_text, naming, phone_text, gateway_text, fault_line, expected_text, wanted_text, since_text, was_text, unmet_text, refused_text, too_many_text, unanswered_text, unwatched_text, lost_text, failure_text, failure_lines};
 
 use crate::expecting::Expected;
 use crate::failure::{Failure, Unmet};
@@ -32,6 +32,21 @@ fn put_signals(out: &mut Vec<u8>, signals: &[Signal]) -> Result<(), OutOfMemory>
     Ok(())
 }
 
+// Puts two texts.
+fn put_both(out: &mut Vec<u8>, one: &[u8], other: &[u8]) -> Result<(), OutOfMemory>
+    ensures { OnOk result (out.new.items ≡ out.old.items ++ (one.now ++ other.now)) }
+{
+    out.extend_from_slice(one)?;
+    out.extend_from_slice(other)
+}
+
+#[tactic(auto, unfolding(crate::specs::Wording::connection_part))]
+fn put_connection(out: &mut Vec<u8>, connection: &Connected) -> Result<(), OutOfMemory>
+    ensures { OnOk result (out.new.items ≡ out.old.items ++ connection_part connection.now) }
+{
+    put_both(out, b", connection ", mode_text(connection.mode))
+}
+
 fn put_connections(out: &mut Vec<u8>, connections: &[Connected]) -> Result<(), OutOfMemory>
     ensures { OnOk result (out.new.items ≡ out.old.items ++ connections_text connections.now) }
 {
@@ -39,8 +54,7 @@ fn put_connections(out: &mut Vec<u8>, connections: &[Connected]) -> Result<(), O
         return out.extend_from_slice(b", no connection");
     }
     for connection in connections {
-        out.extend_from_slice(b", connection ")?;
-        out.extend_from_slice(mode_text(connection.mode))?;
+        put_connection(out, connection)?;
     }
     Ok(())
 }
@@ -90,7 +104,7 @@ fn put_naming(out: &mut Vec<u8>, name: &[u8]) -> Result<(), OutOfMemory>
         return Ok(());
     }
     out.extend_from_slice(name)?;
-    out.push(b':')
+    out.extend_from_slice(b":")
 }
 
 // A telephone, as a script names it.
@@ -139,10 +153,7 @@ fn put_expected(out: &mut Vec<u8>, expected: Expected) -> Result<(), OutOfMemory
     match expected {
         Expected::Signal { signal } => out.extend_from_slice(signal_name(signal)),
         Expected::Silent => out.extend_from_slice(b"silent"),
-        Expected::Connection { mode } => {
-            out.extend_from_slice(b"connection ")?;
-            out.extend_from_slice(mode_text(mode))
-        }
+        Expected::Connection { mode } => put_both(out, b"connection ", mode_text(mode)),
     }
 }
 

@@ -3,7 +3,8 @@ ghost use Rattle.std.specs.Prelude.{◌≡◌, IfOk, MatchResult, option_map, Ok
 ghost use Rattle.std.specs.Option.{ok_or};
 ghost use Rattle.mg_bytes.specs.Words.{words as words_of};
 ghost use Rattle.phone_scripts.specs.declared.fault.LineFault.TheVariants as faults;
-ghost use Rattle.phone_scripts.specs.Grammar.{line_of, named_from, phone_at, phone_of, time_of, times_of, expected_of, connection_of, signals, modes, is_side_by_side, is_connection_within, waits, acts_on, dials, expects, line_of_one, line_of_two, line_of_three, line_of_four, line_of_five, line_of_six, said_in};
+ghost use Rattle.phone_scripts.specs.Words.{line_of, named_from, phone_at, phone_of, time_of, times_of, expected_of, connection_of};
+ghost use Rattle.phone_scripts.specs.Grammar.{signals, modes, is_side_by_side, is_connection_within, waits, acts_on, dials, expects, line_of_one, line_of_two, line_of_three, line_of_four, line_of_five, line_of_six, said_in};
 
 use crate::act::{act_of, are_keys};
 use crate::expecting::Expected;
@@ -31,7 +32,7 @@ pub(crate) fn line_of(text: &[u8]) -> Option<u16>
 }
 
 // The place of the first gateway that is named so.
-#[tactic(auto, unfolding(crate::specs::Grammar::named_from))]
+#[tactic(auto, unfolding(crate::specs::Words::named_from))]
 fn named(name: &[u8], names: &[Text]) -> Option<usize>
     ensures { result ≡ named_from 0 name.now names.now }
 {

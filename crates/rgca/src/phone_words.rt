@@ -78,7 +78,8 @@ impl PhoneSettings<'_> {
     fn add(&mut self, alloc: Global, name: &str, address: SocketAddrV4) -> Result<(), AllocError> {
         let name = Text::of(Vec::from_slice(alloc, name.as_bytes())?);
         self.names.push(name)?;
-        self.addresses.push(address)
+        self.addresses.push(address)?;
+        Ok(())
     }
 }
 

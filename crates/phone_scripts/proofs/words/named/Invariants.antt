@@ -1,5 +1,5 @@
 use Rattle.std.proofs.Common.{◌≡◌, drop}
-use Rattle.phone_scripts.specs.Grammar.{named_from}
+use Rattle.phone_scripts.specs.Words.{named_from}
 use Rattle.phone_scripts.proofs.words.named.Given as goal
 
 abbrev pub invariant-loop-place : goal.invariant-loop-place
