@@ -320,7 +320,7 @@ impl<'n> Reader<'n> {
 
     /// What was read.
     pub fn into_script(self) -> Script
-        ensures { result ≡ self.script }
+        ensures { result ≡ self.entry.script }
     {
         let Reader {
             alloc: _,
