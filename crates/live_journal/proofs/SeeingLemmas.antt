@@ -1,11 +1,10 @@
 -- The ports of a gateway's lines.
-use Rattle.std.proofs.Common.{◌≡◌, ◌≤◌}
+use Rattle.std.proofs.Common.{◌≤◌, ℕ, arith}
 use Rattle.plain_machine.specs.declared.setup.Setup.{Setup}
-use Rattle.plain_machine.specs.Machine.{Machine}
-use Rattle.plain_machine.specs.Setup.{most_lines, highest_media_base}
-use Rattle.gateway_core.specs.Sound.{IsSound}
+use Rattle.plain_machine.specs.Machine.{port_of}
+use Rattle.plain_machine.specs.Setup.{IsSetUp}
+use Rattle.live_journal.specs.Seeing.{highest_port}
 
--- a gateway has no more lines than may be, and its first port is no higher than it may be
-pub ports_fit : (setup : Setup) (m : Machine) → IsSound setup m
-    → (setup.media_base ≤ highest_media_base) × (setup.names.lines ≤ most_lines)
-ports_fit setup m sound = (sound.set_up.ports, sound.set_up.lines)
+-- a line of a gateway that a configuration sets up has a port
+pub port_fits : (setup : Setup) (line : ℕ) → IsSetUp setup → line ≤ setup.names.lines → port_of setup line ≤ highest_port
+port_fits setup line set_up few = let lines = set_up.lines in let ports = set_up.ports in omega (arith, few, lines, ports)

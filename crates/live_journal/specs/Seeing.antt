@@ -8,6 +8,9 @@ use Rattle.plain_machine.specs.Machine.{Machine, port_of}
 use Rattle.plain_machine.specs.Lists.{hook_of, signals_of, connections_of}
 use Rattle.line_changes.specs.Seen.{SeenLine, seen_from}
 
+abbrev pub highest_port : ℕ
+highest_port = 65535
+
 abbrev pub seen_with :
     Setup → ℕ → Option Hook → Option (List ActiveSignal) → Option (List (Option Connection)) → Option SeenLine
 seen_with setup line (Some hook) (Some signals) (Some places) = Some (record {
