@@ -16,7 +16,7 @@ use Rattle.live_play.proofs.RunLemmas.{ran_on, ran_stays, ran_written_off}
 use Rattle.live_gateway.specs.declared.admission.Admission.{Admission}
 use Rattle.live_gateway.specs.declared.desk.Desk.{Desk}
 use Rattle.live_gateway.specs.Admitting.{heard_of, HeardSince}
-use Rattle.live_gateway.specs.Desk.{Standing, at_desk, GoesOnBy, GoesOn}
+use Rattle.live_gateway.specs.Desk.{Standing, at_desk, with_input, GoesOnBy, GoesOn}
 use Rattle.live_gateway.specs.Exchanging.{refusals}
 use Rattle.live_gateway.proofs.HearingLemmas.{heard_both}
 
@@ -81,27 +81,31 @@ goes_on_then told traffic old mid new a b = record {
 
 -- ---- ticks, acts and questions: nobody is heard
 
-quiet_by : (admission : Admission) (was is : Standing) (is_refused : Bool) → HeardFrom (λ (nobody : SocketAddrV4). ⊥) was.live is.live
-    → is.came.received ≡ was.came.received → is.came.refused ≡ refusals is_refused was.came.refused
-    → (entries : List Entry) × GoesOnBy admission was is entries [] (refused_of is_refused)
-quiet_by admission was is is_refused heard same counts = (
+quiet_by : (admission : Admission) (was mid is : Standing) (is_refused : Bool) → HeardFrom (λ (nobody : SocketAddrV4). ⊥) was.live mid.live
+    → mid.came ≡ was.came → is ≡ with_input is_refused mid → (entries : List Entry) × GoesOnBy admission was is entries [] (refused_of is_refused)
+quiet_by admission was mid is is_refused heard same input = (
   heard.entries,
   record {
-    ran = heard.ran;
-    received = nothing_more was.came.received is.came.received same;
-    refused = counts ∙ counts_one is_refused was.came.refused;
+    ran = subst (λ (x : Live). Ran was.live heard.entries x) (sym (ap (λ (x : Standing). x.live) input)) heard.ran;
+    received = nothing_more was.came.received is.came.received (ap (λ (x : Standing). x.came.received) input ∙ ap (λ (x : Came). x.received) same);
+    refused = ap (λ (x : Standing). x.came.refused) input ∙ ap (λ (x : Came). refusals is_refused x.refused) same ∙ counts_one is_refused was.came.refused;
     events = nobody_came heard.entries heard.from;
   },
 )
 
-pub ticks : {S T : Type 0} (told : T → Option (List ℕ)) (traffic : S → Traffic) (old new : Desk S T) (is_refused : Bool)
-    → HeardFrom (λ (nobody : SocketAddrV4). ⊥) (at_desk told traffic old).live (at_desk told traffic new).live
-    → (at_desk told traffic new).came.received ≡ (at_desk told traffic old).came.received
-    → (at_desk told traffic new).came.refused ≡ refusals is_refused (at_desk told traffic old).came.refused
-    → new.admission ≡ old.admission → GoesOn told traffic old new
-ticks told traffic old new is_refused heard same counts kept =
-    let found = quiet_by old.admission (at_desk told traffic old) (at_desk told traffic new) is_refused heard same counts in
+-- an input was taken, or refused
+pub ticks : {S T : Type 0} (told : T → Option (List ℕ)) (traffic : S → Traffic) (old new : Desk S T) (mid : Standing) (is_refused : Bool)
+    → HeardFrom (λ (nobody : SocketAddrV4). ⊥) (at_desk told traffic old).live mid.live → mid.came ≡ (at_desk told traffic old).came
+    → at_desk told traffic new ≡ with_input is_refused mid → new.admission ≡ old.admission → GoesOn told traffic old new
+ticks told traffic old new mid is_refused heard same input kept =
+    let found = quiet_by old.admission (at_desk told traffic old) mid (at_desk told traffic new) is_refused heard same input in
     record { entries = found.0; came = []; missing = refused_of is_refused; went = found.1; admission = kept }
+
+-- a question is no input
+pub asks : {S T : Type 0} (told : T → Option (List ℕ)) (traffic : S → Traffic) (old new : Desk S T)
+    → HeardFrom (λ (nobody : SocketAddrV4). ⊥) (at_desk told traffic old).live (at_desk told traffic new).live
+    → (at_desk told traffic new).came ≡ (at_desk told traffic old).came → new.admission ≡ old.admission → GoesOn told traffic old new
+asks told traffic old new heard same kept = ticks told traffic old new (at_desk told traffic new) false heard same refl kept
 
 -- ---- a datagram
 
@@ -123,12 +127,11 @@ hears_nobody told traffic old new heard live counts kept = record {
   admission = kept;
 }
 
-taken_by : (admission : Admission) (was is : Standing) (source : SocketAddrV4) (bytes : List ℕ)
-    → HeardSince admission was.came.received (record { source = source; bytes = bytes } ∷ []) is.came.received
-    → Takes was.live (arrived source bytes) (datagram source bytes) is.live
-    → is.came.refused ≡ was.came.refused
-    → (entries : List Entry) × (came : List Received) × GoesOnBy admission was is entries came 0
-taken_by admission was is source bytes heard t counts = (
+taken_by : (admission : Admission) (was mid : Standing) (source : SocketAddrV4) (bytes : List ℕ)
+    → HeardSince admission was.came.received (record { source = source; bytes = bytes } ∷ []) mid.came.received
+    → Takes was.live (arrived source bytes) (datagram source bytes) mid.live → mid.came.refused ≡ was.came.refused
+    → (entries : List Entry) × (came : List Received) × GoesOnBy admission was (with_input false mid) entries came 0
+taken_by admission was mid source bytes heard t counts = (
   showed (arrived source bytes) (give (datagram source bytes)) (sends t.outputs) ∷ t.marks,
   heard.0,
   record {
@@ -142,35 +145,45 @@ taken_by admission was is source bytes heard t counts = (
   one : Received
   one = record { source = source; bytes = bytes }
 
-missed_by : (admission : Admission) (was is : Standing) (one : Received)
-    → HeardSince admission was.came.received (one ∷ []) is.came.received
-    → Ran was.live [] is.live
-    → is.came.refused ≡ counted was.came.refused 1
-    → (entries : List Entry) × (came : List Received) × GoesOnBy admission was is entries came 1
-missed_by admission was is one heard ran counts = (
+missed_by : (admission : Admission) (was mid : Standing) (one : Received) → HeardSince admission was.came.received (one ∷ []) mid.came.received
+    → Ran was.live [] mid.live → mid.came.refused ≡ was.came.refused
+    → (entries : List Entry) × (came : List Received) × GoesOnBy admission was (with_input true mid) entries came 1
+missed_by admission was mid one heard ran counts = (
   [],
   heard.0,
   record {
     ran = ran;
     received = heard.1;
-    refused = counts;
+    refused = ap (λ (n : ℕ). counted n 1) counts;
     events = subst (λ (l : List Received). AreAllBut 1 l []) (sym heard.2) (inr (0, refl, refl));
   },
 )
 
 -- one is: the gateway took it, or was refused memory for it
-pub hears : {S T A B : Type 0} (told : T → Option (List ℕ)) (traffic : S → Traffic) (old new : Desk S T) (done : Result A B) (source : SocketAddrV4) (bytes : List ℕ)
-    → HeardSince old.admission (at_desk told traffic old).came.received (record { source = source; bytes = bytes } ∷ []) (at_desk told traffic new).came.received
-    → OnOk done (Takes (at_desk told traffic old).live (arrived source bytes) (datagram source bytes) (at_desk told traffic new).live)
-    → OnErr done (Ran (at_desk told traffic old).live [] (at_desk told traffic new).live)
-    → (at_desk told traffic new).came.refused ≡ refusals (not (is_ok done)) (at_desk told traffic old).came.refused
-    → new.admission ≡ old.admission → GoesOn told traffic old new
-hears told traffic old new (Ok done) source bytes heard takes misses counts kept =
-    let found = taken_by old.admission (at_desk told traffic old) (at_desk told traffic new) source bytes heard takes counts in
-    record { entries = found.0; came = found.1; missing = 0; went = found.2; admission = kept }
-hears told traffic old new (Err why) source bytes heard takes misses counts kept =
-    let found = missed_by old.admission (at_desk told traffic old) (at_desk told traffic new) (record { source = source; bytes = bytes }) heard misses counts in
-    record { entries = found.0; came = found.1; missing = 1; went = found.2; admission = kept }
+pub hears : {S T A B : Type 0} (told : T → Option (List ℕ)) (traffic : S → Traffic) (old new : Desk S T) (mid : Standing) (done : Result A B) (source : SocketAddrV4)
+    (bytes : List ℕ) → HeardSince old.admission (at_desk told traffic old).came.received (record { source = source; bytes = bytes } ∷ []) mid.came.received
+    → OnOk done (Takes (at_desk told traffic old).live (arrived source bytes) (datagram source bytes) mid.live)
+    → OnErr done (Ran (at_desk told traffic old).live [] mid.live)
+    → mid.came.refused ≡ (at_desk told traffic old).came.refused
+    → at_desk told traffic new ≡ with_input (not (is_ok done)) mid → new.admission ≡ old.admission → GoesOn told traffic old new
+hears told traffic old new mid (Ok done) source bytes heard takes misses counts input kept =
+    let found = taken_by old.admission (at_desk told traffic old) mid source bytes heard takes counts in
+    record {
+      entries = found.0;
+      came = found.1;
+      missing = 0;
+      went = subst (λ (x : Standing). GoesOnBy old.admission (at_desk told traffic old) x found.0 found.1 0) (sym input) found.2;
+      admission = kept;
+    }
+hears told traffic old new mid (Err why) source bytes heard takes misses counts input kept =
+    let found = missed_by old.admission (at_desk told traffic old) mid (record { source = source; bytes = bytes }) heard misses counts in
+    record {
+      entries = found.0;
+      came = found.1;
+      missing = 1;
+      went = subst (λ (x : Standing). GoesOnBy old.admission (at_desk told traffic old) x found.0 found.1 1) (sym input) found.2;
+      admission = kept;
+    }
 
 -- ---- what a trace is told may be broken off where it is written
 

@@ -12,16 +12,20 @@ use Rattle.live_gateway.specs.Admitting.{is_heard, heard_of}
 use Rattle.live_gateway.specs.Desk.{IsHeard, Standing, GoesOnBy}
 
 -- each of these is heard
-are_heard : Admission → List Received → Type 0
+abbrev pub are_heard : Admission → List Received → Type 0
 are_heard admission [] = ⊤
 are_heard admission (one ∷ more) = IsHeard admission one.source × are_heard admission more
 
+heard_more : (admission : Admission) (one : Received) (more : List Received) (heard : Bool) → is_heard admission one.source ≡ heard
+    → are_heard admission (heard_of admission more) → are_heard admission (heard_of admission (one ∷ more))
+heard_more admission one more true is rest =
+    subst (are_heard admission) (sym (ap (λ (b : Bool). cond b (one ∷ heard_of admission more) (heard_of admission more)) is)) (is, rest)
+heard_more admission one more false is rest =
+    subst (are_heard admission) (sym (ap (λ (b : Bool). cond b (one ∷ heard_of admission more) (heard_of admission more)) is)) rest
+
 heard_are_heard : (admission : Admission) (came : List Received) → are_heard admission (heard_of admission came)
 heard_are_heard admission [] = tt
-heard_are_heard admission (one ∷ more) = by (is_heard admission one.source) refl where
-  by : (heard : Bool) → is_heard admission one.source ≡ heard → are_heard admission (heard_of admission (one ∷ more))
-  by true is = subst (are_heard admission) (sym (ap (λ (b : Bool). cond b (one ∷ heard_of admission more) (heard_of admission more)) is)) (is, heard_are_heard admission more)
-  by false is = subst (are_heard admission) (sym (ap (λ (b : Bool). cond b (one ∷ heard_of admission more) (heard_of admission more)) is)) (heard_are_heard admission more)
+heard_are_heard admission (one ∷ more) = heard_more admission one more (is_heard admission one.source) refl (heard_are_heard admission more)
 
 some_are_heard : (admission : Admission) (most : ℕ) (all taken : List Received) → AreAllBut most all taken → are_heard admission all → are_heard admission taken
 some_are_heard admission most [] taken are heard = subst (are_heard admission) (sym are) tt

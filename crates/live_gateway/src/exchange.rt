@@ -4,7 +4,7 @@ ghost use Rattle.gateway_core.specs.Wire.{counted};
 ghost use Rattle.surroundings.specs.Hearing.{Hears};
 ghost use Rattle.surroundings.specs.Sending.{Sent, Grows, found_by};
 ghost use Rattle.live_gateway.specs.Admitting.{is_heard, HeardSince};
-ghost use Rattle.live_gateway.specs.Exchanging.{handed_by, received_by, came_by, next_due, faultless, refusals, with_refused, with_unreceived, with_read, IsSameTurn, LooksOnce, CountsReceived};
+ghost use Rattle.live_gateway.specs.Exchanging.{handed_by, received_by, next_due, faultless, refusals, with_refused, with_unreceived, with_read, IsSameTurn, LooksOnce, CountsReceived};
 
 use crate::admission::Admission;
 use crate::spoilt_way::SpoiltWay;
@@ -185,7 +185,9 @@ impl<S: Surroundings + Drop> Exchange<S> {
     pub fn wait(&mut self, longest: u64)
         ensures handed { handed_by self.new.network (S.traffic self.new.around).sent ≡ handed_by self.old.network (S.traffic self.old.around).sent }
         ensures faults { (self.new.faults ≡ self.old.faults) ⊎ (self.new.faults ≡ with_unreceived self.old.faults) }
-        ensures came { came_by S.traffic self.new ≡ came_by S.traffic self.old }
+        ensures received { received_by self.new.network (S.traffic self.new.around).received
+            ≡ received_by self.old.network (S.traffic self.old.around).received }
+        ensures refused { self.new.faults.refused ≡ self.old.faults.refused }
         ensures journal { self.new.journal ≡ self.old.journal }
         ensures read { self.new.read ≡ self.old.read }
         ensures turn { IsSameTurn self.old self.new }
@@ -447,7 +449,9 @@ impl<S: Surroundings + Drop> Exchange<S> {
     fn send(&mut self, to: SocketAddrV4, bytes: &[u8]) -> Result<Fate, Fault>
         ensures handed { Grows (handed_by self.old.network (S.traffic self.old.around).sent) (record { to = to; bytes = bytes.now } ∷ [])
             (handed_by self.new.network (S.traffic self.new.around).sent) }
-        ensures came { came_by S.traffic self.new ≡ came_by S.traffic self.old }
+        ensures received { received_by self.new.network (S.traffic self.new.around).received
+            ≡ received_by self.old.network (S.traffic self.old.around).received }
+        ensures faults { self.new.faults ≡ self.old.faults }
     {
         if let Some(network) = &mut self.network {
             return match network.offer_out(to, bytes, self.now.clock) {
