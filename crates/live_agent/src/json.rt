@@ -1,5 +1,5 @@
 //! The report as JSON: an object a line, one for each check, and one for how many came to what.
-ghost use Rattle.std.specs.Prelude.{◌≡◌, IfOk, string_bytes, ◌×◌};
+ghost use Rattle.std.specs.Prelude.{◌≡◌, IfOk, string_bytes};
 ghost use Rattle.serde_json.specs.Data.{Data};
 ghost use Rattle.serde_json.specs.View.{view};
 ghost use Rattle.serde_json.specs.Written.{IsInOrder};
