@@ -34,6 +34,7 @@ pub use crate::fault::LineFault;
 pub use crate::player::{Next, Player};
 pub use crate::said::Said;
 pub use crate::script::{Placed, Reader, Script, ScriptFault, Wanted};
+pub use crate::shown::{Shown, shown_in};
 pub use crate::statement::{Phone, Place, Statement};
 pub use crate::telephone::{Connected, Telephone, What};
 pub use crate::wording::{failure_text, fault_line, put_place};

@@ -8,9 +8,9 @@ use std::alloc::Global;
 
 /// What is told of a line.
 #[derive(Drop)]
-pub(crate) struct Shown {
-    pub(crate) line: u16,
-    pub(crate) telephone: Telephone,
+pub struct Shown {
+    pub line: u16,
+    pub telephone: Telephone,
 }
 
 // A signal that is active, as `L/dl:17000`.
@@ -73,7 +73,7 @@ fn parts_of(line: &[u8]) -> Option<(u16, &[u8], &[u8], &[u8])> {
 }
 
 /// What a line tells of a telephone, if it does.
-pub(crate) fn shown_in(alloc: Global, line: &[u8]) -> Result<Option<Shown>, OutOfMemory> {
+pub fn shown_in(alloc: Global, line: &[u8]) -> Result<Option<Shown>, OutOfMemory> {
     let Some((line, hook, signals, connections)) = parts_of(line) else {
         return Ok(None);
     };
