@@ -1,5 +1,5 @@
 //! A check, as its text says it.
-use crate::checks::{CHECKS, UNDO_BOTH, UNDO_CALL, UNDO_REQUEST};
+use crate::checks::{CHECKS, UNDO_BOTH, UNDO_CALL, UNDO_REQUEST, UNDO_TELEPHONE};
 use crate::notices::{NOTICES, TELEPHONES};
 
 /// A check: what is asked of a gateway, and what is right.
@@ -27,6 +27,7 @@ fn undo_of(written: &str) -> &str {
         "call" => UNDO_CALL,
         "request" => UNDO_REQUEST,
         "both" => UNDO_BOTH,
+        "telephone" => UNDO_TELEPHONE,
         _ => written,
     }
 }

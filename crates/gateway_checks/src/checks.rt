@@ -13,7 +13,7 @@
 //! - `has CODE`, `has CODE VALUE`, `unlike CODE VALUE` the last answer has this parameter, with this value, with another one;
 //!   `tells TEXT` it holds this text.
 //! - `keep NAME CODE` the value of this parameter of the last answer has this name from here on.
-//! - `undo call`, `undo request`, `undo both`, or `undo` and further steps: what is played behind it, whatever came.
+//! - `undo call`, `undo request`, `undo both`, `undo telephone`, or `undo` and further steps: what is played behind it, whatever came.
 //!
 //! Names stand in braces: `{1}` to `{9}` are transaction ids of this check, `{line}` the line's endpoint name and `{LINE}`
 //! that in upper case, `{local}` its local name, `{domain}` the domain, `{other}` another line's endpoint name, `{call}` a
@@ -669,6 +669,12 @@ pub(crate) const UNDO_REQUEST: &str = "> RQNT {9} {line} MGCP 1.0 / X: {9}
 pub(crate) const UNDO_BOTH: &str = "> DLCX {8} {line} MGCP 1.0 / C: {call}
 < 250|200 {8}
 > RQNT {9} {line} MGCP 1.0 / X: {9}
+< 200 {9}";
+
+/// What undoes what was done at the telephone: it is put back, and what that brings is notified, or discarded where the line waits for a
+/// request.
+pub(crate) const UNDO_TELEPHONE: &str = "act on
+> RQNT {9} {line} MGCP 1.0 / X: {9} / Q: discard
 < 200 {9}";
 
 /// What finds out whether a gateway serves already: only one that doesn't refuses with 405 (RFC 3435, 2.4).

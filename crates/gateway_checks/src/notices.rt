@@ -251,10 +251,7 @@ notified one {line} {1} L/hd|hd
 act on
 notified two {line} {2} L/hu|hu
 > 200 {two} OK
-undo
-act on
-> RQNT {9} {line} MGCP 1.0 / X: {9}
-< 200 {9}
+undo telephone
 
 = hook-audited | 2.3.10 | An audit tells the hook state as it is
 act off
@@ -265,10 +262,7 @@ act on
 > AUEP {2} {line} MGCP 1.0 / F: ES
 < 200 {2}
 unlike ES L/hd
-undo
-act on
-> RQNT {9} {line} MGCP 1.0 / X: {9}
-< 200 {9}
+undo telephone
 
 = flash | 2.1.7, 2.3.4 | A flash of the hook is notified
 act off
@@ -277,10 +271,7 @@ act off
 act flash
 notified told {line} {1} L/hf|hf
 > 200 {told} OK
-undo
-act on
-> RQNT {9} {line} MGCP 1.0 / X: {9}
-< 200 {9}
+undo telephone
 
 = dialled | 2.1.5, 2.3.3 | What is dialled is notified with the digit that completes a number of the digit map
 act off
@@ -293,7 +284,7 @@ notified told {line} {1} D/2,D/5|2,5
 > 200 {told} OK
 undo
 act on
-> RQNT {9} {line} MGCP 1.0 / X: {9} / D:
+> RQNT {9} {line} MGCP 1.0 / X: {9} / Q: discard / D:
 < 200 {9}
 
 = misdialled | 2.1.5, 2.3.3 | What can't become a number of the digit map is notified at once
@@ -305,7 +296,7 @@ notified told {line} {1} D/7|7
 > 200 {told} OK
 undo
 act on
-> RQNT {9} {line} MGCP 1.0 / X: {9} / D:
+> RQNT {9} {line} MGCP 1.0 / X: {9} / Q: discard / D:
 < 200 {9}
 
 = accumulated-digits | 2.3.3, 2.3.4 | Keys that are accumulated are notified together with what notifies
@@ -318,10 +309,7 @@ quiet 500
 act #
 notified told {line} {1} D/1,D/2,D/#|1,2,#
 > 200 {told} OK
-undo
-act on
-> RQNT {9} {line} MGCP 1.0 / X: {9}
-< 200 {9}
+undo telephone
 
 = embedded-digits | 2.3.3 | A handset that is lifted brings an embedded request's dial tone, digit map and events
 > RQNT {1} {line} MGCP 1.0 / X: {1} / R: L/hd(A,E(R(D/[0-9](D)),S(L/dl),D((2x))))
@@ -336,7 +324,7 @@ notified told {line} {1} L/hd,D/2,D/5|hd,2,5
 > 200 {told} OK
 undo
 act on
-> RQNT {9} {line} MGCP 1.0 / X: {9} / D:
+> RQNT {9} {line} MGCP 1.0 / X: {9} / Q: discard / D:
 < 200 {9}
 
 = quarantined-keys | 4.4.1 | A key that is pressed while a notification waits for its answer is notified by the next request
@@ -352,10 +340,7 @@ quiet 500
 < 200 {2}
 notified two {line} {2} D/2|2
 > 200 {two} OK
-undo
-act on
-> RQNT {9} {line} MGCP 1.0 / X: {9} / Q: discard
-< 200 {9}
+undo telephone
 
 = persistent | 2.1.7 | The hook is notified though nothing is asked for
 > RQNT {1} {line} MGCP 1.0 / X: {1}
@@ -363,10 +348,7 @@ act on
 act off
 notified told {line} {1} L/hd|hd
 > 200 {told} OK
-undo
-act on
-> RQNT {9} {line} MGCP 1.0 / X: {9}
-< 200 {9}
+undo telephone
 
 = restart-announced | 2.3.12, 4.4.6 | A gateway that starts announces that, again until it is answered, and refuses with 405 until then
 restart
