@@ -6,5 +6,5 @@ use Rattle.live_agent.proofs.json.check_text.Goals as goal
 -- the lines and the messages are those that were made of what was said and of what came
 pub returns : goal.returns
 returns c =
-    IfOk-weaker c.to_string.result _ _ (λ text h. (_, (_, subst (IsInOrder (string_bytes text)) c.in_ok-value.ensures h)))
+    IfOk-weaker c.to_string.result _ _ (λ text h. (_, _, subst (IsInOrder (string_bytes text)) c.in_ok-value.ensures h))
     c.to_string.ensures.order
