@@ -2,3 +2,7 @@ pub mod SettingsSeen
 pub mod Flaws
 pub mod Bounds
 pub mod Ports
+pub mod Pieces
+pub mod AgentWording
+pub mod NamesWording
+pub mod Wording

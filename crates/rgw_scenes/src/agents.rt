@@ -1,4 +1,14 @@
 //! What is wrong with the call agent of a configuration (RFC 3435, 2.1.4 and 3.2.1.3).
+ghost use Rattle.std.specs.Prelude.{◌≡◌, ◌++◌, OnOk, option_map};
+ghost use Rattle.std.specs.List.{list_any};
+ghost use Rattle.toml.specs.View.{view};
+ghost use Rattle.mg_bytes.specs.Blanks.{is_blank};
+ghost use Rattle.mg_bytes.specs.Bytes.{at_sign};
+ghost use Rattle.mg_bytes.specs.Lines.{is_line_feed};
+ghost use Rattle.mg_bytes.specs.Words.{split_once};
+ghost use Rattle.rgw_scenes.specs.AgentWording.{form_wanted, longest_wanted, is_literal, host_wanted, port_up_to, port_wanted, sides_of, place_wanted};
+ghost use Rattle.rgw_scenes.specs.AgentWording.{local_wanted, word_by, text_wanted, agent_told};
+
 use crate::pieces::{put, put_value};
 use endpoint_names::{LONGEST_ENTITY, LONGEST_LOCAL};
 use exchange_log::put_number;
@@ -7,57 +17,86 @@ use std::alloc::Global;
 use toml::Value;
 
 // What a call agent is written as.
-const FORM: &str = ", wanted a text [local@]host[:port]";
-
-// Why an address is none.
-const LITERAL: &str = ", wanted an IPv4 address in the brackets";
-
-// Why an address is taken for a name.
-const BRACKETS: &str = ", an address wants brackets";
-
-// Why a name has no address.
-const NO_HOST: &str = ", no such host in [names]";
-
-fn any_blank(text: &[u8]) -> bool {
-    text.iter()
-        .any(|byte| *byte == b' ' || *byte == b'\t' || *byte == b'\n')
+fn form() -> &'static str
+    ensures { result.now ≡ form_wanted }
+{
+    ", wanted a text [local@]host[:port]"
 }
 
-fn is_literal(host: &[u8]) -> bool {
+fn any_blank(text: &[u8]) -> bool
+    ensures { result ≡ list_any is_blank text.now }
+{
+    text.iter().any(|byte| *byte == b' ' || *byte == b'\t')
+}
+
+fn any_line_feed(text: &[u8]) -> bool
+    ensures { result ≡ list_any is_line_feed text.now }
+{
+    text.iter().any(|byte| *byte == b'\n')
+}
+
+fn is_literal(host: &[u8]) -> bool
+    ensures { result ≡ is_literal host.now }
+{
     match in_brackets(host) {
         Some(address) => ipv4_address(address).is_some(),
         None => false,
     }
 }
 
-// What is wrong with a host, whatever names there are.
-fn host_flaw(host: &[u8]) -> Option<&'static str> {
+// What a host lacks, whatever names there are.
+fn host_wanted(host: &[u8]) -> Option<&'static str>
+    ensures { option_map (λ words. words.now) result ≡ host_wanted host.now }
+{
     if host.is_empty() {
-        return Some(FORM);
+        return Some(form());
     }
     if host.starts_with(b"[") && !is_literal(host) {
-        return Some(LITERAL);
+        return Some(", wanted an IPv4 address in the brackets");
     }
     match ipv4_address(host) {
-        Some(_) => Some(BRACKETS),
+        Some(_) => Some(", an address wants brackets"),
         None => None,
     }
 }
 
+// Puts that a port is wanted, from 1 on.
+fn put_port_up_to(alloc: Global, out: &mut Vec<u8>, greatest: u64) -> Result<(), OutOfMemory>
+    ensures { OnOk result (out.new.items ≡ out.old.items ++ port_up_to greatest) }
+{
+    put(out, ", wanted a port from 1 to ")?;
+    put_number(alloc, out, greatest)?;
+    Ok(())
+}
+
 // Puts what is wrong with a port, or with a host that has a right one.
-fn put_port_flaw(alloc: Global, out: &mut Vec<u8>, port: &[u8]) -> Result<(), OutOfMemory> {
-    if port_number(port).is_some() {
-        return put(out, &[NO_HOST]);
+fn put_port_flaw(alloc: Global, out: &mut Vec<u8>, port: &[u8]) -> Result<(), OutOfMemory>
+    ensures { OnOk result (out.new.items ≡ out.old.items ++ port_wanted port.now) }
+{
+    match port_number(port) {
+        Some(_) => put(out, ", no such host in [names]"),
+        None => put_port_up_to(alloc, out, u64::from(u16::MAX)),
     }
-    put(out, &[", wanted a port from 1 to "])?;
-    put_number(alloc, out, u64::from(u16::MAX))
+}
+
+// A host, and its port; one that isn't written is right.
+fn sides_of(place: &[u8]) -> (&[u8], &[u8])
+    ensures host { result.0.now ≡ (sides_of place.now).0 }
+    ensures port { result.1.now ≡ (sides_of place.now).1 }
+{
+    match split_once(place, b':') {
+        Some((host, port)) => (host, port),
+        None => (place, b"1".as_slice()),
+    }
 }
 
 // Puts what is wrong with what stands behind the local name.
-fn put_place_flaw(alloc: Global, out: &mut Vec<u8>, place: &[u8]) -> Result<(), OutOfMemory> {
-    let (host, port) = split_once(place, b':').unwrap_or((place, b"1".as_slice()));
-    match host_flaw(host) {
-        Some(flaw) => put(out, &[flaw]),
+fn put_place_flaw(alloc: Global, out: &mut Vec<u8>, place: &[u8]) -> Result<(), OutOfMemory>
+    ensures { OnOk result (out.new.items ≡ out.old.items ++ place_wanted place.now) }
+{
+    let (host, port) = sides_of(place);
+    match host_wanted(host) {
+        Some(wanted) => put(out, wanted),
         None => put_port_flaw(alloc, out, port),
     }
 }
@@ -68,36 +107,62 @@ fn put_longest(
     out: &mut Vec<u8>,
     longest: usize,
     words: &str,
-) -> Result<(), OutOfMemory> {
-    put(out, &[", wanted at most "])?;
+) -> Result<(), OutOfMemory>
+    ensures { OnOk result (out.new.items ≡ out.old.items ++ longest_wanted longest words.now) }
+{
+    put(out, ", wanted at most ")?;
     put_number(alloc, out, longest as u64)?;
-    put(out, &[words])
+    put(out, words)
+}
+
+// Puts what is wrong with a local name, or with what stands behind one that is right.
+fn put_local_flaw(
+    alloc: Global,
+    out: &mut Vec<u8>,
+    local: &[u8],
+    place: &[u8],
+) -> Result<(), OutOfMemory>
+    ensures { OnOk result (out.new.items ≡ out.old.items ++ local_wanted local.now place.now) }
+{
+    if local.is_empty() {
+        return put(out, form());
+    }
+    if local.len() > LONGEST_LOCAL {
+        return put_longest(alloc, out, LONGEST_LOCAL, " bytes before the @");
+    }
+    put_place_flaw(alloc, out, place)
 }
 
 // Puts what is wrong with a text of one word.
-fn put_word_flaw(alloc: Global, out: &mut Vec<u8>, agent: &[u8]) -> Result<(), OutOfMemory> {
+fn put_word_flaw(alloc: Global, out: &mut Vec<u8>, agent: &[u8]) -> Result<(), OutOfMemory>
+    ensures { OnOk result (out.new.items ≡ out.old.items ++ word_by agent.now (split_once at_sign agent.now)) }
+{
     match split_once(agent, b'@') {
-        Some((local, _)) if local.is_empty() => put(out, &[FORM]),
-        Some((local, _)) if local.len() > LONGEST_LOCAL => {
-            put_longest(alloc, out, LONGEST_LOCAL, " bytes before the @")
-        }
-        Some((_, place)) => put_place_flaw(alloc, out, place),
+        Some((local, place)) => put_local_flaw(alloc, out, local, place),
         None => put_place_flaw(alloc, out, agent),
     }
 }
 
-/// Puts what stands in the place of a call agent, which is none that the names know, and what may.
-pub fn put_agent_flaw(alloc: Global, out: &mut Vec<u8>, value: &Value) -> Result<(), OutOfMemory> {
-    put_value(alloc, out, value, false)?;
-    let Some(agent) = value.as_str() else {
-        return put(out, &[FORM]);
-    };
-    let agent = agent.as_bytes();
+// Puts what is wrong with a text.
+fn put_text_flaw(alloc: Global, out: &mut Vec<u8>, agent: &[u8]) -> Result<(), OutOfMemory>
+    ensures { OnOk result (out.new.items ≡ out.old.items ++ text_wanted agent.now) }
+{
     if agent.len() > LONGEST_ENTITY {
         return put_longest(alloc, out, LONGEST_ENTITY, " bytes");
     }
-    if any_blank(agent) {
-        return put(out, &[", wanted no blank in it"]);
+    if any_blank(agent) || any_line_feed(agent) {
+        return put(out, ", wanted no blank in it");
     }
     put_word_flaw(alloc, out, agent)
+}
+
+/// Puts what stands in the place of a call agent, which is none that the names know, and what may.
+pub fn put_agent_flaw(alloc: Global, out: &mut Vec<u8>, value: &Value) -> Result<(), OutOfMemory>
+    ensures { OnOk result (out.new.items ≡ out.old.items ++ agent_told (view value.now)) }
+{
+    put_value(alloc, out, value, false)?;
+    match value.as_str() {
+        Some(agent) => put_text_flaw(alloc, out, agent.as_bytes()),
+        None => put(out, form()),
+    }
 }

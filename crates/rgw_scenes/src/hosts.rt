@@ -1,6 +1,11 @@
 //! What is wrong with the hosts of a configuration.
+ghost use Rattle.std.specs.Prelude.{◌≡◌, ◌++◌, [], OnOk, option_map};
+ghost use Rattle.toml.specs.View.{table_view, view};
+ghost use Rattle.rgw_scripts.specs.Configuration.{count_of};
+ghost use Rattle.rgw_scenes.specs.NamesWording.{unread_host, refused_host, unread_told, refused_told, refusal_by, hosts_told, names_told};
+
 use crate::pieces::{put, put_text, put_value};
-use crate::settings::route_in;
+use crate::settings::{key_count, route_in};
 use crate::wording::put_domain_wanted;
 use endpoint_names::{MOST_ADDRESSES, MOST_HOSTS, TableFault};
 use exchange_log::put_number;
@@ -9,23 +14,30 @@ use std::alloc::Global;
 use toml::{Table, Value};
 
 // The first host whose value gives no addresses.
-fn first_unread(hosts: &Table) -> Option<(&str, &Value)> {
+#[tactic(auto, unfolding(crate::specs::NamesWording::unread_host))]
+fn first_unread(hosts: &Table) -> Option<(&str, &Value)>
+    ensures { option_map (λ host. (host.0.now, view host.1.now)) result ≡ unread_host (table_view hosts.now) }
+{
     for (name, value) in hosts.iter() {
-        if route_in(value).is_none() {
+        let Some(_route) = route_in(value) else {
             return Some((name.as_str(), value));
-        }
+        };
     }
     None
 }
 
 // The first host that a gateway can't take, behind those before it, and why.
-fn first_refused(hosts: &Table) -> Option<(&str, TableFault)> {
+#[tactic(auto, unfolding(crate::specs::NamesWording::refused_host))]
+fn first_refused(hosts: &Table) -> Option<(&str, TableFault)>
+    ensures { option_map (λ host. (host.0.now, host.1)) result ≡ refused_host [] (table_view hosts.now) }
+{
     let mut taken = endpoint_names::Table::new();
     for (name, value) in hosts.iter() {
+        let name = name.as_str();
         let route = route_in(value)?;
-        match taken.add(name.as_str().as_bytes(), route) {
+        match taken.add(name.as_bytes(), route) {
             Ok(()) => {}
-            Err(fault) => return Some((name.as_str(), fault)),
+            Err(fault) => return Some((name, fault)),
         }
     }
     None
@@ -37,13 +49,15 @@ fn put_unread(
     out: &mut Vec<u8>,
     name: &str,
     value: &Value,
-) -> Result<(), OutOfMemory> {
+) -> Result<(), OutOfMemory>
+    ensures { OnOk result (out.new.items ≡ out.old.items ++ unread_told name.now (view value.now)) }
+{
     put_text(out, name, false)?;
-    put(out, &[" = "])?;
+    put(out, " = ")?;
     put_value(alloc, out, value, true)?;
     put(
         out,
-        &[", wanted an IPv4 address, as \"10.0.0.7\", or a list of 1 to "],
+        ", wanted an IPv4 address, as \"10.0.0.7\", or a list of 1 to ",
     )?;
     put_number(alloc, out, MOST_ADDRESSES as u64)
 }
@@ -55,41 +69,55 @@ fn put_refused(
     count: usize,
     name: &str,
     fault: TableFault,
-) -> Result<(), OutOfMemory> {
+) -> Result<(), OutOfMemory>
+    ensures { OnOk result (out.new.items ≡ out.old.items ++ refused_told count name.now fault) }
+{
     match fault {
         TableFault::NotADomain => {
             put_text(out, name, false)?;
-            put(out, &[", wanted "])?;
+            put(out, ", wanted ")?;
             put_domain_wanted(alloc, out)
         }
         TableFault::Twice => {
             put_text(out, name, false)?;
-            put(out, &[" stands twice"])
+            put(out, " stands twice")
         }
         TableFault::Full => {
             put_number(alloc, out, count as u64)?;
-            put(out, &[" hosts, wanted at most "])?;
+            put(out, " hosts, wanted at most ")?;
             put_number(alloc, out, MOST_HOSTS as u64)
         }
     }
 }
 
-// Puts what is wrong with the hosts in a table.
-fn put_hosts_flaw(alloc: Global, out: &mut Vec<u8>, hosts: &Table) -> Result<(), OutOfMemory> {
-    if let Some((name, value)) = first_unread(hosts) {
-        return put_unread(alloc, out, name, value);
-    }
+// Puts why a gateway can't take hosts that can be read.
+fn put_refusal(alloc: Global, out: &mut Vec<u8>, hosts: &Table) -> Result<(), OutOfMemory>
+    ensures { OnOk result (out.new.items ≡ out.old.items
+        ++ refusal_by (refused_host [] (table_view hosts.now)) (count_of (table_view hosts.now))) }
+{
     match first_refused(hosts) {
-        Some((name, fault)) => put_refused(alloc, out, hosts.len(), name, fault),
+        Some((name, fault)) => put_refused(alloc, out, key_count(hosts), name, fault),
         None => Ok(()),
     }
 }
 
+// Puts what is wrong with the hosts in a table.
+fn put_hosts_flaw(alloc: Global, out: &mut Vec<u8>, hosts: &Table) -> Result<(), OutOfMemory>
+    ensures { OnOk result (out.new.items ≡ out.old.items ++ hosts_told (table_view hosts.now)) }
+{
+    match first_unread(hosts) {
+        Some((name, value)) => put_unread(alloc, out, name, value),
+        None => put_refusal(alloc, out, hosts),
+    }
+}
+
 /// Puts what stands in the place of hosts, and what may.
-pub fn put_names_flaw(alloc: Global, out: &mut Vec<u8>, value: &Value) -> Result<(), OutOfMemory> {
+pub fn put_names_flaw(alloc: Global, out: &mut Vec<u8>, value: &Value) -> Result<(), OutOfMemory>
+    ensures { OnOk result (out.new.items ≡ out.old.items ++ names_told (view value.now)) }
+{
     if let Some(hosts) = value.as_table() {
         return put_hosts_flaw(alloc, out, hosts);
     }
     put_value(alloc, out, value, true)?;
-    put(out, &[", wanted a table [names]"])
+    put(out, ", wanted a table [names]")
 }

@@ -13,7 +13,8 @@ use std::alloc::{AllocError, Global};
 use std::net::Ipv4Addr;
 use toml::{Table, Value};
 
-fn key_count(table: &Table) -> usize
+/// How many keys a table has.
+pub fn key_count(table: &Table) -> usize
     ensures { result ≡ count_of (table_view table.now) }
 {
     table.len()

@@ -31,7 +31,7 @@ fn put_address<T: Display + Copy>(out: &mut Vec<u8>, address: T) -> Result<(), O
 fn put_addresses(out: &mut Vec<u8>, addresses: &[SocketAddrV4]) -> Result<(), OutOfMemory> {
     let mut before = ", at ";
     for address in addresses {
-        put(out, &[before])?;
+        put(out, before)?;
         put_address(out, *address)?;
         before = ", ";
     }
@@ -54,9 +54,10 @@ fn put_wait(
     key: ConfigKey,
     wait: u32,
 ) -> Result<(), OutOfMemory> {
-    put(out, &[key.name(), ": "])?;
+    put(out, key.name())?;
+    put(out, ": ")?;
     put_number(alloc, out, u64::from(wait))?;
-    put(out, &[" ms\n"])
+    put(out, " ms\n")
 }
 
 // Puts the name and the ports of a line, from 1 on.
@@ -64,28 +65,28 @@ fn put_line(alloc: Global, out: &mut Vec<u8>, setup: &Setup, line: u16) -> Resul
     requires { 1 ≤ line }
 {
     let name = write_name(alloc, Pattern::One(line), setup.names.domain.as_bytes())?;
-    put(out, &["line "])?;
+    put(out, "line ")?;
     put_decimal(alloc, out, u64::from(line))?;
-    put(out, &[": "])?;
+    put(out, ": ")?;
     out.extend_from_slice(name.as_bytes())?;
     let mut before = ", ports ";
     let ports = ports_of(setup, line);
     for port in ports.iter() {
-        put(out, &[before])?;
+        put(out, before)?;
         put_decimal(alloc, out, *port)?;
         before = ", ";
     }
-    put(out, &["\n"])
+    put(out, "\n")
 }
 
 // Puts what holds of all lines.
 fn put_whole(alloc: Global, out: &mut Vec<u8>, setup: &Setup) -> Result<(), OutOfMemory> {
-    put(out, &["domain: "])?;
+    put(out, "domain: ")?;
     out.extend_from_slice(setup.names.domain.as_bytes())?;
-    put(out, &["\nagent: "])?;
+    put(out, "\nagent: ")?;
     put_shown(out, setup.agent.text.as_bytes())?;
     put_route(out, &setup.agent.route)?;
-    put(out, &["\n"])?;
+    put(out, "\n")?;
     put_wait(alloc, out, ConfigKey::RestartWait, setup.restart_wait)?;
     put_wait(
         alloc,
@@ -93,9 +94,10 @@ fn put_whole(alloc: Global, out: &mut Vec<u8>, setup: &Setup) -> Result<(), OutO
         ConfigKey::DisconnectedWait,
         setup.disconnected_wait,
     )?;
-    put(out, &[ConfigKey::MediaAddress.name(), ": "])?;
+    put(out, ConfigKey::MediaAddress.name())?;
+    put(out, ": ")?;
     put_address(out, setup.media_address)?;
-    put(out, &["\n"])
+    put(out, "\n")
 }
 
 /// Says what a gateway of this setup will be, in lines: its domain, its call agent with the addresses, its waits, the address at

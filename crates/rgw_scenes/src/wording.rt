@@ -1,9 +1,21 @@
 //! The words of a flaw: the key, what stands there, and what may.
+ghost use Rattle.std.specs.Prelude.{◌≡◌, ◌++◌, IfOk, OnOk, IsUtf8};
+ghost use Rattle.toml.specs.Data.{get_member};
+ghost use Rattle.toml.specs.Parse.{parse_document};
+ghost use Rattle.toml.specs.View.{table_view, view};
+ghost use Rattle.plain_machine.specs.ConfigFault.{config_key_name};
+ghost use Rattle.rgw_scenes.specs.Bounds.{bounds_of};
+ghost use Rattle.rgw_scenes.specs.Flaws.{other_key};
+ghost use Rattle.rgw_scenes.specs.Pieces.{domain_wanted, up_to};
+ghost use Rattle.rgw_scenes.specs.Wording.{before_bounds, behind_bounds, bounds_wanted, text_wanted, wanted_by, plain_told, value_told};
+ghost use Rattle.rgw_scenes.specs.Wording.{key_told, name_found, unknown_told, document_told, line_told, limit_told, TellsRead, Tells};
+
 use crate::agents::put_agent_flaw;
 use crate::bounds::{Bounds, bounds_of};
 use crate::flaw::{Flaw, other_key};
 use crate::hosts::put_names_flaw;
 use crate::pieces::{put, put_text, put_value};
+use crate::settings::value_at;
 use endpoint_names::LONGEST_DOMAIN;
 use exchange_log::put_number;
 use mg_bytes::OutOfMemory;
@@ -12,25 +24,60 @@ use rgw_scripts::LIMIT;
 use std::alloc::{AllocError, Global};
 use toml::{Table, Value};
 
-// What may stand at the key of an address.
-const ADDRESS: &str = "an IPv4 address, as \"10.0.0.5\"";
-
-// What is wrong with an address that stands for all of a machine.
-const ANY_ADDRESS: &str = ": 0.0.0.0, wanted an address of this machine that others reach";
-
-/// Puts what a domain may be.
-pub fn put_domain_wanted(alloc: Global, out: &mut Vec<u8>) -> Result<(), OutOfMemory> {
-    put(out, &["1 to "])?;
-    put_number(alloc, out, LONGEST_DOMAIN as u64)?;
-    put(out, &[" letters, digits, \"-\" and \".\""])
+// Puts that so many are wanted, from one on.
+fn put_up_to(
+    alloc: Global,
+    out: &mut Vec<u8>,
+    longest: usize,
+    words: &str,
+) -> Result<(), OutOfMemory>
+    ensures { OnOk result (out.new.items ≡ out.old.items ++ up_to longest words.now) }
+{
+    put(out, "1 to ")?;
+    put_number(alloc, out, longest as u64)?;
+    put(out, words)
 }
 
-// What stands before the bounds of a key's number, and behind them.
-fn words_around(key: ConfigKey) -> (&'static str, &'static str) {
+/// Puts what a domain may be.
+pub fn put_domain_wanted(alloc: Global, out: &mut Vec<u8>) -> Result<(), OutOfMemory>
+    ensures { OnOk result (out.new.items ≡ out.old.items ++ domain_wanted) }
+{
+    put_up_to(
+        alloc,
+        out,
+        LONGEST_DOMAIN,
+        " letters, digits, \"-\" and \".\"",
+    )
+}
+
+// What stands before the bounds of a key's number.
+fn before_bounds(key: ConfigKey) -> &'static str
+    ensures { result.now ≡ before_bounds key }
+{
     match key {
-        ConfigKey::MediaBase => ("an even number from ", ""),
-        ConfigKey::RestartWait | ConfigKey::DisconnectedWait => ("", " ms"),
-        _ => ("", ""),
+        ConfigKey::MediaBase => "an even number from ",
+        ConfigKey::Domain
+        | ConfigKey::Lines
+        | ConfigKey::Names
+        | ConfigKey::Agent
+        | ConfigKey::RestartWait
+        | ConfigKey::DisconnectedWait
+        | ConfigKey::MediaAddress => "",
+    }
+}
+
+// What stands behind them.
+fn behind_bounds(key: ConfigKey) -> &'static str
+    ensures { result.now ≡ behind_bounds key }
+{
+    match key {
+        ConfigKey::RestartWait | ConfigKey::DisconnectedWait => " ms",
+        ConfigKey::Domain
+        | ConfigKey::Lines
+        | ConfigKey::Names
+        | ConfigKey::Agent
+        | ConfigKey::MediaAddress
+        | ConfigKey::MediaBase => "",
     }
 }
 
@@ -40,24 +87,42 @@ fn put_bounds(
     out: &mut Vec<u8>,
     key: ConfigKey,
     bounds: Bounds,
-) -> Result<(), OutOfMemory> {
-    let (before, behind) = words_around(key);
-    put(out, &[before])?;
+) -> Result<(), OutOfMemory>
+    ensures { OnOk result (out.new.items ≡ out.old.items ++ bounds_wanted key bounds) }
+{
+    put(out, before_bounds(key))?;
     put_number(alloc, out, u64::from(bounds.least))?;
-    put(out, &[" to "])?;
+    put(out, " to ")?;
     put_number(alloc, out, u64::from(bounds.most))?;
-    put(out, &[behind])
+    put(out, behind_bounds(key))
+}
+
+// Puts what may stand at a key that is about no host and no number.
+fn put_text_wanted(alloc: Global, out: &mut Vec<u8>, key: ConfigKey) -> Result<(), OutOfMemory>
+    ensures { OnOk result (out.new.items ≡ out.old.items ++ text_wanted key) }
+{
+    match key {
+        ConfigKey::Domain => {
+            put(out, "a text of ")?;
+            put_domain_wanted(alloc, out)
+        }
+        ConfigKey::Lines
+        | ConfigKey::Names
+        | ConfigKey::Agent
+        | ConfigKey::RestartWait
+        | ConfigKey::DisconnectedWait
+        | ConfigKey::MediaAddress
+        | ConfigKey::MediaBase => put(out, "an IPv4 address, as \"10.0.0.5\""),
+    }
 }
 
 // Puts what may stand at a key that is about no host.
-fn put_wanted(alloc: Global, out: &mut Vec<u8>, key: ConfigKey) -> Result<(), OutOfMemory> {
+fn put_wanted(alloc: Global, out: &mut Vec<u8>, key: ConfigKey) -> Result<(), OutOfMemory>
+    ensures { OnOk result (out.new.items ≡ out.old.items ++ wanted_by (bounds_of key) key) }
+{
     match bounds_of(key) {
         Some(bounds) => put_bounds(alloc, out, key, bounds),
-        None if key == ConfigKey::Domain => {
-            put(out, &["a text of "])?;
-            put_domain_wanted(alloc, out)
-        }
-        None => put(out, &[ADDRESS]),
+        None => put_text_wanted(alloc, out, key),
     }
 }
 
@@ -67,46 +132,107 @@ fn put_plain_flaw(
     out: &mut Vec<u8>,
     key: ConfigKey,
     value: &Value,
-) -> Result<(), OutOfMemory> {
+) -> Result<(), OutOfMemory>
+    ensures { OnOk result (out.new.items ≡ out.old.items ++ plain_told key (view value.now)) }
+{
     put_value(alloc, out, value, bounds_of(key).is_some())?;
-    put(out, &[", wanted "])?;
+    put(out, ", wanted ")?;
     put_wanted(alloc, out, key)
 }
 
-// Puts what is wrong at a key.
-fn put_key_flaw(
+// Puts what stands at a key, and what may.
+fn put_value_flaw(
     alloc: Global,
     out: &mut Vec<u8>,
     key: ConfigKey,
     value: &Value,
-) -> Result<(), OutOfMemory> {
-    put(out, &[key.name(), ": "])?;
+) -> Result<(), OutOfMemory>
+    ensures { OnOk result (out.new.items ≡ out.old.items ++ value_told key (view value.now)) }
+{
     match key {
         ConfigKey::Names => put_names_flaw(alloc, out, value),
         ConfigKey::Agent => put_agent_flaw(alloc, out, value),
-        _ => put_plain_flaw(alloc, out, key, value),
+        ConfigKey::Domain
+        | ConfigKey::Lines
+        | ConfigKey::RestartWait
+        | ConfigKey::DisconnectedWait
+        | ConfigKey::MediaAddress
+        | ConfigKey::MediaBase => put_plain_flaw(alloc, out, key, value),
     }
 }
 
+// Puts what is wrong at a key of a document.
+fn put_key_flaw(
+    alloc: Global,
+    out: &mut Vec<u8>,
+    table: &Table,
+    key: ConfigKey,
+) -> Result<(), OutOfMemory>
+    ensures { OnOk result (out.new.items ≡ out.old.items
+        ++ key_told key (get_member (config_key_name key) (table_view table.now))) }
+{
+    let Some(value) = value_at(table, key.name()) else {
+        return Ok(());
+    };
+    put(out, key.name())?;
+    put(out, ": ")?;
+    put_value_flaw(alloc, out, key, value)
+}
+
+// The first key of a document that no configuration has, if it has one.
+fn name_found(table: &Table) -> &str
+    ensures { result.now ≡ name_found (other_key (table_view table.now)) }
+{
+    match other_key(table) {
+        Some(name) => name,
+        None => "",
+    }
+}
+
+// Puts a key that no configuration has.
+fn put_unknown(out: &mut Vec<u8>, name: &str, is_quoted: bool) -> Result<(), OutOfMemory>
+    ensures { OnOk result (out.new.items ≡ out.old.items ++ unknown_told is_quoted name.now) }
+{
+    put(out, "unknown key ")?;
+    put_text(out, name, is_quoted)?;
+    Ok(())
+}
+
 // Puts a flaw of a document.
-fn put_table_flaw(
+fn put_document_flaw(
     alloc: Global,
     out: &mut Vec<u8>,
     table: &Table,
     flaw: Flaw,
-) -> Result<(), OutOfMemory> {
+) -> Result<(), OutOfMemory>
+    ensures { OnOk result (out.new.items ≡ out.old.items ++ document_told (table_view table.now) flaw) }
+{
     match flaw {
-        Flaw::Missing(key) => put(out, &["missing: ", key.name()]),
-        Flaw::BadValue(key) => match table.get(key.name()) {
-            Some(value) => put_key_flaw(alloc, out, key, value),
-            None => Ok(()),
-        },
-        Flaw::AnyAddress => put(out, &[ConfigKey::MediaAddress.name(), ANY_ADDRESS]),
-        _ => {
-            put(out, &["unknown key "])?;
-            put_text(out, other_key(table).unwrap_or(""), true)
+        Flaw::Missing(key) => {
+            put(out, "missing: ")?;
+            put(out, key.name())
+        }
+        Flaw::BadValue(key) => put_key_flaw(alloc, out, table, key),
+        Flaw::AnyAddress => {
+            put(out, ConfigKey::MediaAddress.name())?;
+            put(
+                out,
+                ": 0.0.0.0, wanted an address of this machine that others reach",
+            )
+        }
+        Flaw::UnknownKey | Flaw::NoToml | Flaw::NoUtf8 | Flaw::TooLong => {
+            put_unknown(out, name_found(table), true)
         }
     }
+}
+
+// Says a flaw of a document.
+fn document_told(alloc: Global, table: &Table, flaw: Flaw) -> Result<Vec<u8>, OutOfMemory>
+    ensures { IfOk result (λ line. line.items ≡ document_told (table_view table.now) flaw) }
+{
+    let mut line = Vec::new(alloc);
+    put_document_flaw(alloc, &mut line, table, flaw)?;
+    Ok(line)
 }
 
 // The number of the line that a place in a text is in, from 1.
@@ -120,53 +246,85 @@ fn line_at(text: &str, place: usize) -> u64 {
     line
 }
 
-// Puts why a text isn't TOML, behind the line where that shows.
-fn put_toml_fault(
-    alloc: Global,
-    out: &mut Vec<u8>,
-    text: &str,
-    fault: &toml::de::Error,
-) -> Result<(), OutOfMemory> {
-    let start = match fault.span() {
+// Where a text isn't TOML any more.
+fn start_of(fault: &toml::de::Error) -> usize {
+    match fault.span() {
         Some(span) => span.start,
         None => 0,
-    };
-    put(out, &["line "])?;
-    put_number(alloc, out, line_at(text, start))?;
-    put(out, &[": ", fault.message()])
+    }
 }
 
-// Puts a flaw of a text in UTF-8.
-fn put_text_flaw(
-    alloc: Global,
-    out: &mut Vec<u8>,
-    text: &str,
-    flaw: Flaw,
-) -> Result<(), OutOfMemory> {
+// Says why a text isn't TOML, behind the line where that shows.
+fn line_told(alloc: Global, number: u64, why: &str) -> Result<Vec<u8>, OutOfMemory>
+    ensures { IfOk result (λ line. line.items ≡ line_told number why.now) }
+{
+    let mut line = Vec::new(alloc);
+    put(&mut line, "line ")?;
+    put_number(alloc, &mut line, number)?;
+    put(&mut line, ": ")?;
+    put(&mut line, why)?;
+    Ok(line)
+}
+
+// Says a flaw of a text in UTF-8.
+#[tactic(auto, using(crate::proofs::WordingLemmas::tells_document, crate::proofs::WordingLemmas::tells_line))]
+fn words_told(alloc: Global, text: &str, flaw: Flaw) -> Result<Vec<u8>, OutOfMemory>
+    ensures { IfOk result (λ line. TellsRead (parse_document text.now) flaw line.items) }
+{
     match toml::table_from_str(alloc, text) {
-        Ok(table) => put_table_flaw(alloc, out, &table, flaw),
+        Ok(table) => document_told(alloc, &table, flaw),
         Err(e) if e.is_memory() => Err(AllocError),
-        Err(e) => put_toml_fault(alloc, out, text, &e),
+        Err(e) => line_told(alloc, line_at(text, start_of(&e)), e.message()),
     }
+}
+
+// The words of a text, where it is UTF-8.
+fn words_of(text: &[u8]) -> &str
+    ensures { IsUtf8 text.now → result.now ≡ text.now }
+{
+    match std::str::from_utf8(text) {
+        Ok(words) => words,
+        Err(_) => "",
+    }
+}
+
+// Says a flaw that only a text in UTF-8 has.
+#[tactic(auto, using(crate::proofs::WordingLemmas::tells_text))]
+fn read_told(alloc: Global, text: &[u8], flaw: Flaw) -> Result<Vec<u8>, OutOfMemory>
+    ensures { IfOk result (λ line. IsUtf8 text.now → TellsRead (parse_document text.now) flaw line.items) }
+{
+    words_told(alloc, words_of(text), flaw)
+}
+
+// Says that a text is too long.
+fn limit_told(alloc: Global) -> Result<Vec<u8>, OutOfMemory>
+    ensures { IfOk result (λ line. line.items ≡ limit_told) }
+{
+    let mut line = Vec::new(alloc);
+    put(&mut line, "over ")?;
+    put_number(alloc, &mut line, LIMIT as u64)?;
+    put(&mut line, " bytes")?;
+    Ok(line)
+}
+
+// Says words.
+fn said(alloc: Global, words: &str) -> Result<Vec<u8>, OutOfMemory>
+    ensures { IfOk result (λ line. line.items ≡ words.now) }
+{
+    let mut line = Vec::new(alloc);
+    put(&mut line, words)?;
+    Ok(line)
 }
 
 /// Says what is wrong with the configuration in a text, which has this flaw, in a line without its end: printable ASCII. Its only
 /// error is want of memory.
-pub fn told(alloc: Global, text: &[u8], flaw: Flaw) -> Result<Vec<u8>, OutOfMemory> {
-    let mut out = Vec::new(alloc);
+pub fn told(alloc: Global, text: &[u8], flaw: Flaw) -> Result<Vec<u8>, OutOfMemory>
+    ensures { IfOk result (λ line. Tells text.now flaw line.items) }
+{
     match flaw {
-        Flaw::TooLong => {
-            put(&mut out, &["over "])?;
-            put_number(alloc, &mut out, LIMIT as u64)?;
-            put(&mut out, &[" bytes"])?;
-        }
-        Flaw::NoUtf8 => put(&mut out, &["no UTF-8"])?,
-        _ => put_text_flaw(
-            alloc,
-            &mut out,
-            std::str::from_utf8(text).unwrap_or(""),
-            flaw,
-        )?,
+        Flaw::TooLong => limit_told(alloc),
+        Flaw::NoUtf8 => said(alloc, "no UTF-8"),
+        Flaw::NoToml | Flaw::UnknownKey | Flaw::Missing(_) | Flaw::BadValue(_) | Flaw::AnyAddress =>
+            read_told(alloc, text, flaw),
     }
-    Ok(out)
 }

@@ -1,0 +1,6 @@
+use Rattle.std.specs.Prelude.{codes}
+use Rattle.rgw_scenes.proofs.PieceLemmas.{behind}
+use Rattle.rgw_scenes.proofs.wording.put_unknown.Goals as goal
+
+pub returns : goal.returns
+returns c = behind _ (codes "unknown key ") _ _ _ c.in_ok-put.ensures c.in_ok-put_text.ensures
