@@ -1,6 +1,7 @@
 //! What the lines ask for that come to the telephones' socket.
-ghost use Rattle.std.specs.Prelude.{◌≡◌, ◌⊎◌, Some};
+ghost use Rattle.std.specs.Prelude.{◌≡◌, ◌≤◌, ◌⊎◌, Some, IfSome};
 ghost use Rattle.mg_bytes.specs.Words.{words as words_of};
+ghost use Rattle.line_changes.specs.Watching.{longest_watch};
 ghost use Rattle.rgw_scripts.specs.declared.step.ScriptLine.TheVariants.{Whole};
 ghost use Rattle.rgw_scripts.specs.Script.{line_in};
 ghost use Rattle.live_gateway.specs.declared.telephones.TelephoneRequest.TheVariants.{OutOfMemory};
@@ -80,7 +81,8 @@ fn telephone_request(alloc: Global, line: &[u8]) -> TelephoneRequest
 
 // For how long it is watched, in s.
 fn seconds_of(text: &[u8]) -> Option<u64>
-    ensures { result ≡ seconds_of text.now }
+    ensures seconds { result ≡ seconds_of text.now }
+    ensures bounded { IfSome result (λ seconds. seconds ≤ longest_watch) }
 {
     let seconds = decimal(text)?;
     if seconds > LONGEST_WATCH {
@@ -92,7 +94,8 @@ fn seconds_of(text: &[u8]) -> Option<u64>
 // For how long a line asks to be told what changes, in s.
 #[tactic(auto, unfolding(crate::specs::Asking::watch_in))]
 fn watch_in(line: &[u8]) -> Option<u64>
-    ensures { result ≡ watch_in (words_of line.now) }
+    ensures seconds { result ≡ watch_in (words_of line.now) }
+    ensures bounded { IfSome result (λ seconds. seconds ≤ longest_watch) }
 {
     let mut rest = words(line);
     let Some(word) = rest.next() else {
