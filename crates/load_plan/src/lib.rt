@@ -10,4 +10,4 @@ mod idle;
 mod plan;
 
 pub use crate::idle::Idle;
-pub use crate::plan::{LATE, Plan, Rate};
+pub use crate::plan::{LATE, Plan, Rate, is_late};
