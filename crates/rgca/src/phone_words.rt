@@ -4,8 +4,8 @@ use mg_bytes::Text;
 use std::alloc::{AllocError, Global};
 use std::net::{Ipv4Addr, SocketAddrV4};
 
-// Where telephones are, where no word says it.
-const USUAL: SocketAddrV4 = SocketAddrV4::new(Ipv4Addr::LOCALHOST, 2428);
+// The port of telephones, where no word says it: a constant can't call what makes an address.
+const USUAL_PORT: u16 = 2428;
 
 // So many gateways a script may name.
 const MOST_GATEWAYS: usize = 64;
@@ -111,7 +111,11 @@ fn take_gateways<'a>(
         take_gateway(alloc, settings, word.as_str())?;
     }
     if words.is_empty() {
-        settings.add(alloc, "", USUAL)?;
+        settings.add(
+            alloc,
+            "",
+            SocketAddrV4::new(Ipv4Addr::LOCALHOST, USUAL_PORT),
+        )?;
     }
     Ok(())
 }

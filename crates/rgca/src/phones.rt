@@ -11,7 +11,9 @@ use std::net::{Ipv4Addr, Net, SocketAddrV4};
 use std::rt::{Clock, Files};
 
 // Any free port of this machine.
-const ANY: SocketAddrV4 = SocketAddrV4::new(Ipv4Addr::UNSPECIFIED, 0);
+fn any_port() -> SocketAddrV4 {
+    SocketAddrV4::new(Ipv4Addr::UNSPECIFIED, 0)
+}
 
 // How the program ends by a play that failed.
 fn failure_ending<'w>(
@@ -29,7 +31,7 @@ fn failure_ending<'w>(
 
 // Two sockets, of which the first is used, and the clock.
 fn open_sockets<'a, R: Net + Clock>(rt: &'a R, alloc: Global) -> Option<Live<'a, R>> {
-    let (Ok(socket), Ok(other)) = (bind(rt, ANY), bind(rt, ANY)) else {
+    let (Ok(socket), Ok(other)) = (bind(rt, any_port()), bind(rt, any_port())) else {
         return None;
     };
     Live::watch(rt, alloc, socket, other).ok()
