@@ -23,10 +23,12 @@ use surroundings::{Scripted, Surroundings};
 pub struct Phones;
 
 // The telephones of the two gateways.
-const GATEWAYS: [SocketAddrV4; 2] = [
-    SocketAddrV4::new(Ipv4Addr::LOCALHOST, 2428),
-    SocketAddrV4::new(Ipv4Addr::new(127, 0, 0, 2), 2428),
-];
+fn gateways() -> [SocketAddrV4; 2] {
+    [
+        SocketAddrV4::new(Ipv4Addr::LOCALHOST, 2428),
+        SocketAddrV4::new(Ipv4Addr::new(127, 0, 0, 2), 2428),
+    ]
+}
 
 fn text_of(alloc: Global, bytes: &[u8]) -> Result<Text, AllocError> {
     Ok(Text::of(Vec::from_slice(alloc, bytes)?))
@@ -79,7 +81,7 @@ fn play_script(
 ) -> io::Result<()> {
     let mut around = mem::replace(&mut story.around, Scripted::new(alloc, Phones::place().own));
     let mut player = Player::new(alloc, script, 2, 0)?;
-    let played = play_phones(alloc, &mut around, &mut player, &GATEWAYS)?;
+    let played = play_phones(alloc, &mut around, &mut player, &gateways())?;
     put_given(alloc, given, &around);
     let moment = around.moment().unwrap_or(0);
     match played {
@@ -92,12 +94,13 @@ fn play_script(
 
 impl Program for Phones {
     fn place() -> Place {
+        let gateways = gateways();
         Place {
             own: [
                 SocketAddrV4::new(Ipv4Addr::LOCALHOST, 40000),
                 SocketAddrV4::new(Ipv4Addr::LOCALHOST, 40001),
             ],
-            peer: GATEWAYS[0],
+            peer: gateways[0],
         }
     }
 
