@@ -26,7 +26,7 @@ none_more : (n : ℕ) → n ≡ counted n 0
 none_more n = omega arith
 
 -- an input was refused, or taken: so many were
-refused_of : Bool → ℕ
+abbrev pub refused_of : Bool → ℕ
 refused_of true = 1
 refused_of false = 0
 

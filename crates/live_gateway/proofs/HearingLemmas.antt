@@ -13,6 +13,11 @@ use Rattle.live_gateway.specs.Exchanging.{received_by}
 pub heard_both : (admission : Admission) (some more : List Received) → heard_of admission (some ++ more) ≡ heard_of admission some ++ heard_of admission more
 heard_both admission some more = filter-append (λ (one : Received). is_heard admission one.source) some more
 
+-- nothing came since
+pub heard_still : (admission : Admission) (was mid is : Option (List Received)) (heard : List Received) → HeardSince admission was heard mid → is ≡ mid
+    → HeardSince admission was heard is
+heard_still admission was mid is heard h same = subst (λ (o : Option (List Received)). HeardSince admission was heard o) (sym same) h
+
 -- ---- with no network before the socket
 
 through : (old new : Option (Box SpoiltWay)) (was is : Option (List Received)) (came : List Received) → is_some old ≡ false → new ≡ old → Grows was came is

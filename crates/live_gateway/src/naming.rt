@@ -111,7 +111,7 @@ fn known_word(alloc: Global, setup: &Setup) -> Result<Vec<u8>, OutOfMemory>
 /// Who may speak to a gateway of this setup, as a line: by this word, where one was given, and else the addresses of its agent and of all
 /// hosts that its configuration names, each once. Its only error is want of memory.
 pub fn agents_line(alloc: Global, word: Option<&str>, setup: &Setup) -> Result<Vec<u8>, OutOfMemory>
-    ensures { IfOk result (λ line. line.items ≡ agents_line (option_copied word) setup.now) }
+    ensures { IfOk result (λ line. line.items ≡ agents_line (option_copied word.entry) setup.now) }
 {
     let mut line = Vec::from_slice(alloc, b"agents: --agents ")?;
     match word {
