@@ -113,8 +113,9 @@ pub fn checked<'w, R: AllocGlobal + Files + Net + Clock, F: Write + Drop>(
     if asks_for_list(words) {
         return listed(rt.alloc(), &mut outlets.output);
     }
-    match read_check_words(rt.alloc(), words, &mut outlets.error) {
-        Ok(asked) => check_by(rt, asked, &mut outlets.output),
-        Err(fault) => check_words_ending(fault),
-    }
+    let asked = match read_check_words(rt.alloc(), words, &mut outlets.error) {
+        Ok(asked) => asked,
+        Err(fault) => return check_words_ending(fault),
+    };
+    check_by(rt, asked, &mut outlets.output)
 }

@@ -197,7 +197,7 @@ pub fn check_words_ending<'a>(fault: WordFault) -> Ending<'a>
 
 /// How the program ends by words behind `phones`.
 pub fn phone_words_ending<'a>(fault: PhoneWordFault<'a>) -> Ending<'a>
-    ensures { result ≡ phone_ending fault }
+    ensures { result ≡ phone_ending fault.entry }
 {
     match fault {
         PhoneWordFault::Common(ending) => Ending::OfPhones(ending),
