@@ -1,3 +1,5 @@
 pub mod Computing
 pub mod Handles
 pub mod Boxing
+pub mod LongLemmas
+pub mod PortLemmas

@@ -22,6 +22,7 @@ use Rattle.gateway_core.specs.Stands.{Stands}
 use Rattle.rgw_c.specs.declared.instance.Instance.{Instance}
 use Rattle.rgw_c.specs.declared.structs.SignalTold.{SignalTold}
 use Rattle.rgw_c.specs.declared.structs.ConnectionTold.{ConnectionTold}
+use Rattle.rgw_c.specs.declared.numbers.TheConstants.{OK, NO_SUCH_PLACE, NO_CONNECTION}
 
 -- it holds of the plain machine of a gateway, whatever events that stands for
 abbrev pub TellsOf : GatewayState → (Setup → Machine → Type 0) → Type 0
@@ -82,7 +83,7 @@ abbrev pub remote_known : Option Session → ℕ
 remote_known None = 0
 remote_known (Some session) = 1
 
--- the port at which a place of a line receives: the remainder is nothing, since a gateway's are ports
+-- the port at which a place of a line receives, as 16 bits have it: a gateway's are all ports (`port` of rgw_connection)
 abbrev pub local_port : Setup → ℕ → ℕ → ℕ
 local_port setup line place = (port_of setup line + 2 * place) % 65536
 
@@ -106,3 +107,9 @@ connection_of setup line place connection = record {
 abbrev pub at_index : {A : Type 0} → Option (List A) → ℕ → Option A
 at_index None index = None
 at_index (Some xs) index = slice_get xs index
+
+-- what is asked of a place: it holds a connection, it is empty, or there is none
+abbrev pub place_number : Option (Option Connection) → ℕ
+place_number None = NO_SUCH_PLACE
+place_number (Some None) = NO_CONNECTION
+place_number (Some (Some connection)) = OK

@@ -1,7 +1,8 @@
 -- What the numbers say that C is told.
-use Rattle.std.specs.Prelude.{ℕ, ◌==◌, if◌then◌else◌, Option, Some, None}
+use Rattle.std.specs.Prelude.{ℕ, Bool, ◌==◌, ◌||◌, if◌then◌else◌, Option, Some, None, is_some}
 use Rattle.plain_machine.specs.declared.refusal.Refusal.{Refusal}
 use Rattle.plain_machine.specs.declared.refusal.Refusal.TheVariants.{OutOfMemory, TickTooFar, ClockBack, NoSuchLine, PhoneState}
+use Rattle.rgw_c.specs.declared.numbers.TheConstants.{OK, OUT_OF_MEMORY, SMALL_BUFFER, HAS_FLAW}
 
 -- the refusal that a number says
 abbrev pub refusal_in : ℕ → Option Refusal
@@ -21,3 +22,14 @@ config_fault_in number =
     (if number == 15 then Some 5 else
     (if number == 16 then Some 6 else
     (if number == 17 then Some 7 else None)))))
+
+-- what is answered where the text of a configuration is read: that it went well, that memory was refused, or a fault of the configuration
+abbrev pub is_read_number : ℕ → Bool
+is_read_number number = number == OK || number == OUT_OF_MEMORY || is_some (config_fault_in number)
+
+-- what is answered where a configuration is checked, and where it has a flaw
+abbrev pub is_told_number : ℕ → Bool
+is_told_number number = number == OUT_OF_MEMORY || number == SMALL_BUFFER || number == HAS_FLAW
+
+abbrev pub is_checked_number : ℕ → Bool
+is_checked_number number = number == OK || is_told_number number

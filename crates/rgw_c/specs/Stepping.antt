@@ -1,13 +1,14 @@
 -- What an event does to what a handle holds.
-use Rattle.std.specs.Prelude.{◌≡◌, ◌≤◌, ℕ, List, [], ◌∷◌, Option, Some, None}
+use Rattle.std.specs.Prelude.{◌≡◌, ◌≤◌, ℕ, List, [], ◌∷◌, Option, Some, None, IsSomeAnd}
 use Rattle.std.specs.Int.{w32, to_be_bytes}
 use Rattle.std.specs.declared.net.socket_addr.SocketAddrV4.{SocketAddrV4}
 use Rattle.plain_machine.specs.Event.{GatewayEvent}
 use Rattle.plain_machine.specs.Lists.{plain}
 use Rattle.plain_machine.specs.Refusing.{Ends}
+use Rattle.gateway_core.specs.Alike.{Alike}
 use Rattle.gateway_core.specs.Stands.{Stands, Took}
 use Rattle.rgw_c.specs.declared.instance.Instance.{Instance}
-use Rattle.rgw_c.specs.declared.numbers.TheConstants.{NOT_OPEN}
+use Rattle.rgw_c.specs.declared.numbers.TheConstants.{OK, NOT_OPEN}
 use Rattle.rgw_c.specs.Numbers.{refusal_in}
 
 -- the address whose four octets this number has, the first one highest
@@ -31,3 +32,9 @@ abbrev pub EndsIn : Option Instance → GatewayEvent → ℕ → Type 0
 EndsIn (Some was) event number = (number ≤ 5) × ((before : List GatewayEvent) → Stands was.gateway before →
     Ends (plain was.gateway.setup before) event (refusal_in number))
 EndsIn None event number = number ≡ NOT_OPEN
+
+-- nothing becomes of what came, and it is never refused: the gateway is as the plain machine was before, and sends nothing
+abbrev pub PassesOver : Option Instance → ℕ → Option Instance → Type 0
+PassesOver (Some was) number now = (before : List GatewayEvent) → Stands was.gateway before →
+    (number ≡ OK) × IsSomeAnd now (λ is. (is.outputs ≡ []) × Alike is.gateway.machine (plain was.gateway.setup before))
+PassesOver None number now = number ≡ NOT_OPEN

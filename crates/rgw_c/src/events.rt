@@ -1,8 +1,9 @@
 //! What comes to a gateway, as C gives it.
-ghost use Rattle.std.specs.Prelude.{◌≡◌, ◌≢◌, IfSome, IsSomeAnd, None};
+ghost use Rattle.std.specs.Prelude.{◌≡◌, ◌≢◌, nat_lt, true, length, IfSome, IsSomeAnd, None};
+ghost use Rattle.transmission.specs.Texts.{largest_datagram};
 ghost use Rattle.plain_machine.specs.Event.{event_of, datagram, phone, tick};
 ghost use Rattle.rgw_c.specs.Acts.{act_in};
-ghost use Rattle.rgw_c.specs.Stepping.{source_at, TookIn, Stayed, EndsIn};
+ghost use Rattle.rgw_c.specs.Stepping.{source_at, TookIn, Stayed, EndsIn, PassesOver};
 
 use crate::acts::act_in;
 use crate::handle::{Handle, put, take};
@@ -32,7 +33,8 @@ fn step(alloc: Global, handle: &mut Handle, event: Event<'_>) -> u32
 }
 
 /// A datagram came from this address, whose host is a number in the machine's order: 127.0.0.1 is 0x7F000001. One of more than
-/// 4,000 bytes does nothing. It is refused for want of memory alone.
+/// `LARGEST_DATAGRAM` bytes does nothing, and is never refused; another is refused for want of memory alone.
+#[tactic(auto, using(crate::proofs::LongLemmas::passed))]
 #[unsafe(no_mangle)]
 pub extern "C" fn rgw_datagram_nonnull(
     alloc: Global,
@@ -44,6 +46,7 @@ pub extern "C" fn rgw_datagram_nonnull(
     ensures ok { result ≡ OK → TookIn handle.old.held (datagram (source_at host port) bytes.now) handle.new.held }
     ensures stayed { result ≢ OK → Stayed handle.old.held handle.new.held }
     ensures ends { EndsIn handle.old.held (datagram (source_at host port) bytes.now) result }
+    ensures long { nat_lt largest_datagram (length bytes.now) ≡ true → PassesOver handle.old.held result handle.new.held }
 {
     let source = source_at(host, port);
     step(alloc, handle, Event::Datagram { source, bytes })

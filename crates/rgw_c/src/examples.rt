@@ -1,7 +1,7 @@
 //! Worked examples of what C is told, as theorems: each sentence of a definition has one that a slip in it breaks.
 #![tactic(auto, unfolding(crate::proofs::Computing::on_examples))]
 
-ghost use Rattle.std.specs.Prelude.{◌≡◌, [], ◌∷◌, Some, None};
+ghost use Rattle.std.specs.Prelude.{◌≡◌, ℕ, [], ◌∷◌, List, length, true, false, Some, None};
 ghost use Rattle.mg_line.specs.declared.phone.Act.TheVariants as acts;
 ghost use Rattle.mg_line.specs.declared.phone.Key.TheVariants as keys;
 ghost use Rattle.mg_packages.specs.declared.hook.Hook.TheVariants as hooks;
@@ -13,12 +13,15 @@ ghost use Rattle.connections.specs.declared.mode.Mode.TheVariants as modes;
 ghost use Rattle.plain_machine.specs.declared.refusal.Refusal.TheVariants as refusals;
 ghost use Rattle.plain_machine.specs.declared.label.Whose.TheVariants as whose;
 ghost use Rattle.plain_machine.specs.declared.label.What.TheVariants as whats;
-ghost use Rattle.rgw_c.specs.declared.numbers.TheConstants.{OK, NOT_OPEN, NO_SUCH_PLACE, SMALL_BUFFER, NOTHING_DUE};
+ghost use Rattle.plain_machine.specs.Example.{example, elsewhere};
+ghost use Rattle.rgw_c.specs.declared.numbers.TheConstants.{OK, OUT_OF_MEMORY, TOO_LONG, NOT_OPEN, BAD_FIRST, NO_SUCH_PLACE, SMALL_BUFFER, NO_CONNECTION};
+ghost use Rattle.rgw_c.specs.declared.numbers.TheConstants.{NOTHING_DUE, HAS_FLAW};
 ghost use Rattle.rgw_c.specs.Account.{verb_number, whose_number, line_of, what_number, code_of, verb_of, message_number};
 ghost use Rattle.rgw_c.specs.Acts.{act_in};
-ghost use Rattle.rgw_c.specs.LineTelling.{hook_number, signal_number, signal_of, mode_number, first_payload, last_payload};
-ghost use Rattle.rgw_c.specs.Numbers.{refusal_in, config_fault_in};
-ghost use Rattle.rgw_c.specs.Stepping.{source_at};
+ghost use Rattle.rgw_c.specs.LineTelling.{hook_number, signal_number, signal_of, mode_number, first_payload, last_payload, local_port, place_number};
+ghost use Rattle.rgw_c.specs.Numbers.{refusal_in, config_fault_in, is_read_number, is_told_number, is_checked_number};
+ghost use Rattle.rgw_c.specs.Opening.{unread_number};
+ghost use Rattle.rgw_c.specs.Stepping.{source_at, PassesOver};
 ghost use Rattle.rgw_c.specs.Telling.{open_number, line_number, room_number, found_number, due_number};
 
 /// A refusal has its own number, and the fault of a configuration one that is ten higher.
@@ -55,8 +58,42 @@ pub fn acts_have_numbers()
     ensures past { act_in 309 ≡ None }
 {}
 
+/// What is open, how ids begin and how long a text is are looked at before it is read, in this order; and each call has its answers.
+pub fn a_text_is_read_last()
+    ensures bad_first { (text : List ℕ) → unread_number None text 9999999 ≡ Some BAD_FIRST }
+    ensures last_first { unread_number None [] 9999998 ≡ None }
+    ensures long { (text : List ℕ) → length text ≡ 1048577 → unread_number None text 0 ≡ Some TOO_LONG }
+    ensures longest { (text : List ℕ) → length text ≡ 1048576 → unread_number None text 0 ≡ None }
+    ensures opened { is_read_number OK ≡ true }
+    ensures memory { is_read_number OUT_OF_MEMORY ≡ true }
+    ensures fault { is_read_number 17 ≡ true }
+    ensures no_fault { is_read_number TOO_LONG ≡ false }
+    ensures told { is_told_number HAS_FLAW ≡ true }
+    ensures small { is_told_number SMALL_BUFFER ≡ true }
+    ensures refused { is_told_number OUT_OF_MEMORY ≡ true }
+    ensures no_flaw { is_told_number OK ≡ false }
+    ensures checked { is_checked_number OK ≡ true }
+    ensures nothing_else { is_checked_number NOT_OPEN ≡ false }
+{}
+
+/// A closed handle takes no datagram, also none that is too long.
+pub fn a_closed_handle_takes_nothing()
+    ensures { PassesOver None NOT_OPEN None }
+{}
+
+/// Each place of a line has its port, up to the last of the last line where ports begin highest.
+pub fn a_place_has_its_port()
+    ensures first { local_port example 1 0 ≡ 3000 }
+    ensures last { local_port example 16 3 ≡ 3126 }
+    ensures highest { local_port elsewhere 96 3 ≡ 64766 }
+    ensures held { place_number None ≡ NO_SUCH_PLACE }
+    ensures empty { place_number (Some None) ≡ NO_CONNECTION }
+{}
+
 /// A host is a number whose highest octet is the first.
 pub fn a_host_is_a_number()
+    ensures none { source_at 0 0 ≡ record { ip = record { octets = 0 ∷ 0 ∷ 0 ∷ 0 ∷ [] }; port = 0 } }
+    ensures greatest { source_at 4294967295 65535 ≡ record { ip = record { octets = 255 ∷ 255 ∷ 255 ∷ 255 ∷ [] }; port = 65535 } }
     ensures local { source_at 2130706433 2427 ≡ record { ip = record { octets = 127 ∷ 0 ∷ 0 ∷ 1 ∷ [] }; port = 2427 } }
 {}
 

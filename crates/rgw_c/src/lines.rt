@@ -1,13 +1,14 @@
 //! What a line is.
-ghost use Rattle.std.specs.Prelude.{◌≡◌, ◌≢◌, ◌≤◌, List, length, IfSome, Some, None, option_map};
+ghost use Rattle.std.specs.Prelude.{◌≡◌, ◌≢◌, ◌≤◌, ◌<◌, ◌+◌, ◌*◌, List, length, IfSome, Some, None, option_map};
 ghost use Rattle.plain_machine.specs.Lists.{hook_of, signals_of, connections_of, lost_of};
 ghost use Rattle.plain_machine.specs.Event.{GatewayEvent};
 ghost use Rattle.plain_machine.specs.Lists.{plain};
+ghost use Rattle.plain_machine.specs.Machine.{port_of};
 ghost use Rattle.gateway_core.specs.Stands.{Stands};
 ghost use Rattle.connections.specs.Codecs.{listed};
 ghost use Rattle.rgw_c.specs.LineTelling.{TellsOf, Tells, at_index, hook_number, signal_number, signal_of, mode_number};
-ghost use Rattle.rgw_c.specs.LineTelling.{first_payload, last_payload, local_port, remote_known, remote_host, remote_port, connection_of};
-ghost use Rattle.rgw_c.specs.Telling.{open_number, line_number_in, line_number};
+ghost use Rattle.rgw_c.specs.LineTelling.{first_payload, last_payload, local_port, remote_known, remote_host, remote_port, connection_of, place_number};
+ghost use Rattle.rgw_c.specs.Telling.{open_number, line_number_in, line_number, found_number};
 
 use crate::handle::{Handle, put, take};
 use crate::numbers::{NO_CONNECTION, NO_SUCH_LINE, NO_SUCH_PLACE, NOT_OPEN, OK};
@@ -162,6 +163,8 @@ fn signal_at(gateway: &Gateway, line: u16, index: usize) -> Option<ActiveSignal>
 // Tells an active signal of a line, if there are such a line and such a signal.
 fn tell_signal(gateway: &Gateway, line: u16, index: usize, signal: &mut SignalTold) -> u32
     ensures line { line_number_in gateway.now.setup line ≢ OK → result ≡ line_number_in gateway.now.setup line }
+    ensures number { line_number_in gateway.now.setup line ≡ OK → TellsOf gateway.now (λ _ m.
+        result ≡ found_number (at_index (signals_of m line) index)) }
     ensures signal { result ≡ OK → TellsOf gateway.now (λ _ m.
         option_map signal_of (at_index (signals_of m line) index) ≡ Some signal.new) }
     ensures none { result ≡ NO_SUCH_PLACE → TellsOf gateway.now (λ _ m. at_index (signals_of m line) index ≡ None) }
@@ -187,6 +190,8 @@ pub extern "C" fn rgw_signal_nonnull(
     signal: &mut SignalTold,
 ) -> u32
     ensures line { line_number handle.old.held line ≢ OK → result ≡ line_number handle.old.held line }
+    ensures number { line_number handle.old.held line ≡ OK → Tells handle.old.held (λ _ m.
+        result ≡ found_number (at_index (signals_of m line) index)) }
     ensures signal { result ≡ OK → Tells handle.old.held (λ _ m.
         option_map signal_of (at_index (signals_of m line) index) ≡ Some signal.new) }
     ensures none { result ≡ NO_SUCH_PLACE → Tells handle.old.held (λ _ m. at_index (signals_of m line) index ≡ None) }
@@ -227,7 +232,7 @@ fn payloads_of(codecs: Codecs) -> (u16, u16, u16)
     }
 }
 
-// The port at which a place of a line receives. In a gateway it is a port without the remainder, too.
+// The port at which a place of a line receives. Of the four places that a line has it is a port without the remainder.
 fn port_of(setup: &Setup, line: u16, place: u16) -> u16
     requires { 1 ≤ line }
     ensures { result ≡ local_port setup.now line place }
@@ -271,8 +276,13 @@ fn connection_of(setup: &Setup, line: u16, place: u16, connection: &Connection) 
 }
 
 // Tells the connection at a place of a line, if there are such a line, such a place, and a connection.
+#[tactic(auto, using(crate::proofs::PortLemmas::told_whole))]
 fn tell_connection(gateway: &Gateway, line: u16, place: u16, connection: &mut ConnectionTold) -> u32
     ensures line { line_number_in gateway.now.setup line ≢ OK → result ≡ line_number_in gateway.now.setup line }
+    ensures number { line_number_in gateway.now.setup line ≡ OK → TellsOf gateway.now (λ _ m.
+        result ≡ place_number (at_index (connections_of m line) place)) }
+    ensures port { result ≡ OK → place < 4 → TellsOf gateway.now (λ setup _.
+        connection.new.local_port ≡ port_of setup line + 2 * place) }
     ensures connection { result ≡ OK → TellsOf gateway.now (λ setup m.
         option_map (option_map (connection_of setup line place)) (at_index (connections_of m line) place) ≡ Some (Some connection.new)) }
     ensures empty { result ≡ NO_CONNECTION → TellsOf gateway.now (λ _ m. at_index (connections_of m line) place ≡ Some None) }
@@ -292,7 +302,8 @@ fn tell_connection(gateway: &Gateway, line: u16, place: u16, connection: &mut Co
     NO_SUCH_LINE
 }
 
-/// The connection at a place, from 0, of a line, from 1: each line has four places.
+/// The connection at a place, from 0, of a line, from 1: each line has four places. Where it receives is told exactly, since all
+/// ports of a gateway's lines are below 65,536.
 #[unsafe(no_mangle)]
 pub extern "C" fn rgw_connection_nonnull(
     alloc: Global,
@@ -302,6 +313,10 @@ pub extern "C" fn rgw_connection_nonnull(
     connection: &mut ConnectionTold,
 ) -> u32
     ensures line { line_number handle.old.held line ≢ OK → result ≡ line_number handle.old.held line }
+    ensures number { line_number handle.old.held line ≡ OK → Tells handle.old.held (λ _ m.
+        result ≡ place_number (at_index (connections_of m line) place)) }
+    ensures port { result ≡ OK → place < 4 → Tells handle.old.held (λ setup _.
+        connection.new.local_port ≡ port_of setup line + 2 * place) }
     ensures connection { result ≡ OK → Tells handle.old.held (λ setup m.
         option_map (option_map (connection_of setup line place)) (at_index (connections_of m line) place) ≡ Some (Some connection.new)) }
     ensures empty { result ≡ NO_CONNECTION → Tells handle.old.held (λ _ m. at_index (connections_of m line) place ≡ Some None) }

@@ -1,7 +1,7 @@
 //! The numbers that C is told. Those of refusals are the plain machine's, and the faults of a configuration are ten higher than there,
 //! so that one table has all.
-ghost use Rattle.std.specs.Prelude.{◌≡◌, ◌≢◌, ◌≤◌, ℕ, Some};
-ghost use Rattle.rgw_c.specs.Numbers.{refusal_in, config_fault_in};
+ghost use Rattle.std.specs.Prelude.{◌≡◌, ◌≢◌, ◌≤◌, ℕ, true, Some};
+ghost use Rattle.rgw_c.specs.Numbers.{refusal_in, config_fault_in, is_read_number};
 
 use plain_machine::Refusal;
 
@@ -66,6 +66,7 @@ pub fn number_of(refusal: Refusal) -> u32
 pub fn config_number(number: u8) -> u32
     ensures which { (fault : ℕ) → config_fault_in result ≡ Some fault → fault ≡ number }
     ensures wrong { result ≢ OK }
+    ensures few { is_read_number result ≡ true }
 {
     match number {
         2 => 12,

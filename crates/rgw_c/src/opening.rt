@@ -1,18 +1,21 @@
 //! How a gateway is opened from the text of a configuration, what is wrong with one, and how it is closed.
-ghost use Rattle.std.specs.Prelude.{◌≡◌, ◌≢◌, ◌<◌, ◌≤◌, length, IfOk, IfErr, IfSome, IsSome, IsSomeAnd, None};
+ghost use Rattle.std.specs.Prelude.{◌≡◌, ◌≢◌, ◌<◌, ◌≤◌, length, take, true, IfOk, IfErr, IfSome, IsSome, IsSomeAnd, MatchOption, None};
 ghost use Rattle.plain_machine.specs.Setup.{firsts};
 ghost use Rattle.rgw_scenes.specs.Flaws.{flaw_of};
-ghost use Rattle.rgw_c.specs.Opening.{Opened, Explained};
+ghost use Rattle.rgw_scenes.specs.Wording.{Tells};
+ghost use Rattle.rgw_c.specs.Opening.{Opened, Explained, WantsRoom, unread_number};
+ghost use Rattle.rgw_c.specs.Numbers.{is_read_number, is_told_number, is_checked_number};
 ghost use Rattle.rgw_c.specs.Telling.{open_number};
 
-use crate::copying::copy_out;
 use crate::handle::{Handle, put, take};
 use crate::instance::Instance;
 use crate::numbers::{
-    BAD_FIRST, HAS_FLAW, IS_OPEN, NOT_OPEN, OK, OUT_OF_MEMORY, TOO_LONG, VERSION, config_number,
+    BAD_FIRST, HAS_FLAW, IS_OPEN, NOT_OPEN, OK, OUT_OF_MEMORY, SMALL_BUFFER, TOO_LONG, VERSION,
+    config_number,
 };
+use c_buffers::lacks_room;
 use gateway_core::{FIRSTS, Outputs};
-use rgw_scenes::{flaw_of, gateway_from, told};
+use rgw_scenes::{Flaw, flaw_of, gateway_from, told};
 use rgw_scripts::{PlayFault, is_too_long};
 use std::alloc::Global;
 
@@ -22,6 +25,7 @@ fn instance_of(alloc: Global, config: &[u8], first: u32) -> Result<Box<Instance>
     ensures ok { IfOk result (λ instance. Opened config.now first instance.value) }
     ensures err { IfErr result (λ number. Explained config.now first number) }
     ensures wrong { IfErr result (λ number. number ≢ OK) }
+    ensures few { IfErr result (λ number. is_read_number number ≡ true) }
 {
     match gateway_from(alloc, config, first) {
         Ok(gateway) => {
@@ -36,8 +40,8 @@ fn instance_of(alloc: Global, config: &[u8], first: u32) -> Result<Box<Instance>
     }
 }
 
-/// Opens a handle that isn't open on a gateway of the configuration in this text, at moment 0, whose ids begin with this number. What is
-/// refused leaves the handle as it was.
+/// Opens a handle that isn't open on a gateway of the configuration in this text, at moment 0, whose ids begin with this number, below
+/// `FIRSTS`. A text of more than `LIMIT` bytes isn't read. What is refused leaves the handle as it was.
 #[unsafe(no_mangle)]
 pub extern "C" fn rgw_open_nonnull(
     alloc: Global,
@@ -46,8 +50,8 @@ pub extern "C" fn rgw_open_nonnull(
     first: u32,
 ) -> u32
     ensures opened { result ≡ OK → IsSomeAnd handle.new.held (λ is. Opened config.now first is) }
-    ensures was_open { IfSome handle.old.held (λ _. result ≡ IS_OPEN) }
-    ensures first { handle.old.held ≡ None → FIRSTS ≤ first → result ≡ BAD_FIRST }
+    ensures number { MatchOption (unread_number handle.old.held config.now first) (is_read_number result ≡ true)
+        (λ number. result ≡ number) }
     ensures fault { handle.old.held ≡ None → Explained config.now first result }
     ensures left { result ≢ OK → handle.new.held ≡ handle.old.held }
 {
@@ -71,8 +75,27 @@ pub extern "C" fn rgw_open_nonnull(
     }
 }
 
+// Tells a flaw of a configuration's text, in a line that is copied to the start of the buffer, if it fits.
+fn tell_flaw(alloc: Global, config: &[u8], flaw: Flaw, buffer: &mut [u8], needed: &mut usize) -> u32
+    ensures few { is_told_number result ≡ true }
+    ensures told { result ≡ HAS_FLAW → Tells config.now flaw (take needed.new buffer.new) }
+    ensures fits { result ≡ HAS_FLAW → needed.new ≤ length buffer.old }
+    ensures small { result ≡ SMALL_BUFFER → WantsRoom config.now flaw (length buffer.old) needed.new }
+    ensures left { result ≢ HAS_FLAW → buffer.new ≡ buffer.old }
+    ensures unasked { result ≡ OUT_OF_MEMORY → needed.new ≡ needed.old }
+{
+    let Ok(line) = told(alloc, config, flaw) else {
+        return OUT_OF_MEMORY;
+    };
+    if lacks_room(&line, buffer, needed) {
+        SMALL_BUFFER
+    } else {
+        HAS_FLAW
+    }
+}
+
 /// What is wrong with the configuration in this text, in a line without its end, as `rgwd --check` says it; the line is copied to the
-/// start of the buffer. `needed` is how long it is. `OK` where nothing is wrong.
+/// start of the buffer. `needed` is how long it is, also where it doesn't fit: then the buffer is as it was. `OK` where nothing is wrong.
 #[unsafe(no_mangle)]
 pub extern "C" fn rgw_check_nonnull(
     alloc: Global,
@@ -80,21 +103,21 @@ pub extern "C" fn rgw_check_nonnull(
     buffer: &mut [u8],
     needed: &mut usize,
 ) -> u32
+    ensures few { is_checked_number result ≡ true }
     ensures none { result ≡ OK → flaw_of config.now ≡ None }
     ensures flaw { result ≢ OK → result ≢ OUT_OF_MEMORY → IsSome (flaw_of config.now) }
+    ensures told { result ≡ HAS_FLAW → IfSome (flaw_of config.now) (λ flaw. Tells config.now flaw (take needed.new buffer.new)) }
     ensures needed { result ≡ HAS_FLAW → needed.new ≤ length buffer.old }
+    ensures small { result ≡ SMALL_BUFFER → IfSome (flaw_of config.now) (λ flaw.
+        WantsRoom config.now flaw (length buffer.old) needed.new) }
     ensures left { result ≢ HAS_FLAW → buffer.new ≡ buffer.old }
+    ensures unasked { result ≢ HAS_FLAW → result ≢ SMALL_BUFFER → needed.new ≡ needed.old }
 {
-    let flaw = match flaw_of(alloc, config) {
-        Ok(Some(flaw)) => flaw,
-        Ok(None) => return OK,
-        Err(_) => return OUT_OF_MEMORY,
-    };
-    let Ok(line) = told(alloc, config, flaw) else {
-        return OUT_OF_MEMORY;
-    };
-    let number = copy_out(&line, buffer, needed);
-    if number == OK { HAS_FLAW } else { number }
+    match flaw_of(alloc, config) {
+        Ok(Some(flaw)) => tell_flaw(alloc, config, flaw, buffer, needed),
+        Ok(None) => OK,
+        Err(_) => OUT_OF_MEMORY,
+    }
 }
 
 /// Closes a handle, and frees what it had.
