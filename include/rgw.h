@@ -20,7 +20,15 @@
  * same call may go well later.
  *
  * Moments are in ms from 0, where a gateway opens. An IPv4 address is a number in the machine's own order, as ntohl gives it:
- * 127.0.0.1 is 0x7F000001; so is a port. Lines are counted from 1, indexes and places from 0.
+ * 127.0.0.1 is 0x7F000001; so is a port. Each number is an address, and each a port: none of them is refused. Lines are counted from 1,
+ * indexes and places from 0.
+ *
+ * WHAT IS OUT OF RANGE. Each of these is answered so, and does nothing more than that: a configuration's text of more than
+ * RGW_LONGEST_CONFIG bytes RGW_TOO_LONG (rgw_check tells it as a flaw); a first number from RGW_FIRSTS on RGW_BAD_FIRST; a datagram of
+ * more than RGW_LARGEST_DATAGRAM bytes RGW_OK, as any other; a buffer with less room than there is to tell RGW_SMALL_BUFFER; line 0, or
+ * one past the last, RGW_NO_SUCH_LINE; an index past the last, or a place from RGW_PLACES on, RGW_NO_SUCH_PLACE; a tick more than
+ * RGW_LARGEST_TICK ms past the one before it, or from 2^62 on, RGW_TICK_TOO_FAR, and one before it RGW_CLOCK_BACK; an act that isn't
+ * listed RGW_BAD_ACT.
  */
 #ifndef RGW_H
 #define RGW_H
@@ -39,6 +47,15 @@
 extern "C" {
 #endif
 
+/* How far ranges go: the bytes of a configuration's text and of a datagram, the numbers with which ids may begin, from 0 on, the lines of
+ * a gateway, the places of a line, and the ms of a tick. */
+#define RGW_LONGEST_CONFIG 1048576
+#define RGW_LARGEST_DATAGRAM 4000
+#define RGW_FIRSTS 9999999
+#define RGW_MOST_LINES 96
+#define RGW_PLACES 4
+#define RGW_LARGEST_TICK 1000
+
 /* A handle: closed, or a gateway with the outputs of its last event. */
 typedef struct rgw_gateway {
     void *inner;
@@ -54,7 +71,7 @@ enum {
     RGW_OK = 0,
     /* Memory was refused. */
     RGW_OUT_OF_MEMORY = 1,
-    /* A tick more than 1,000 ms past the one before it, or at or past 2^62. */
+    /* A tick more than RGW_LARGEST_TICK ms past the one before it, or at or past 2^62. */
     RGW_TICK_TOO_FAR = 2,
     /* A tick before the one before it. */
     RGW_CLOCK_BACK = 3,
@@ -64,7 +81,7 @@ enum {
     RGW_PHONE_STATE = 5,
     /* The domain isn't 1 to 64 letters, digits, "-" and ".". */
     RGW_BAD_DOMAIN = 12,
-    /* There are no lines, or more than 96. */
+    /* There are no lines, or more than RGW_MOST_LINES. */
     RGW_BAD_LINES = 13,
     /* A host's name, its addresses, or the agent is none. */
     RGW_BAD_AGENT = 14,
@@ -74,13 +91,13 @@ enum {
     RGW_BAD_MEDIA = 16,
     /* The text isn't TOML, or lacks a key, or has another one, or a value of another kind. */
     RGW_BAD_TOML = 17,
-    /* The text has more than 1,048,576 bytes. */
+    /* The text has more than RGW_LONGEST_CONFIG bytes. */
     RGW_TOO_LONG = 18,
     /* The handle isn't open. */
     RGW_NOT_OPEN = 20,
     /* The handle is open already. */
     RGW_IS_OPEN = 21,
-    /* No ids begin with this number. */
+    /* No ids begin with this number: it isn't below RGW_FIRSTS. */
     RGW_BAD_FIRST = 22,
     /* No act has this number. */
     RGW_BAD_ACT = 23,
@@ -211,11 +228,12 @@ static const uint8_t rgw_no_byte = 0;
 
 /*
  * Opens a handle that isn't open on a gateway of the configuration in a text (TOML, as rgwd takes it), at moment 0. Its ids begin
- * with `first`, below 9,999,999, and its own one higher: a gateway that starts again takes another number than the last time (RFC 3435,
- * 3.2.1.2), as the time of day in ms, divided by 50, modulo 9,999,999.
+ * with `first`, below RGW_FIRSTS, and its own one higher: a gateway that starts again takes another number than the last time (RFC 3435,
+ * 3.2.1.2), as the time of day in ms, divided by 50, modulo RGW_FIRSTS.
  *
- * RGW_IS_OPEN comes first, then RGW_BAD_FIRST and RGW_TOO_LONG, then the first fault of the configuration, RGW_BAD_DOMAIN to
- * RGW_BAD_TOML, which rgw_check says in words; or RGW_OUT_OF_MEMORY. After each the handle is as it was.
+ * RGW_IS_OPEN comes first, then RGW_BAD_FIRST, then RGW_TOO_LONG of a text of more than RGW_LONGEST_CONFIG bytes, then the first fault
+ * of the configuration, RGW_BAD_DOMAIN to RGW_BAD_TOML, which rgw_check says in words; or RGW_OUT_OF_MEMORY. After each the handle is
+ * as it was.
  */
 static inline rgw_result rgw_open(rgw_gateway *gateway, const void *config, size_t config_len, uint32_t first) {
     if (gateway == NULL || (config == NULL && config_len != 0)) return RGW_NULL;
@@ -225,7 +243,8 @@ static inline rgw_result rgw_open(rgw_gateway *gateway, const void *config, size
 /*
  * Says what is wrong with the configuration in a text: RGW_OK where nothing is. RGW_HAS_FLAW: the key, what stands there and what may, as
  * `rgwd --check` says it, is in the buffer, in printable ASCII, `*needed` bytes without an end. RGW_SMALL_BUFFER: it has a flaw, and
- * `*needed` is how long its line is. What rgw_open takes may have one flaw: media at 0.0.0.0, where no other machine sends anything.
+ * `*needed` is how long its line is; the buffer is as it was. RGW_OUT_OF_MEMORY: nothing is told. A text of more than RGW_LONGEST_CONFIG
+ * bytes has the flaw that it is. What rgw_open takes may have one flaw: media at 0.0.0.0, where no other machine sends anything.
  */
 static inline rgw_result rgw_check(const void *config, size_t config_len, void *buffer, size_t room, size_t *needed) {
     uint8_t none = 0;
@@ -240,8 +259,9 @@ static inline rgw_result rgw_close(rgw_gateway *gateway) {
 }
 
 /*
- * A datagram came from this address. One of more than 4,000 bytes does nothing, and any other is taken, whatever it says (RFC 3435, 3.5):
- * RGW_NOT_OPEN and RGW_OUT_OF_MEMORY alone refuse it. Then the outputs are what is sent at it.
+ * A datagram came from this address. One of more than RGW_LARGEST_DATAGRAM bytes does nothing: it is answered RGW_OK, and there are no
+ * outputs. Any other is taken, whatever it says (RFC 3435, 3.5): RGW_NOT_OPEN and RGW_OUT_OF_MEMORY alone refuse it. Then the outputs
+ * are what is sent at it.
  */
 static inline rgw_result rgw_datagram(rgw_gateway *gateway, uint32_t host, uint16_t port, const void *bytes, size_t len) {
     if (gateway == NULL || (bytes == NULL && len != 0)) return RGW_NULL;
@@ -257,8 +277,8 @@ static inline rgw_result rgw_phone(rgw_gateway *gateway, uint16_t line, uint32_t
 }
 
 /*
- * The clock: it is this moment. All that is due up to it happens, each at its own moment. A step is at most 1,000 ms, so a clock that
- * was away catches up by several ticks: RGW_TICK_TOO_FAR, RGW_CLOCK_BACK, RGW_NOT_OPEN, RGW_OUT_OF_MEMORY.
+ * The clock: it is this moment. All that is due up to it happens, each at its own moment. A step is at most RGW_LARGEST_TICK ms, so a
+ * clock that was away catches up by several ticks: RGW_TICK_TOO_FAR, RGW_CLOCK_BACK, RGW_NOT_OPEN, RGW_OUT_OF_MEMORY.
  */
 static inline rgw_result rgw_tick(rgw_gateway *gateway, uint64_t moment) {
     return gateway == NULL ? (rgw_result)RGW_NULL : rgw_tick_nonnull(gateway, moment);
@@ -326,8 +346,8 @@ static inline rgw_result rgw_signal(rgw_gateway *gateway, uint16_t line, size_t 
 }
 
 /*
- * The connection at a place of a line: each line has four, 0 to 3 (RFC 3435, 2.1.3). RGW_NO_CONNECTION where the place is empty,
- * RGW_NO_SUCH_LINE, RGW_NO_SUCH_PLACE, RGW_NOT_OPEN.
+ * The connection at a place of a line: each line has RGW_PLACES, from 0 on (RFC 3435, 2.1.3), and each place its port, which is told
+ * exactly. RGW_NO_CONNECTION where the place is empty, RGW_NO_SUCH_LINE, RGW_NO_SUCH_PLACE, RGW_NOT_OPEN.
  */
 static inline rgw_result rgw_connection(rgw_gateway *gateway, uint16_t line, uint16_t place, rgw_connection_info *connection) {
     return gateway == NULL || connection == NULL ? (rgw_result)RGW_NULL

@@ -21,7 +21,7 @@
 #include <time.h>
 #include <unistd.h>
 
-enum { MOST_LINES = 96, PLACES = 4, SIGNALS = 9, LONGEST_CONFIG = 1048576, ROOM = 65536, LONGEST_TICK = 1000 };
+enum { SIGNALS = RGW_CONFIRM, ROOM = 65536 };
 
 /* What stands behind the lines. */
 typedef struct handset {
@@ -38,7 +38,7 @@ typedef struct handset {
 /* What was last told of a line. */
 typedef struct told {
     unsigned char is_on[SIGNALS + 1];
-    rgw_connection_info connections[PLACES];
+    rgw_connection_info connections[RGW_PLACES];
 } told;
 
 typedef struct adapter {
@@ -46,7 +46,7 @@ typedef struct adapter {
     int socket;
     uint64_t began;
     handset *handset;
-    told lines[MOST_LINES + 1];
+    told lines[RGW_MOST_LINES + 1];
 } adapter;
 
 /* A signal is a byte in a pipe, so that poll wakes up for it. */
@@ -131,7 +131,7 @@ static void tell_tones(adapter *adapter, uint16_t line) {
 }
 
 static void tell_media(adapter *adapter, uint16_t line) {
-    for (uint16_t place = 0; place < PLACES; place++) {
+    for (uint16_t place = 0; place < RGW_PLACES; place++) {
         rgw_connection_info now = {0}, *was = &adapter->lines[line].connections[place];
         int is_there = rgw_connection(&adapter->gateway, line, place, &now) == RGW_OK;
         if (memcmp(&now, was, sizeof now) == 0) continue;
@@ -162,7 +162,7 @@ static void catch_up(adapter *adapter) {
     rgw_result result = RGW_OK;
     rgw_now(&adapter->gateway, &now);
     while (now < real && result == RGW_OK) {
-        uint64_t next = real - now > LONGEST_TICK ? now + LONGEST_TICK : real;
+        uint64_t next = real - now > RGW_LARGEST_TICK ? now + RGW_LARGEST_TICK : real;
         result = rgw_tick(&adapter->gateway, next);
         follow(adapter, result, "tick");
         now = next;
@@ -173,7 +173,7 @@ static void catch_up(adapter *adapter) {
 static int longest_wait(adapter *adapter) {
     uint64_t due, now = 0;
     rgw_now(&adapter->gateway, &now);
-    if (rgw_next_due(&adapter->gateway, &due) != RGW_OK || due > now + LONGEST_TICK) return LONGEST_TICK;
+    if (rgw_next_due(&adapter->gateway, &due) != RGW_OK || due > now + RGW_LARGEST_TICK) return RGW_LARGEST_TICK;
     return due > now ? (int)(due - now) : 0;
 }
 
@@ -188,7 +188,7 @@ static void take_datagram(adapter *adapter) {
 
 /* Opens a gateway of the configuration in a file: 1, or 0 where there is a fault, which is said. */
 static int open_gateway(rgw_gateway *gateway, const char *path) {
-    static char text[LONGEST_CONFIG + 1];
+    static char text[RGW_LONGEST_CONFIG + 1];
     char flaw[1024];
     size_t len, needed;
     FILE *file = fopen(path, "rb");
@@ -201,7 +201,7 @@ static int open_gateway(rgw_gateway *gateway, const char *path) {
     rgw_result result = rgw_check(text, len, flaw, sizeof flaw, &needed);
     if (result == RGW_HAS_FLAW) fprintf(stderr, "%s: %.*s\n", path, (int)needed, flaw);
     /* Ids begin elsewhere than at the last start (RFC 3435, 3.2.1.2). */
-    else if (result == RGW_OK) result = rgw_open(gateway, text, len, (uint32_t)(milliseconds(CLOCK_REALTIME) / 50 % 9999999));
+    else if (result == RGW_OK) result = rgw_open(gateway, text, len, (uint32_t)(milliseconds(CLOCK_REALTIME) / 50 % RGW_FIRSTS));
     if (result != RGW_OK && result != RGW_HAS_FLAW) fprintf(stderr, "%s: %s\n", path, rgw_strerror(result));
     return result == RGW_OK;
 }
@@ -213,7 +213,7 @@ static void reload(adapter *adapter, const char *path) {
     rgw_close(&adapter->gateway);
     adapter->gateway = fresh;
     adapter->began = milliseconds(CLOCK_MONOTONIC);
-    for (uint16_t line = 1; line <= MOST_LINES; line++) {
+    for (uint16_t line = 1; line <= RGW_MOST_LINES; line++) {
         tell_tones(adapter, line);
         tell_media(adapter, line);
     }
