@@ -5,7 +5,7 @@ from ctypes import byref, c_size_t, c_uint16, c_uint32, c_uint64, create_string_
 from dataclasses import dataclass
 from socket import inet_aton, inet_ntoa
 from types import TracebackType
-from typing import NamedTuple
+from typing import NamedTuple, cast
 
 from rgw.library import CALLS, ConnectionInfo, Handle, MessageInfo, OutputInfo, SignalInfo
 from rgw.numbers import Closed, ConfigFault, Number, RgwError, raised
@@ -272,7 +272,7 @@ class Gateway:
         while True:
             number = self._call("output", index, byref(info), self._buffer, len(self._buffer), byref(needed))
             if not number:
-                return Output(info.moment, Address(_host(info.host), info.port), self._buffer[: needed.value])
+                return Output(info.moment, Address(_host(info.host), info.port), cast(bytes, self._buffer[: needed.value]))
             if number != Number.SMALL_BUFFER:
                 raise raised(number)
             self._buffer = create_string_buffer(needed.value)
