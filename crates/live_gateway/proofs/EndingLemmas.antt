@@ -1,5 +1,5 @@
 -- When a desk comes to its end.
-use Rattle.std.proofs.Common.{◌≡◌, ℕ, Bool, true, false, List, Option, refl, sym, ◌∙◌, ap, subst}
+use Rattle.std.proofs.Common.{◌≡◌, ℕ, suc, ◌+◌, Bool, true, false, List, Option, refl, sym, ◌∙◌, ap, subst, arith}
 use Rattle.std.specs.Prelude.{not}
 use Rattle.plain_machine.specs.Event.{GatewayEvent}
 use Rattle.plain_machine.specs.Lists.{plain}
@@ -12,7 +12,7 @@ use Rattle.turns.specs.Clock.{has_come}
 use Rattle.turns.specs.Runs.{is_end}
 use Rattle.turns.specs.Schedule.{next_of}
 use Rattle.turns.proofs.ScheduleLaws.{ends_when_over}
-use Rattle.live_gateway.specs.Ending.{EndsAt}
+use Rattle.live_gateway.specs.Ending.{EndsAt, WroteTimes}
 
 pub ends_so : (end next : Option ℕ) (gateway after : GatewayState) (is_over : Bool) → next ≡ end → after ≡ gateway → EndsAt end gateway is_over
     → EndsAt next after is_over
@@ -30,3 +30,9 @@ pub turn_ends : (s next : Schedule) (at : Situation) (turn : Turn) (end : Option
 turn_ends s next at turn end gateway goes_on asked same ticked says = λ events stands.
     ap not says ∙ not_not (is_end turn) ∙ ap (λ (r : Turn × Schedule). is_end r.0) asked ∙ ends_when_over s at
     ∙ ap (λ (e : Option ℕ). has_come e at.ticked) same ∙ ap (has_come end) (ticked events stands)
+
+pub wrote_once_more : {W : Type 0} (writes : W → W → Type 0) (count : ℕ) (was between is : W) → WroteTimes writes count was between → writes between is
+    → WroteTimes writes (count + 1) was is
+wrote_once_more {W} writes count was between is some once =
+    let more : suc count ≡ count + 1 = omega arith in
+    subst (λ (n : ℕ). WroteTimes writes n was is) more (between, some, once)

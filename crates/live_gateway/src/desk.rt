@@ -2,7 +2,7 @@
 #![tactic(auto, using(crate::proofs::DeskLemmas::stays_so))]
 
 ghost use Rattle.std.specs.Prelude.{◌≡◌, ◌≤◌, ◌⊎◌, ◌-◌, ◌^◌, ℕ, Bool, true, false, not, List, [], IfOk, is_ok};
-ghost use Rattle.turns.specs.declared.turn.Turn.TheVariants.{End};
+ghost use Rattle.turns.specs.Runs.{is_end};
 ghost use Rattle.plain_machine.specs.Event.{GatewayEvent};
 ghost use Rattle.plain_machine.specs.Lists.{plain};
 ghost use Rattle.gateway_core.specs.Stands.{Stands};
@@ -71,6 +71,22 @@ impl<S: Drop, T: Drop> Drop for Desk<S, T> {
         drop(lines);
         drop(admitted);
         drop(watch);
+    }
+}
+
+// Whether nothing comes any more.
+fn is_end(turn: Turn) -> bool
+    ensures { result ≡ is_end turn }
+{
+    match turn {
+        Turn::End => true,
+        Turn::Look
+        | Turn::Wait { .. }
+        | Turn::Tick { .. }
+        | Turn::Command
+        | Turn::Datagram
+        | Turn::Visit
+        | Turn::Note { .. } => false,
     }
 }
 
@@ -401,7 +417,7 @@ impl<S: Surroundings + Drop, T: Teller + Drop> Desk<S, T> {
     // A turn of somebody's, or a wait, where it is now this moment.
     fn do_turn<V: Visitors<S>>(&mut self, turn: Turn, visitors: &mut Option<Box<V>>, moment: u64)
         ensures play { GoesOn T.told S.traffic self.old self.new }
-        ensures over { turn ≡ End → (self.new.play ≡ self.old.play) × (self.new.end ≡ self.old.end) }
+        ensures over { is_end turn ≡ true → (self.new.play ≡ self.old.play) × (self.new.end ≡ self.old.end) }
     {
         match turn {
             Turn::Tick { moment } => self.tick(moment),
@@ -432,7 +448,7 @@ impl<S: Surroundings + Drop, T: Teller + Drop> Desk<S, T> {
         self.exchange.begin(at.ticked);
         self.do_turn(turn, visitors, at.moment);
         self.tell_watchers();
-        !matches!(turn, Turn::End)
+        !is_end(turn)
     }
 
     /// Writes what was recorded at the turn that is over, as far as it is taken at once.

@@ -1,6 +1,8 @@
-use Rattle.std.proofs.Common.{refl}
+use Rattle.std.proofs.Common.{inl, refl, ap, subst, ◌∙◌, ◌+◌, Bool, true}
+use Rattle.std.specs.Prelude.{not}
+use Rattle.live_gateway.specs.Ending.{EndsAt}
 use Rattle.live_gateway.proofs.DeskLemmas.{stays_so, goes_on_then}
-use Rattle.live_gateway.proofs.EndingLemmas.{ends_so}
+use Rattle.live_gateway.proofs.EndingLemmas.{ends_so, wrote_once_more}
 use Rattle.live_gateway.proofs.desk.Desk.run.Goals as goal
 
 pub loop-init : goal.loop-init
@@ -10,8 +12,17 @@ pub returns-then-not-goes_on-clause-play : goal.returns-then-not-goes_on-clause-
 returns-then-not-goes_on-clause-play g c =
     goes_on_then _ _ _ _ _ c.loop.invariant.0 (goes_on_then _ _ _ _ _ c.turn-goes_on.ensures.play c.write.ensures.play)
 
+pub returns-then-not-goes_on-clause-end : goal.returns-then-not-goes_on-clause-end
+returns-then-not-goes_on-clause-end g c =
+    let over = c.turn-goes_on.ensures.over c.if-not-goes_on.true in
+    (c.loop.counter + 1, wrote_once_more g.W.Recorder.writes _ _ _ _ c.loop.invariant.1 c.write.ensures.wrote, inl (
+    ends_so c.loop.self.end c.write.new.self.end c.loop.self.play.value.gateway.value c.write.new.self.play.value.gateway.value true
+    (c.write.ensures.end ∙ over.1)
+    (ap (λ gateway. gateway.value) c.write.ensures.gateway ∙ ap (λ play. play.value.gateway.value) over.0)
+    (subst (λ (b : Bool). EndsAt c.loop.self.end c.loop.self.play.value.gateway.value (not b)) c.if-not-goes_on.true c.turn-goes_on.ensures.end)))
+
 pub loop-preserved : goal.loop-preserved
 loop-preserved g c = (
   goes_on_then _ _ _ _ _ c.loop.invariant.0 (goes_on_then _ _ _ _ _ c.turn-goes_on.ensures.play c.write.ensures.play),
-  (c.loop.recorder, c.loop.invariant.1, c.write.ensures.wrote),
+  wrote_once_more g.W.Recorder.writes _ _ _ _ c.loop.invariant.1 c.write.ensures.wrote,
 )
