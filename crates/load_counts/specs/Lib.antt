@@ -1,4 +1,0 @@
-pub mod Buckets
-pub mod Times
-pub mod Ranks
-pub mod Series
