@@ -11,30 +11,41 @@ use std::net::SocketAddrV4;
 // So many characters the local name of an endpoint has at most (RFC 3435, 2.1.2).
 const LONGEST_NAME: usize = 64;
 
-fn command<'a>(alloc: Global) -> Result<Command<'a>, AllocError> {
-    let own = Arg::new(alloc, "own")
-        .long("own")
-        .default_value("0.0.0.0:0");
-    let more = Arg::new(alloc, "more-lines")
-        .long("more-lines")
-        .num_args(1usize..);
-    let only = Arg::new(alloc, "only").long("only");
-    let junit = Arg::new(alloc, "junit").long("junit");
-    let phones = Arg::new(alloc, "phones").long("phones");
-    let hook = Arg::new(alloc, "hook").long("hook");
-    Command::new(alloc, "check")
-        .override_usage(CHECK_USAGE)
+// A word with what stands behind it.
+fn word<'a>(alloc: Global, name: &'static str) -> Arg<'a> {
+    Arg::new(alloc, name).long(name)
+}
+
+// Which gateway is checked, and which lines of it.
+fn with_gateway<'a>(command: Command<'a>, alloc: Global) -> Result<Command<'a>, AllocError> {
+    command
         .arg(Arg::new(alloc, "address").required(true))?
-        .arg(Arg::new(alloc, "domain").long("domain").required(true))?
-        .arg(Arg::new(alloc, "line").long("line").required(true))?
-        .arg(more)?
+        .arg(word(alloc, "domain").required(true))?
+        .arg(word(alloc, "line").required(true))?
+        .arg(word(alloc, "more-lines").num_args(1usize..))
+}
+
+// Who takes part: the agent that the gateway is configured for, and who works its telephones.
+fn with_others<'a>(command: Command<'a>, alloc: Global) -> Result<Command<'a>, AllocError> {
+    command
+        .arg(word(alloc, "own").default_value("0.0.0.0:0"))?
+        .arg(word(alloc, "phones"))?
+        .arg(word(alloc, "hook"))
+}
+
+// Which checks are played, and how they are reported.
+fn with_report<'a>(command: Command<'a>, alloc: Global) -> Result<Command<'a>, AllocError> {
+    command
         .arg(flag_word(alloc, "slow"))?
+        .arg(word(alloc, "only"))?
         .arg(flag_word(alloc, "json"))?
-        .arg(only)?
-        .arg(junit)?
-        .arg(phones)?
-        .arg(hook)?
-        .arg(own)
+        .arg(word(alloc, "junit"))
+}
+
+fn command<'a>(alloc: Global) -> Result<Command<'a>, AllocError> {
+    let command = Command::new(alloc, "check").override_usage(CHECK_USAGE);
+    let command = with_gateway(command, alloc)?;
+    with_report(with_others(command, alloc)?, alloc)
 }
 
 // The address that a word has, which stands there or has a default.
