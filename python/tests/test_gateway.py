@@ -156,3 +156,14 @@ def test_a_thousand_gateways_are_independent() -> None:
 def test_any_bytes_are_taken(alone: Gateway) -> None:
     for data in (b"", b"\0", b"\xff" * 4000, b"\xff" * 65_535):
         assert alone.datagram(AGENT, data) == []
+
+
+def test_the_longest_of_each_is_taken(alone: Gateway) -> None:
+    Gateway(CONFIG + "#" * (1_048_576 - len(CONFIG))).close()
+    with pytest.raises(ConfigFault) as fault:
+        Gateway(CONFIG + "#" * (1_048_577 - len(CONFIG)))
+    assert (fault.value.number, fault.value.flaw) == (Number.TOO_LONG, "over 1,048,576 bytes")
+    head, end = b"AUEP 7 aaln/1@rgw.example.net MGCP 1.0\r\nX-pad: ", b"\r\n"
+    longest = head + b"a" * (4000 - len(head + end)) + end
+    assert [output.data.split()[1] for output in alone.datagram(AGENT, longest)] == [b"7"]
+    assert alone.datagram(AGENT, longest.replace(b"AUEP 7", b"AUEP 18")) == []
