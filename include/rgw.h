@@ -5,7 +5,7 @@
  * clock), and what it sends is then asked for. It has no thread, no socket, no clock and no global state. What each call does is proved
  * of the library, as long as the caller keeps what stands here.
  *
- * WHAT THE CALLER KEEPS, which the library can't check:
+ * WHAT THE CALLER KEEPS, which the library can't check, here as a whole, and behind "Keep:" at each function:
  *  - A handle begins as RGW_CLOSED. It is read and written by these functions alone, and not copied while both copies are used.
  *  - A pointer and a length name that many bytes of readable memory, and a buffer and its room that many bytes of writable memory. The
  *    handle, buffers and what a call writes through other pointers don't overlap.
@@ -234,6 +234,7 @@ static const uint8_t rgw_no_byte = 0;
  * RGW_IS_OPEN comes first, then RGW_BAD_FIRST, then RGW_TOO_LONG of a text of more than RGW_LONGEST_CONFIG bytes, then the first fault
  * of the configuration, RGW_BAD_DOMAIN to RGW_BAD_TOML, which rgw_check says in words; or RGW_OUT_OF_MEMORY. After each the handle is
  * as it was.
+ * Keep: one call at a time on `gateway`; `config` has `config_len` bytes.
  */
 static inline rgw_result rgw_open(rgw_gateway *gateway, const void *config, size_t config_len, uint32_t first) {
     if (gateway == NULL || (config == NULL && config_len != 0)) return RGW_NULL;
@@ -245,6 +246,7 @@ static inline rgw_result rgw_open(rgw_gateway *gateway, const void *config, size
  * `rgwd --check` says it, is in the buffer, in printable ASCII, `*needed` bytes without an end. RGW_SMALL_BUFFER: it has a flaw, and
  * `*needed` is how long its line is; the buffer is as it was. RGW_OUT_OF_MEMORY: nothing is told. A text of more than RGW_LONGEST_CONFIG
  * bytes has the flaw that it is. What rgw_open takes may have one flaw: media at 0.0.0.0, where no other machine sends anything.
+ * Keep: `config` has `config_len` bytes, `buffer` room for `room`; neither overlaps the other or `needed`.
  */
 static inline rgw_result rgw_check(const void *config, size_t config_len, void *buffer, size_t room, size_t *needed) {
     uint8_t none = 0;
@@ -253,7 +255,10 @@ static inline rgw_result rgw_check(const void *config, size_t config_len, void *
                              buffer == NULL ? &none : (uint8_t *)buffer, room, needed);
 }
 
-/* Closes a handle and frees what it had; RGW_NOT_OPEN where it isn't open. Afterwards it may be opened again. */
+/*
+ * Closes a handle and frees what it had; RGW_NOT_OPEN where it isn't open. Afterwards it may be opened again.
+ * Keep: one call at a time on `gateway`, and no copy of it is used afterwards.
+ */
 static inline rgw_result rgw_close(rgw_gateway *gateway) {
     return gateway == NULL ? (rgw_result)RGW_NULL : rgw_close_nonnull(gateway);
 }
@@ -262,6 +267,7 @@ static inline rgw_result rgw_close(rgw_gateway *gateway) {
  * A datagram came from this address. One of more than RGW_LARGEST_DATAGRAM bytes does nothing: it is answered RGW_OK, and there are no
  * outputs. Any other is taken, whatever it says (RFC 3435, 3.5): RGW_NOT_OPEN and RGW_OUT_OF_MEMORY alone refuse it. Then the outputs
  * are what is sent at it.
+ * Keep: one call at a time on `gateway`; `bytes` has `len` bytes.
  */
 static inline rgw_result rgw_datagram(rgw_gateway *gateway, uint32_t host, uint16_t port, const void *bytes, size_t len) {
     if (gateway == NULL || (bytes == NULL && len != 0)) return RGW_NULL;
@@ -271,6 +277,7 @@ static inline rgw_result rgw_datagram(rgw_gateway *gateway, uint32_t host, uint1
 /*
  * Something is done at the telephone of a line: RGW_OFF_HOOK, RGW_ON_HOOK, RGW_FLASH, or a key by its sign. RGW_BAD_ACT comes first,
  * then RGW_NOT_OPEN, RGW_NO_SUCH_LINE, RGW_PHONE_STATE, and RGW_OUT_OF_MEMORY.
+ * Keep: one call at a time on `gateway`.
  */
 static inline rgw_result rgw_phone(rgw_gateway *gateway, uint16_t line, uint32_t act) {
     return gateway == NULL ? (rgw_result)RGW_NULL : rgw_phone_nonnull(gateway, line, act);
@@ -279,12 +286,16 @@ static inline rgw_result rgw_phone(rgw_gateway *gateway, uint16_t line, uint32_t
 /*
  * The clock: it is this moment. All that is due up to it happens, each at its own moment. A step is at most RGW_LARGEST_TICK ms, so a
  * clock that was away catches up by several ticks: RGW_TICK_TOO_FAR, RGW_CLOCK_BACK, RGW_NOT_OPEN, RGW_OUT_OF_MEMORY.
+ * Keep: one call at a time on `gateway`.
  */
 static inline rgw_result rgw_tick(rgw_gateway *gateway, uint64_t moment) {
     return gateway == NULL ? (rgw_result)RGW_NULL : rgw_tick_nonnull(gateway, moment);
 }
 
-/* The moment of the last tick that was taken, 0 before any. RGW_NOT_OPEN. */
+/*
+ * The moment of the last tick that was taken, 0 before any. RGW_NOT_OPEN.
+ * Keep: one call at a time on `gateway`; `moment` lies outside it.
+ */
 static inline rgw_result rgw_now(rgw_gateway *gateway, uint64_t *moment) {
     return gateway == NULL || moment == NULL ? (rgw_result)RGW_NULL : rgw_now_nonnull(gateway, moment);
 }
@@ -293,12 +304,16 @@ static inline rgw_result rgw_now(rgw_gateway *gateway, uint64_t *moment) {
  * The moment at which something falls due next: a signal or timer ends, a command is sent again or given up, a restart is announced
  * (RFC 3435, 2.1.5, 2.1.7, 3.5.3, 4.4.6). Until then no tick does anything but move the clock. RGW_NOTHING_DUE where nothing
  * does, RGW_NOT_OPEN.
+ * Keep: one call at a time on `gateway`; `moment` lies outside it.
  */
 static inline rgw_result rgw_next_due(rgw_gateway *gateway, uint64_t *moment) {
     return gateway == NULL || moment == NULL ? (rgw_result)RGW_NULL : rgw_next_due_nonnull(gateway, moment);
 }
 
-/* How many datagrams are to be sent because of the last event that was taken: a refused one leaves those before. RGW_NOT_OPEN. */
+/*
+ * How many datagrams are to be sent because of the last event that was taken: a refused one leaves those before. RGW_NOT_OPEN.
+ * Keep: one call at a time on `gateway`; `count` lies outside it.
+ */
 static inline rgw_result rgw_outputs(rgw_gateway *gateway, size_t *count) {
     return gateway == NULL || count == NULL ? (rgw_result)RGW_NULL : rgw_outputs_nonnull(gateway, count);
 }
@@ -307,6 +322,7 @@ static inline rgw_result rgw_outputs(rgw_gateway *gateway, size_t *count) {
  * One of them, by its index, in the order in which they are sent; its bytes are copied to the start of the buffer, and `*needed` is how
  * many they are: with room 0 that is asked alone. RGW_SMALL_BUFFER: the buffer alone is as it was; `*output` and `*needed` are told.
  * RGW_NO_SUCH_PLACE, RGW_NOT_OPEN.
+ * Keep: one call at a time on `gateway`; `buffer` has room for `room` bytes; it, `output` and `needed` lie apart.
  */
 static inline rgw_result rgw_output(rgw_gateway *gateway, size_t index, rgw_output_info *output, void *buffer, size_t room,
                                     size_t *needed) {
@@ -315,32 +331,50 @@ static inline rgw_result rgw_output(rgw_gateway *gateway, size_t index, rgw_outp
     return rgw_output_nonnull(gateway, index, output, buffer == NULL ? &none : (uint8_t *)buffer, room, needed);
 }
 
-/* How many messages were sent at the last event that was taken: several may share a datagram (RFC 3435, 3.5.5). RGW_NOT_OPEN. */
+/*
+ * How many messages were sent at the last event that was taken: several may share a datagram (RFC 3435, 3.5.5). RGW_NOT_OPEN.
+ * Keep: one call at a time on `gateway`; `count` lies outside it.
+ */
 static inline rgw_result rgw_messages(rgw_gateway *gateway, size_t *count) {
     return gateway == NULL || count == NULL ? (rgw_result)RGW_NULL : rgw_messages_nonnull(gateway, count);
 }
 
-/* What is told of one of them, by its index, in their order. RGW_NO_SUCH_PLACE, RGW_NOT_OPEN. */
+/*
+ * What is told of one of them, by its index, in their order. RGW_NO_SUCH_PLACE, RGW_NOT_OPEN.
+ * Keep: one call at a time on `gateway`; `message` lies outside it.
+ */
 static inline rgw_result rgw_message(rgw_gateway *gateway, size_t index, rgw_message_info *message) {
     return gateway == NULL || message == NULL ? (rgw_result)RGW_NULL : rgw_message_nonnull(gateway, index, message);
 }
 
-/* How many lines the gateway has. RGW_NOT_OPEN. */
+/*
+ * How many lines the gateway has. RGW_NOT_OPEN.
+ * Keep: one call at a time on `gateway`; `lines` lies outside it.
+ */
 static inline rgw_result rgw_lines(rgw_gateway *gateway, uint16_t *lines) {
     return gateway == NULL || lines == NULL ? (rgw_result)RGW_NULL : rgw_lines_nonnull(gateway, lines);
 }
 
-/* The hook state of a line: 0 on hook, 1 off hook. RGW_NO_SUCH_LINE, RGW_NOT_OPEN. */
+/*
+ * The hook state of a line: 0 on hook, 1 off hook. RGW_NO_SUCH_LINE, RGW_NOT_OPEN.
+ * Keep: one call at a time on `gateway`; `hook` lies outside it.
+ */
 static inline rgw_result rgw_hook(rgw_gateway *gateway, uint16_t line, uint32_t *hook) {
     return gateway == NULL || hook == NULL ? (rgw_result)RGW_NULL : rgw_hook_nonnull(gateway, line, hook);
 }
 
-/* How many events of a line found no room in its quarantine (RFC 3435, 4.4.1). RGW_NO_SUCH_LINE, RGW_NOT_OPEN. */
+/*
+ * How many events of a line found no room in its quarantine (RFC 3435, 4.4.1). RGW_NO_SUCH_LINE, RGW_NOT_OPEN.
+ * Keep: one call at a time on `gateway`; `lost` lies outside it.
+ */
 static inline rgw_result rgw_lost(rgw_gateway *gateway, uint16_t line, uint64_t *lost) {
     return gateway == NULL || lost == NULL ? (rgw_result)RGW_NULL : rgw_lost_nonnull(gateway, line, lost);
 }
 
-/* An active signal of a line, by its index, in the order of the table above. RGW_NO_SUCH_LINE, RGW_NO_SUCH_PLACE, RGW_NOT_OPEN. */
+/*
+ * An active signal of a line, by its index, in the order of the table above. RGW_NO_SUCH_LINE, RGW_NO_SUCH_PLACE, RGW_NOT_OPEN.
+ * Keep: one call at a time on `gateway`; `signal` lies outside it.
+ */
 static inline rgw_result rgw_signal(rgw_gateway *gateway, uint16_t line, size_t index, rgw_signal_info *signal) {
     return gateway == NULL || signal == NULL ? (rgw_result)RGW_NULL : rgw_signal_nonnull(gateway, line, index, signal);
 }
@@ -348,6 +382,7 @@ static inline rgw_result rgw_signal(rgw_gateway *gateway, uint16_t line, size_t 
 /*
  * The connection at a place of a line: each line has RGW_PLACES, from 0 on (RFC 3435, 2.1.3), and each place its port, which is told
  * exactly. RGW_NO_CONNECTION where the place is empty, RGW_NO_SUCH_LINE, RGW_NO_SUCH_PLACE, RGW_NOT_OPEN.
+ * Keep: one call at a time on `gateway`; `connection` lies outside it.
  */
 static inline rgw_result rgw_connection(rgw_gateway *gateway, uint16_t line, uint16_t place, rgw_connection_info *connection) {
     return gateway == NULL || connection == NULL ? (rgw_result)RGW_NULL
