@@ -1,5 +1,6 @@
 use Rattle.std.proofs.Common.{◌≡◌, ℕ, ◌+◌, ◌-◌, ◌<◌, ◌≤◌, List, codes, inl, inr, refl, ap, arith}
 use Rattle.std.specs.List.{slice_index_or}
+use Rattle.history.specs.Memory.{memory_time}
 use Rattle.plain_machine.specs.Posting.{first_number, id_on, numbers}
 use Rattle.machine_laws.specs.Numbering.{IsBehind}
 use Rattle.machine_laws.specs.Starting.{first_at, most_after}
@@ -36,7 +37,7 @@ returns c = record {
   other_id = λ same. absurd (let e : 7 ≡ 8 = same in omega (arith, e));
   taken_for = (omega arith, (refl, omega arith));
   at_once = (omega arith, (refl, omega arith));
-  too_late = λ is. absurd (let young : 30005 - 5 < 30000 = is.1.1 in omega (arith, young));
+  too_late = λ is. absurd (let young : (5 + memory_time) - 5 < memory_time = is.1.1 in omega (arith, young));
   before = λ is. absurd (let first : 5 ≤ 4 = is.0 in omega (arith, first));
   another = λ is. absurd (let same : 7 ≡ 8 = is.1.0 in omega (arith, same));
   moved = refl;
