@@ -57,8 +57,7 @@ impl<T: Drop> Growing<T> {
         ensures ok { OnOk result (self.new ≡ record self.old { is = self.old.is ++ more.items }) }
         ensures err { OnErr result (self.new ≡ self.old) }
     {
-        self.items.append(&mut more)?;
-        Ok(())
+        self.items.append(&mut more)
     }
 
     /// What the next event finds is what is there. This takes no memory.

@@ -110,8 +110,7 @@ fn tell(told: &mut TakenEvents, taken: Option<Taken>) -> Result<(), OutOfMemory>
     let Some(Taken { line, observed }) = taken else {
         return Ok(());
     };
-    told.tell(line, observed)?;
-    Ok(())
+    told.tell(line, observed)
 }
 
 // What a command tells is told.
@@ -169,6 +168,5 @@ pub(crate) fn execute(
         confirms,
         &given,
         out,
-    )?;
-    Ok(())
+    )
 }

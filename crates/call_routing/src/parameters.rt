@@ -38,8 +38,7 @@ fn put_line(out: &mut Vec<u8>, name: &[u8], value: &[u8]) -> Result<(), OutOfMem
 {
     out.extend_from_slice(name)?;
     out.extend_from_slice(value)?;
-    out.extend_from_slice(b"\r\n")?;
-    Ok(())
+    out.extend_from_slice(b"\r\n")
 }
 
 // The digit map, where digits are asked for.
@@ -61,8 +60,7 @@ fn put_request(out: &mut Vec<u8>, asked: Asked, map: &[u8]) -> Result<(), OutOfM
     ensures { OnOk result (out.new.items ≡ out.old.items ++ request_lines asked map.now) }
 {
     out.extend_from_slice(asked_text(asked))?;
-    put_map(out, asked, map)?;
-    Ok(())
+    put_map(out, asked, map)
 }
 
 fn put_call(alloc: Global, out: &mut Vec<u8>, call: u64) -> Result<(), OutOfMemory>
@@ -70,8 +68,7 @@ fn put_call(alloc: Global, out: &mut Vec<u8>, call: u64) -> Result<(), OutOfMemo
 {
     out.extend_from_slice(b"C: ")?;
     put_decimal(alloc, out, call)?;
-    out.extend_from_slice(b"\r\n")?;
-    Ok(())
+    out.extend_from_slice(b"\r\n")
 }
 
 // The connection, where one is known to stand.
@@ -88,16 +85,14 @@ fn put_pair(out: &mut Vec<u8>, first: &[u8], second: &[u8]) -> Result<(), OutOfM
     ensures { OnOk result (out.new.items ≡ out.old.items ++ (first.now ++ second.now)) }
 {
     out.extend_from_slice(first)?;
-    out.extend_from_slice(second)?;
-    Ok(())
+    out.extend_from_slice(second)
 }
 
 // In both directions, towards the other end.
 fn put_towards(out: &mut Vec<u8>, description: &[u8]) -> Result<(), OutOfMemory>
     ensures { OnOk result (out.new.items ≡ out.old.items ++ towards description.now) }
 {
-    put_pair(out, b"M: sendrecv\r\n\r\n", description)?;
-    Ok(())
+    put_pair(out, b"M: sendrecv\r\n\r\n", description)
 }
 
 fn put_mode(out: &mut Vec<u8>, joined: bool, description: &[u8]) -> Result<(), OutOfMemory>
@@ -121,16 +116,14 @@ fn put_creation(
     ensures { OnOk result (out.new.items ≡ out.old.items ++ creation_lines call joined description.now) }
 {
     put_call(alloc, out, call)?;
-    put_mode(out, joined, description)?;
-    Ok(())
+    put_mode(out, joined, description)
 }
 
 fn put_deletion(alloc: Global, out: &mut Vec<u8>, call: u64, leg: &Leg) -> Result<(), OutOfMemory>
     ensures { OnOk result (out.new.items ≡ out.old.items ++ deletion_lines call leg.now) }
 {
     put_call(alloc, out, call)?;
-    put_connection(out, leg)?;
-    Ok(())
+    put_connection(out, leg)
 }
 
 fn put_change(
@@ -143,8 +136,7 @@ fn put_change(
     ensures { OnOk result (out.new.items ≡ out.old.items ++ change_lines call leg.now description.now) }
 {
     put_deletion(alloc, out, call, leg)?;
-    put_towards(out, description)?;
-    Ok(())
+    put_towards(out, description)
 }
 
 fn put_command(

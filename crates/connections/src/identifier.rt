@@ -55,6 +55,5 @@ pub fn write_number(_alloc: Global, out: &mut Vec<u8>, number: u32) -> Result<()
     ensures ok { OnOk result (out.new.items ≡ out.old.items ++ number_text number) }
     ensures err { OnErr result (out.new.items ≡ out.old.items) }
 {
-    out.extend_from_slice(digits_of(number).as_slice())?;
-    Ok(())
+    out.extend_from_slice(digits_of(number).as_slice())
 }

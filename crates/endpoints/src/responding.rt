@@ -168,8 +168,7 @@ fn respond_itself(
 {
     let heard = heard_on(store.own(), response);
     respond_to_own(context, store, moment, response, out)?;
-    tell_lines(context, store, moment, heard, out)?;
-    Ok(())
+    tell_lines(context, store, moment, heard, out)
 }
 
 // The same, where all of it goes out, or, after an error, nothing.

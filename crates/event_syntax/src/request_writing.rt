@@ -123,8 +123,7 @@ fn put_parts(alloc: Global, out: &mut Vec<u8>, request: &EmbeddedRequest) -> Res
     put_comma(out, has_events, has_signals || has_map)?;
     put_signals_part(alloc, out, signals)?;
     put_comma(out, has_signals, has_map)?;
-    put_map_part(out, &request.map)?;
-    Ok(())
+    put_map_part(out, &request.map)
 }
 
 #[tactic(auto, unfolding(crate::specs::Requested::embedded_text))]

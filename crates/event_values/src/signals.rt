@@ -238,8 +238,7 @@ fn put_entry(alloc: Global, out: &mut Vec<u8>, request: SignalRequest) -> Result
     ensures { OnOk result (out.new.items ≡ out.old.items ++ signal_entry_text request) }
 {
     out.extend_from_slice(signal_name(request.signal))?;
-    put_setting(alloc, out, request.setting)?;
-    Ok(())
+    put_setting(alloc, out, request.setting)
 }
 
 /// The written form of S (RFC 3435, 2.3.3): the entries with commas between them, each with its package, and

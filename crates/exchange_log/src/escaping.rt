@@ -61,6 +61,5 @@ pub fn put_shown(out: &mut Vec<u8>, value: &[u8]) -> Result<(), OutOfMemory>
         return put_escaped(out, value);
     }
     put_escaped(out, front_of(value))?;
-    out.extend_from_slice(b"..")?;
-    Ok(())
+    out.extend_from_slice(b"..")
 }

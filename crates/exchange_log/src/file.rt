@@ -31,8 +31,7 @@ pub fn put_head(out: &mut Vec<u8>) -> Result<(), OutOfMemory>
     ensures ok { OnOk result (out.new.items ≡ out.old.items ++ file_head) }
     ensures err { OnErr result (out.new.items ≡ out.old.items) }
 {
-    out.extend_from_slice(&HEAD)?;
-    Ok(())
+    out.extend_from_slice(&HEAD)
 }
 
 // What of a datagram's bytes a packet has room for.
@@ -82,6 +81,5 @@ pub fn put_packet(alloc: Global, out: &mut Vec<u8>, packet: &Packet<'_>) -> Resu
     ensures err { OnErr result (out.new.items ≡ out.old.items) }
 {
     let record = record_bytes(alloc, packet)?;
-    out.extend_from_slice(&record)?;
-    Ok(())
+    out.extend_from_slice(&record)
 }

@@ -93,8 +93,7 @@ pub fn put_message(
     ensures err { OnErr result (out.new.items ≡ out.old.items) }
 {
     let line = message_line(alloc, own, stamp, way, text, waited)?;
-    out.extend_from_slice(&line)?;
-    Ok(())
+    out.extend_from_slice(&line)
 }
 
 #[tactic(auto, unfolding(crate::specs::Lines::note_line))]
@@ -120,8 +119,7 @@ pub fn put_note(
     ensures err { OnErr result (out.new.items ≡ out.old.items) }
 {
     let line = note_line(alloc, stamp, note)?;
-    out.extend_from_slice(&line)?;
-    Ok(())
+    out.extend_from_slice(&line)
 }
 
 #[tactic(auto, unfolding(crate::specs::Lines::notice_line))]
@@ -149,8 +147,7 @@ pub fn put_notice(
     ensures err { OnErr result (out.new.items ≡ out.old.items) }
 {
     let line = notice_line(alloc, moment, notice)?;
-    out.extend_from_slice(&line)?;
-    Ok(())
+    out.extend_from_slice(&line)
 }
 
 #[tactic(auto, unfolding(crate::specs::Lines::given_up_line))]
@@ -183,8 +180,7 @@ pub fn put_given_up(
     ensures err { OnErr result (out.new.items ≡ out.old.items) }
 {
     let line = given_up_line(alloc, own, stamp, text)?;
-    out.extend_from_slice(&line)?;
-    Ok(())
+    out.extend_from_slice(&line)
 }
 
 #[tactic(auto, unfolding(crate::specs::Lines::refused_line))]
@@ -219,6 +215,5 @@ pub fn put_refused(
     ensures err { OnErr result (out.new.items ≡ out.old.items) }
 {
     let line = refused_line(alloc, stamp, id, why)?;
-    out.extend_from_slice(&line)?;
-    Ok(())
+    out.extend_from_slice(&line)
 }

@@ -64,8 +64,7 @@ fn put_around(
 {
     out.extend_from_slice(before)?;
     put_decimal(alloc, out, number)?;
-    out.extend_from_slice(after)?;
-    Ok(())
+    out.extend_from_slice(after)
 }
 
 // What the standard says of a return code, behind a blank, where it is one of this gateway's.
@@ -109,8 +108,7 @@ fn put_both(
 {
     put_around(alloc, out, before, first, between)?;
     put_decimal(alloc, out, second)?;
-    out.extend_from_slice(after)?;
-    Ok(())
+    out.extend_from_slice(after)
 }
 
 // How many strangers aren't told of, where there are any.
@@ -156,8 +154,7 @@ fn put_before_host(
 {
     let host = host_text(alloc, host)?;
     out.extend_from_slice(before)?;
-    out.extend_from_slice(host.as_bytes())?;
-    Ok(())
+    out.extend_from_slice(host.as_bytes())
 }
 
 // A command is lost, since so many are remembered.
@@ -166,8 +163,7 @@ fn put_no_room(alloc: Global, out: &mut Vec<u8>, young: u64) -> Result<(), OutOf
 {
     out.extend_from_slice(b"lost: ")?;
     put_number(alloc, out, young)?;
-    out.extend_from_slice(b" commands are young")?;
-    Ok(())
+    out.extend_from_slice(b" commands are young")
 }
 
 // The number that an id is.

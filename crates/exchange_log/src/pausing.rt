@@ -38,8 +38,7 @@ fn put_counted(alloc: Global, out: &mut Vec<u8>, number: u64) -> Result<(), OutO
 {
     out.extend_from_slice(b", ")?;
     put_decimal(alloc, out, number)?;
-    out.extend_from_slice(waiting_words(number))?;
-    Ok(())
+    out.extend_from_slice(waiting_words(number))
 }
 
 #[tactic(auto, unfolding(crate::specs::Pausing::waiting_text))]

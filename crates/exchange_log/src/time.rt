@@ -46,8 +46,7 @@ fn put_date(out: &mut Vec<u8>, day: u64) -> Result<(), OutOfMemory>
     out.push(b'-')?;
     out.extend_from_slice(&two_digits(month))?;
     out.push(b'-')?;
-    out.extend_from_slice(&two_digits(day + 1))?;
-    Ok(())
+    out.extend_from_slice(&two_digits(day + 1))
 }
 
 // Puts the time of day of a moment in microseconds since 1970 began, as `12:03:07.123`.
@@ -61,8 +60,7 @@ fn put_time(out: &mut Vec<u8>, moment: u64) -> Result<(), OutOfMemory>
     out.push(b':')?;
     out.extend_from_slice(&two_digits(moment / SECOND % 60))?;
     out.push(b'.')?;
-    out.extend_from_slice(&three_digits(moment / MILLISECOND % 1_000))?;
-    Ok(())
+    out.extend_from_slice(&three_digits(moment / MILLISECOND % 1_000))
 }
 
 /// Puts the date and the time of day of a moment in microseconds since 1970 began, in UTC, as `2026-11-27T12:03:07.123Z` (RFC 3339, 5.6).

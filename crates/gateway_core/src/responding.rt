@@ -40,6 +40,5 @@ pub(crate) fn respond(
         code,
         entity: entity_in(context, said),
     };
-    respond_to_its_id(context, store, moment, &response, out)?;
-    Ok(())
+    respond_to_its_id(context, store, moment, &response, out)
 }

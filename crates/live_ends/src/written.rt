@@ -39,8 +39,7 @@ fn put_numbers(
     out.extend_from_slice(b"records dropped ")?;
     put_decimal(alloc, out, dropped)?;
     out.extend_from_slice(b" write faults ")?;
-    put_decimal(alloc, out, faults)?;
-    Ok(())
+    put_decimal(alloc, out, faults)
 }
 
 // Where they were.
@@ -84,7 +83,6 @@ impl Written {
     {
         put_numbers(alloc, out, self.dropped, self.faults())?;
         put_names(out, self, capture)?;
-        out.extend_from_slice(b"\n")?;
-        Ok(())
+        out.extend_from_slice(b"\n")
     }
 }

@@ -104,8 +104,7 @@ fn put_commands(alloc: Global, text: &mut Vec<u8>, commands: &[u64; 10]) -> Resu
     ensures { OnOk result (text.new.items ≡ text.old.items ++ commands_text commands.now) }
 {
     text.extend_from_slice(b"\ncommands")?;
-    put_verbs(alloc, text, commands)?;
-    Ok(())
+    put_verbs(alloc, text, commands)
 }
 
 #[tactic(auto, unfolding(crate::specs::Reporting::texts_text))]
@@ -220,8 +219,7 @@ fn put_report(
 {
     put_traffic(alloc, text, tally)?;
     put_others(alloc, text, tally, lost, faults)?;
-    text.extend_from_slice(b"\n")?;
-    Ok(())
+    text.extend_from_slice(b"\n")
 }
 
 /// The counts as text.

@@ -71,8 +71,7 @@ fn put_kept(response: &mut Response, content: Content) -> Result<(), AllocError>
         response,
         header::X_CONTENT_TYPE_OPTIONS,
         HeaderValue::from_static("nosniff"),
-    )?;
-    Ok(())
+    )
 }
 
 // Puts that a browser shows it in no other's frame, and tells nobody of it.
@@ -101,8 +100,7 @@ fn put_guards(response: &mut Response) -> Result<(), AllocError>
     ensures fields { OnOk result (fields_of response.new ≡ fields_of response.old ++ guard_fields) }
 {
     put_frames(response)?;
-    put_field(response, header::CONTENT_SECURITY_POLICY, policy())?;
-    Ok(())
+    put_field(response, header::CONTENT_SECURITY_POLICY, policy())
 }
 
 /// Puts what this kind of content goes with: no browser keeps it, guesses another kind, or shows it in another's frame.
@@ -112,8 +110,7 @@ pub(crate) fn put_kind(response: &mut Response, content: Content) -> Result<(), 
     ensures fields { OnOk result (fields_of response.new ≡ fields_of response.old ++ kind_fields content) }
 {
     put_kept(response, content)?;
-    put_guards(response)?;
-    Ok(())
+    put_guards(response)
 }
 
 /// Puts a body behind what there is.

@@ -90,8 +90,7 @@ fn put_no_line(alloc: Global, out: &mut Vec<u8>) -> Result<(), OutOfMemory>
     ensures { OnOk result (out.new.items ≡ printed_line (refusal_line NoSuchLine)) }
 {
     out.clear();
-    put_refusal(alloc, out, Refusal::NoSuchLine)?;
-    Ok(())
+    put_refusal(alloc, out, Refusal::NoSuchLine)
 }
 
 // What a line is is put, to be answered, or that there is none.

@@ -55,6 +55,5 @@ pub fn put_decimal(_alloc: Global, out: &mut Vec<u8>, number: u64) -> Result<(),
     ensures err { OnErr result (out.new.items ≡ out.old.items) }
 {
     let mut buffer = Buffer::new();
-    out.extend_from_slice(buffer.format(number).as_bytes())?;
-    Ok(())
+    out.extend_from_slice(buffer.format(number).as_bytes())
 }

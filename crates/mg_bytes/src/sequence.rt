@@ -73,7 +73,6 @@ impl<T: Drop> Sequence<T> {
         ensures err { OnErr result (self.new ≡ self.old) }
     {
         let Sequence { items: mut more } = more;
-        self.items.append(&mut more)?;
-        Ok(())
+        self.items.append(&mut more)
     }
 }

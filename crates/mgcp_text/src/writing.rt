@@ -56,8 +56,7 @@ fn put_command_line(
     put_decimal(alloc, out, u64::from(id.number()))?;
     out.push(b' ')?;
     out.extend_from_slice(name)?;
-    out.extend_from_slice(b" MGCP 1.0\r\n")?;
-    Ok(())
+    out.extend_from_slice(b" MGCP 1.0\r\n")
 }
 
 fn put_code(out: &mut Vec<u8>, code: u16) -> Result<(), OutOfMemory>
@@ -69,8 +68,7 @@ fn put_code(out: &mut Vec<u8>, code: u16) -> Result<(), OutOfMemory>
         b'0' + (code / 10 % 10) as u8,
         b'0' + (code % 10) as u8,
     ];
-    out.extend_from_slice(&digits)?;
-    Ok(())
+    out.extend_from_slice(&digits)
 }
 
 fn comment(code: u16) -> &'static [u8]
@@ -97,8 +95,7 @@ fn put_response_line(
     out.push(b' ')?;
     put_decimal(alloc, out, u64::from(id.number()))?;
     out.extend_from_slice(comment(code))?;
-    out.extend_from_slice(b"\r\n")?;
-    Ok(())
+    out.extend_from_slice(b"\r\n")
 }
 
 #[tactic(auto, unfolding(crate::specs::Writing::param_line))]
@@ -112,8 +109,7 @@ fn put_param_line(out: &mut Vec<u8>, param: &Param<'_>) -> Result<(), OutOfMemor
         out.push(b' ')?;
         out.extend_from_slice(value)?;
     }
-    out.extend_from_slice(b"\r\n")?;
-    Ok(())
+    out.extend_from_slice(b"\r\n")
 }
 
 fn put_params(out: &mut Vec<u8>, params: &[Param<'_>]) -> Result<(), OutOfMemory>

@@ -48,8 +48,7 @@ fn put_behind(begun: &mut Vec<u8>, text: &[u8]) -> Result<(), OutOfMemory>
     ensures { OnOk result (begun.new.items ≡ with_text begun.old.items text.now) }
 {
     begun.extend_from_slice(DOT_LINE)?;
-    begun.extend_from_slice(text)?;
-    Ok(())
+    begun.extend_from_slice(text)
 }
 
 /// The datagrams that these texts go out in, each at most `max` bytes long: in order, successive ones joined by a line

@@ -62,8 +62,7 @@ fn put_datagram(
     let line = datagram_line(alloc, datagram)?;
     out.extend_from_slice(line.as_bytes())?;
     put_lines(out, arrived)?;
-    out.extend_from_slice(b"--\n")?;
-    Ok(())
+    out.extend_from_slice(b"--\n")
 }
 
 // Carries datagrams to the call agent in their order, and prints each as it arrives there.
@@ -120,8 +119,7 @@ pub fn put_refusal(alloc: Global, out: &mut Vec<u8>, refusal: Refusal) -> Result
     ensures err { OnErr result (out.new.items ≡ out.old.items) }
 {
     let line = refusal_line(alloc, refusal)?;
-    out.extend_from_slice(line.as_bytes())?;
-    Ok(())
+    out.extend_from_slice(line.as_bytes())
 }
 
 fn hook_word(hook: Hook) -> &'static [u8]
@@ -203,8 +201,7 @@ fn put_connection(
 {
     write_number(alloc, out, connection.number)?;
     out.push(b':')?;
-    out.extend_from_slice(mode_text(connection.mode))?;
-    Ok(())
+    out.extend_from_slice(mode_text(connection.mode))
 }
 
 fn put_more_connections(
@@ -269,8 +266,7 @@ fn put_head(alloc: Global, out: &mut Vec<u8>, line: u16, hook: Hook) -> Result<(
     out.extend_from_slice(b"line ")?;
     put_decimal(alloc, out, u64::from(line))?;
     out.push(b' ')?;
-    out.extend_from_slice(hook_word(hook))?;
-    Ok(())
+    out.extend_from_slice(hook_word(hook))
 }
 
 #[tactic(auto, unfolding(crate::specs::Printing::lost_shown))]
@@ -306,6 +302,5 @@ pub fn put_line(
     ensures err { OnErr result (out.new.items ≡ out.old.items) }
 {
     let text = line_text(alloc, status)?;
-    out.extend_from_slice(&text)?;
-    Ok(())
+    out.extend_from_slice(&text)
 }

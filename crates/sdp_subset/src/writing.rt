@@ -16,8 +16,7 @@ use std::net::Ipv4Addr;
 fn put_octet(alloc: Global, out: &mut Vec<u8>, octet: u8) -> Result<(), OutOfMemory>
     ensures { OnOk result (out.new.items ≡ out.old.items ++ decimal octet) }
 {
-    put_decimal(alloc, out, u64::from(octet))?;
-    Ok(())
+    put_decimal(alloc, out, u64::from(octet))
 }
 
 // The four octets of an address, each of which has eight bits.
@@ -40,8 +39,7 @@ fn put_address(alloc: Global, out: &mut Vec<u8>, address: Ipv4Addr) -> Result<()
     out.push(b'.')?;
     put_octet(alloc, out, c)?;
     out.push(b'.')?;
-    put_octet(alloc, out, d)?;
-    Ok(())
+    put_octet(alloc, out, d)
 }
 
 #[tactic(auto, unfolding(crate::specs::Writing::origin_line))]
@@ -59,8 +57,7 @@ fn put_origin(
     put_decimal(alloc, out, u64::from(origin.version))?;
     out.extend_from_slice(b" IN IP4 ")?;
     put_address(alloc, out, address)?;
-    out.extend_from_slice(b"\r\n")?;
-    Ok(())
+    out.extend_from_slice(b"\r\n")
 }
 
 fn put_origin_lines(
@@ -84,8 +81,7 @@ fn put_connection(alloc: Global, out: &mut Vec<u8>, address: Ipv4Addr) -> Result
 {
     out.extend_from_slice(b"c=IN IP4 ")?;
     put_address(alloc, out, address)?;
-    out.extend_from_slice(b"\r\n")?;
-    Ok(())
+    out.extend_from_slice(b"\r\n")
 }
 
 fn put_time_lines(out: &mut Vec<u8>, origin: Option<Origin>) -> Result<(), OutOfMemory>
@@ -120,8 +116,7 @@ fn put_audio(
     put_decimal(alloc, out, u64::from(port))?;
     out.extend_from_slice(b" RTP/AVP")?;
     put_payloads(alloc, out, payloads)?;
-    out.extend_from_slice(b"\r\n")?;
-    Ok(())
+    out.extend_from_slice(b"\r\n")
 }
 
 #[tactic(auto, unfolding(crate::specs::Writing::ptime_line))]

@@ -50,8 +50,7 @@ fn put_address(
 {
     let text = format!(in alloc; "{address}")?;
     out.extend_from_slice(before)?;
-    out.extend_from_slice(text.as_bytes())?;
-    Ok(())
+    out.extend_from_slice(text.as_bytes())
 }
 
 // The lines of a datagram. A `raw` can't say the empty one.
@@ -72,8 +71,7 @@ fn put_datagram(
     put_address(alloc, out, b"raw ", source)?;
     out.extend_from_slice(b" ")?;
     put_hex(out, bytes)?;
-    out.extend_from_slice(b"\n")?;
-    Ok(())
+    out.extend_from_slice(b"\n")
 }
 
 // The line of a moment.
@@ -82,8 +80,7 @@ fn put_moment(alloc: Global, out: &mut Vec<u8>, moment: u64) -> Result<(), OutOf
 {
     out.extend_from_slice(b"at ")?;
     put_decimal(alloc, out, moment)?;
-    out.extend_from_slice(b"\n")?;
-    Ok(())
+    out.extend_from_slice(b"\n")
 }
 
 /// The clock of a trace: the moment that its script has come to, and the one that its gateway has, in ms. After an error of any call
@@ -151,8 +148,7 @@ impl Script {
             return Ok(());
         }
         self.put_clock(alloc, out)?;
-        put_outputs(alloc, out, sent)?;
-        Ok(())
+        put_outputs(alloc, out, sent)
     }
 
     /// Puts a datagram that came, and what the gateway sent at it.
@@ -171,8 +167,7 @@ impl Script {
     {
         self.put_clock(alloc, out)?;
         put_datagram(alloc, out, source, bytes)?;
-        put_outputs(alloc, out, sent)?;
-        Ok(())
+        put_outputs(alloc, out, sent)
     }
 
     // Puts a line for the telephones.
@@ -204,8 +199,7 @@ impl Script {
         ensures script { OnOk result (self.new ≡ at_clock self.old) }
     {
         self.put_typed(alloc, out, line)?;
-        put_outputs(alloc, out, sent)?;
-        Ok(())
+        put_outputs(alloc, out, sent)
     }
 
     /// Puts a line for the telephones and what was answered, as it is printed: why an act was refused, or what a line is.
@@ -220,7 +214,6 @@ impl Script {
         ensures script { OnOk result (self.new ≡ at_clock self.old) }
     {
         self.put_typed(alloc, out, line)?;
-        put_shown(out, printed)?;
-        Ok(())
+        put_shown(out, printed)
     }
 }

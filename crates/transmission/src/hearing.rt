@@ -51,8 +51,7 @@ fn refuse(
     }
     let confirms = Sequence::new(alloc);
     let refusal = AnswerContent::plain(alloc, code);
-    answer(alloc, history, origin, now, confirms, &refusal, out)?;
-    Ok(())
+    answer(alloc, history, origin, now, confirms, &refusal, out)
 }
 
 // Whether a message is left to the end: a command that is new, or a response, which is acknowledged.
