@@ -35,7 +35,7 @@ use Rattle.machine_laws.specs.Saying.{Begun, OneOf, begun_at, begun_in}
 use Rattle.machine_laws.proofs.EachLemmas.{one_before, one_behind}
 use Rattle.dialled_once.specs.Course.{CourseStep}
 use Rattle.dialled_once.proofs.CourseLemmas.{AnyResponse, EndpointTurns}
-use Rattle.dialled_end_to_end.proofs.RestLemmas.{begun_both}
+use Rattle.delivery_laws.proofs.RestLemmas.{begun_both}
 
 module _ (id : ℕ) where
   -- a command with this id began among these

@@ -42,8 +42,8 @@ use Rattle.machine_laws.proofs.AlikeLemmas.{behind_acknowledged}
 use Rattle.delivery_laws.proofs.RoundLaws.{sent_on}
 use Rattle.machine_laws.proofs.OwningLemmas.{LineTurns, of_both, on_one_line, responded_owned, sent_by, turn_if}
 use Rattle.dialled_once.proofs.CourseLemmas.{AnyResponse, events_stand, hear_all}
-use Rattle.dialled_end_to_end.proofs.RestLemmas.{begun_both}
-use Rattle.dialled_end_to_end.proofs.WorldLemmas.{line_begun, line_sent}
+use Rattle.delivery_laws.proofs.RestLemmas.{begun_both}
+use Rattle.delivery_laws.proofs.WorldLemmas.{line_begun, line_sent}
 use Rattle.agent_core.specs.declared.packet.End.TheVariants.{AgentEnd as agent_end}
 use Rattle.agent_core.specs.World.{World, WorldStep, delivering, gateway_in, plain_world, steps_are_taken, to_gateway, world_opening}
 use Rattle.world_laws.specs.Landing.{is_final}

@@ -28,7 +28,7 @@ use Rattle.dialled_once.proofs.DialledLemmas.{BeginsUntouched, Told, calls_begin
 use Rattle.dialled_once.proofs.OverLists.{always}
 use Rattle.call_agent.specs.Agent.{observed_on}
 use Rattle.agent_core.specs.World.{World, WorldStep, agent_in, gateway_in, now_in, plain_world, steps_are_taken, world_opening}
-use Rattle.dialled_end_to_end.specs.GivenUp.{has_given_up}
+use Rattle.delivery_laws.specs.GivenUp.{has_given_up}
 use Rattle.delivery_laws.specs.Fairness.{AgentAlwaysHasRoom, HadItsTime, IsFair}
 use Rattle.delivery_laws.specs.Rounds.{IsAnsweredWithin, IsAskedWithin, of_telephone, rounds_take}
 use Rattle.delivery_laws.proofs.DialledLaws.{taken_in_time}

@@ -1,6 +1,6 @@
 -- The definitions opened, so that worked examples compute.
 use Rattle.std.specs.Prelude.{⊤}
-use Rattle.dialled_end_to_end.proofs.Computing.{on_examples as end_examples}
+use Rattle.delivery_laws.proofs.DialledComputing.{on_examples as end_examples}
 
 unfoldable pub on_examples : ⊤
 unfolding end_examples

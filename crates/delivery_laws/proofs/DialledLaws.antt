@@ -13,8 +13,8 @@ use Rattle.dialled_once.specs.Dialled.{IsAskedForAll, done_in}
 use Rattle.dialled_once.specs.Keeping.{happened_in}
 use Rattle.call_agent.specs.Agent.{observed_on}
 use Rattle.agent_core.specs.World.{WorldStep, agent_in, gateway_in, plain_world, steps_are_taken, world_opening}
-use Rattle.dialled_end_to_end.specs.GivenUp.{has_given_up}
-use Rattle.dialled_end_to_end.proofs.EndLemmas.{dialled_on}
+use Rattle.delivery_laws.specs.GivenUp.{has_given_up}
+use Rattle.delivery_laws.proofs.EndLemmas.{dialled_on}
 use Rattle.delivery_laws.specs.Fairness.{AgentAlwaysHasRoom, HadItsTime, IsFair}
 use Rattle.delivery_laws.proofs.NoneLeftLaws.{nothing_left}
 

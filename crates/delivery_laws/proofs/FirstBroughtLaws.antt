@@ -10,7 +10,7 @@ use Rattle.machine_laws.specs.Saying.{Begun, OneOf, begun_at, begun_in}
 use Rattle.machine_laws.proofs.EachLemmas.{any_from_one, one_before, one_behind}
 use Rattle.agent_core.specs.World.{WorldStep, now_in, plain_world, steps_are_taken, world_opening}
 use Rattle.world_laws.specs.Reached.{own_in}
-use Rattle.dialled_end_to_end.proofs.BeganLemmas.{line_began}
+use Rattle.delivery_laws.proofs.BeganLemmas.{line_began}
 use Rattle.delivery_laws.specs.Taking.{IsOwn}
 use Rattle.delivery_laws.specs.Fairness.{AgentAlwaysHasRoom, GoesToAgent}
 use Rattle.delivery_laws.proofs.BroughtLaws.{HandsOver, IsBrought, brought_with}

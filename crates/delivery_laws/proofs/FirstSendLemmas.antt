@@ -24,8 +24,8 @@ use Rattle.agent_core.specs.declared.packet.Posted.{Posted}
 use Rattle.agent_core.specs.World.{World, WorldStep, delivered, delivered_from, delivering, dialling, gateway_address, gateway_in, is_among, issuing, plain_world, posted_as, steps_are_taken, ticking, to_agent, to_gateway, went, world_opening}
 use Rattle.world_laws.specs.Reached.{own_in}
 use Rattle.world_laws.proofs.LinkLaws.{world_linked}
-use Rattle.dialled_end_to_end.proofs.BeganLemmas.{BeganAt, began_at, line_began}
-use Rattle.dialled_end_to_end.proofs.RestLemmas.{begun_both}
+use Rattle.delivery_laws.proofs.BeganLemmas.{BeganAt, began_at, line_began}
+use Rattle.delivery_laws.proofs.RestLemmas.{begun_both}
 use Rattle.delivery_laws.specs.Fairness.{IsHandedOver}
 use Rattle.delivery_laws.proofs.FairLaws.{IsBefore, found_within, head_same, later_before, tail_same}
 use Rattle.delivery_laws.proofs.PlaceLemmas.{one_beyond, one_parted}

@@ -10,7 +10,7 @@ use Rattle.plain_machine.specs.Message.{Sent}
 use Rattle.machine_laws.specs.Saying.{Begun, OneOf, begun_in}
 use Rattle.machine_laws.proofs.EachLemmas.{any_from_one, one_before, one_from_any}
 use Rattle.delivery_laws.proofs.RoundLaws.{sent_on}
-use Rattle.dialled_end_to_end.proofs.RestLemmas.{begun_both}
+use Rattle.delivery_laws.proofs.RestLemmas.{begun_both}
 use Rattle.call_agent.specs.Hearing.{hears}
 use Rattle.agent_core.specs.declared.packet.End.{End}
 use Rattle.agent_core.specs.declared.packet.End.TheVariants.{AgentEnd as agent_end, GatewayEnd as gateway_end}

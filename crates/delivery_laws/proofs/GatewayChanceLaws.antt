@@ -65,7 +65,7 @@ use Rattle.dialled_once.proofs.CourseLemmas.{AllHear, Hears}
 use Rattle.agent_core.specs.World.{WorldStep, now_in, plain_world, steps_are_taken, world_opening}
 use Rattle.delivery_laws.specs.Chances.{chances}
 use Rattle.delivery_laws.specs.OwnChances.{HasCome, IsOfLine, IsToldAfter}
-use Rattle.dialled_end_to_end.proofs.RestLemmas.{answer_begins}
+use Rattle.delivery_laws.proofs.RestLemmas.{answer_begins}
 use Rattle.delivery_laws.proofs.OnTurns.{IsOn, Sends, again_sends, all_out, begin_sends, heard_id, over_sends, put_off_sends, still_sends, WentOut}
 use Rattle.delivery_laws.proofs.LaterTurns.{DueLater, put_off_later, soon}
 use Rattle.delivery_laws.proofs.OwnChanceLaws.{Came, each_done, hear_came}

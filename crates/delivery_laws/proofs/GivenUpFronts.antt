@@ -17,9 +17,9 @@ use Rattle.machine_laws.specs.Belonging.{of_line}
 use Rattle.machine_laws.specs.Saying.{Begun, begun_in}
 use Rattle.machine_laws.proofs.OwningLemmas.{of_both}
 use Rattle.dialled_once.proofs.CourseLemmas.{events_stand, hear_all}
-use Rattle.dialled_end_to_end.specs.GivenUp.{has_given_up}
-use Rattle.dialled_end_to_end.proofs.FlightLemmas.{Fine, Flies, FliesBeside, flight_turns, flying, gave_nothing_up, opening_flies, starts_gone, stays_gone}
-use Rattle.dialled_end_to_end.proofs.WorldLemmas.{none_comes}
+use Rattle.delivery_laws.specs.GivenUp.{has_given_up}
+use Rattle.delivery_laws.proofs.DialledFlightLemmas.{Fine, Flies, FliesBeside, flight_turns, flying, gave_nothing_up, opening_flies, starts_gone, stays_gone}
+use Rattle.delivery_laws.proofs.WorldLemmas.{none_comes}
 use Rattle.delivery_laws.proofs.RoundLaws.{sent_on}
 
 abbrev AnyId : ℕ → Type 0

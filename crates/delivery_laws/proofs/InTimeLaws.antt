@@ -29,9 +29,9 @@ use Rattle.call_agent.specs.Agent.{observed_on}
 use Rattle.agent_core.specs.World.{World, WorldStep, agent_in, gateway_in, now_in, plain_world, steps_are_taken, world_opening}
 use Rattle.world_laws.specs.Reached.{own_in}
 use Rattle.world_laws.proofs.LinkLaws.{world_linked}
-use Rattle.dialled_end_to_end.specs.GivenUp.{has_given_up}
-use Rattle.dialled_end_to_end.proofs.BeganLemmas.{began_more, line_began}
-use Rattle.dialled_end_to_end.proofs.WorldLemmas.{line_sent}
+use Rattle.delivery_laws.specs.GivenUp.{has_given_up}
+use Rattle.delivery_laws.proofs.BeganLemmas.{began_more, line_began}
+use Rattle.delivery_laws.proofs.WorldLemmas.{line_sent}
 use Rattle.delivery_laws.specs.Fairness.{AgentAlwaysHasRoom, GoesToAgent, HadItsTime, IsFair, ReachTheAgent}
 use Rattle.delivery_laws.specs.Rounds.{IsAnsweredWithin, IsAskedWithin, IsAwaited, rounds_take}
 use Rattle.delivery_laws.proofs.AnsweredLaws.{over_since}

@@ -12,14 +12,14 @@ use Rattle.machine_laws.specs.Saying.{Begun}
 use Rattle.machine_laws.proofs.LineLemmas.{place_of}
 use Rattle.agent_core.specs.World.{World, WorldStep, delivering, gateway_in, plain_world, steps_are_taken, world_opening}
 use Rattle.world_laws.specs.Reached.{Reached}
-use Rattle.dialled_end_to_end.specs.GivenUp.{has_given_up}
-use Rattle.dialled_end_to_end.proofs.BeganLemmas.{line_began, untaken_clash}
-use Rattle.dialled_end_to_end.proofs.EndLemmas.{left_in, paired}
-use Rattle.dialled_end_to_end.proofs.FlightLemmas.{flying}
-use Rattle.dialled_end_to_end.proofs.NumberTurns.{line_counted}
-use Rattle.dialled_end_to_end.proofs.NumberedLemmas.{Numbered}
-use Rattle.dialled_end_to_end.proofs.PairLemmas.{LastFlies, Paired, StandsLate, pairs_many}
-use Rattle.dialled_end_to_end.proofs.PairedSteps.{world_paired}
+use Rattle.delivery_laws.specs.GivenUp.{has_given_up}
+use Rattle.delivery_laws.proofs.BeganLemmas.{line_began, untaken_clash}
+use Rattle.delivery_laws.proofs.EndLemmas.{left_in, paired}
+use Rattle.delivery_laws.proofs.DialledFlightLemmas.{flying}
+use Rattle.delivery_laws.proofs.NumberTurns.{line_counted}
+use Rattle.delivery_laws.proofs.NumberedLemmas.{Numbered}
+use Rattle.delivery_laws.proofs.PairLemmas.{LastFlies, Paired, StandsLate, pairs_many}
+use Rattle.delivery_laws.proofs.PairedSteps.{world_paired}
 use Rattle.delivery_laws.specs.Fairness.{AgentAlwaysHasRoom, HadItsTime, IsFair}
 use Rattle.delivery_laws.proofs.FairLaws.{IsBefore}
 use Rattle.delivery_laws.proofs.FirstBroughtLaws.{IsBroughtThen, brought_then}

@@ -32,7 +32,7 @@ use Rattle.dialled_once.specs.Course.{CourseStep, accepts, course_at, course_fro
 use Rattle.dialled_once.specs.Dialled.{done_in}
 use Rattle.dialled_once.proofs.CourseLemmas.{AllHear, events_stand, hear_all}
 use Rattle.dialled_once.proofs.OverLists.{always}
-use Rattle.dialled_end_to_end.specs.GivenUp.{has_given_up}
+use Rattle.delivery_laws.specs.GivenUp.{has_given_up}
 use Rattle.delivery_laws.specs.Rounds.{IsAnsweredWithin, IsAskedWithin, of_telephone, rounds_take}
 use Rattle.delivery_laws.proofs.AtOnceLemmas.{AreAt, act_at_once, datagram_at_once}
 use Rattle.delivery_laws.proofs.OutLemmas.{NormalIsFree, calls_free}

@@ -56,7 +56,7 @@ use Rattle.dialled_once.specs.Dialled.{done_in}
 use Rattle.dialled_once.proofs.CourseLemmas.{EndpointTurns, TurnKeeps}
 use Rattle.dialled_once.proofs.DialledLemmas.{done_both}
 use Rattle.dialled_once.proofs.EndpointLemmas.{steps_in}
-use Rattle.dialled_end_to_end.specs.GivenUp.{announces}
+use Rattle.delivery_laws.specs.GivenUp.{announces}
 use Rattle.delivery_laws.specs.Rounds.{of_telephone}
 use Rattle.delivery_laws.proofs.OutLemmas.{BackOf, Detects, Grows, Out, Parts, answered_back, answered_out, asked_back, asked_out, asked_waiting, back_few, fired_shape, grown, held_in, opened_back, parts_of_back, phoned_shape}
 

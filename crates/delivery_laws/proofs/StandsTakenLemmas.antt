@@ -16,12 +16,12 @@ use Rattle.machine_laws.proofs.EachLemmas.{one_from_any, one_weaker}
 use Rattle.agent_core.specs.World.{World, WorldStep, now_in, plain_world, steps_are_taken, went, world_after, world_opening}
 use Rattle.world_laws.specs.Reached.{Reached, heard_in, reached, taken_in}
 use Rattle.world_laws.proofs.LinkLaws.{Linked, Rises, world_linked}
-use Rattle.dialled_end_to_end.proofs.GivenLemmas.{IsYoungAt, said_lately}
-use Rattle.dialled_end_to_end.proofs.MoveLemmas.{Move, agent_took, gateway_took, step_moves}
-use Rattle.dialled_end_to_end.proofs.PairLemmas.{StandsLate}
-use Rattle.dialled_end_to_end.proofs.PairedWorlds.{stands_late}
-use Rattle.dialled_end_to_end.proofs.TakenLemmas.{is_of_line}
-use Rattle.dialled_end_to_end.proofs.WorldLemmas.{line_taken}
+use Rattle.delivery_laws.proofs.GivenLemmas.{IsYoungAt, said_lately}
+use Rattle.delivery_laws.proofs.MoveLemmas.{Move, agent_took, gateway_took, step_moves}
+use Rattle.delivery_laws.proofs.PairLemmas.{StandsLate}
+use Rattle.delivery_laws.proofs.PairedWorlds.{stands_late}
+use Rattle.delivery_laws.proofs.DialledTakenLemmas.{is_of_line}
+use Rattle.delivery_laws.proofs.WorldLemmas.{line_taken}
 use Rattle.delivery_laws.specs.Taking.{IsTaken, agent_history}
 use Rattle.delivery_laws.proofs.FairLaws.{IsBefore}
 use Rattle.delivery_laws.proofs.ReturnedLaws.{plain_so, reads_so}

@@ -44,7 +44,7 @@ use Rattle.agent_core.specs.World.{World, WorldStep, agent_in, agent_of, gateway
 use Rattle.world_laws.specs.Reached.{Reached, heard_in, own_in, reached, reached_as}
 use Rattle.world_laws.proofs.LinkLaws.{GatewayPosts, GatewaySends, Linked, arrives_with, world_linked}
 use Rattle.world_laws.proofs.WorldLaws.{Came, Comes, Holding}
-use Rattle.dialled_end_to_end.proofs.WellLemmas.{IsWell, SaysWell, sent_well}
+use Rattle.delivery_laws.proofs.WellLemmas.{IsWell, SaysWell, sent_well}
 use Rattle.delivery_laws.specs.Taking.{IsConfirmedIn, agent_history}
 
 -- what was read has no K, where it is a command

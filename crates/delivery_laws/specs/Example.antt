@@ -23,7 +23,7 @@ use Rattle.mg_line.specs.declared.phone.Key.TheVariants.{Five, Six}
 use Rattle.plain_machine.specs.Event.{GatewayEvent, phone, tick}
 use Rattle.agent_core.specs.World.{World, WorldStep, gateway_in, delivering, dialling, issuing, now_in, plain_world, ticking}
 use Rattle.world_laws.specs.Example.{world, announced, audits, seconds}
-use Rattle.dialled_end_to_end.specs.Example as both_ends
+use Rattle.delivery_laws.specs.DialledExample as both_ends
 use Rattle.delivery_laws.specs.Copies.{gateway_firsts}
 
 -- the audit as it is issued, in packet 2

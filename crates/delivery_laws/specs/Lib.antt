@@ -7,3 +7,7 @@ pub mod Asking
 pub mod Fairness
 pub mod Rounds
 pub mod Example
+pub mod GivenUp
+pub mod Telling
+pub mod Untaken
+pub mod DialledExample

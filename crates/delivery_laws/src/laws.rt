@@ -40,7 +40,7 @@ ghost use Rattle.agent_core.specs.declared.packet.Posted.{Posted};
 ghost use Rattle.agent_core.specs.World.{WorldStep, agent_in, delivering, gateway_in, now_in, plain_world};
 ghost use Rattle.world_laws.specs.Landing.{is_final};
 ghost use Rattle.world_laws.specs.Reached.{Reached, own_in, taken_in};
-ghost use Rattle.dialled_end_to_end.specs.GivenUp.{has_given_up};
+ghost use Rattle.delivery_laws.specs.GivenUp.{has_given_up};
 ghost use Rattle.delivery_laws.specs.Copies.{IsRun, IsCopy, IsIssued, answer_wait, gateway_firsts, IsConfirmedAmong, HasRoom, IsAnswered, IsFinal, HasAnswer, IsServed};
 ghost use Rattle.delivery_laws.specs.Taking.{AgentHasRoom, IsConfirmedIn, IsOwn, IsTaken, agent_history};
 ghost use Rattle.delivery_laws.specs.Asking.{KeepsAsking};

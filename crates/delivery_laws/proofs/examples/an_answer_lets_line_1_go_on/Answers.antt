@@ -9,7 +9,7 @@ use Rattle.plain_machine.specs.declared.endpoint.Endpoint.{Endpoint}
 use Rattle.agent_core.specs.declared.packet.End.TheVariants.{AgentEnd}
 use Rattle.agent_core.specs.World.{gateway_in}
 use Rattle.world_laws.specs.Example.{world}
-use Rattle.dialled_end_to_end.specs.Example.{answered as told_anew, endpoint_then, taken}
+use Rattle.delivery_laws.specs.DialledExample.{answered as told_anew, endpoint_then, taken}
 use Rattle.delivery_laws.specs.GoingOn.{GoesOn}
 use Rattle.delivery_laws.proofs.Computing.{on_examples}
 use Rattle.delivery_laws.proofs.ExampleLemmas.{copy_at}

@@ -3,11 +3,11 @@ use Rattle.std.proofs.lemmas.Bool.{ltb-true}
 use Rattle.plain_machine.specs.Example.{two_lines}
 use Rattle.dialled_once.proofs.AskingLemmas.{notifies_each}
 use Rattle.world_laws.specs.Example.{world}
-use Rattle.dialled_end_to_end.specs.Example.{asked as asked_for_all}
+use Rattle.delivery_laws.specs.DialledExample.{asked as asked_for_all}
 use Rattle.delivery_laws.specs.Example.{answered_early, answered_unheard, lifted_since, took_between, took_first}
 use Rattle.agent_core.specs.declared.packet.End.TheVariants.{AgentEnd}
 use Rattle.world_laws.specs.Reached.{own_in}
-use Rattle.dialled_end_to_end.proofs.NumberLemmas.{few_are_begun}
+use Rattle.delivery_laws.proofs.DialledNumberLemmas.{few_are_begun}
 use Rattle.delivery_laws.proofs.Computing.{on_examples}
 use Rattle.delivery_laws.proofs.ExampleLemmas.{all_reach, copy_at, took_split}
 use Rattle.delivery_laws.proofs.FairExamples.{fair_is}

@@ -1,7 +1,7 @@
 use Rattle.std.proofs.Common.{refl, arith}
 use Rattle.std.proofs.lemmas.Bool.{ltb-true}
 use Rattle.dialled_once.proofs.AskingLemmas.{notifies_each}
-use Rattle.dialled_end_to_end.specs.Example.{asked as asked_for_all}
+use Rattle.delivery_laws.specs.DialledExample.{asked as asked_for_all}
 use Rattle.delivery_laws.specs.Example.{announced_anew, hasty, hasty_took, hasty_took_between, kept_back}
 use Rattle.delivery_laws.proofs.Computing.{on_examples}
 use Rattle.delivery_laws.proofs.ExampleLemmas.{all_reach, took_split}

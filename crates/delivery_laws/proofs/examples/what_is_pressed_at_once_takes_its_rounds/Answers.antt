@@ -4,8 +4,8 @@ use Rattle.plain_machine.specs.Example.{two_lines}
 use Rattle.dialled_once.proofs.AskingLemmas.{notifies_each}
 use Rattle.world_laws.specs.Reached.{own_in}
 use Rattle.world_laws.specs.Example.{world}
-use Rattle.dialled_end_to_end.specs.Example.{endpoint_then}
-use Rattle.dialled_end_to_end.proofs.NumberLemmas.{few_are_begun}
+use Rattle.delivery_laws.specs.DialledExample.{endpoint_then}
+use Rattle.delivery_laws.proofs.DialledNumberLemmas.{few_are_begun}
 use Rattle.delivery_laws.specs.Example.{pressed_at_once, slowly, took_between, took_first}
 use Rattle.delivery_laws.proofs.Computing.{on_examples}
 use Rattle.delivery_laws.proofs.ExampleLemmas.{all_reach, had_its_time, took_split}

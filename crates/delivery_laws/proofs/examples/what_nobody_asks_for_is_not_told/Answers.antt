@@ -3,7 +3,7 @@ use Rattle.std.proofs.lemmas.Bool.{ltb-true}
 use Rattle.plain_machine.specs.Event.{datagram, tick}
 use Rattle.plain_machine.specs.Example.{two_lines, agent}
 use Rattle.dialled_once.proofs.AskingLemmas.{notifies_each}
-use Rattle.dialled_end_to_end.specs.Example.{endpoint_in}
+use Rattle.delivery_laws.specs.DialledExample.{endpoint_in}
 use Rattle.delivery_laws.specs.Example.{asked_in_step, dialled_in_step, took_between, took_first, unasked}
 use Rattle.delivery_laws.proofs.Computing.{on_examples}
 use Rattle.delivery_laws.proofs.ExampleLemmas.{all_reach, took_split}

@@ -3,7 +3,7 @@ use Rattle.std.proofs.lemmas.Bool.{ltb-true}
 use Rattle.plain_machine.specs.Example.{two_lines}
 use Rattle.dialled_once.specs.Example.{lifted as off_hook}
 use Rattle.dialled_once.proofs.AskingLemmas.{notifies_each}
-use Rattle.dialled_end_to_end.specs.Example.{asked as asked_for_all, done_then, told_then}
+use Rattle.delivery_laws.specs.DialledExample.{asked as asked_for_all, done_then, told_then}
 use Rattle.delivery_laws.specs.Example.{kept_back, rested, took_first, took_since}
 use Rattle.delivery_laws.proofs.Computing.{on_examples}
 use Rattle.delivery_laws.proofs.ExampleLemmas.{all_reach, took_split, two_lines_set_up}

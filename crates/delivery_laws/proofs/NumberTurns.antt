@@ -43,8 +43,8 @@ use Rattle.plain_machine.specs.Machine.{endpoint_at, opening, opening_endpoint}
 use Rattle.machine_laws.specs.Belonging.{of_line}
 use Rattle.machine_laws.proofs.TurnLemmas.{on_made, of_line as of_its_line}
 use Rattle.machine_laws.proofs.WaitLaws.{opening_waits}
-use Rattle.dialled_end_to_end.proofs.RestLemmas.{answer_begins, begun_both}
-use Rattle.dialled_end_to_end.proofs.NumberedLemmas.{Follows, HasNumber, Numbered, numbered_more}
+use Rattle.delivery_laws.proofs.RestLemmas.{answer_begins, begun_both}
+use Rattle.delivery_laws.proofs.NumberedLemmas.{Follows, HasNumber, Numbered, numbered_more}
 
 -- the commands that began up to this number, which is free
 abbrev pub CountedTo : List Sent → ℕ → Type 0

@@ -46,8 +46,8 @@ use Rattle.machine_laws.proofs.FlightLaws.{WaitsOn, phoned_waits, fired_waits, a
 use Rattle.machine_laws.specs.Saying.{Begun, begun_in}
 use Rattle.machine_laws.proofs.EachLemmas.{Each, each_push}
 use Rattle.world_laws.proofs.LinkLaws.{final_is}
-use Rattle.dialled_end_to_end.specs.GivenUp.{announces, has_given_up}
-use Rattle.dialled_end_to_end.proofs.RestLemmas.{Rests, rests_is, rests_on, rests_again, flight_waits, noted_silent, asked_awaits, begun_both, answer_begins}
+use Rattle.delivery_laws.specs.GivenUp.{announces, has_given_up}
+use Rattle.delivery_laws.proofs.RestLemmas.{Rests, rests_is, rests_on, rests_again, flight_waits, noted_silent, asked_awaits, begun_both, answer_begins}
 use Rattle.dialled_once.specs.Course.{CourseStep}
 use Rattle.dialled_once.proofs.CourseLemmas.{EndpointTurns}
 

@@ -1,6 +1,6 @@
 use Rattle.std.proofs.Common.{refl}
-use Rattle.dialled_end_to_end.proofs.Computing.{on_examples}
-use Rattle.dialled_end_to_end.proofs.examples.what_is_dialled_goes_on_its_way.Goals as goal
+use Rattle.delivery_laws.proofs.DialledComputing.{on_examples}
+use Rattle.delivery_laws.proofs.dialled_examples.what_is_dialled_goes_on_its_way.Goals as goal
 
 -- all computed at once
 

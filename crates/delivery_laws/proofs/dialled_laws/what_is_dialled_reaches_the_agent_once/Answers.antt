@@ -1,5 +1,5 @@
-use Rattle.dialled_end_to_end.proofs.EndLemmas.{dialled_on, dialled_through}
-use Rattle.dialled_end_to_end.proofs.laws.what_is_dialled_reaches_the_agent_once.Goals as goal
+use Rattle.delivery_laws.proofs.EndLemmas.{dialled_on, dialled_through}
+use Rattle.delivery_laws.proofs.dialled_laws.what_is_dialled_reaches_the_agent_once.Goals as goal
 
 pub returns-clause-whole : goal.returns-clause-whole
 returns-clause-whole c =

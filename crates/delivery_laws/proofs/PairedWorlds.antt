@@ -19,11 +19,11 @@ use Rattle.world_laws.specs.Reached.{Reached, added_by, as_arrival, executed_wit
 use Rattle.world_laws.proofs.LinkLaws.{Rises}
 use Rattle.world_laws.proofs.ReachedLaws.{Apart}
 use Rattle.world_laws.proofs.WorldLaws.{Came, Comes}
-use Rattle.dialled_end_to_end.specs.GivenUp.{announces, has_given_up}
-use Rattle.dialled_end_to_end.proofs.CountLemmas.{Lately, few_behind}
-use Rattle.dialled_end_to_end.proofs.PairLemmas.{Spaced, StandsLate}
-use Rattle.dialled_end_to_end.proofs.TakenLemmas.{is_of_line}
-use Rattle.dialled_end_to_end.proofs.ToldLemmas.{is_mine}
+use Rattle.delivery_laws.specs.GivenUp.{announces, has_given_up}
+use Rattle.delivery_laws.proofs.CountLemmas.{Lately, few_behind}
+use Rattle.delivery_laws.proofs.PairLemmas.{Spaced, StandsLate}
+use Rattle.delivery_laws.proofs.DialledTakenLemmas.{is_of_line}
+use Rattle.delivery_laws.proofs.ToldLemmas.{is_mine}
 
 -- Of a line, by its ids
 

@@ -29,8 +29,8 @@ use Rattle.dialled_once.specs.Dialled.{told_along}
 use Rattle.dialled_once.proofs.CourseLemmas.{AnyResponse, EndpointTurns, answer_notifies, events_stand, hear_all}
 use Rattle.dialled_once.proofs.DialledLemmas.{told_both}
 use Rattle.dialled_once.proofs.EndpointLemmas.{steps_in}
-use Rattle.dialled_end_to_end.specs.Telling.{told_as}
-use Rattle.dialled_end_to_end.proofs.WellLemmas.{SaysWell, IsWell}
+use Rattle.delivery_laws.specs.Telling.{told_as}
+use Rattle.delivery_laws.proofs.WellLemmas.{SaysWell, IsWell}
 
 -- What the notifications among these messages tell
 

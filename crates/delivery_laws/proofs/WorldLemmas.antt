@@ -34,14 +34,14 @@ use Rattle.world_laws.specs.Reached.{Reached, own_in, taken_in}
 use Rattle.world_laws.proofs.LinkLaws.{taken_once, taken_as_sent, world_linked}
 use Rattle.world_laws.proofs.TakenLaws.{heard_was_taken}
 use Rattle.dialled_once.specs.Course.{CourseStep}
-use Rattle.dialled_end_to_end.specs.GivenUp.{has_given_up}
+use Rattle.delivery_laws.specs.GivenUp.{has_given_up}
 use Rattle.dialled_once.proofs.CourseLemmas.{AllHear, AnyResponse, Hears, Stands, EndpointTurns, events_stand, hear_all}
-use Rattle.dialled_end_to_end.proofs.FlightLemmas.{Fine, Flies, FliesBeside, flight_turns, flying, gave_nothing_up, opening_flies, starts_gone, stays_gone}
-use Rattle.dialled_end_to_end.proofs.WellLemmas.{IsWell, sent_well}
-use Rattle.dialled_end_to_end.proofs.ToldLemmas.{is_mine, mine_is}
-use Rattle.dialled_end_to_end.proofs.MatchLemmas.{Apart, In, Matches, apart_filtered, apart_from, begun_free, begun_one, in_mapped, taken_matches}
-use Rattle.dialled_end_to_end.proofs.TakenLemmas.{IsAsSent, is_of_line}
-use Rattle.dialled_end_to_end.proofs.MoveLemmas.{Move, gateway_took, agent_took, step_moves}
+use Rattle.delivery_laws.proofs.DialledFlightLemmas.{Fine, Flies, FliesBeside, flight_turns, flying, gave_nothing_up, opening_flies, starts_gone, stays_gone}
+use Rattle.delivery_laws.proofs.WellLemmas.{IsWell, sent_well}
+use Rattle.delivery_laws.proofs.ToldLemmas.{is_mine, mine_is}
+use Rattle.delivery_laws.proofs.MatchLemmas.{Apart, In, Matches, apart_filtered, apart_from, begun_free, begun_one, in_mapped, taken_matches}
+use Rattle.delivery_laws.proofs.DialledTakenLemmas.{IsAsSent, is_of_line}
+use Rattle.delivery_laws.proofs.MoveLemmas.{Move, gateway_took, agent_took, step_moves}
 
 -- All that a line sent, the commands that it began, and those of them that the agent took
 

@@ -27,9 +27,9 @@ use Rattle.dialled_once.specs.Dialled.{told_along}
 use Rattle.call_agent.specs.Taking.{command_of, taken_of, taken_on}
 use Rattle.agent_core.specs.World.{agent_of}
 use Rattle.world_laws.specs.Reached.{Reached, taken_of_command, taken_with, told_of}
-use Rattle.dialled_end_to_end.specs.Telling.{told_as}
-use Rattle.dialled_end_to_end.proofs.WellLemmas.{IsNotice, IsOwn, SaysWell, IsWell}
-use Rattle.dialled_end_to_end.proofs.ToldLemmas.{told_by, is_mine}
+use Rattle.delivery_laws.specs.Telling.{told_as}
+use Rattle.delivery_laws.proofs.WellLemmas.{IsNotice, IsOwn, SaysWell, IsWell}
+use Rattle.delivery_laws.proofs.ToldLemmas.{told_by, is_mine}
 
 -- it is a command of the line's own, by its id
 abbrev pub is_of_line : ℕ → Reached → Bool

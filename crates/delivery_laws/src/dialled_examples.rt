@@ -1,5 +1,5 @@
 //! Worked examples of the definitions, as theorems: each sentence of a definition has one that a slip in it breaks.
-#![tactic(auto, unfolding(crate::proofs::Computing::on_examples))]
+#![tactic(auto, unfolding(crate::proofs::DialledComputing::on_examples))]
 
 ghost use Rattle.std.specs.Prelude.{◌≡◌, ◌++◌, codes, [], ◌∷◌, true, false, Some, None, map, replicate};
 ghost use Rattle.mgcp_text.specs.declared.message.Message.TheVariants as messages;
@@ -18,10 +18,10 @@ ghost use Rattle.machine_laws.specs.Belonging.{of_line};
 ghost use Rattle.dialled_once.specs.Course.{course_from, course_of};
 ghost use Rattle.dialled_once.specs.Dialled.{IsAskedForAll};
 ghost use Rattle.dialled_once.specs.Keeping.{happened_in};
-ghost use Rattle.dialled_end_to_end.specs.GivenUp.{is_restart, announces, has_given_up};
+ghost use Rattle.delivery_laws.specs.GivenUp.{is_restart, announces, has_given_up};
 ghost use Rattle.dialled_once.specs.Example.{lifted as off_hook, five};
-ghost use Rattle.dialled_end_to_end.specs.Untaken.{has_taken, untaken};
-ghost use Rattle.dialled_end_to_end.specs.Example.{told_by, reporting, flying, taken_as, given_up_at, lifted, dialled, taken, answered, up_to_the_request, since_the_request, given_up, repeated, world, endpoint_then, done_then, told_then, untaken_then, left_then};
+ghost use Rattle.delivery_laws.specs.Untaken.{has_taken, untaken};
+ghost use Rattle.delivery_laws.specs.DialledExample.{told_by, reporting, flying, taken_as, given_up_at, lifted, dialled, taken, answered, up_to_the_request, since_the_request, given_up, repeated, world, endpoint_then, done_then, told_then, untaken_then, left_then};
 
 /// A notification tells what its O says, and no other text tells anything.
 pub fn notifications_alone_tell()

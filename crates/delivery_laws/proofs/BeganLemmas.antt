@@ -10,12 +10,12 @@ use Rattle.machine_laws.specs.Belonging.{of_line}
 use Rattle.machine_laws.specs.Saying.{Begun, begun_in}
 use Rattle.machine_laws.proofs.OwningLemmas.{of_both}
 use Rattle.agent_core.specs.World.{World, WorldStep, plain_world, went, world_after, world_opening}
-use Rattle.dialled_end_to_end.proofs.MoveLemmas.{Move, agent_took, gateway_took, step_moves}
+use Rattle.delivery_laws.proofs.MoveLemmas.{Move, agent_took, gateway_took, step_moves}
 use Rattle.world_laws.specs.Reached.{Reached}
-use Rattle.dialled_end_to_end.proofs.NumberedLemmas.{Numbered}
-use Rattle.dialled_end_to_end.proofs.PairLemmas.{Pairs, StandsLate, another, pairs_many}
-use Rattle.dialled_end_to_end.proofs.RestLemmas.{begun_both}
-use Rattle.dialled_end_to_end.proofs.WorldLemmas.{line_begun, sent_on, world_more}
+use Rattle.delivery_laws.proofs.NumberedLemmas.{Numbered}
+use Rattle.delivery_laws.proofs.PairLemmas.{Pairs, StandsLate, another, pairs_many}
+use Rattle.delivery_laws.proofs.RestLemmas.{begun_both}
+use Rattle.delivery_laws.proofs.WorldLemmas.{line_begun, sent_on, world_more}
 
 -- What a line began is the first of what it begins
 

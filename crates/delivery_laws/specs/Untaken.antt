@@ -5,7 +5,7 @@ use Rattle.mgcp_text.specs.Reading.{read_text}
 use Rattle.event_values.specs.declared.observed.Observed.{Observed}
 use Rattle.outbound.specs.Flight.{InFlight}
 use Rattle.world_laws.specs.Reached.{Reached}
-use Rattle.dialled_end_to_end.specs.Telling.{told_as}
+use Rattle.delivery_laws.specs.Telling.{told_as}
 
 -- one of these commands has this id
 abbrev pub has_taken : ℕ → List Reached → Bool

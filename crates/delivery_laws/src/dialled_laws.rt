@@ -15,8 +15,8 @@ ghost use Rattle.dialled_once.specs.Keeping.{happened_in};
 ghost use Rattle.call_agent.specs.Agent.{observed_on};
 ghost use Rattle.agent_core.specs.World.{WorldStep, agent_in, gateway_in, plain_world, steps_are_taken, world_opening};
 ghost use Rattle.world_laws.specs.Reached.{own_in, taken_in};
-ghost use Rattle.dialled_end_to_end.specs.GivenUp.{has_given_up};
-ghost use Rattle.dialled_end_to_end.specs.Untaken.{untaken};
+ghost use Rattle.delivery_laws.specs.GivenUp.{has_given_up};
+ghost use Rattle.delivery_laws.specs.Untaken.{untaken};
 
 /// Whatever the network does, what a telephone did is what the agent was told of its line, joined, and then what the command
 /// in flight tells if the agent hasn't taken it yet, and then what is quarantined, but for the ends of signals: nothing is

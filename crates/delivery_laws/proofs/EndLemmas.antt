@@ -27,17 +27,17 @@ use Rattle.agent_core.specs.World.{World, WorldStep, agent_in, gateway_in, plain
 use Rattle.world_laws.specs.Reached.{Reached, own_in, taken_in}
 use Rattle.world_laws.proofs.LinkLaws.{taken_as_sent}
 use Rattle.world_laws.proofs.ToldLaws.{told_is}
-use Rattle.dialled_end_to_end.specs.GivenUp.{has_given_up}
-use Rattle.dialled_end_to_end.specs.Telling.{told_as}
-use Rattle.dialled_end_to_end.specs.Untaken.{has_taken, untaken}
-use Rattle.dialled_end_to_end.proofs.FlightLemmas.{flying, gave_nothing_up}
-use Rattle.dialled_end_to_end.proofs.WellLemmas.{IsWell, sent_well}
-use Rattle.dialled_end_to_end.proofs.ToldLemmas.{begun_tell, course_tells, told_by}
-use Rattle.dialled_end_to_end.proofs.PairLemmas.{Paired, pairs_tell}
-use Rattle.dialled_end_to_end.proofs.PairedSteps.{world_paired}
-use Rattle.dialled_end_to_end.proofs.MatchLemmas.{Apart, In, Last, Matches, TellsAs, apart_clash, apart_front, each_in, each_two, ends_same, in_of_each, last_in, last_of, one_with, tell_same}
-use Rattle.dialled_end_to_end.proofs.TakenLemmas.{IsAsSent, is_of_line, taken_tells, told_taken}
-use Rattle.dialled_end_to_end.proofs.WorldLemmas.{WasTaken, begun_ids, known, line_begun, line_sent, line_taken, settled_taken, taken_ids, taken_mine, world_matches}
+use Rattle.delivery_laws.specs.GivenUp.{has_given_up}
+use Rattle.delivery_laws.specs.Telling.{told_as}
+use Rattle.delivery_laws.specs.Untaken.{has_taken, untaken}
+use Rattle.delivery_laws.proofs.DialledFlightLemmas.{flying, gave_nothing_up}
+use Rattle.delivery_laws.proofs.WellLemmas.{IsWell, sent_well}
+use Rattle.delivery_laws.proofs.ToldLemmas.{begun_tell, course_tells, told_by}
+use Rattle.delivery_laws.proofs.PairLemmas.{Paired, pairs_tell}
+use Rattle.delivery_laws.proofs.PairedSteps.{world_paired}
+use Rattle.delivery_laws.proofs.MatchLemmas.{Apart, In, Last, Matches, TellsAs, apart_clash, apart_front, each_in, each_two, ends_same, in_of_each, last_in, last_of, one_with, tell_same}
+use Rattle.delivery_laws.proofs.DialledTakenLemmas.{IsAsSent, is_of_line, taken_tells, told_taken}
+use Rattle.delivery_laws.proofs.WorldLemmas.{WasTaken, begun_ids, known, line_begun, line_sent, line_taken, settled_taken, taken_ids, taken_mine, world_matches}
 
 -- Whether a command was taken
 

@@ -19,9 +19,9 @@ use Rattle.call_agent.specs.Agent.{observed_on}
 use Rattle.agent_core.specs.World.{World, WorldStep, issuing, dialling, ticking, delivering, agent_in, gateway_in, plain_world}
 use Rattle.world_laws.specs.Reached.{Reached, taken_in}
 use Rattle.world_laws.specs.Example.{seconds}
-use Rattle.dialled_end_to_end.specs.GivenUp.{has_given_up}
-use Rattle.dialled_end_to_end.specs.Telling.{told_as}
-use Rattle.dialled_end_to_end.specs.Untaken.{untaken}
+use Rattle.delivery_laws.specs.GivenUp.{has_given_up}
+use Rattle.delivery_laws.specs.Telling.{told_as}
+use Rattle.delivery_laws.specs.Untaken.{untaken}
 
 -- what a text tells
 abbrev pub told_by : List ℕ → List Observed

@@ -8,11 +8,11 @@ use Rattle.machine_laws.proofs.EachLemmas.{Each}
 use Rattle.world_laws.specs.Reached.{Reached}
 use Rattle.world_laws.proofs.ReachedLaws.{Apart}
 use Rattle.world_laws.proofs.WorldLaws.{Comes}
-use Rattle.dialled_end_to_end.specs.Telling.{told_as}
-use Rattle.dialled_end_to_end.proofs.FlightLemmas.{flying}
-use Rattle.dialled_end_to_end.proofs.NumberedLemmas.{Numbered, far_apart, numbered_back, numbered_front}
-use Rattle.dialled_end_to_end.proofs.TakenLemmas.{told_taken}
-use Rattle.dialled_end_to_end.proofs.ToldLemmas.{told_by}
+use Rattle.delivery_laws.specs.Telling.{told_as}
+use Rattle.delivery_laws.proofs.DialledFlightLemmas.{flying}
+use Rattle.delivery_laws.proofs.NumberedLemmas.{Numbered, far_apart, numbered_back, numbered_front}
+use Rattle.delivery_laws.proofs.DialledTakenLemmas.{told_taken}
+use Rattle.delivery_laws.proofs.ToldLemmas.{told_by}
 
 abbrev pub Pairs : List Begun → List Reached → Type 0
 Pairs [] [] = Unit {0}

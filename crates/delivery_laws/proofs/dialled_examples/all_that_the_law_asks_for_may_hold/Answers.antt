@@ -3,10 +3,10 @@ use Rattle.plain_machine.specs.Example.{two_lines}
 use Rattle.world_laws.specs.Reached.{own_in}
 use Rattle.dialled_once.proofs.AskingLemmas.{notifies_each}
 use Rattle.dialled_once.specs.Example.{lifted, five}
-use Rattle.dialled_end_to_end.specs.Example.{answered, done_then, left_then, told_then, untaken_then, world}
-use Rattle.dialled_end_to_end.proofs.NumberLemmas.{few_are_begun}
-use Rattle.dialled_end_to_end.proofs.Computing.{on_examples}
-use Rattle.dialled_end_to_end.proofs.examples.all_that_the_law_asks_for_may_hold.Goals as goal
+use Rattle.delivery_laws.specs.DialledExample.{answered, done_then, left_then, told_then, untaken_then, world}
+use Rattle.delivery_laws.proofs.DialledNumberLemmas.{few_are_begun}
+use Rattle.delivery_laws.proofs.DialledComputing.{on_examples}
+use Rattle.delivery_laws.proofs.dialled_examples.all_that_the_law_asks_for_may_hold.Goals as goal
 
 -- the gateway announced itself, and two events were notified
 three : length (own_in two_lines (world answered)) ≡ 3

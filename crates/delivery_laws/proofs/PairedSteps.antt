@@ -30,17 +30,17 @@ use Rattle.world_laws.proofs.ReachedLaws.{executed_apart, executed_each}
 use Rattle.world_laws.proofs.TakenLaws.{heard_lately}
 use Rattle.world_laws.proofs.WorldLaws.{Came, gateway_alone}
 use Rattle.dialled_once.proofs.CourseLemmas.{AllHear, events_stand}
-use Rattle.dialled_end_to_end.specs.GivenUp.{has_given_up}
-use Rattle.dialled_end_to_end.proofs.FlightLemmas.{Fine, Flies, Gone, FliesBeside, flight_turns, flying, gave_nothing_up, starts_gone}
-use Rattle.dialled_end_to_end.proofs.MoveLemmas.{Move, agent_took, gateway_took, step_moves}
-use Rattle.dialled_end_to_end.proofs.NumberedLemmas.{Numbered}
-use Rattle.dialled_end_to_end.proofs.NumberTurns.{line_counted}
-use Rattle.dialled_end_to_end.proofs.PairLemmas.{Paired, Spaced, StandsLate, begun_pairs, taken_pairs}
-use Rattle.dialled_end_to_end.proofs.PairedWorlds.{Cut, came_each, cut, given_back, line_spaced, stands_late}
-use Rattle.dialled_end_to_end.proofs.TakenLemmas.{is_of_line}
-use Rattle.dialled_end_to_end.proofs.ToldLemmas.{is_mine, mine_is}
-use Rattle.dialled_end_to_end.proofs.WellLemmas.{IsWell, sent_well}
-use Rattle.dialled_end_to_end.proofs.WorldLemmas.{IsFinal, WasTaken, hear_finals, line_begun, line_flies, line_sent, line_taken, mine_each, none_comes, sent_more, stays_up, taken_front, world_one}
+use Rattle.delivery_laws.specs.GivenUp.{has_given_up}
+use Rattle.delivery_laws.proofs.DialledFlightLemmas.{Fine, Flies, Gone, FliesBeside, flight_turns, flying, gave_nothing_up, starts_gone}
+use Rattle.delivery_laws.proofs.MoveLemmas.{Move, agent_took, gateway_took, step_moves}
+use Rattle.delivery_laws.proofs.NumberedLemmas.{Numbered}
+use Rattle.delivery_laws.proofs.NumberTurns.{line_counted}
+use Rattle.delivery_laws.proofs.PairLemmas.{Paired, Spaced, StandsLate, begun_pairs, taken_pairs}
+use Rattle.delivery_laws.proofs.PairedWorlds.{Cut, came_each, cut, given_back, line_spaced, stands_late}
+use Rattle.delivery_laws.proofs.DialledTakenLemmas.{is_of_line}
+use Rattle.delivery_laws.proofs.ToldLemmas.{is_mine, mine_is}
+use Rattle.delivery_laws.proofs.WellLemmas.{IsWell, sent_well}
+use Rattle.delivery_laws.proofs.WorldLemmas.{IsFinal, WasTaken, hear_finals, line_begun, line_flies, line_sent, line_taken, mine_each, none_comes, sent_more, stays_up, taken_front, world_one}
 
 -- What is known of a line in each world
 

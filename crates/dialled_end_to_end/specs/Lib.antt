@@ -1,4 +1,0 @@
-pub mod GivenUp
-pub mod Telling
-pub mod Untaken
-pub mod Example
