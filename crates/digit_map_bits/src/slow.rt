@@ -1,9 +1,8 @@
 //! A matcher that keeps its letters and walks the map anew for each.
 ghost use Rattle.std.specs.Prelude.{◌≡◌, ◌≤◌, length};
 
-use arrayvec::ArrayVec;
 use digit_map::{MOST_LETTERS, MapText, Matcher, Verdict, is_word, verdict_of};
-use mg_bytes::{Letter, OutOfMemory};
+use mg_bytes::{Few, Letter, OutOfMemory};
 use std::alloc::Global;
 use std::marker::Model;
 
@@ -12,7 +11,7 @@ use std::marker::Model;
 #[derive(Drop)]
 pub struct SlowMap {
     map: MapText,
-    letters: ArrayVec<Letter, MOST_LETTERS>,
+    letters: Few<Letter, MOST_LETTERS>,
 }
 
 impl Model for SlowMap {
@@ -22,18 +21,17 @@ impl Model for SlowMap {
 
     ghost Value = { Matching };
 
-    ghost view = { λ m. record { map = m.map; letters = m.letters.items } };
+    ghost view = { λ m. record { map = m.map; letters = m.letters } };
 
-    ghost invariant = { λ m. (is_map m.map ≡ true) × (length m.letters.items ≤ most_letters) };
+    ghost invariant = { λ m. (is_map m.map ≡ true) × (length m.letters ≤ most_letters) };
 }
 
 // The same letters in a list of this capacity.
-fn copied<const N: usize>(letters: &[Letter]) -> ArrayVec<Letter, N>
+fn copied<const N: usize>(letters: &[Letter]) -> Few<Letter, N>
     requires { length letters.now ≤ N }
-    ensures { result.items ≡ letters.now }
+    ensures { result ≡ letters.now }
 {
-    let mut copy: ArrayVec<Letter, N> = ArrayVec::from([Letter::Zero; N]);
-    copy.clear();
+    let mut copy = Few::new();
     for letter in letters {
         copy.push(*letter);
     }
@@ -73,7 +71,7 @@ impl SlowMap {
     fn is_critical(&self) -> bool
         ensures { result ≡ is_critical self.now.map self.now.letters }
     {
-        let mut word: ArrayVec<Letter, 65> = copied(self.letters.as_slice());
+        let mut word: Few<Letter, 65> = copied(self.letters.as_slice());
         word.push(Letter::Timer);
         is_word(self.map.as_bytes(), word.as_slice())
     }
@@ -92,7 +90,7 @@ impl Matcher for SlowMap {
     }
 
     fn clear(&mut self) {
-        self.letters.clear();
+        self.letters = Few::new();
     }
 
     fn feed(&mut self, letter: Letter) -> Verdict {

@@ -6,8 +6,7 @@ ghost use Rattle.endpoint_names.specs.Table.{route_to, has_name, fault_of, table
 use crate::domain::{LONGEST_DOMAIN, is_domain};
 use crate::fixed::FixedText;
 use crate::route::Route;
-use arrayvec::ArrayVec;
-use mg_bytes::same_no_case;
+use mg_bytes::{Few, same_no_case};
 use std::marker::Model;
 use std::net::Ipv4Addr;
 
@@ -80,7 +79,7 @@ fn route_to(hosts: &[Host], name: &[u8]) -> Option<Route<Ipv4Addr>>
 /// A contract sees the list of hosts: at most 64, each with a domain name.
 #[derive(Drop)]
 pub struct Table {
-    hosts: ArrayVec<Host, MOST_HOSTS>,
+    hosts: Few<Host, MOST_HOSTS>,
 }
 
 impl Model for Table {
@@ -92,10 +91,10 @@ impl Model for Table {
 
     ghost use Rattle.endpoint_names.specs.Table.{is_domain, most_hosts};
 
-    ghost view = { λ t. t.hosts.items };
+    ghost view = { λ t. t.hosts };
 
-    ghost invariant = { λ t. (length t.hosts.items ≤ most_hosts)
-        × (list_all (λ host. is_domain host.name) t.hosts.items ≡ true) };
+    ghost invariant = { λ t. (length t.hosts ≤ most_hosts)
+        × (list_all (λ host. is_domain host.name) t.hosts ≡ true) };
 }
 
 impl Table {
@@ -103,9 +102,7 @@ impl Table {
     pub fn new() -> Self
         ensures { result ≡ [] }
     {
-        Table {
-            hosts: ArrayVec::new(),
-        }
+        Table { hosts: Few::new() }
     }
 
     /// Adds a host with its addresses (RFC 3435, 2.1.4) after the others. After an error the table is as it was.
@@ -127,7 +124,7 @@ impl Table {
         if has_name(self.hosts.as_slice(), name) {
             return Err(TableFault::Twice);
         }
-        if self.hosts.is_full() {
+        if self.hosts.as_slice().len() >= MOST_HOSTS {
             return Err(TableFault::Full);
         }
         self.hosts.push(Host {

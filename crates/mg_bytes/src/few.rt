@@ -1,32 +1,34 @@
 //! A list of at most so many values, which takes no memory.
 ghost use Rattle.std.specs.Prelude.{◌≡◌, ◌<◌, ◌≤◌, ◌++◌, ◌∷◌, [], length};
 
-use arrayvec::ArrayVec;
 use std::marker::Model;
 
 /// At most `N` values in their order, which lie in the list itself. A contract sees their list.
 #[derive(Drop)]
 pub struct Few<T, const N: usize> {
-    items: ArrayVec<T, N>,
+    // So many values stand at the front.
+    places: [T; N],
+    count: usize,
 }
 
 impl<T, const N: usize> Model for Few<T, N> {
-    ghost use Rattle.std.specs.Prelude.{◌≤◌, List, length};
+    ghost use Rattle.std.specs.Prelude.{◌≤◌, List, take};
 
     ghost Value = { List T };
 
-    ghost view = { λ f. f.items.items };
+    ghost view = { λ f. take f.count f.places };
 
-    ghost invariant = { λ f. length f.items.items ≤ N };
+    ghost invariant = { λ f. f.count ≤ N };
 }
 
-impl<T: Drop + Default, const N: usize> Few<T, N> {
+impl<T: Copy + Default, const N: usize> Few<T, N> {
     /// No values.
     pub fn new() -> Self
         ensures { result ≡ [] }
     {
         Few {
-            items: ArrayVec::new(),
+            places: [T::default(); N],
+            count: 0,
         }
     }
 
@@ -35,7 +37,8 @@ impl<T: Drop + Default, const N: usize> Few<T, N> {
         requires { length self.old < N }
         ensures { self.new ≡ self.old ++ item ∷ [] }
     {
-        self.items.push(item);
+        self.places[self.count] = item;
+        self.count += 1;
     }
 
     /// The values.
@@ -43,6 +46,6 @@ impl<T: Drop + Default, const N: usize> Few<T, N> {
         ensures value { result.now ≡ self.now }
         ensures few { length result.now ≤ N }
     {
-        self.items.as_slice()
+        &self.places[..self.count]
     }
 }

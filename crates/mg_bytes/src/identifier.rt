@@ -6,37 +6,40 @@ ghost use Rattle.mg_bytes.specs.Lines.{is_line_feed};
 ghost use Rattle.mg_bytes.specs.Numbers.{is_hex_text, identifier_of};
 
 use crate::number::hex_text;
-use arrayvec::ArrayVec;
 use std::marker::Model;
-
-// The same bytes in a list of their own.
-fn copied(text: &[u8]) -> ArrayVec<u8, 32>
-    requires { length text.now ≤ 32 }
-    ensures { result.items ≡ text.now }
-{
-    let mut copy = ArrayVec::new();
-    for byte in text {
-        copy.push(*byte);
-    }
-    copy
-}
 
 /// The identifier of a call, a connection or a request, as it was spelled: 1 to 32 hexadecimal digits (RFC 3435,
 /// appendix A). It takes no memory. A contract sees the digits.
 #[derive(Drop)]
 pub struct Identifier {
-    digits: ArrayVec<u8, 32>,
+    // So many digits stand at the front.
+    places: [u8; 32],
+    count: usize,
 }
 
 impl Model for Identifier {
-    ghost use Rattle.std.specs.Prelude.{◌≡◌, true, List, ℕ};
+    ghost use Rattle.std.specs.Prelude.{◌≡◌, ◌≤◌, true, List, ℕ, take};
     ghost use Rattle.mg_bytes.specs.Numbers.{is_hex_text};
 
     ghost Value = { List ℕ };
 
-    ghost view = { λ i. i.digits.items };
+    ghost view = { λ i. take i.count i.places };
 
-    ghost invariant = { λ i. is_hex_text i.digits.items ≡ true };
+    ghost invariant = { λ i. (i.count ≤ 32) × (is_hex_text (take i.count i.places) ≡ true) };
+}
+
+// These bytes as digits.
+fn identifier_from(text: &[u8]) -> Identifier
+    requires short { length text.now ≤ 32 }
+    requires hex { is_hex_text text.now ≡ true }
+    ensures { result ≡ text.now }
+{
+    let mut places = [0; 32];
+    places[..text.len()].copy_from_slice(text);
+    Identifier {
+        places,
+        count: text.len(),
+    }
 }
 
 impl Identifier {
@@ -47,18 +50,14 @@ impl Identifier {
         if !hex_text(text) {
             return None;
         }
-        Some(Identifier {
-            digits: copied(text),
-        })
+        Some(identifier_from(text))
     }
 
     /// The identifier `0`.
     pub fn zero() -> Identifier
         ensures { result ≡ codes "0" }
     {
-        Identifier {
-            digits: copied(b"0"),
-        }
+        identifier_from(b"0")
     }
 
     /// Its digits: one word.
@@ -69,7 +68,7 @@ impl Identifier {
         ensures no_blanks { list_any is_blank result.now ≡ false }
         ensures one_line { list_any is_line_feed result.now ≡ false }
     {
-        self.digits.as_slice()
+        &self.places[..self.count]
     }
 
     /// An equal identifier.
@@ -77,7 +76,8 @@ impl Identifier {
         ensures { result ≡ self.now }
     {
         Identifier {
-            digits: copied(self.digits.as_slice()),
+            places: self.places,
+            count: self.count,
         }
     }
 }

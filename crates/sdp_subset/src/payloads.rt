@@ -3,7 +3,7 @@ ghost use Rattle.std.specs.Prelude.{◌≡◌, ◌≤◌, length, nat_le};
 ghost use Rattle.std.specs.List.{list_all};
 ghost use Rattle.sdp_subset.specs.Payloads.{is_payload, are_payloads};
 
-use arrayvec::ArrayVec;
+use mg_bytes::Few;
 use std::marker::Model;
 
 /// The most payload types of a stream (this gateway's profile).
@@ -29,11 +29,11 @@ fn all_payloads(list: &[u8]) -> bool
 }
 
 // The same numbers in a list of their own.
-fn copied(list: &[u8]) -> ArrayVec<u8, 32>
+fn copied(list: &[u8]) -> Few<u8, MOST_PAYLOADS>
     requires { length list.now ≤ 32 }
-    ensures { result.items ≡ list.now }
+    ensures { result ≡ list.now }
 {
-    let mut copy = ArrayVec::new();
+    let mut copy = Few::new();
     for payload in list {
         copy.push(*payload);
     }
@@ -44,7 +44,7 @@ fn copied(list: &[u8]) -> ArrayVec<u8, 32>
 /// list.
 #[derive(Drop)]
 pub struct Payloads {
-    list: ArrayVec<u8, 32>,
+    list: Few<u8, MOST_PAYLOADS>,
 }
 
 impl Model for Payloads {
@@ -53,9 +53,9 @@ impl Model for Payloads {
 
     ghost Value = { List ℕ };
 
-    ghost view = { λ p. p.list.items };
+    ghost view = { λ p. p.list };
 
-    ghost invariant = { λ p. are_payloads p.list.items ≡ true };
+    ghost invariant = { λ p. are_payloads p.list ≡ true };
 }
 
 impl Payloads {
@@ -79,7 +79,7 @@ impl Payloads {
         ensures added { result ≡ has_room self.old payload }
         ensures list { self.new ≡ with_payload self.old payload }
     {
-        if self.list.len() >= MOST_PAYLOADS || !is_payload(payload) {
+        if self.list.as_slice().len() >= MOST_PAYLOADS || !is_payload(payload) {
             return false;
         }
         self.list.push(payload);
