@@ -33,8 +33,8 @@ use Rattle.plain_machine.specs.Requesting.{asked_if, deed_on, with_connections, 
 use Rattle.plain_machine.specs.Responding.{opened_on, redirected_on, responded_as, responded_on}
 use Rattle.machine_laws.specs.Saying.{Begun, OneOf, begun_at, begun_in}
 use Rattle.machine_laws.proofs.EachLemmas.{one_before, one_behind}
-use Rattle.dialled_once.specs.Course.{CourseStep}
-use Rattle.dialled_once.proofs.CourseLemmas.{AnyResponse, EndpointTurns}
+use Rattle.delivery_laws.specs.Course.{CourseStep}
+use Rattle.delivery_laws.proofs.CourseLemmas.{AnyResponse, EndpointTurns}
 use Rattle.delivery_laws.proofs.RestLemmas.{begun_both}
 
 module _ (id : ℕ) where

@@ -41,7 +41,7 @@ use Rattle.machine_laws.specs.Belonging.{is_of, of_line}
 use Rattle.machine_laws.proofs.AlikeLemmas.{behind_acknowledged}
 use Rattle.delivery_laws.proofs.RoundLaws.{sent_on}
 use Rattle.machine_laws.proofs.OwningLemmas.{LineTurns, of_both, on_one_line, responded_owned, sent_by, turn_if}
-use Rattle.dialled_once.proofs.CourseLemmas.{AnyResponse, events_stand, hear_all}
+use Rattle.delivery_laws.proofs.CourseLemmas.{AnyResponse, events_stand, hear_all}
 use Rattle.delivery_laws.proofs.RestLemmas.{begun_both}
 use Rattle.delivery_laws.proofs.WorldLemmas.{line_begun, line_sent}
 use Rattle.agent_core.specs.declared.packet.End.TheVariants.{AgentEnd as agent_end}

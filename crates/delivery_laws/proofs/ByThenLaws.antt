@@ -19,13 +19,13 @@ use Rattle.plain_machine.proofs.ListLaws.{machine_on}
 use Rattle.machine_laws.proofs.LineLemmas.{place_of}
 use Rattle.machine_laws.specs.Belonging.{of_line}
 use Rattle.machine_laws.proofs.OwningLemmas.{of_both}
-use Rattle.dialled_once.specs.Course.{course_from, course_of}
-use Rattle.dialled_once.specs.Dialled.{IsAskedForAll, done_in}
-use Rattle.dialled_once.specs.Keeping.{AreOfPhone, KeepsAll, happened_in, is_of_phone}
-use Rattle.dialled_once.proofs.CountLemmas.{IsCounted}
-use Rattle.dialled_once.proofs.CourseLemmas.{AnyResponse, LineGoes, Stands, call_turns, events_stand, hear_all}
-use Rattle.dialled_once.proofs.DialledLemmas.{BeginsUntouched, Told, calls_begin, calls_count, calls_told, opening_begins, told_from}
-use Rattle.dialled_once.proofs.OverLists.{always}
+use Rattle.delivery_laws.specs.Course.{course_from, course_of}
+use Rattle.delivery_laws.specs.Dialled.{IsAskedForAll, done_in}
+use Rattle.delivery_laws.specs.Keeping.{AreOfPhone, KeepsAll, happened_in, is_of_phone}
+use Rattle.delivery_laws.proofs.OnceCountLemmas.{IsCounted}
+use Rattle.delivery_laws.proofs.CourseLemmas.{AnyResponse, LineGoes, Stands, call_turns, events_stand, hear_all}
+use Rattle.delivery_laws.proofs.DialledLemmas.{BeginsUntouched, Told, calls_begin, calls_count, calls_told, opening_begins, told_from}
+use Rattle.delivery_laws.proofs.OverLists.{always}
 use Rattle.call_agent.specs.Agent.{observed_on}
 use Rattle.agent_core.specs.World.{World, WorldStep, agent_in, gateway_in, now_in, plain_world, steps_are_taken, world_opening}
 use Rattle.delivery_laws.specs.GivenUp.{has_given_up}

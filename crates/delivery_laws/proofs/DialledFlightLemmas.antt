@@ -48,8 +48,8 @@ use Rattle.machine_laws.proofs.EachLemmas.{Each, each_push}
 use Rattle.world_laws.proofs.LinkLaws.{final_is}
 use Rattle.delivery_laws.specs.GivenUp.{announces, has_given_up}
 use Rattle.delivery_laws.proofs.RestLemmas.{Rests, rests_is, rests_on, rests_again, flight_waits, noted_silent, asked_awaits, begun_both, answer_begins}
-use Rattle.dialled_once.specs.Course.{CourseStep}
-use Rattle.dialled_once.proofs.CourseLemmas.{EndpointTurns}
+use Rattle.delivery_laws.specs.Course.{CourseStep}
+use Rattle.delivery_laws.proofs.CourseLemmas.{EndpointTurns}
 
 -- what is in flight, as what began
 abbrev pub flying : Option InFlight → List Begun

@@ -8,9 +8,9 @@ use Rattle.plain_machine.specs.Lists.{plain, sent_of}
 use Rattle.plain_machine.specs.Machine.{endpoint_at}
 use Rattle.plain_machine.specs.Setup.{IsSetUp}
 use Rattle.machine_laws.specs.Belonging.{of_line}
-use Rattle.dialled_once.specs.Course.{course_from, course_of}
-use Rattle.dialled_once.specs.Dialled.{IsAskedForAll, done_in}
-use Rattle.dialled_once.specs.Keeping.{happened_in}
+use Rattle.delivery_laws.specs.Course.{course_from, course_of}
+use Rattle.delivery_laws.specs.Dialled.{IsAskedForAll, done_in}
+use Rattle.delivery_laws.specs.Keeping.{happened_in}
 use Rattle.call_agent.specs.Agent.{observed_on}
 use Rattle.agent_core.specs.World.{WorldStep, agent_in, gateway_in, plain_world, steps_are_taken, world_opening}
 use Rattle.delivery_laws.specs.GivenUp.{has_given_up}

@@ -22,8 +22,8 @@ use Rattle.plain_machine.specs.Setup.{IsSetUp, most_lines}
 use Rattle.machine_laws.specs.Notified.{observed_with}
 use Rattle.machine_laws.specs.Saying.{Begun, OneOf, begun_by, begun_at, begun_in}
 use Rattle.machine_laws.proofs.EachLemmas.{Each, each_both, one_of_each, one_to}
-use Rattle.dialled_once.specs.Course.{notified_with}
-use Rattle.dialled_once.specs.Dialled.{told_along}
+use Rattle.delivery_laws.specs.Course.{notified_with}
+use Rattle.delivery_laws.specs.Dialled.{told_along}
 use Rattle.call_agent.specs.Taking.{command_of, taken_of, taken_on}
 use Rattle.agent_core.specs.World.{agent_of}
 use Rattle.world_laws.specs.Reached.{Reached, taken_of_command, taken_with, told_of}

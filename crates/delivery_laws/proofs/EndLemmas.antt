@@ -17,11 +17,11 @@ use Rattle.plain_machine.specs.Setup.{IsSetUp}
 use Rattle.machine_laws.specs.Saying.{HasNumbersLeft, Begun, OneOf}
 use Rattle.machine_laws.proofs.EachLemmas.{Each, each_back, each_front, each_from_all, each_weaker, one_from_any, one_weaker}
 use Rattle.machine_laws.proofs.LineLemmas.{place_of}
-use Rattle.dialled_once.specs.Course.{course_from, course_of}
-use Rattle.dialled_once.specs.Dialled.{done_in, told_along, IsAskedForAll, IsToldOnce}
-use Rattle.dialled_once.specs.Keeping.{happened_in}
-use Rattle.dialled_once.proofs.KeepingLemmas.{happened_both}
-use Rattle.dialled_once.proofs.OverLists.{course_told}
+use Rattle.delivery_laws.specs.Course.{course_from, course_of}
+use Rattle.delivery_laws.specs.Dialled.{done_in, told_along, IsAskedForAll, IsToldOnce}
+use Rattle.delivery_laws.specs.Keeping.{happened_in}
+use Rattle.delivery_laws.proofs.KeepingLemmas.{happened_both}
+use Rattle.delivery_laws.proofs.OverLists.{course_told}
 use Rattle.call_agent.specs.Agent.{observed_on}
 use Rattle.agent_core.specs.World.{World, WorldStep, agent_in, gateway_in, plain_world, steps_are_taken, world_opening}
 use Rattle.world_laws.specs.Reached.{Reached, own_in, taken_in}

@@ -15,7 +15,7 @@ use Rattle.plain_machine.specs.declared.setup.Setup.{Setup}
 use Rattle.plain_machine.specs.Event.{GatewayEvent}
 use Rattle.plain_machine.specs.Lists.{plain}
 use Rattle.plain_machine.specs.Machine.{Machine, endpoint_at}
-use Rattle.dialled_once.specs.Course.{course_from, requests_in}
+use Rattle.delivery_laws.specs.Course.{course_from, requests_in}
 use Rattle.agent_core.specs.World.{WorldStep, now_in, plain_world}
 use Rattle.delivery_laws.specs.Copies.{gateway_firsts}
 use Rattle.delivery_laws.specs.Fairness.{AgentAlwaysHasRoom, AlwaysHasRoom}

@@ -61,7 +61,7 @@ use Rattle.machine_laws.specs.Passing.{PassesAlone, goes_on, own_happens, rests}
 use Rattle.machine_laws.proofs.AlikeLemmas.{behind_acknowledged}
 use Rattle.machine_laws.proofs.OwningLemmas.{OwnedBy, acted_owned, deed_owned, of_both, on_many_lines, on_one_line, opened_owned, own_responded_owned, owned_here, redirected_owned, responded_owned}
 use Rattle.machine_laws.proofs.PassLemmas.{own_passes}
-use Rattle.dialled_once.proofs.CourseLemmas.{AllHear, Hears}
+use Rattle.delivery_laws.proofs.CourseLemmas.{AllHear, Hears}
 use Rattle.agent_core.specs.World.{WorldStep, now_in, plain_world, steps_are_taken, world_opening}
 use Rattle.delivery_laws.specs.Chances.{chances}
 use Rattle.delivery_laws.specs.OwnChances.{HasCome, IsOfLine, IsToldAfter}

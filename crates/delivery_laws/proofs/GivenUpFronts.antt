@@ -16,7 +16,7 @@ use Rattle.machine_laws.proofs.WaitLaws.{events_wait, opening_waits}
 use Rattle.machine_laws.specs.Belonging.{of_line}
 use Rattle.machine_laws.specs.Saying.{Begun, begun_in}
 use Rattle.machine_laws.proofs.OwningLemmas.{of_both}
-use Rattle.dialled_once.proofs.CourseLemmas.{events_stand, hear_all}
+use Rattle.delivery_laws.proofs.CourseLemmas.{events_stand, hear_all}
 use Rattle.delivery_laws.specs.GivenUp.{has_given_up}
 use Rattle.delivery_laws.proofs.DialledFlightLemmas.{Fine, Flies, FliesBeside, flight_turns, flying, gave_nothing_up, opening_flies, starts_gone, stays_gone}
 use Rattle.delivery_laws.proofs.WorldLemmas.{none_comes}

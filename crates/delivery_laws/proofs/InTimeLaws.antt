@@ -21,10 +21,10 @@ use Rattle.machine_laws.proofs.LineLemmas.{place_of}
 use Rattle.machine_laws.proofs.PostLogs.{InLog}
 use Rattle.machine_laws.proofs.WaitLaws.{opening_waits}
 use Rattle.machine_laws.specs.Belonging.{of_line}
-use Rattle.dialled_once.specs.Course.{course_from, course_of}
-use Rattle.dialled_once.specs.Dialled.{IsAskedForAll, done_in}
-use Rattle.dialled_once.specs.Keeping.{happened_in}
-use Rattle.dialled_once.proofs.CourseLemmas.{AnyResponse, events_stand, hear_all}
+use Rattle.delivery_laws.specs.Course.{course_from, course_of}
+use Rattle.delivery_laws.specs.Dialled.{IsAskedForAll, done_in}
+use Rattle.delivery_laws.specs.Keeping.{happened_in}
+use Rattle.delivery_laws.proofs.CourseLemmas.{AnyResponse, events_stand, hear_all}
 use Rattle.call_agent.specs.Agent.{observed_on}
 use Rattle.agent_core.specs.World.{World, WorldStep, agent_in, gateway_in, now_in, plain_world, steps_are_taken, world_opening}
 use Rattle.world_laws.specs.Reached.{own_in}

@@ -36,8 +36,8 @@ use Rattle.plain_machine.specs.Requesting.{with_entity, with_connections, asked_
 use Rattle.plain_machine.specs.Responding.{responded_as, responded_on, redirected_on, opened_on}
 use Rattle.plain_machine.proofs.LeftLemmas.{due_again}
 use Rattle.machine_laws.proofs.EachLemmas.{Each, each_back, each_front}
-use Rattle.dialled_once.specs.Course.{CourseStep}
-use Rattle.dialled_once.proofs.CourseLemmas.{EndpointTurns}
+use Rattle.delivery_laws.specs.Course.{CourseStep}
+use Rattle.delivery_laws.proofs.CourseLemmas.{EndpointTurns}
 use Rattle.delivery_laws.proofs.OnTurns.{provisional_id}
 
 pub soon : (moment : ℕ) → moment < moment + 500

@@ -83,3 +83,14 @@ pub mod PairedSteps
 pub mod EndLemmas
 pub mod DialledNumberLemmas
 pub mod DialledComputing
+pub mod KeepingLemmas
+pub mod FollowingLemmas
+pub mod ReadingLemmas
+pub mod EndpointLemmas
+pub mod CourseLemmas
+pub mod OnceCountLemmas
+pub mod DialledLemmas
+pub mod OverLists
+pub mod AskingLemmas
+pub mod OnceExampleLemmas
+pub mod OnceComputing

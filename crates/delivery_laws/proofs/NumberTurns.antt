@@ -34,8 +34,8 @@ use Rattle.plain_machine.specs.Posting.{first_number, id_on, line_of_id, number_
 use Rattle.plain_machine.specs.Requesting.{asked_if, deed_on, with_connections, with_entity}
 use Rattle.plain_machine.specs.Responding.{opened_on, redirected_on, responded_as, responded_on}
 use Rattle.machine_laws.specs.Saying.{Begun, begun_at, begun_in}
-use Rattle.dialled_once.specs.Course.{CourseStep}
-use Rattle.dialled_once.proofs.CourseLemmas.{AnyResponse, EndpointTurns, Stands, events_stand, hear_all}
+use Rattle.delivery_laws.specs.Course.{CourseStep}
+use Rattle.delivery_laws.proofs.CourseLemmas.{AnyResponse, EndpointTurns, Stands, events_stand, hear_all}
 use Rattle.plain_machine.specs.Arriving.{arrivals_of}
 use Rattle.plain_machine.specs.Event.{GatewayEvent}
 use Rattle.plain_machine.specs.Lists.{plain, sent_of}

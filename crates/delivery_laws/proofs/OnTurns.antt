@@ -52,8 +52,8 @@ use Rattle.plain_machine.proofs.FirstLemmas.{OfItsLine, OfItsCommand, OfItsAnnou
 use Rattle.machine_laws.proofs.FlightLaws.{WaitsOn, phoned_waits, fired_waits, asked_waits, redirected_announced}
 use Rattle.machine_laws.specs.Saying.{Begun, OneOf, begun_at, begun_in}
 use Rattle.machine_laws.proofs.EachLemmas.{Each, each_push, each_weaker, one_before, one_behind}
-use Rattle.dialled_once.specs.Course.{CourseStep}
-use Rattle.dialled_once.proofs.CourseLemmas.{EndpointTurns}
+use Rattle.delivery_laws.specs.Course.{CourseStep}
+use Rattle.delivery_laws.proofs.CourseLemmas.{EndpointTurns}
 use Rattle.delivery_laws.proofs.RestLemmas.{Rests, rests_is, rests_on, rests_again, flight_waits, noted_silent, asked_awaits, begun_both, answer_begins}
 use Rattle.delivery_laws.specs.Chances.{last_chance}
 use Rattle.delivery_laws.proofs.PostedLemmas.{SaysAt}

@@ -37,8 +37,8 @@ use Rattle.mg_line.specs.Requesting.{asked, quarantined_after, replaced, resumed
 use Rattle.mg_line.proofs.DrainLemmas.{occurred_keeps}
 use Rattle.mg_line.proofs.OnceLemmas.{notifies_once}
 use Rattle.mg_line.proofs.TellLemmas.{drains_a_front}
-use Rattle.dialled_once.specs.Course.{CourseStep}
-use Rattle.dialled_once.proofs.EndpointLemmas.{Calls}
+use Rattle.delivery_laws.specs.Course.{CourseStep}
+use Rattle.delivery_laws.proofs.EndpointLemmas.{Calls}
 use Rattle.delivery_laws.specs.Rounds.{is_of_telephone, of_telephone}
 
 -- what is quarantined after a call

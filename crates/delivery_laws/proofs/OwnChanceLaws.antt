@@ -28,7 +28,7 @@ use Rattle.machine_laws.proofs.EachLemmas.{Each, all_from_each, any_from_one, ea
 use Rattle.machine_laws.proofs.LineLemmas.{place_of}
 use Rattle.machine_laws.proofs.WaitLaws.{acts_wait, opening_waits, pass_waits, texts_wait}
 use Rattle.machine_laws.specs.Belonging.{is_of, of_line}
-use Rattle.dialled_once.proofs.CourseLemmas.{AllHear, Hears, Stands, events_stand}
+use Rattle.delivery_laws.proofs.CourseLemmas.{AllHear, Hears, Stands, events_stand}
 use Rattle.agent_core.specs.World.{World, WorldStep, gateway_in, now_in, plain_world, steps_are_taken, world_opening}
 use Rattle.delivery_laws.specs.Chances.{chances}
 use Rattle.delivery_laws.specs.OwnChances.{HasCome, IsOfLine, IsResponse, IsToldAfter}

@@ -29,7 +29,7 @@ use Rattle.world_laws.proofs.LinkLaws.{Rises, world_linked}
 use Rattle.world_laws.proofs.ReachedLaws.{executed_apart, executed_each}
 use Rattle.world_laws.proofs.TakenLaws.{heard_lately}
 use Rattle.world_laws.proofs.WorldLaws.{Came, gateway_alone}
-use Rattle.dialled_once.proofs.CourseLemmas.{AllHear, events_stand}
+use Rattle.delivery_laws.proofs.CourseLemmas.{AllHear, events_stand}
 use Rattle.delivery_laws.specs.GivenUp.{has_given_up}
 use Rattle.delivery_laws.proofs.DialledFlightLemmas.{Fine, Flies, Gone, FliesBeside, flight_turns, flying, gave_nothing_up, starts_gone}
 use Rattle.delivery_laws.proofs.MoveLemmas.{Move, agent_took, gateway_took, step_moves}

@@ -28,10 +28,10 @@ use Rattle.machine_laws.proofs.LineLemmas.{place_of}
 use Rattle.machine_laws.proofs.WaitLaws.{events_wait}
 use Rattle.machine_laws.specs.Belonging.{is_of, of_line}
 use Rattle.machine_laws.proofs.OwningLemmas.{of_both}
-use Rattle.dialled_once.specs.Course.{CourseStep, accepts, course_at, course_from, requests_in}
-use Rattle.dialled_once.specs.Dialled.{done_in}
-use Rattle.dialled_once.proofs.CourseLemmas.{AllHear, events_stand, hear_all}
-use Rattle.dialled_once.proofs.OverLists.{always}
+use Rattle.delivery_laws.specs.Course.{CourseStep, accepts, course_at, course_from, requests_in}
+use Rattle.delivery_laws.specs.Dialled.{done_in}
+use Rattle.delivery_laws.proofs.CourseLemmas.{AllHear, events_stand, hear_all}
+use Rattle.delivery_laws.proofs.OverLists.{always}
 use Rattle.delivery_laws.specs.GivenUp.{has_given_up}
 use Rattle.delivery_laws.specs.Rounds.{IsAnsweredWithin, IsAskedWithin, of_telephone, rounds_take}
 use Rattle.delivery_laws.proofs.AtOnceLemmas.{AreAt, act_at_once, datagram_at_once}

@@ -51,11 +51,11 @@ use Rattle.plain_machine.specs.Posting.{id_on, repeated_as, resent_by, resent_on
 use Rattle.plain_machine.specs.Requesting.{asked_if, deed_on, with_connections, with_entity}
 use Rattle.plain_machine.specs.Responding.{opened_on, redirected_on, responded_as, responded_on}
 use Rattle.machine_laws.proofs.FlightLaws.{WaitsOn, asked_waits}
-use Rattle.dialled_once.specs.Course.{CourseStep, accepted, accepts, acts, notified_by, notified_with, requests_at, requests_in}
-use Rattle.dialled_once.specs.Dialled.{done_in}
-use Rattle.dialled_once.proofs.CourseLemmas.{EndpointTurns, TurnKeeps}
-use Rattle.dialled_once.proofs.DialledLemmas.{done_both}
-use Rattle.dialled_once.proofs.EndpointLemmas.{steps_in}
+use Rattle.delivery_laws.specs.Course.{CourseStep, accepted, accepts, acts, notified_by, notified_with, requests_at, requests_in}
+use Rattle.delivery_laws.specs.Dialled.{done_in}
+use Rattle.delivery_laws.proofs.CourseLemmas.{EndpointTurns, TurnKeeps}
+use Rattle.delivery_laws.proofs.DialledLemmas.{done_both}
+use Rattle.delivery_laws.proofs.EndpointLemmas.{steps_in}
 use Rattle.delivery_laws.specs.GivenUp.{announces}
 use Rattle.delivery_laws.specs.Rounds.{of_telephone}
 use Rattle.delivery_laws.proofs.OutLemmas.{BackOf, Detects, Grows, Out, Parts, answered_back, answered_out, asked_back, asked_out, asked_waiting, back_few, fired_shape, grown, held_in, opened_back, parts_of_back, phoned_shape}

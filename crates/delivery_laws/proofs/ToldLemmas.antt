@@ -24,11 +24,11 @@ use Rattle.machine_laws.specs.Saying.{Begun, begun_by, begun_at, begun_in}
 use Rattle.machine_laws.proofs.EachLemmas.{Each}
 use Rattle.machine_laws.proofs.WaitLaws.{opening_waits}
 use Rattle.machine_laws.specs.Belonging.{is_of, of_line}
-use Rattle.dialled_once.specs.Course.{CourseStep, acts, notified_by, accepted, course_of}
-use Rattle.dialled_once.specs.Dialled.{told_along}
-use Rattle.dialled_once.proofs.CourseLemmas.{AnyResponse, EndpointTurns, answer_notifies, events_stand, hear_all}
-use Rattle.dialled_once.proofs.DialledLemmas.{told_both}
-use Rattle.dialled_once.proofs.EndpointLemmas.{steps_in}
+use Rattle.delivery_laws.specs.Course.{CourseStep, acts, notified_by, accepted, course_of}
+use Rattle.delivery_laws.specs.Dialled.{told_along}
+use Rattle.delivery_laws.proofs.CourseLemmas.{AnyResponse, EndpointTurns, answer_notifies, events_stand, hear_all}
+use Rattle.delivery_laws.proofs.DialledLemmas.{told_both}
+use Rattle.delivery_laws.proofs.EndpointLemmas.{steps_in}
 use Rattle.delivery_laws.specs.Telling.{told_as}
 use Rattle.delivery_laws.proofs.WellLemmas.{SaysWell, IsWell}
 

@@ -12,11 +12,11 @@ use Rattle.plain_machine.specs.Event.{GatewayEvent}
 use Rattle.plain_machine.specs.Lists.{plain}
 use Rattle.plain_machine.specs.Machine.{endpoint_at, opening, serves}
 use Rattle.machine_laws.proofs.LineLemmas.{place_of}
-use Rattle.dialled_once.specs.Course.{CourseStep, accepts, acts, course_from, course_of, notifies, requests_in}
-use Rattle.dialled_once.specs.Dialled.{AsksIfAny, IsAskedForAll, done_in, latest_from}
-use Rattle.dialled_once.proofs.DialledLemmas.{done_both}
-use Rattle.dialled_once.proofs.EndpointLemmas.{Calls, steps_of}
-use Rattle.dialled_once.proofs.OverLists.{always}
+use Rattle.delivery_laws.specs.Course.{CourseStep, accepts, acts, course_from, course_of, notifies, requests_in}
+use Rattle.delivery_laws.specs.Dialled.{AsksIfAny, IsAskedForAll, done_in, latest_from}
+use Rattle.delivery_laws.proofs.DialledLemmas.{done_both}
+use Rattle.delivery_laws.proofs.EndpointLemmas.{Calls, steps_of}
+use Rattle.delivery_laws.proofs.OverLists.{always}
 use Rattle.delivery_laws.proofs.RoundLaws.{course_on}
 use Rattle.delivery_laws.proofs.RoundTurns.{none_both, none_front}
 

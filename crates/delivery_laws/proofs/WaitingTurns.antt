@@ -58,8 +58,8 @@ use Rattle.plain_machine.specs.Notifying.{noted, posted, with_notice}
 use Rattle.plain_machine.specs.Posting.{repeated_as, resent_by, resent_on}
 use Rattle.plain_machine.specs.Requesting.{asked_if, deed_on, with_connections, with_entity}
 use Rattle.plain_machine.specs.Responding.{opened_on, redirected_on, responded_as, responded_on}
-use Rattle.dialled_once.specs.Course.{CourseStep}
-use Rattle.dialled_once.proofs.CourseLemmas.{AnyResponse, EndpointTurns}
+use Rattle.delivery_laws.specs.Course.{CourseStep}
+use Rattle.delivery_laws.proofs.CourseLemmas.{AnyResponse, EndpointTurns}
 
 -- What tells nothing doesn't make a line wait
 

@@ -33,9 +33,9 @@ use Rattle.agent_core.specs.World.{World, WorldStep, gateway_in, plain_world, st
 use Rattle.world_laws.specs.Reached.{Reached, own_in, taken_in}
 use Rattle.world_laws.proofs.LinkLaws.{taken_once, taken_as_sent, world_linked}
 use Rattle.world_laws.proofs.TakenLaws.{heard_was_taken}
-use Rattle.dialled_once.specs.Course.{CourseStep}
+use Rattle.delivery_laws.specs.Course.{CourseStep}
 use Rattle.delivery_laws.specs.GivenUp.{has_given_up}
-use Rattle.dialled_once.proofs.CourseLemmas.{AllHear, AnyResponse, Hears, Stands, EndpointTurns, events_stand, hear_all}
+use Rattle.delivery_laws.proofs.CourseLemmas.{AllHear, AnyResponse, Hears, Stands, EndpointTurns, events_stand, hear_all}
 use Rattle.delivery_laws.proofs.DialledFlightLemmas.{Fine, Flies, FliesBeside, flight_turns, flying, gave_nothing_up, opening_flies, starts_gone, stays_gone}
 use Rattle.delivery_laws.proofs.WellLemmas.{IsWell, sent_well}
 use Rattle.delivery_laws.proofs.ToldLemmas.{is_mine, mine_is}

@@ -12,9 +12,9 @@ use Rattle.plain_machine.specs.Example.{agent, agent_route, two_lines, ready}
 use Rattle.plain_machine.specs.Lists.{plain, sent_of}
 use Rattle.plain_machine.specs.Machine.{opening_endpoint, endpoint_at}
 use Rattle.machine_laws.specs.Belonging.{of_line}
-use Rattle.dialled_once.specs.Course.{course_of}
-use Rattle.dialled_once.specs.Dialled.{done_in}
-use Rattle.dialled_once.specs.Keeping.{happened_in}
+use Rattle.delivery_laws.specs.Course.{course_of}
+use Rattle.delivery_laws.specs.Dialled.{done_in}
+use Rattle.delivery_laws.specs.Keeping.{happened_in}
 use Rattle.call_agent.specs.Agent.{observed_on}
 use Rattle.agent_core.specs.World.{World, WorldStep, issuing, dialling, ticking, delivering, agent_in, gateway_in, plain_world}
 use Rattle.world_laws.specs.Reached.{Reached, taken_in}

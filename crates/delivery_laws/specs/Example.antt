@@ -10,7 +10,7 @@ use Rattle.restart.specs.declared.restart.Restart.{Restart}
 use Rattle.endpoint_names.specs.declared.route.Route.TheVariants.{Two}
 use Rattle.mgcp_text.specs.Reading.{id_in}
 use Rattle.plain_machine.specs.Example.{local_host, other_host, ready, two_lines, response, rqnt, wide}
-use Rattle.dialled_once.specs.Example.{asks_for_all}
+use Rattle.delivery_laws.specs.OnceExample.{asks_for_all}
 use Rattle.plain_machine.specs.declared.setup.Setup.{Setup}
 use Rattle.plain_machine.specs.declared.endpoint.Endpoint.{Endpoint}
 use Rattle.plain_machine.specs.Machine.{endpoint_at, opening_endpoint}

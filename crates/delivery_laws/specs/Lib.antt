@@ -11,3 +11,8 @@ pub mod GivenUp
 pub mod Telling
 pub mod Untaken
 pub mod DialledExample
+pub mod Course
+pub mod Keeping
+pub mod Following
+pub mod Dialled
+pub mod OnceExample

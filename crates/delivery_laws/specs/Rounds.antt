@@ -9,8 +9,8 @@ use Rattle.plain_machine.specs.declared.endpoint.Endpoint.{Endpoint}
 use Rattle.plain_machine.specs.Event.{GatewayEvent}
 use Rattle.plain_machine.specs.Lists.{plain}
 use Rattle.plain_machine.specs.Machine.{endpoint_at}
-use Rattle.dialled_once.specs.Course.{course_from, requests_in}
-use Rattle.dialled_once.specs.Keeping.{is_of_phone}
+use Rattle.delivery_laws.specs.Course.{course_from, requests_in}
+use Rattle.delivery_laws.specs.Keeping.{is_of_phone}
 
 -- what of these events a telephone did: without the ends of signals and of timer T
 abbrev pub is_of_telephone : Observed → Bool

@@ -3,8 +3,8 @@ use Rattle.std.specs.Prelude.{List, []}
 use Rattle.mgcp_text.specs.declared.message.Message.TheVariants as messages
 use Rattle.mgcp_text.specs.Reading.{Outcome, message, no_header, bad_version, bad_body}
 use Rattle.event_values.specs.declared.observed.Observed.{Observed}
-use Rattle.dialled_once.specs.Course.{notified_with}
-use Rattle.dialled_once.specs.Dialled.{told_along}
+use Rattle.delivery_laws.specs.Course.{notified_with}
+use Rattle.delivery_laws.specs.Dialled.{told_along}
 
 -- its O, as whoever gets it reads it; what is no notification tells nothing
 abbrev pub told_as : Outcome → List Observed

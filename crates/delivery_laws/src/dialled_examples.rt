@@ -15,11 +15,11 @@ ghost use Rattle.plain_machine.specs.Setup.{IsSetUp};
 ghost use Rattle.machine_laws.specs.Saying.{HasNumbersLeft};
 ghost use Rattle.world_laws.specs.Reached.{own_in};
 ghost use Rattle.machine_laws.specs.Belonging.{of_line};
-ghost use Rattle.dialled_once.specs.Course.{course_from, course_of};
-ghost use Rattle.dialled_once.specs.Dialled.{IsAskedForAll};
-ghost use Rattle.dialled_once.specs.Keeping.{happened_in};
+ghost use Rattle.delivery_laws.specs.Course.{course_from, course_of};
+ghost use Rattle.delivery_laws.specs.Dialled.{IsAskedForAll};
+ghost use Rattle.delivery_laws.specs.Keeping.{happened_in};
 ghost use Rattle.delivery_laws.specs.GivenUp.{is_restart, announces, has_given_up};
-ghost use Rattle.dialled_once.specs.Example.{lifted as off_hook, five};
+ghost use Rattle.delivery_laws.specs.OnceExample.{lifted as off_hook, five};
 ghost use Rattle.delivery_laws.specs.Untaken.{has_taken, untaken};
 ghost use Rattle.delivery_laws.specs.DialledExample.{told_by, reporting, flying, taken_as, given_up_at, lifted, dialled, taken, answered, up_to_the_request, since_the_request, given_up, repeated, world, endpoint_then, done_then, told_then, untaken_then, left_then};
 

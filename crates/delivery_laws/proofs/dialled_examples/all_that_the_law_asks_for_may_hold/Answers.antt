@@ -1,8 +1,8 @@
 use Rattle.std.proofs.Common.{◌≡◌, ◌<◌, ℕ, [], ◌∷◌, length, refl, sym, subst, arith}
 use Rattle.plain_machine.specs.Example.{two_lines}
 use Rattle.world_laws.specs.Reached.{own_in}
-use Rattle.dialled_once.proofs.AskingLemmas.{notifies_each}
-use Rattle.dialled_once.specs.Example.{lifted, five}
+use Rattle.delivery_laws.proofs.AskingLemmas.{notifies_each}
+use Rattle.delivery_laws.specs.OnceExample.{lifted, five}
 use Rattle.delivery_laws.specs.DialledExample.{answered, done_then, left_then, told_then, untaken_then, world}
 use Rattle.delivery_laws.proofs.DialledNumberLemmas.{few_are_begun}
 use Rattle.delivery_laws.proofs.DialledComputing.{on_examples}

@@ -1,6 +1,6 @@
 use Rattle.std.proofs.Common.{inl, inr, refl, arith}
 use Rattle.std.proofs.lemmas.Bool.{ltb-true}
-use Rattle.dialled_once.proofs.AskingLemmas.{notifies_each}
+use Rattle.delivery_laws.proofs.AskingLemmas.{notifies_each}
 use Rattle.delivery_laws.specs.Example.{asked_to_roam, found_at_last, roaming, sent_astray, took_between_with, took_with}
 use Rattle.delivery_laws.proofs.Computing.{on_examples}
 use Rattle.delivery_laws.proofs.ExampleLemmas.{not_reaching, took_split}

@@ -1,7 +1,7 @@
 use Rattle.std.proofs.Common.{◌≡◌, ℕ, ◌<◌, codes, length, refl, sym, subst, arith}
 use Rattle.std.proofs.lemmas.Bool.{ltb-true}
 use Rattle.plain_machine.specs.Example.{two_lines}
-use Rattle.dialled_once.proofs.AskingLemmas.{notifies_each}
+use Rattle.delivery_laws.proofs.AskingLemmas.{notifies_each}
 use Rattle.world_laws.specs.Example.{world}
 use Rattle.delivery_laws.specs.DialledExample.{asked as asked_for_all}
 use Rattle.delivery_laws.specs.Example.{answered_early, answered_unheard, lifted_since, took_between, took_first}

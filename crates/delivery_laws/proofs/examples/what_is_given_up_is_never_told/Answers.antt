@@ -1,6 +1,6 @@
 use Rattle.std.proofs.Common.{refl, arith}
 use Rattle.std.proofs.lemmas.Bool.{ltb-true}
-use Rattle.dialled_once.proofs.AskingLemmas.{notifies_each}
+use Rattle.delivery_laws.proofs.AskingLemmas.{notifies_each}
 use Rattle.delivery_laws.specs.DialledExample.{asked as asked_for_all}
 use Rattle.delivery_laws.specs.Example.{announced_anew, hasty, hasty_took, hasty_took_between, kept_back}
 use Rattle.delivery_laws.proofs.Computing.{on_examples}

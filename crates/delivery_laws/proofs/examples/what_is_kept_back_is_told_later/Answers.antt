@@ -2,7 +2,7 @@ use Rattle.std.proofs.Common.{◌≤◌, [], ◌∷◌, refl, arith}
 use Rattle.std.proofs.lemmas.Bool.{ltb-true}
 use Rattle.plain_machine.specs.Event.{tick}
 use Rattle.plain_machine.specs.Example.{two_lines}
-use Rattle.dialled_once.proofs.AskingLemmas.{notifies_each}
+use Rattle.delivery_laws.proofs.AskingLemmas.{notifies_each}
 use Rattle.delivery_laws.specs.DialledExample.{asked as asked_for_all, endpoint_then}
 use Rattle.delivery_laws.specs.Example.{kept_back, took_first, waited}
 use Rattle.delivery_laws.proofs.Computing.{on_examples}

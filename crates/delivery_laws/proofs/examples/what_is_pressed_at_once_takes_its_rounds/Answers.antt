@@ -1,7 +1,7 @@
 use Rattle.std.proofs.Common.{◌≡◌, ℕ, ◌<◌, [], ◌∷◌, drop, length, refl, sym, subst, arith}
 use Rattle.plain_machine.specs.Event.{tick}
 use Rattle.plain_machine.specs.Example.{two_lines}
-use Rattle.dialled_once.proofs.AskingLemmas.{notifies_each}
+use Rattle.delivery_laws.proofs.AskingLemmas.{notifies_each}
 use Rattle.world_laws.specs.Reached.{own_in}
 use Rattle.world_laws.specs.Example.{world}
 use Rattle.delivery_laws.specs.DialledExample.{endpoint_then}

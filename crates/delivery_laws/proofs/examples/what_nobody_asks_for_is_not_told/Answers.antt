@@ -2,7 +2,7 @@ use Rattle.std.proofs.Common.{[], ◌∷◌, ◌++◌, codes, refl, arith}
 use Rattle.std.proofs.lemmas.Bool.{ltb-true}
 use Rattle.plain_machine.specs.Event.{datagram, tick}
 use Rattle.plain_machine.specs.Example.{two_lines, agent}
-use Rattle.dialled_once.proofs.AskingLemmas.{notifies_each}
+use Rattle.delivery_laws.proofs.AskingLemmas.{notifies_each}
 use Rattle.delivery_laws.specs.DialledExample.{endpoint_in}
 use Rattle.delivery_laws.specs.Example.{asked_in_step, dialled_in_step, took_between, took_first, unasked}
 use Rattle.delivery_laws.proofs.Computing.{on_examples}
