@@ -27,7 +27,7 @@ pub struct Sockets {
 }
 
 /// Why there are no sockets.
-#[derive(Clone, Copy, PartialEq, Eq)]
+#[derive(Clone, Copy)]
 pub enum BindFault {
     /// Memory was refused.
     OutOfMemory,

@@ -6,7 +6,7 @@ use mg_bytes::OutOfMemory;
 use plain_machine::ConfigFault;
 
 /// Why an input was not played, or not to its end.
-#[derive(Clone, Copy, PartialEq, Eq)]
+#[derive(Clone, Copy)]
 pub enum PlayFault {
     /// Memory was refused.
     OutOfMemory,
@@ -38,7 +38,7 @@ impl PlayFault {
 }
 
 /// Why a step was not played to its end: the network may fail too.
-#[derive(Clone, Copy, PartialEq, Eq)]
+#[derive(Clone, Copy)]
 pub enum StepFault<F> {
     /// Memory was refused.
     OutOfMemory,
@@ -53,7 +53,7 @@ impl<F> From<OutOfMemory> for StepFault<F> {
 }
 
 /// Why an input was not played over a network, or not to its end.
-#[derive(Clone, Copy, PartialEq, Eq)]
+#[derive(Clone, Copy)]
 pub enum LinkFault<F> {
     /// As without a network.
     Play(PlayFault),
@@ -76,7 +76,7 @@ impl<F> LinkFault<F> {
 }
 
 /// What was played.
-#[derive(Clone, Copy, PartialEq, Eq)]
+#[derive(Clone, Copy)]
 pub struct Played {
     /// The steps of the script.
     pub commands: u64,
