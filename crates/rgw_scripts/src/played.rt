@@ -4,6 +4,7 @@ ghost use Rattle.rgw_scripts.specs.Fault.{name_of_config_fault};
 
 use mg_bytes::OutOfMemory;
 use plain_machine::ConfigFault;
+use std::alloc::AllocError;
 
 /// Why an input was not played, or not to its end.
 #[derive(Clone, Copy)]
@@ -38,13 +39,27 @@ impl PlayFault {
 }
 
 /// Why a step was not played to its end: the network may fail too.
-#[derive(Clone, Copy)]
 pub enum StepFault<F> {
     /// Memory was refused.
     OutOfMemory,
     /// The network failed so.
     Link(F),
 }
+
+// Written by hand, as for `Route`: what a derive writes goes through the variants, and costs a check seconds.
+impl<F: Copy> Clone for StepFault<F> {
+    ghost use Rattle.std.specs.Prelude.{⊤};
+
+    ghost is_clone = { λ fault copy. copy ≡ fault };
+
+    ghost is_infallible = { λ _. ⊤ };
+
+    fn clone(&self) -> Result<StepFault<F>, AllocError> {
+        Ok(*self)
+    }
+}
+
+impl<F: Copy> Copy for StepFault<F> {}
 
 impl<F> From<OutOfMemory> for StepFault<F> {
     fn from(_e: OutOfMemory) -> StepFault<F> {
@@ -53,13 +68,27 @@ impl<F> From<OutOfMemory> for StepFault<F> {
 }
 
 /// Why an input was not played over a network, or not to its end.
-#[derive(Clone, Copy)]
 pub enum LinkFault<F> {
     /// As without a network.
     Play(PlayFault),
     /// The network failed so.
     Link(F),
 }
+
+// As for `StepFault`.
+impl<F: Copy> Clone for LinkFault<F> {
+    ghost use Rattle.std.specs.Prelude.{⊤};
+
+    ghost is_clone = { λ fault copy. copy ≡ fault };
+
+    ghost is_infallible = { λ _. ⊤ };
+
+    fn clone(&self) -> Result<LinkFault<F>, AllocError> {
+        Ok(*self)
+    }
+}
+
+impl<F: Copy> Copy for LinkFault<F> {}
 
 impl<F> LinkFault<F> {
     ghost use Rattle.rgw_scripts.specs.Fault.{link_fault_number};
