@@ -55,7 +55,6 @@ pub struct Answer {
 
 /// Surroundings in which things happen at their moments, and that keep what is received, sent and answered. Its clock goes on by waits
 /// alone.
-#[derive(Drop)]
 pub struct Scripted {
     alloc: Global,
     /// The addresses of its two sockets.
@@ -71,6 +70,29 @@ pub struct Scripted {
     // What was received.
     pub(crate) received: Arrivals,
     is_failing: bool,
+}
+
+// Written out: a derived drop, and those of all its parts, are proved anew by each crate that lets one go.
+impl Drop for Scripted {
+    fn drop(self) {
+        let Scripted {
+            alloc: _,
+            own: _,
+            moment: _,
+            coming,
+            sent,
+            unsent,
+            answers,
+            is_whole: _,
+            received,
+            is_failing: _,
+        } = self;
+        drop(coming);
+        drop(sent);
+        drop(unsent);
+        drop(answers);
+        drop(received);
+    }
 }
 
 // Puts as much as there is room for at the front of the room: how much that is.
