@@ -31,7 +31,6 @@ pub(crate) struct Arrival {
 }
 
 /// The log of a gateway.
-#[derive(Drop)]
 pub struct Log {
     pub(crate) alloc: Global,
     pub record: Record,
@@ -49,6 +48,28 @@ pub struct Log {
     pub(crate) sent: u64,
     /// When a stranger is told of next.
     pub(crate) quiet: Quiet,
+}
+
+// Written out: a derived drop, and those of all its parts, are proved anew by each crate that lets one go.
+impl Drop for Log {
+    fn drop(self) {
+        let Log {
+            alloc: _,
+            record,
+            domain,
+            own,
+            messages,
+            came: _,
+            arrival,
+            sent: _,
+            quiet: _,
+        } = self;
+        drop(record);
+        drop(domain);
+        drop(own);
+        drop(messages);
+        drop(arrival);
+    }
 }
 
 impl Log {
