@@ -38,7 +38,6 @@ pub enum ActOutcome {
 }
 
 /// What the page is shown, and the acts that it asks for. A contract sees what is shown, and the acts that wait.
-#[derive(Drop)]
 pub struct Board {
     alloc: Global,
     picture: Picture,
@@ -46,6 +45,22 @@ pub struct Board {
     version: u64,
     ring: Ring,
     acts: VecDeque<QueuedAct>,
+}
+
+// Written out: a derived drop, and those of all its parts, are proved anew by each crate that lets one go.
+impl Drop for Board {
+    fn drop(self) {
+        let Board {
+            alloc: _,
+            picture,
+            version: _,
+            ring,
+            acts,
+        } = self;
+        drop(picture);
+        drop(ring);
+        drop(acts);
+    }
 }
 
 impl Model for Board {

@@ -43,7 +43,6 @@ pub struct LineView {
 
 /// What is shown of a gateway: its clock in ms, and by how much that is behind the machine's; whether it serves (RFC 3435, 4.4.6); the
 /// number with which its ids began (RFC 3435, 3.2.1.2), its lines from the first, and what was counted.
-#[derive(Drop)]
 pub struct Picture {
     pub clock: u64,
     pub behind: u64,
@@ -51,6 +50,22 @@ pub struct Picture {
     pub first: u32,
     pub lines: Vec<LineView>,
     pub counts: Counts,
+}
+
+// Written out: a derived drop, and those of all its parts, are proved anew by each crate that lets one go.
+impl Drop for Picture {
+    fn drop(self) {
+        let Picture {
+            clock: _,
+            behind: _,
+            is_serving: _,
+            first: _,
+            lines,
+            counts,
+        } = self;
+        drop(lines);
+        drop(counts);
+    }
 }
 
 /// What all lines have together.
