@@ -6,52 +6,54 @@ use live_ends::{CommonEnding, put_around, read_file};
 use mg_bytes::{OutOfMemory, Text};
 use phone_scripts::{Place, Reader, Script, ScriptFault, Wanted, fault_line, put_place};
 use rgw_scripts::LIMIT;
-use std::alloc::Global;
+use std::alloc::{AllocError, Global};
 use std::rt::Files;
+
+// What is said of a file that is too long.
+fn length_text(alloc: Global, path: &str) -> Result<Text, OutOfMemory> {
+    let mut said = Vec::from_slice(alloc, path.as_bytes())?;
+    put_around(alloc, &mut said, ": longer than ", LIMIT as u64, " bytes\n")?;
+    Ok(Text::of(said))
+}
 
 // The text of a file, or how the program ends where it is the script itself.
 fn text_in<'p, R: Files>(rt: &R, alloc: Global, path: &'p str) -> Result<Text, Ending<'p>> {
-    let text = read_file(rt, alloc, path, LIMIT as u64)?;
-    if text.len() <= LIMIT {
-        return Ok(Text::of(text));
+    match read_file(rt, alloc, path, LIMIT as u64) {
+        Ok(text) => {
+            if text.len() <= LIMIT {
+                Ok(Text::of(text))
+            } else {
+                Err(Ending::BadScript {
+                    text: length_text(alloc, path)?,
+                })
+            }
+        }
+        Err(ending) => Err(Ending::Common(ending)),
     }
-    let mut said = Vec::from_slice(alloc, path.as_bytes())?;
-    put_around(alloc, &mut said, ": longer than ", LIMIT as u64, " bytes\n")?;
-    Err(Ending::BadScript {
-        text: Text::of(said),
-    })
 }
 
-// How the program ends by a script that can't be played.
-fn script_ending<'w>(
-    alloc: Global,
-    files: &[Text],
-    fault: ScriptFault,
-) -> Result<Ending<'w>, OutOfMemory> {
+// What is said of a script that can't be played.
+fn script_text(alloc: Global, files: &[Text], fault: ScriptFault) -> Result<Text, OutOfMemory> {
     match fault {
-        ScriptFault::OutOfMemory => Ok(Ending::Common(CommonEnding::OutOfMemory)),
-        ScriptFault::Line { place, fault } => Ok(Ending::BadScript {
-            text: fault_line(alloc, files, place, fault)?,
-        }),
+        ScriptFault::OutOfMemory => Err(AllocError),
+        ScriptFault::Line { place, fault } => fault_line(alloc, files, place, fault),
     }
 }
 
-// How it ends where a script can't have a file that it brings there, of which this would be said if it were the script itself.
-fn include_ending<'w>(
+// What is said where a script can't have a file that it brings there: the program would end so if it were the script itself.
+fn include_text(
     alloc: Global,
     files: &[Text],
     place: Place,
     ending: &Ending<'_>,
-) -> Result<Ending<'w>, OutOfMemory> {
+) -> Result<Text, OutOfMemory> {
     if let Ending::Common(CommonEnding::OutOfMemory) = ending {
-        return Ok(Ending::Common(CommonEnding::OutOfMemory));
+        return Err(AllocError);
     }
     let mut text = Vec::new(alloc);
     put_place(alloc, &mut text, files, place)?;
     ending.put_text(alloc, &mut text, of_all())?;
-    Ok(Ending::BadScript {
-        text: Text::of(text),
-    })
+    Ok(Text::of(text))
 }
 
 // Where a file is that a script brings: one that is relative stands in the script's folder.
@@ -75,36 +77,66 @@ fn last_of(files: &[Text]) -> &[u8] {
     }
 }
 
-// Gives a reader the file that its script brings there.
-fn give_include<'w, R: Files>(
+// Gives a reader the file with this path, which its script brings there: what is said where that can't be had.
+fn give_file<R: Files>(
+    rt: &R,
+    alloc: Global,
+    path: &str,
+    reader: &mut Reader<'_>,
+    place: Place,
+) -> Result<Option<Text>, OutOfMemory> {
+    match text_in(rt, alloc, path) {
+        Ok(text) => {
+            reader.give(text)?;
+            Ok(None)
+        }
+        Err(ending) => Ok(Some(include_text(alloc, reader.files(), place, &ending)?)),
+    }
+}
+
+// Gives a reader the file that its script brings there: what is said where that can't be had.
+fn give_include<R: Files>(
     rt: &R,
     alloc: Global,
     script: &str,
     reader: &mut Reader<'_>,
     place: Place,
-) -> Result<(), Ending<'w>> {
+) -> Result<Option<Text>, OutOfMemory> {
     let path = path_of(alloc, script, last_of(reader.files()))?;
-    match text_in(rt, alloc, path.as_str()) {
-        Ok(text) => Ok(reader.give(text)?),
-        Err(ending) => Err(include_ending(alloc, reader.files(), place, &ending)?),
-    }
+    give_file(rt, alloc, path.as_str(), reader, place)
 }
 
-// Reads a script to its end.
-fn read_on<'w, R: Files>(
+// Reads a script to its end: what is said where it can't be played.
+fn read_on<R: Files>(
     rt: &R,
     alloc: Global,
     script: &str,
     reader: &mut Reader<'_>,
-) -> Result<(), Ending<'w>> {
+) -> Result<Option<Text>, OutOfMemory> {
     for _ in 0..u64::MAX {
-        match reader.go_on() {
+        let said = match reader.go_on() {
             Ok(Wanted::File { place }) => give_include(rt, alloc, script, reader, place)?,
-            Ok(Wanted::Nothing) => return Ok(()),
-            Err(fault) => return Err(script_ending(alloc, reader.files(), fault)?),
+            Ok(Wanted::Nothing) => return Ok(None),
+            Err(fault) => Some(script_text(alloc, reader.files(), fault)?),
+        };
+        if said.is_some() {
+            return Ok(said);
         }
     }
-    Ok(())
+    Ok(None)
+}
+
+// Reads a script in this file with this text: what is said where it can't be played.
+fn read_with<R: Files>(
+    rt: &R,
+    alloc: Global,
+    script: &str,
+    text: Text,
+    reader: &mut Reader<'_>,
+) -> Result<Option<Text>, OutOfMemory> {
+    let file = Text::of(Vec::from_slice(alloc, script.as_bytes())?);
+    reader.begin(file, text)?;
+    read_on(rt, alloc, script, reader)
 }
 
 /// The script that is to be played, with all files that it brings. It can't be had, or has a fault: so the program ends then.
@@ -114,9 +146,10 @@ pub fn read_script<'w, R: Files>(
     settings: &PhoneSettings<'w>,
 ) -> Result<Script, Ending<'w>> {
     let text = text_in(rt, alloc, settings.script)?;
-    let file = Text::of(Vec::from_slice(alloc, settings.script.as_bytes())?);
     let mut reader = Reader::new(alloc, settings.names.as_slice());
-    reader.begin(file, text)?;
-    read_on(rt, alloc, settings.script, &mut reader)?;
-    Ok(reader.into_script())
+    match read_with(rt, alloc, settings.script, text, &mut reader) {
+        Ok(None) => Ok(reader.into_script()),
+        Ok(Some(text)) => Err(Ending::BadScript { text }),
+        Err(refused) => Err(Ending::from(refused)),
+    }
 }
