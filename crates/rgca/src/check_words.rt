@@ -11,41 +11,57 @@ use std::net::SocketAddrV4;
 // So many characters the local name of an endpoint has at most (RFC 3435, 2.1.2).
 const LONGEST_NAME: usize = 64;
 
-// A word with what stands behind it.
-fn word<'a>(alloc: Global, name: &'static str) -> Arg<'a> {
-    Arg::new(alloc, name).long(name)
+// How a word stands.
+#[derive(Clone, Copy)]
+enum Kind {
+    // By itself, and it has to.
+    Bare,
+    // With something behind it, and it has to.
+    Needed,
+    // With something behind it.
+    Valued,
+    // With something behind it, once or more.
+    Several,
+    // With an address behind it; else with any port of this machine.
+    Own,
+    // With nothing behind it.
+    Flag,
 }
 
-// Which gateway is checked, and which lines of it.
-fn with_gateway<'a>(command: Command<'a>, alloc: Global) -> Result<Command<'a>, AllocError> {
-    command
-        .arg(Arg::new(alloc, "address").required(true))?
-        .arg(word(alloc, "domain").required(true))?
-        .arg(word(alloc, "line").required(true))?
-        .arg(word(alloc, "more-lines").num_args(1usize..))
-}
+// Which gateway is checked, and which lines of it; who takes part, the agent that the gateway is configured for, and who works its
+// telephones; which checks are played, and how they are reported.
+const WORDS: [(&str, Kind); 11] = [
+    ("address", Kind::Bare),
+    ("domain", Kind::Needed),
+    ("line", Kind::Needed),
+    ("more-lines", Kind::Several),
+    ("own", Kind::Own),
+    ("phones", Kind::Valued),
+    ("hook", Kind::Valued),
+    ("slow", Kind::Flag),
+    ("only", Kind::Valued),
+    ("json", Kind::Flag),
+    ("junit", Kind::Valued),
+];
 
-// Who takes part: the agent that the gateway is configured for, and who works its telephones.
-fn with_others<'a>(command: Command<'a>, alloc: Global) -> Result<Command<'a>, AllocError> {
-    command
-        .arg(word(alloc, "own").default_value("0.0.0.0:0"))?
-        .arg(word(alloc, "phones"))?
-        .arg(word(alloc, "hook"))
-}
-
-// Which checks are played, and how they are reported.
-fn with_report<'a>(command: Command<'a>, alloc: Global) -> Result<Command<'a>, AllocError> {
-    command
-        .arg(flag_word(alloc, "slow"))?
-        .arg(word(alloc, "only"))?
-        .arg(flag_word(alloc, "json"))?
-        .arg(word(alloc, "junit"))
+// What clap is told of a word.
+fn arg_of<'a>(alloc: Global, name: &'static str, kind: Kind) -> Arg<'a> {
+    match kind {
+        Kind::Bare => Arg::new(alloc, name).required(true),
+        Kind::Needed => Arg::new(alloc, name).long(name).required(true),
+        Kind::Valued => Arg::new(alloc, name).long(name),
+        Kind::Several => Arg::new(alloc, name).long(name).num_args(1usize..),
+        Kind::Own => Arg::new(alloc, name).long(name).default_value("0.0.0.0:0"),
+        Kind::Flag => flag_word(alloc, name),
+    }
 }
 
 fn command<'a>(alloc: Global) -> Result<Command<'a>, AllocError> {
-    let command = Command::new(alloc, "check").override_usage(CHECK_USAGE);
-    let command = with_gateway(command, alloc)?;
-    with_report(with_others(command, alloc)?, alloc)
+    let mut command = Command::new(alloc, "check").override_usage(CHECK_USAGE);
+    for (name, kind) in WORDS.iter() {
+        command = command.arg(arg_of(alloc, *name, *kind))?;
+    }
+    Ok(command)
 }
 
 // The address that a word has, which stands there or has a default.
