@@ -81,10 +81,19 @@ fn is_of_name(byte: u8) -> bool {
     byte.is_ascii_graphic() && byte != b'*' && byte != b'$' && byte != b'@'
 }
 
+fn are_of_name(bytes: &[u8]) -> bool {
+    for byte in bytes {
+        if !is_of_name(*byte) {
+            return false;
+        }
+    }
+    true
+}
+
 // Whether a text is the local name of one endpoint.
 fn is_name(text: &str) -> bool {
     let bytes = text.as_bytes();
-    !bytes.is_empty() && bytes.len() <= LONGEST_NAME && bytes.iter().all(|byte| is_of_name(*byte))
+    !bytes.is_empty() && bytes.len() <= LONGEST_NAME && are_of_name(bytes)
 }
 
 // The name of a line that stands behind a word.

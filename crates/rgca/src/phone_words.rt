@@ -42,7 +42,12 @@ fn is_of_name(byte: u8) -> bool {
 }
 
 fn are_of_name(name: &[u8]) -> bool {
-    name.iter().all(|byte| is_of_name(*byte))
+    for byte in name {
+        if !is_of_name(*byte) {
+            return false;
+        }
+    }
+    true
 }
 
 // Whether a text can name a gateway: a number names a line.
@@ -65,13 +70,30 @@ fn gateway_of(word: &str) -> Option<(&str, SocketAddrV4)> {
     }
 }
 
+// Whether a name is one of these.
+fn has_name(names: &[Text], name: &str) -> bool {
+    for other in names {
+        if other.as_bytes() == name.as_bytes() {
+            return true;
+        }
+    }
+    false
+}
+
+// Whether an address is one of these.
+fn has_address(addresses: &[SocketAddrV4], address: SocketAddrV4) -> bool {
+    for other in addresses {
+        if *other == address {
+            return true;
+        }
+    }
+    false
+}
+
 impl PhoneSettings<'_> {
     // Whether a gateway has this name already, or its telephones this address.
     fn has(&self, name: &str, address: SocketAddrV4) -> bool {
-        self.names
-            .iter()
-            .any(|other| other.as_bytes() == name.as_bytes())
-            || self.addresses.iter().any(|other| *other == address)
+        has_name(self.names.as_slice(), name) || has_address(self.addresses.as_slice(), address)
     }
 
     // A gateway is named so, and its telephones are there.
