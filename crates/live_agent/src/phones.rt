@@ -24,8 +24,12 @@ pub enum Played {
 
 // The place of the gateway whose telephones have this address.
 fn place_of(gateways: &[SocketAddrV4], source: SocketAddrV4) -> Option<u16> {
-    let place = gateways.iter().position(|address| *address == source)?;
-    u16::try_from(place).ok()
+    for (place, address) in gateways.iter().enumerate() {
+        if *address == source {
+            return u16::try_from(place).ok();
+        }
+    }
+    None
 }
 
 // Takes a datagram, if one has come: whether one had. Nothing is made of one that comes from elsewhere.
