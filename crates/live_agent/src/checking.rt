@@ -115,8 +115,8 @@ fn is_possible(settings: &CheckSettings<'_>, check: &Check<'_>) -> bool {
 }
 
 impl<'a> Checking<'a> {
-    // The player of the next check, at this line.
-    fn player(&mut self, check: &Check<'static>, line: &'a str) -> Player<'a> {
+    // The player of a check at this line, with the next ids.
+    fn player(&self, check: &Check<'static>, line: &'a str) -> Player<'a> {
         let places = Places {
             domain: self.settings.domain,
             local: line,
@@ -125,8 +125,14 @@ impl<'a> Checking<'a> {
             there: self.there,
         };
         let names = Names::new(self.alloc, &places, self.base);
-        self.base = self.base.saturating_add(IDS);
         Player::new(self.alloc, check, names)
+    }
+
+    // The player has the next check from here on, at this line. One is held for all checks: each that is held by value makes dear what
+    // is called meanwhile.
+    fn begin(&mut self, player: &mut Player<'a>, check: &Check<'static>, line: &'a str) {
+        *player = self.player(check, line);
+        self.base = self.base.saturating_add(IDS);
     }
 
     // Whether a check is named, where some are.
@@ -234,9 +240,10 @@ fn ask<R: Net + Clock>(
 }
 
 // Waits until the gateway serves; else tells why nothing can be checked.
-fn find<R: Net + Clock>(
-    checking: &mut Checking<'_>,
+fn find<'a, R: Net + Clock>(
+    checking: &mut Checking<'a>,
     ends: &mut Ends<'_, R>,
+    player: &mut Player<'a>,
 ) -> Result<(), CheckFault> {
     let CheckSettings {
         gateway: address,
@@ -245,8 +252,8 @@ fn find<R: Net + Clock>(
     } = checking.settings;
     let mut silent: u32 = 0;
     for _ in 0..MOST_TRIES {
-        let mut player = checking.player(&check_of(SERVES), line);
-        match ask(ends, &mut player) {
+        checking.begin(player, &check_of(SERVES), line);
+        match ask(ends, player) {
             Ok(Found::Serving) => return Ok(()),
             Ok(Found::NotServing) => {}
             Ok(Found::Silent) => silent = silent.saturating_add(1),
@@ -263,11 +270,12 @@ fn find<R: Net + Clock>(
 fn holds<'a, R: Net + Clock>(
     checking: &mut Checking<'a>,
     ends: &mut Ends<'_, R>,
+    player: &mut Player<'a>,
     line: &'a str,
     block: &'static str,
 ) -> Result<bool, CheckFault> {
-    let mut player = checking.player(&check_of(block), line);
-    ends.play(&mut player)?;
+    checking.begin(player, &check_of(block), line);
+    ends.play(player)?;
     Ok(matches!(player.verdict(), Verdict::Passed))
 }
 
@@ -275,14 +283,15 @@ fn holds<'a, R: Net + Clock>(
 fn find_idle<'a, R: Net + Clock>(
     checking: &mut Checking<'a>,
     ends: &mut Ends<'_, R>,
+    player: &mut Player<'a>,
     line: &'a str,
     is_other: bool,
 ) -> Result<(), CheckFault> {
-    if holds(checking, ends, line, UNKNOWN)? {
+    if holds(checking, ends, player, line, UNKNOWN)? {
         return Err(CheckFault::NoSuchLine { is_other });
     }
     for block in IN_USE.iter() {
-        if holds(checking, ends, line, *block)? {
+        if holds(checking, ends, player, line, *block)? {
             return Err(CheckFault::InUse { is_other });
         }
     }
@@ -290,25 +299,27 @@ fn find_idle<'a, R: Net + Clock>(
 }
 
 // The lines are there, and aren't in use; else tells why nothing can be checked.
-fn find_lines<R: Net + Clock>(
-    checking: &mut Checking<'_>,
+fn find_lines<'a, R: Net + Clock>(
+    checking: &mut Checking<'a>,
     ends: &mut Ends<'_, R>,
+    player: &mut Player<'a>,
 ) -> Result<(), CheckFault> {
     let CheckSettings { line, other, .. } = checking.settings;
-    find_idle(checking, ends, line, false)?;
+    find_idle(checking, ends, player, line, false)?;
     match other {
-        Some(other) => find_idle(checking, ends, other, true),
+        Some(other) => find_idle(checking, ends, player, other, true),
         None => Ok(()),
     }
 }
 
 // Behind a check that has the gateway started anew it is waited for: what it announces is answered meanwhile, so that the checks
 // behind aren't refused with 405. One that doesn't serve then shows in these.
-fn await_serving<R: Net + Clock>(
-    checking: &mut Checking<'_>,
+fn await_serving<'a, R: Net + Clock>(
+    checking: &mut Checking<'a>,
     ends: &mut Ends<'_, R>,
+    player: &mut Player<'a>,
 ) -> Result<(), CheckFault> {
-    match find(checking, ends) {
+    match find(checking, ends, player) {
         Ok(()) => Ok(()),
         Err(CheckFault::NoAnswer { .. } | CheckFault::NotServing { .. }) => Ok(()),
         Err(fault) => Err(fault),
@@ -316,26 +327,27 @@ fn await_serving<R: Net + Clock>(
 }
 
 // Plays a check to its end, and reports what came of it.
-fn play_one<R: Net + Clock, F: Write + Drop>(
+fn play_one<'a, R: Net + Clock, F: Write + Drop>(
     out: &mut Outlet<F>,
-    checking: &mut Checking<'_>,
+    checking: &mut Checking<'a>,
     ends: &mut Ends<'_, R>,
+    player: &mut Player<'a>,
     check: &Check<'static>,
-    player: &mut Player<'_>,
 ) -> Result<(), CheckFault> {
     ends.play(player)?;
     checking.report(out, check, Some(player))?;
     if check.needs_restart() {
-        return await_serving(checking, ends);
+        return await_serving(checking, ends, player);
     }
     Ok(())
 }
 
 // Plays a check, where it is asked for.
-fn check_one<R: Net + Clock, F: Write + Drop>(
+fn check_one<'a, R: Net + Clock, F: Write + Drop>(
     out: &mut Outlet<F>,
-    checking: &mut Checking<'_>,
+    checking: &mut Checking<'a>,
     ends: &mut Ends<'_, R>,
+    player: &mut Player<'a>,
     check: &Check<'static>,
 ) -> Result<(), CheckFault> {
     if !checking.is_named(check) {
@@ -345,35 +357,56 @@ fn check_one<R: Net + Clock, F: Write + Drop>(
         return checking.report(out, check, None);
     }
     let line = checking.settings.line;
-    let mut player = checking.player(check, line);
-    play_one(out, checking, ends, check, &mut player)
+    checking.begin(player, check, line);
+    play_one(out, checking, ends, player, check)
 }
 
 // Plays the checks of a text that are asked for.
-fn check_each<R: Net + Clock, F: Write + Drop>(
+fn check_each<'a, R: Net + Clock, F: Write + Drop>(
     out: &mut Outlet<F>,
-    checking: &mut Checking<'_>,
+    checking: &mut Checking<'a>,
     ends: &mut Ends<'_, R>,
+    player: &mut Player<'a>,
     text: &'static str,
 ) -> Result<(), CheckFault> {
     for block in text.split("\n= ").skip(1) {
-        check_one(out, checking, ends, &check_of(block))?;
+        check_one(out, checking, ends, player, &check_of(block))?;
     }
     Ok(())
 }
 
-// Plays all checks that are asked for, and gives the exit status.
-fn check_all<R: Net + Clock, F: Write + Drop>(
+// Plays all checks that are asked for, and tells how many have come to what.
+fn check_all<'a, R: Net + Clock, F: Write + Drop>(
+    out: &mut Outlet<F>,
+    checking: &mut Checking<'a>,
+    ends: &mut Ends<'_, R>,
+    player: &mut Player<'a>,
+) -> Result<(), CheckFault> {
+    find(checking, ends, player)?;
+    find_lines(checking, ends, player)?;
+    for text in ALL_CHECKS.iter() {
+        check_each(out, checking, ends, player, *text)?;
+    }
+    checking.report_all(out)
+}
+
+// Does that with a player.
+fn check_with<R: Net + Clock, F: Write + Drop>(
+    out: &mut Outlet<F>,
+    checking: &mut Checking<'_>,
+    ends: &mut Ends<'_, R>,
+) -> Result<(), CheckFault> {
+    let mut player = checking.player(&check_of(SERVES), checking.settings.line);
+    check_all(out, checking, ends, &mut player)
+}
+
+// Does that, and gives the exit status, and the report as JUnit's XML, where that is wanted.
+fn checked<R: Net + Clock, F: Write + Drop>(
     out: &mut Outlet<F>,
     checking: &mut Checking<'_>,
     ends: &mut Ends<'_, R>,
 ) -> Result<Checked, CheckFault> {
-    find(checking, ends)?;
-    find_lines(checking, ends)?;
-    for text in ALL_CHECKS.iter() {
-        check_each(out, checking, ends, *text)?;
-    }
-    checking.report_all(out)?;
+    check_with(out, checking, ends)?;
     Ok(Checked {
         status: checking.tally.status(),
         junit: checking.junit()?,
@@ -400,7 +433,7 @@ fn check_by<R: AllocGlobal + Net + Clock, F: Write + Drop>(
         there: there.as_str(),
         cases: String::new(alloc),
     };
-    check_all(out, &mut checking, ends)
+    checked(out, &mut checking, ends)
 }
 
 /// Checks a gateway as the settings ask, and reports by this outlet, a check at a time: what came of it. An error says why nothing
