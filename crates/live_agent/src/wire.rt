@@ -13,7 +13,6 @@ use surroundings::{Lines, Surroundings};
 use turns::{Pause, Ready};
 
 /// A wire over these surroundings.
-#[derive(Drop)]
 pub struct Wire<S> {
     alloc: Global,
     pub around: S,
@@ -32,6 +31,28 @@ pub struct Wire<S> {
     pub(crate) end: Option<u64>,
     // Whether something that was recorded waits to be taken.
     is_offering: bool,
+}
+
+// Written out: a derived drop, and those of all its parts, are proved anew by each crate that lets one go.
+impl<S: Drop> Drop for Wire<S> {
+    fn drop(self) {
+        let Wire {
+            alloc: _,
+            around,
+            lines,
+            network,
+            journal,
+            now: _,
+            is_behind: _,
+            read: _,
+            end: _,
+            is_offering: _,
+        } = self;
+        drop(around);
+        drop(lines);
+        drop(network);
+        drop(journal);
+    }
 }
 
 // What becomes of a packet is counted, and noted in the log.
