@@ -23,7 +23,6 @@ pub enum Next {
 }
 
 /// Plays a script.
-#[derive(Drop)]
 pub struct Player {
     pub(crate) alloc: Global,
     pub(crate) script: Script,
@@ -32,6 +31,25 @@ pub struct Player {
     pub(crate) runners: Vec<Option<Runner>>,
     pub(crate) sends: VecDeque<(u16, Text)>,
     pub(crate) failure: Option<Failure>,
+}
+
+// Written out: a derived drop, and those of all its parts, are proved anew by each crate that lets one go.
+impl Drop for Player {
+    fn drop(self) {
+        let Player {
+            alloc: _,
+            script,
+            gateways,
+            runners,
+            sends,
+            failure,
+        } = self;
+        drop(script);
+        drop(gateways);
+        drop(runners);
+        drop(sends);
+        drop(failure);
+    }
 }
 
 impl Player {
