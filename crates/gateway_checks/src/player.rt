@@ -38,7 +38,6 @@ pub enum Turn {
 }
 
 /// A check that is played at a gateway. After an error it isn't used any more.
-#[derive(Drop)]
 pub struct Player<'a> {
     alloc: Global,
     names: Names<'a>,
@@ -70,6 +69,43 @@ pub struct Player<'a> {
     fault: Option<Fault>,
     said: String,
     due: String,
+}
+
+// Written out: a derived drop, and those of all its parts, are proved anew by each crate that lets one go.
+impl Drop for Player<'_> {
+    fn drop(self) {
+        let Player {
+            alloc: _,
+            names,
+            is_open: _,
+            hears: _,
+            announces: _,
+            lines: _,
+            undo: _,
+            is_undoing: _,
+            step: _,
+            line: _,
+            begun: _,
+            until: _,
+            sent,
+            from: _,
+            inbox,
+            mailbox,
+            came,
+            act: _,
+            acted: _,
+            fault: _,
+            said,
+            due,
+        } = self;
+        drop(names);
+        drop(sent);
+        drop(inbox);
+        drop(mailbox);
+        drop(came);
+        drop(said);
+        drop(due);
+    }
 }
 
 // The bytes of a value, if there is one.
