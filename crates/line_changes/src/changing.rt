@@ -200,6 +200,5 @@ pub fn put_changes(out: &mut Vec<Change>, was: &SeenLine, is: &SeenLine) -> Resu
     put_ended(out, was.signals.as_slice(), is.signals.as_slice())?;
     put_begun(out, was.signals.as_slice(), is.signals.as_slice())?;
     put_over(out, was.connections.as_slice(), is.connections.as_slice())?;
-    put_standing(out, was.connections.as_slice(), is.connections.as_slice())?;
-    Ok(())
+    put_standing(out, was.connections.as_slice(), is.connections.as_slice())
 }

@@ -30,10 +30,7 @@ fn put_end(alloc: Global, out: &mut Vec<u8>, end: Option<u64>) -> Result<(), Out
 {
     match end {
         Some(end) => put_decimal(alloc, out, end),
-        None => {
-            out.push(b'-')?;
-            Ok(())
-        }
+        None => out.extend_from_slice(b"-"),
     }
 }
 
@@ -42,8 +39,7 @@ fn put_address(alloc: Global, out: &mut Vec<u8>, address: SocketAddrV4) -> Resul
 {
     let mut text = String::with_capacity(alloc, ADDRESS_ROOM)?;
     write!(text, "{}", address)?;
-    out.extend_from_slice(text.as_bytes())?;
-    Ok(())
+    out.extend_from_slice(text.as_bytes())
 }
 
 fn put_remote(
@@ -55,10 +51,7 @@ fn put_remote(
 {
     match address {
         Some(address) => put_address(alloc, out, address),
-        None => {
-            out.push(b'-')?;
-            Ok(())
-        }
+        None => out.extend_from_slice(b"-"),
     }
 }
 
@@ -136,14 +129,10 @@ fn put_what(alloc: Global, out: &mut Vec<u8>, change: Change) -> Result<(), OutO
     ensures { OnOk result (out.new.items ≡ out.old.items ++ what_text change) }
 {
     match change {
-        Change::Hook { hook } => {
-            out.extend_from_slice(hook_word(hook))?;
-            Ok(())
-        }
+        Change::Hook { hook } => out.extend_from_slice(hook_word(hook)),
         Change::Ends { signal } => {
             out.extend_from_slice(b"ends ")?;
-            out.extend_from_slice(signal_name(signal))?;
-            Ok(())
+            out.extend_from_slice(signal_name(signal))
         }
         Change::Begins { active } => put_begun(alloc, out, active),
         Change::Over { number } => put_over(alloc, out, number),
