@@ -92,15 +92,12 @@ impl Watched {
         if next < number { Some(next) } else { None }
     }
 
-    // The place of a telephone.
-    fn place_of(&self, line: u16) -> Option<usize> {
-        self.telephones.iter().position(|known| known.line == line)
-    }
-
     // The place of a line's telephone; one of which nothing was told is at rest.
     fn place(&mut self, alloc: Global, line: u16) -> Result<usize, OutOfMemory> {
-        if let Some(place) = self.place_of(line) {
-            return Ok(place);
+        for (place, known) in self.telephones.iter().enumerate() {
+            if known.line == line {
+                return Ok(place);
+            }
         }
         let place = self.telephones.len();
         self.telephones.push(Known {
@@ -109,6 +106,14 @@ impl Watched {
             since: None,
         })?;
         Ok(place)
+    }
+
+    /// It has answered: who asked for that, a runner or the player itself.
+    pub(crate) fn asked_first(&mut self) -> Option<usize> {
+        match self.questions.pop_front() {
+            Some(question) => question.runner,
+            None => None,
+        }
     }
 
     /// What is known of a line's telephone.

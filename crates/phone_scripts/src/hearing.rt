@@ -77,14 +77,39 @@ impl Player {
         Ok(())
     }
 
-    // A gateway has come to this moment, and told all that changed before: that is told to a runner that expects something there.
-    fn pass(&mut self, place: usize, gateway: u16, moment: u64) -> Result<(), OutOfMemory> {
+    // Its gateway has come to this moment, and told all that changed before, or this line of it changed then: an expectation is told that.
+    fn told(
+        &mut self,
+        pending: &mut Pending,
+        line: Option<u16>,
+        moment: u64,
+    ) -> Result<(), OutOfMemory> {
+        match line {
+            None => pending.so_far.pass(moment),
+            Some(line) if line == pending.phone.line => {
+                if let Some(known) = self.known(pending.phone)? {
+                    pending.so_far.told(moment, &known.telephone);
+                }
+            }
+            Some(_) => {}
+        }
+        Ok(())
+    }
+
+    // That is told to a runner that expects something at the gateway.
+    fn tell(
+        &mut self,
+        place: usize,
+        gateway: u16,
+        line: Option<u16>,
+        moment: u64,
+    ) -> Result<(), OutOfMemory> {
         let Some(mut runner) = self.take(place) else {
             return Ok(());
         };
         if let Waits::Expect(mut pending) = runner.waits {
             if pending.phone.gateway == gateway {
-                pending.so_far.pass(moment);
+                self.told(&mut pending, line, moment)?;
                 runner.waits = self.settle(&runner, pending)?;
             }
         }
@@ -92,45 +117,17 @@ impl Player {
         Ok(())
     }
 
-    // So it is told to all.
-    fn pass_all(&mut self, gateway: u16, moment: u64) -> Result<(), OutOfMemory> {
+    // That is told to all.
+    fn tell_all(
+        &mut self,
+        gateway: u16,
+        line: Option<u16>,
+        moment: u64,
+    ) -> Result<(), OutOfMemory> {
         for place in 0..self.runners.len() {
-            self.pass(place, gateway, moment)?;
+            self.tell(place, gateway, line, moment)?;
         }
         Ok(())
-    }
-
-    // A telephone changed at this moment of its gateway, in ms: that is told to a runner that expects something of it.
-    fn tell(&mut self, place: usize, phone: Phone, moment: u64) -> Result<(), OutOfMemory> {
-        let Some(mut runner) = self.take(place) else {
-            return Ok(());
-        };
-        if let Waits::Expect(mut pending) = runner.waits {
-            if pending.phone.gateway == phone.gateway && pending.phone.line == phone.line {
-                if let Some(known) = self.known(phone)? {
-                    pending.so_far.told(moment, &known.telephone);
-                }
-                runner.waits = self.settle(&runner, pending)?;
-            }
-        }
-        self.put(place, runner);
-        Ok(())
-    }
-
-    // So it is told to all.
-    fn tell_all(&mut self, phone: Phone, moment: u64) -> Result<(), OutOfMemory> {
-        for place in 0..self.runners.len() {
-            self.tell(place, phone, moment)?;
-        }
-        Ok(())
-    }
-
-    // What the number of a change says.
-    fn take_number(&mut self, gateway: u16, number: u64) -> Numbered {
-        match self.gateways.get_mut(usize::from(gateway)) {
-            Some(watched) => watched.take_number(number),
-            None => Numbered::Told,
-        }
     }
 
     // A telephone changes so, at this moment. It is told before what changes then that its gateway has come there: so what a failure tells is what
@@ -142,16 +139,19 @@ impl Player {
             line,
             what,
         } = telling;
-        self.pass_all(gateway, moment)?;
+        self.tell_all(gateway, None, moment)?;
         if let Some(watched) = self.gateways.get_mut(usize::from(gateway)) {
             watched.change(self.alloc, moment, line, what)?;
         }
-        self.tell_all(Phone { gateway, line }, moment)
+        self.tell_all(gateway, Some(line), moment)
     }
 
     // It is told of a change. One whose number was told before is passed over; where one is missing the script can't go on.
     fn hear_change(&mut self, gateway: u16, telling: Telling) -> Result<(), OutOfMemory> {
-        match self.take_number(gateway, telling.number) {
+        let Some(watched) = self.gateways.get_mut(usize::from(gateway)) else {
+            return Ok(());
+        };
+        match watched.take_number(telling.number) {
             Numbered::Told => Ok(()),
             Numbered::Next => self.change(gateway, telling),
             Numbered::Lost { number } => {
@@ -161,21 +161,6 @@ impl Player {
         }
     }
 
-    // The number of a change that was never told, where all before this one were.
-    fn missing(&mut self, gateway: u16, next: u64) -> Option<u64> {
-        match self.gateways.get_mut(usize::from(gateway)) {
-            Some(watched) => watched.missing_before(next),
-            None => None,
-        }
-    }
-
-    // Who asked first of a gateway: a runner, or the player itself.
-    fn asked_first(&mut self, gateway: u16) -> Option<usize> {
-        let watched = self.gateways.get_mut(usize::from(gateway))?;
-        let question = watched.questions.pop_front()?;
-        question.runner
-    }
-
     // It is told from which number on changes are told, and the gateway's moment.
     fn hear_watching(
         &mut self,
@@ -183,12 +168,15 @@ impl Player {
         watching: Watching,
         now: u64,
     ) -> Result<(), OutOfMemory> {
-        let asked = self.asked_first(gateway);
-        if let Some(number) = self.missing(gateway, watching.next) {
+        let Some(watched) = self.gateways.get_mut(usize::from(gateway)) else {
+            return Ok(());
+        };
+        let asked = watched.asked_first();
+        if let Some(number) = watched.missing_before(watching.next) {
             self.stop(Failure::Lost { gateway, number });
             return Ok(());
         }
-        self.pass_all(gateway, watching.moment)?;
+        self.tell_all(gateway, None, watching.moment)?;
         match asked {
             Some(place) => self.begin(place, watching.moment, now),
             None => Ok(()),
@@ -222,7 +210,10 @@ impl Player {
 
     // What was done or asked is answered so.
     fn hear_answer(&mut self, gateway: u16, line: &[u8]) -> Result<(), OutOfMemory> {
-        let Some(place) = self.asked_first(gateway) else {
+        let Some(watched) = self.gateways.get_mut(usize::from(gateway)) else {
+            return Ok(());
+        };
+        let Some(place) = watched.asked_first() else {
             return self.refuse_watch(gateway, line);
         };
         let Some(mut runner) = self.take(place) else {

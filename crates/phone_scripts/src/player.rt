@@ -134,9 +134,22 @@ impl Player {
 
     // Whether each gateway tells what changes, and told how its lines are.
     fn is_watched(&self) -> bool {
-        self.gateways
-            .iter()
-            .all(|watched| watched.next.is_some() && watched.is_shown)
+        for watched in self.gateways.iter() {
+            if watched.next.is_none() || !watched.is_shown {
+                return false;
+            }
+        }
+        true
+    }
+
+    // Whether all have come to their ends.
+    fn is_played(&self) -> bool {
+        for slot in self.runners.iter() {
+            if slot.is_some() {
+                return false;
+            }
+        }
+        true
     }
 
     // Gateways that were asked long ago are asked again to tell what changes, and one that doesn't answer fails.
@@ -191,7 +204,7 @@ impl Player {
         if let Some((gateway, text)) = self.sends.pop_front() {
             return Ok(Next::Send { gateway, text });
         }
-        if self.runners.iter().all(|runner| runner.is_none()) {
+        if self.is_played() {
             return Ok(Next::Done);
         }
         Ok(Next::Wait {
