@@ -1,5 +1,5 @@
 //! Who watches is told what changes at the lines.
-ghost use Rattle.std.specs.Prelude.{◌≡◌, ◌≤◌, ◌-◌, ◌⊎◌, [], codes, List, IfOk, OnOk, slice_get};
+ghost use Rattle.std.specs.Prelude.{◌≡◌, ◌≤◌, ◌-◌, ◌⊎◌, [], codes, List, false, Ok, IfOk, IfErr, OnOk, slice_get};
 ghost use Rattle.plain_machine.specs.Event.{GatewayEvent};
 ghost use Rattle.plain_machine.specs.Lists.{plain};
 ghost use Rattle.gateway_core.specs.Stands.{Stands};
@@ -74,7 +74,9 @@ impl Watch {
         seconds: u64,
     ) -> Result<bool, OutOfMemory>
         requires { seconds ≤ longest_watch }
-        ensures { self.new.told ≡ self.old.told }
+        ensures told { self.new.told ≡ self.old.told }
+        ensures full { result ≡ Ok false → self.new.watchers ≡ self.old.watchers }
+        ensures refused { IfErr result (λ _. self.new.watchers ≡ self.old.watchers) }
     {
         let now = gateway.now();
         if !self.watchers.is_watched(now) {
@@ -93,7 +95,8 @@ impl Watch {
         Ok(text)
     }
 
-    /// Somebody asks to be told for so long, in s, what changes; 0 ends it: the answer. Nobody, as the page, can't be told.
+    /// Somebody asks to be told for so long, in s, what changes; 0 ends it: the answer. Nobody, as the page, can't be told. After an error,
+    /// which is for want of memory, those watch who did.
     pub fn ask(
         &mut self,
         alloc: Global,
@@ -102,12 +105,15 @@ impl Watch {
         seconds: u64,
     ) -> Result<Vec<u8>, OutOfMemory>
         requires { seconds ≤ longest_watch }
+        ensures refused { IfErr result (λ _. self.new.watchers ≡ self.old.watchers) }
     {
         let Some(address) = sender else {
             return Ok(Vec::from_slice(alloc, UNKNOWN)?);
         };
+        // Put first: who is answered that memory is refused doesn't watch.
+        let text = self.begun(alloc, gateway)?;
         if self.begin(alloc, gateway, address, seconds)? {
-            self.begun(alloc, gateway)
+            Ok(text)
         } else {
             full_answer(alloc)
         }
