@@ -15,4 +15,4 @@ pub use crate::change::{Change, codec_text};
 pub use crate::changing::put_changes;
 pub use crate::seen::{SeenConnection, SeenLine, seen_connections};
 pub use crate::telling::{ChangeText, put_watching};
-pub use crate::watchers::{LONGEST_WATCH, MOST_WATCHERS, Watcher, Watchers};
+pub use crate::watchers::{LONGEST_WATCH, MOST_WATCHERS, Watcher, Watchers, told_at};

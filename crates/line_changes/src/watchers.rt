@@ -101,8 +101,8 @@ fn place_for(now: u64, places: &[Option<Watcher>], address: SocketAddrV4) -> Opt
     }
 }
 
-// Where it is told what changes, if the place's time isn't over.
-fn told_at(now: u64, held: Option<Watcher>) -> Option<SocketAddrV4>
+/// Where it is told at this moment, in ms, what changes, of who has a place, if its time isn't over.
+pub fn told_at(now: u64, held: Option<Watcher>) -> Option<SocketAddrV4>
     ensures { result ≡ told_at now held }
 {
     match held {
@@ -151,14 +151,6 @@ impl Watchers {
             end: now + seconds * SECOND,
         });
         true
-    }
-
-    /// Where it is told at this moment, in ms, what changes, of who has this place, below `MOST_WATCHERS`.
-    pub fn told_at(&self, place: usize, now: u64) -> Option<SocketAddrV4> {
-        match self.places.get(place) {
-            Some(held) => told_at(now, *held),
-            None => None,
-        }
     }
 
     /// Nobody watches any more.

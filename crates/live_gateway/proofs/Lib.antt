@@ -3,4 +3,5 @@ pub mod HearingLemmas
 pub mod CountingLemmas
 pub mod EndingLemmas
 pub mod DeskLemmas
+pub mod WatchingLemmas
 pub mod HearingLaws

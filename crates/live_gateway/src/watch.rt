@@ -5,12 +5,13 @@ ghost use Rattle.plain_machine.specs.Lists.{plain};
 ghost use Rattle.gateway_core.specs.Stands.{Stands};
 ghost use Rattle.line_changes.specs.Telling.{with_changes, watching_line};
 ghost use Rattle.line_changes.specs.Watching.{longest_watch, nobody};
-ghost use Rattle.live_gateway.specs.Watching.{changes_behind};
+ghost use Rattle.surroundings.specs.Hearing.{AnswersTo};
+ghost use Rattle.live_gateway.specs.Watching.{changes_behind, sender_at, TellsEach};
 
 use crate::answering::{OUT_OF_MEMORY, UNKNOWN, full_answer};
 use gateway_core::Gateway;
 use line_changes::{
-    Change, ChangeText, MOST_WATCHERS, SeenLine, Watchers, put_changes, put_watching,
+    Change, ChangeText, SeenLine, Watcher, Watchers, put_changes, put_watching, told_at,
 };
 use live_journal::seen_line;
 use mg_bytes::OutOfMemory;
@@ -49,6 +50,26 @@ fn seen_lines(alloc: Global, gateway: &Gateway) -> Result<Vec<SeenLine>, OutOfMe
         lines.push(seen_line(alloc, gateway, before + 1)?)?;
     }
     Ok(lines)
+}
+
+// Who has a place is told this, if its time isn't over.
+fn tell_one<S: Surroundings>(around: &mut S, held: Option<Watcher>, now: u64, text: &[u8])
+    ensures told { AnswersTo S.answers (sender_at now held) around.old text.now around.new }
+    ensures traffic { S.traffic around.new ≡ S.traffic around.old }
+{
+    if let Some(address) = told_at(now, held) {
+        around.answer(SocketAddr::V4(address), text);
+    }
+}
+
+// Each who watches is told this.
+fn tell_all<S: Surroundings>(around: &mut S, places: &[Option<Watcher>], now: u64, text: &[u8])
+    ensures told { TellsEach S.answers now places.now around.old text.now around.new }
+    ensures traffic { S.traffic around.new ≡ S.traffic around.old }
+{
+    for held in places {
+        tell_one(around, *held, now, text);
+    }
 }
 
 impl Watch {
@@ -119,24 +140,6 @@ impl Watch {
         }
     }
 
-    // Who watches from this place is told this, if anybody does.
-    fn tell_place<S: Surroundings>(&self, around: &mut S, place: usize, now: u64, text: &[u8])
-        ensures { S.traffic around.new ≡ S.traffic around.old }
-    {
-        if let Some(address) = self.watchers.told_at(place, now) {
-            around.answer(SocketAddr::V4(address), text);
-        }
-    }
-
-    // Each who watches is told this.
-    fn tell_all<S: Surroundings>(&self, around: &mut S, now: u64, text: &[u8])
-        ensures { S.traffic around.new ≡ S.traffic around.old }
-    {
-        for place in 0..MOST_WATCHERS {
-            self.tell_place(around, place, now, text);
-        }
-    }
-
     // What changed at a line is put, to be told.
     fn note(
         &mut self,
@@ -187,7 +190,7 @@ impl Watch {
         self.note(alloc, now, line, &is)?;
         let text = self.told.text();
         if !text.is_empty() {
-            self.tell_all(around, now, text);
+            tell_all(around, &self.watchers.places, now, text);
         }
         self.keep(line, is);
         Ok(())
@@ -219,7 +222,7 @@ impl Watch {
         match self.tell_lines(alloc, around, gateway) {
             Ok(()) => {}
             Err(_) => {
-                self.tell_all(around, now, OUT_OF_MEMORY);
+                tell_all(around, &self.watchers.places, now, OUT_OF_MEMORY);
                 self.watchers.clear();
             }
         }
