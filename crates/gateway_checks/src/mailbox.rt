@@ -1,5 +1,5 @@
 //! What the gateway said by itself, as long as a check is played.
-ghost use Rattle.std.specs.Prelude.{◌≡◌, ◌++◌, ◌∷◌, [], OnOk, IfOk};
+ghost use Rattle.std.specs.Prelude.{◌≡◌, ◌++◌, ◌∷◌, [], None, OnOk, IfOk, vec_len};
 ghost use Rattle.gateway_checks.specs.Unasked.{is_copy, disturbs, is_disturbed, is_quiet, counts_at, likeness_at, first_meant};
 ghost use Rattle.gateway_checks.specs.Unasked.{last_of, with_copy, gaps_of, gaps_behind};
 
@@ -94,6 +94,16 @@ impl Mailbox {
         let id = unasked.id;
         self.heard.push(unasked)?;
         Ok(Some(id))
+    }
+
+    /// Takes one of all that has come; nothing where none is left.
+    pub(crate) fn take(&mut self) -> Option<Unasked>
+        ensures { result ≡ None → (vec_len self.new.waiting ≡ 0) × (vec_len self.new.heard ≡ 0) }
+    {
+        match self.waiting.pop() {
+            Some(unasked) => Some(unasked),
+            None => self.heard.pop(),
+        }
     }
 
     /// How the one that a step asked for last comes again; nothing where none has asked.

@@ -265,7 +265,11 @@ impl<'a> Player<'a> {
     /// What is asked for at this moment, in ms. It is asked again once that was done.
     pub fn turn(&mut self, now: u64) -> Result<Turn, OutOfMemory> {
         for _ in 0..MOST_STEPS {
-            let Some(step) = self.next_step() else {
+            let next = self.next_step();
+            if let Some(turn) = self.answer_left()? {
+                return Ok(turn);
+            }
+            let Some(step) = next else {
                 return Ok(Turn::Over);
             };
             if let Some(turn) = self.play(step, now)? {
@@ -273,6 +277,21 @@ impl<'a> Player<'a> {
             }
         }
         Ok(Turn::Over)
+    }
+
+    // Before what undoes a check that a fault has ended all is answered that the gateway said by itself meanwhile: it would come again,
+    // and keep its line from notifying what the checks behind are for.
+    fn answer_left(&mut self) -> Result<Option<Turn>, OutOfMemory> {
+        if !self.is_undoing || self.fault.is_none() {
+            return Ok(None);
+        }
+        let Some(unasked) = self.mailbox.take() else {
+            return Ok(None);
+        };
+        let mut response = String::new(self.alloc);
+        put_response(&mut response, unasked.id)?;
+        self.sent = response.into_bytes();
+        Ok(Some(Turn::Send { from: unasked.at }))
     }
 
     // Plays a step: what it asks for, or nothing where it is done.
