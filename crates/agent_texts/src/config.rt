@@ -38,14 +38,32 @@ pub struct AgentConfig {
     pub gateways: Vec<GatewayConfig>,
 }
 
+// It is refused so, or for want of memory.
+fn told(refusal: Result<ConfigRefusal, AllocError>) -> ConfigRefusal {
+    match refusal {
+        Ok(refusal) => refusal,
+        Err(_) => ConfigRefusal::OutOfMemory,
+    }
+}
+
 // The numbers so far, of all gateways.
 type Numbers = BTreeMap<String, bool>;
+
+// Whether a key is one of these.
+fn is_among(known: &[&str], name: &str) -> bool {
+    for key in known {
+        if *key == name {
+            return true;
+        }
+    }
+    false
+}
 
 // A key of a table that isn't one of these.
 fn other_key<'a>(table: &'a Table, known: &[&str]) -> Option<&'a str> {
     for (name, _value) in table.iter() {
         let name = name.as_str();
-        if !known.iter().any(|key| *key == name) {
+        if !is_among(known, name) {
             return Some(name);
         }
     }
@@ -88,7 +106,7 @@ fn address_at(
     };
     match found {
         Some(address) => Ok(address),
-        None => Err(refused(alloc, place, value, ValueFault::NoAddress)?),
+        None => Err(told(refused(alloc, place, value, ValueFault::NoAddress))),
     }
 }
 
@@ -116,12 +134,12 @@ fn map_of(alloc: Global, table: &Table) -> Result<Option<Text>, ConfigRefusal> {
     match read_map(alloc, text) {
         Ok(_) => Ok(Some(copied(alloc, text)?)),
         Err(MapFault::OutOfMemory) => Err(ConfigRefusal::OutOfMemory),
-        Err(_) => Err(refused(
+        Err(_) => Err(told(refused(
             alloc,
             own_key("digit_map"),
             Some(value),
             ValueFault::NoDigitMap,
-        )?),
+        ))),
     }
 }
 
@@ -129,11 +147,20 @@ fn is_key(byte: u8) -> bool {
     matches!(byte, b'0'..=b'9' | b'A'..=b'D' | b'*' | b'#')
 }
 
+fn are_keys(text: &[u8]) -> bool {
+    for key in text {
+        if !is_key(*key) {
+            return false;
+        }
+    }
+    true
+}
+
 // The number that a value is.
 fn number_in(value: &Value) -> Option<&str> {
     let number = value.as_str()?;
     let is_short = !number.is_empty() && number.len() <= LONGEST_NUMBER;
-    if is_short && number.as_bytes().iter().all(|key| is_key(*key)) {
+    if is_short && are_keys(number.as_bytes()) {
         Some(number)
     } else {
         None
@@ -162,14 +189,14 @@ fn numbers_of(
     let mut numbers = Vec::new(alloc);
     for value in values {
         let Some(number) = number_in(value) else {
-            return Err(refused(alloc, place, Some(value), ValueFault::NoNumber)?);
+            return Err(told(refused(alloc, place, Some(value), ValueFault::NoNumber)));
         };
         if !put_number(alloc, seen, &mut numbers, number)? {
-            return Err(refused(alloc, place, Some(value), ValueFault::Twice)?);
+            return Err(told(refused(alloc, place, Some(value), ValueFault::Twice)));
         }
     }
     if numbers.is_empty() || numbers.len() > MOST_NUMBERS {
-        return Err(miscounted(alloc, place, numbers.len(), ValueFault::NoNumbers)?);
+        return Err(told(miscounted(alloc, place, numbers.len(), ValueFault::NoNumbers)));
     }
     Ok(numbers)
 }
@@ -188,7 +215,7 @@ fn numbers_at(
     };
     match values {
         Some(values) => numbers_of(alloc, seen, place, values.as_slice()),
-        None => Err(refused(alloc, place, value, ValueFault::NoNumbers)?),
+        None => Err(told(refused(alloc, place, value, ValueFault::NoNumbers))),
     }
 }
 
@@ -200,10 +227,10 @@ fn gateway_of(
     table: &Table,
 ) -> Result<GatewayConfig, ConfigRefusal> {
     if !is_domain(domain.as_bytes()) {
-        return Err(misnamed(alloc, key_of(domain, ""), ValueFault::NoDomain)?);
+        return Err(told(misnamed(alloc, key_of(domain, ""), ValueFault::NoDomain)));
     }
     if let Some(other) = other_key(table, &GATEWAY_KEYS) {
-        return Err(unknown(alloc, key_of(domain, other))?);
+        return Err(told(unknown(alloc, key_of(domain, other))));
     }
     let address = address_at(alloc, table, key_of(domain, "address"))?;
     let phones = address_if(alloc, table, key_of(domain, "phones"))?;
@@ -215,35 +242,49 @@ fn gateway_of(
     })
 }
 
-// A gateway is put behind the others: whether its address is new.
+// Whether one of these gateways has this address.
+fn has_address(gateways: &[GatewayConfig], address: SocketAddrV4) -> bool {
+    for other in gateways {
+        if other.address == address {
+            return true;
+        }
+    }
+    false
+}
+
+// The gateway with this domain, which this value is to be, is put behind the others. No other one has its address.
 fn put_gateway(
+    alloc: Global,
+    seen: &mut Numbers,
     gateways: &mut Vec<GatewayConfig>,
-    gateway: GatewayConfig,
-) -> Result<bool, AllocError> {
-    let address = gateway.address;
-    let is_new = !gateways.iter().any(|other| other.address == address);
-    gateways.push(gateway)?;
-    Ok(is_new)
+    domain: &str,
+    value: &Value,
+) -> Result<(), ConfigRefusal> {
+    let Some(keys) = value.as_table() else {
+        let place = key_of(domain, "");
+        return Err(told(refused(alloc, place, Some(value), ValueFault::NoGateway)));
+    };
+    let gateway = gateway_of(alloc, seen, domain, keys)?;
+    let is_new = !has_address(gateways.as_slice(), gateway.address);
+    if gateways.push(gateway).is_err() {
+        return Err(ConfigRefusal::OutOfMemory);
+    }
+    if is_new {
+        return Ok(());
+    }
+    let place = key_of(domain, "address");
+    Err(told(refused(alloc, place, keys.get("address"), ValueFault::Twice)))
 }
 
 fn gateways_of(alloc: Global, table: &Table) -> Result<Vec<GatewayConfig>, ConfigRefusal> {
     let mut seen = BTreeMap::new(alloc);
     let mut gateways = Vec::new(alloc);
     for (domain, value) in table.iter() {
-        let domain = domain.as_str();
-        let Some(keys) = value.as_table() else {
-            let place = key_of(domain, "");
-            return Err(refused(alloc, place, Some(value), ValueFault::NoGateway)?);
-        };
-        let gateway = gateway_of(alloc, &mut seen, domain, keys)?;
-        if !put_gateway(&mut gateways, gateway)? {
-            let place = key_of(domain, "address");
-            return Err(refused(alloc, place, keys.get("address"), ValueFault::Twice)?);
-        }
+        put_gateway(alloc, &mut seen, &mut gateways, domain.as_str(), value)?;
     }
     if gateways.is_empty() || gateways.len() > MOST_GATEWAYS {
         let place = own_key("gateways");
-        return Err(miscounted(alloc, place, gateways.len(), ValueFault::NoGateways)?);
+        return Err(told(miscounted(alloc, place, gateways.len(), ValueFault::NoGateways)));
     }
     Ok(gateways)
 }
@@ -257,13 +298,13 @@ fn gateways_at(alloc: Global, table: &Table) -> Result<Vec<GatewayConfig>, Confi
     };
     match gateways {
         Some(gateways) => gateways_of(alloc, gateways),
-        None => Err(refused(alloc, own_key("gateways"), value, ValueFault::NoGateways)?),
+        None => Err(told(refused(alloc, own_key("gateways"), value, ValueFault::NoGateways))),
     }
 }
 
 fn config_of(alloc: Global, table: &Table) -> Result<AgentConfig, ConfigRefusal> {
     if let Some(key) = other_key(table, &KEYS) {
-        return Err(unknown(alloc, own_key(key))?);
+        return Err(told(unknown(alloc, own_key(key))));
     }
     Ok(AgentConfig {
         own: address_at(alloc, table, own_key("own"))?,
@@ -286,7 +327,7 @@ fn line_at(text: &str, place: usize) -> u64 {
 /// The configuration that a text writes, or what is wrong with it: the key, what stands there, and what may.
 pub fn read_config(alloc: Global, text: &[u8]) -> Result<AgentConfig, ConfigRefusal> {
     let Ok(text) = std::str::from_utf8(text) else {
-        return Err(said(alloc, "no UTF-8")?);
+        return Err(told(said(alloc, "no UTF-8")));
     };
     match toml::table_from_str(alloc, text) {
         Ok(table) => config_of(alloc, &table),
@@ -297,7 +338,7 @@ pub fn read_config(alloc: Global, text: &[u8]) -> Result<AgentConfig, ConfigRefu
                 None => 0,
             };
             let words = format!(in alloc; "line {}: {}", line_at(text, start), e.message())?;
-            Err(said(alloc, words.as_str())?)
+            Err(told(said(alloc, words.as_str())))
         }
     }
 }
