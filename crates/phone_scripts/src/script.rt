@@ -172,19 +172,19 @@ impl<'n> Reader<'n> {
         Ok(())
     }
 
-    // Puts a statement.
-    fn put(&mut self, place: Place, statement: Statement) -> Result<(), ScriptFault> {
+    // Puts a statement: nothing is wanted for that.
+    fn put(&mut self, place: Place, statement: Statement) -> Result<Wanted, ScriptFault> {
         if self.script.statements.len() >= MOST_STATEMENTS {
             return Err(fault_at(place, LineFault::TooLong));
         }
         match self.script.statements.push(Placed { place, statement }) {
-            Ok(()) => Ok(()),
+            Ok(()) => Ok(Wanted::Nothing),
             Err(_) => Err(ScriptFault::OutOfMemory),
         }
     }
 
     // A block begins.
-    fn begin_block(&mut self, place: Place, begin: Statement) -> Result<(), ScriptFault> {
+    fn begin_block(&mut self, place: Place, begin: Statement) -> Result<Wanted, ScriptFault> {
         if self.begun.len() >= MOST_DEPTH {
             return Err(fault_at(place, LineFault::TooDeep));
         }
@@ -195,7 +195,7 @@ impl<'n> Reader<'n> {
     }
 
     // A block ends that this file began.
-    fn end_block(&mut self, place: Place, depth: usize) -> Result<(), ScriptFault> {
+    fn end_block(&mut self, place: Place, depth: usize) -> Result<Wanted, ScriptFault> {
         if self.begun.len() <= depth {
             return Err(fault_at(place, LineFault::NoBlock));
         }
@@ -210,7 +210,7 @@ impl<'n> Reader<'n> {
         phone: Phone,
         keys: &[u8],
         gap: u64,
-    ) -> Result<(), ScriptFault> {
+    ) -> Result<Wanted, ScriptFault> {
         self.put(place, Statement::Repeat { times: 1 })?;
         put_keys(&mut self.script.statements, place, phone, keys, gap)?;
         self.put(place, Statement::End)
@@ -231,10 +231,10 @@ impl<'n> Reader<'n> {
     // What a line says is put, where so many blocks were open before its file.
     fn take(&mut self, place: Place, depth: usize, said: Said) -> Result<Wanted, ScriptFault> {
         match said {
-            Said::Nothing => {}
-            Said::Act { phone, act } => self.put(place, Statement::Act { phone, act })?,
-            Said::Dial { phone, keys, gap } => self.dial(place, phone, keys.as_bytes(), gap)?,
-            Said::Wait { ms } => self.put(place, Statement::Wait { ms })?,
+            Said::Nothing => Ok(Wanted::Nothing),
+            Said::Act { phone, act } => self.put(place, Statement::Act { phone, act }),
+            Said::Dial { phone, keys, gap } => self.dial(place, phone, keys.as_bytes(), gap),
+            Said::Wait { ms } => self.put(place, Statement::Wait { ms }),
             Said::Expect {
                 phone,
                 expected,
@@ -246,24 +246,23 @@ impl<'n> Reader<'n> {
                     expected,
                     within,
                 },
-            )?,
-            Said::Repeat { times } => self.begin_block(place, Statement::Repeat { times })?,
-            Said::Beside => self.begin_block(place, Statement::Beside)?,
-            Said::End => self.end_block(place, depth)?,
-            Said::Include { file } => return self.include(place, file),
+            ),
+            Said::Repeat { times } => self.begin_block(place, Statement::Repeat { times }),
+            Said::Beside => self.begin_block(place, Statement::Beside),
+            Said::End => self.end_block(place, depth),
+            Said::Include { file } => self.include(place, file),
         }
-        Ok(Wanted::Nothing)
     }
 
     // A file is read to its end: its blocks are closed, and where another one brought it, that block ends.
-    fn leave(&mut self, level: Level) -> Result<(), ScriptFault> {
+    fn leave(&mut self, level: Level) -> Result<Wanted, ScriptFault> {
         if self.begun.len() > level.depth {
             if let Some(place) = self.begun.pop() {
                 return Err(fault_at(place, LineFault::Endless));
             }
         }
         if self.levels.is_empty() {
-            return Ok(());
+            return Ok(Wanted::Nothing);
         }
         let place = Place {
             file: level.file,
@@ -287,8 +286,7 @@ impl<'n> Reader<'n> {
     // Reads the next line of this file.
     fn read_line(&mut self, mut level: Level) -> Result<Wanted, ScriptFault> {
         let Some((line, next)) = line_at(level.text.as_bytes(), level.begin) else {
-            self.leave(level)?;
-            return Ok(Wanted::Nothing);
+            return self.leave(level);
         };
         level.line = level.line.saturating_add(1);
         let place = Place {
