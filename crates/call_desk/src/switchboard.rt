@@ -215,21 +215,27 @@ impl Switchboard {
             .position(|gateway| is_at(gateway, address))
     }
 
+    // The place of the gateway with this domain.
+    fn place_named(&self, domain: &[u8]) -> Option<usize> {
+        for (place, gateway) in self.gateways.iter().enumerate() {
+            if same_no_case(gateway.domain.as_bytes(), domain) {
+                return Some(place);
+            }
+        }
+        None
+    }
+
     // The place of the gateway that an endpoint's name means, and the name without its domain. Where there is one gateway alone its
     // domain may be left out.
     fn meant<'t>(&self, name: &'t [u8]) -> Option<(usize, &'t [u8])> {
-        let Some((local, domain)) = split_once(name, b'@') else {
-            return if self.gateways.len() == 1 {
-                Some((0, name))
-            } else {
-                None
-            };
-        };
-        let place = self
-            .gateways
-            .iter()
-            .position(|gateway| same_no_case(gateway.domain.as_bytes(), domain))?;
-        Some((place, local))
+        match split_once(name, b'@') {
+            Some((local, domain)) => match self.place_named(domain) {
+                Some(place) => Some((place, local)),
+                None => None,
+            },
+            None if self.gateways.len() == 1 => Some((0, name)),
+            None => None,
+        }
     }
 
     /// The moment at which something falls due next at an agent, in ms.
@@ -263,14 +269,6 @@ impl Switchboard {
         }
     }
 
-    // What a line is to be sent now, if it is to be sent anything.
-    fn order_of(&mut self, line: usize) -> Result<Option<Order>, OutOfMemory> {
-        match &mut self.office {
-            Some(office) => office.order(self.alloc, line),
-            None => Ok(None),
-        }
-    }
-
     // Issues a command of the exchange to a line.
     fn issue(&mut self, line: usize, order: &Order) -> Result<Issued, IssueFault> {
         let Some(station) = self.stations.get(line) else {
@@ -291,21 +289,16 @@ impl Switchboard {
         }
     }
 
-    // The line that is settled so many behind the first.
-    fn settled_at(&self, index: usize) -> Option<usize> {
-        match &self.office {
-            Some(office) => office.settled_at(index),
-            None => None,
-        }
-    }
-
     /// Issues what the line that is settled so many behind the first is to be sent now: what is to be sent, if anything is. Where it
     /// can't be issued it counts as given up.
     pub fn issue_next(&mut self, index: usize) -> Result<Option<Issued>, IssueFault> {
-        let Some(line) = self.settled_at(index) else {
+        let Some(office) = &mut self.office else {
             return Ok(None);
         };
-        let issued = match self.order_of(line) {
+        let Some(line) = office.settled_at(index) else {
+            return Ok(None);
+        };
+        let issued = match office.order(self.alloc, line) {
             Ok(None) => return Ok(None),
             Ok(Some(order)) => self.issue(line, &order),
             Err(_) => Err(IssueFault::OutOfMemory),
@@ -321,10 +314,10 @@ impl Switchboard {
 
     /// Tells how the line that is settled so many behind the first stands, where that has changed.
     pub fn show(&mut self, journal: &mut Journal, index: usize) {
-        let Some(line) = self.settled_at(index) else {
+        let Some(office) = &mut self.office else {
             return;
         };
-        if let Some(office) = &mut self.office {
+        if let Some(line) = office.settled_at(index) {
             office.show(self.alloc, journal, &self.stations, line);
         }
     }
@@ -348,13 +341,6 @@ impl Switchboard {
         true
     }
 
-    // The exchange's command to a line was answered.
-    fn answer(&mut self, line: usize, code: u16, text: &[u8]) {
-        if let Some(office) = &mut self.office {
-            office.answered(self.alloc, line, code, text);
-        }
-    }
-
     // A response came from the gateway at this place.
     fn hear_response(
         &mut self,
@@ -369,7 +355,9 @@ impl Switchboard {
         };
         journal.tell_answer(flight.pending.text(), text);
         if let Some(line) = flight.line {
-            self.answer(line, code, text);
+            if let Some(office) = &mut self.office {
+                office.answered(self.alloc, line, code, text);
+            }
         }
     }
 
