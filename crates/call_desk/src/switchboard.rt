@@ -134,6 +134,24 @@ impl Switchboard {
         Ok(())
     }
 
+    // Adds the gateways of a configuration, and opens an exchange for their lines where calls are routed.
+    fn fill(
+        &mut self,
+        config: &AgentConfig,
+        is_routed: bool,
+        time: u64,
+    ) -> Result<(), OutOfMemory> {
+        for gateway in config.gateways.iter() {
+            let domain = gateway.domain.as_bytes();
+            let numbers = gateway.numbers.as_slice();
+            self.add(config.own, gateway.address, domain, numbers, time)?;
+        }
+        if let (true, Some(map)) = (is_routed, &config.map) {
+            return self.open(map.as_bytes());
+        }
+        Ok(())
+    }
+
     /// The gateways of a configuration, and an exchange for their lines where calls are routed. It is this time of day, in ms. An error
     /// is for want of memory only.
     pub fn of(
@@ -143,15 +161,10 @@ impl Switchboard {
         time: u64,
     ) -> Result<Switchboard, OutOfMemory> {
         let mut board = Switchboard::new(alloc);
-        for gateway in config.gateways.iter() {
-            let domain = gateway.domain.as_bytes();
-            let numbers = gateway.numbers.as_slice();
-            board.add(config.own, gateway.address, domain, numbers, time)?;
+        match board.fill(config, is_routed, time) {
+            Ok(()) => Ok(board),
+            Err(refused) => Err(refused),
         }
-        if let (true, Some(map)) = (is_routed, &config.map) {
-            board.open(map.as_bytes())?;
-        }
-        Ok(board)
     }
 
     /// Lets it go. Where it is dropped instead, the drops of all its parts are checked once more.
