@@ -29,10 +29,10 @@ use exchange_log::Note;
 use gateway_core::{DATAGRAM_ROOM, Refusal};
 use live_ends::STOP_FROM_AFAR;
 use live_journal::report;
-use live_play::{LivePlay, Teller};
+use live_play::LivePlay;
 use std::alloc::{AllocError, Global};
 use std::net::SocketAddrV4;
-use surroundings::{Lines, Surroundings};
+use surroundings::{Lines, Surroundings, Teller};
 use turns::{Ready, Schedule, Situation, Turn, earlier};
 
 /// A gateway that runs, all that it stands on, and what is kept of it.

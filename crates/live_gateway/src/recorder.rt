@@ -4,8 +4,8 @@ ghost use Rattle.surroundings.specs.Sending.{Grows};
 
 use live_ends::Outlets;
 use live_journal::{Journal, Trace};
-use live_play::Teller;
 use std::io::Write;
+use surroundings::Teller;
 
 /// Where what was recorded is written. What it does where it is told to write is its own; that it was told is said.
 pub trait Recorder<T: Teller> {

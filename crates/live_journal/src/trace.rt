@@ -4,10 +4,10 @@ ghost use Rattle.live_ends.specs.declared.record.RecordState.TheVariants.{Off};
 ghost use Rattle.live_journal.specs.Recording.{whole_lines, trace_head, Begins, is_telling, has_ended, HasPlace};
 
 use live_ends::{Outlet, Record, TEXT_ROOM};
-use live_play::Teller;
 use mg_bytes::OutOfMemory;
 use std::alloc::Global;
 use std::io::Write;
+use surroundings::Teller;
 use traces::{broken_off_line, put_first};
 
 /// The trace of a gateway. What it is told has its place in what is kept for its outlet at once, and so before anything goes out that

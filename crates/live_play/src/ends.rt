@@ -1,5 +1,5 @@
-//! What a gateway's datagrams are handed to, and what its trace is told.
-ghost use Rattle.std.specs.Prelude.{◌≡◌, ◌∷◌, [], false, None};
+//! What a gateway's datagrams are handed to.
+ghost use Rattle.std.specs.Prelude.{◌≡◌, ◌∷◌, []};
 ghost use Rattle.surroundings.specs.Sending.{Grows};
 
 use gateway_core::Gateway;
@@ -27,24 +27,4 @@ pub trait Outlet {
     fn hand(&mut self, to: SocketAddrV4, bytes: &[u8]) -> Option<Mark>
         ensures handed { Grows (handed self.old) (record { to = to; bytes = bytes.now } ∷ []) (handed self.new) }
         ensures came { came self.new ≡ came self.old };
-}
-
-/// What a trace is told.
-pub trait Teller {
-    ghost use Rattle.std.specs.Prelude.{ℕ, List, Option};
-
-    /// All that it was told, where it tells: nothing once the trace is broken off, or where there is none.
-    ghost told: { Self → Option (List ℕ) };
-
-    /// Whether it wants to be told more.
-    fn is_telling(&self) -> bool
-        ensures { result ≡ false → told self.now ≡ None };
-
-    /// It is told this, or broken off.
-    fn tell(&mut self, text: &[u8])
-        ensures { Grows (told self.old) text.now (told self.new) };
-
-    /// It is broken off: memory was refused.
-    fn break_off(&mut self)
-        ensures { told self.new ≡ None };
 }

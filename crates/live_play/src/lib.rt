@@ -11,6 +11,6 @@ mod placed;
 mod play;
 mod trace_text;
 
-pub use crate::ends::{Outlet, Teller};
+pub use crate::ends::Outlet;
 pub use crate::play::LivePlay;
 pub use crate::trace_text::TraceText;

@@ -2,8 +2,8 @@
 ghost use Rattle.std.specs.Prelude.{◌≡◌, None, OnOk, OnErr};
 ghost use Rattle.surroundings.specs.Sending.{Grows};
 
-use crate::ends::Teller;
 use mg_bytes::OutOfMemory;
+use surroundings::Teller;
 
 /// What a trace has to tell has its place in what is kept of it. It is made by telling alone, and whoever hands datagrams out uses one up:
 /// so none goes out of which the trace wasn't told before.

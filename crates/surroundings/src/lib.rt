@@ -1,4 +1,5 @@
-//! What a program on a live network stands on: a socket for datagrams, another for lines of who types, a clock and a wait.
+//! What a program on a live network stands on: a socket for datagrams, another for lines of who types, a clock and a wait, and what its
+//! trace is told.
 //!
 //! A program's loop is written over it, so that it runs on the machine's sockets and clock, and in memory, by a script, just so.
 #![tactic(auto)]
@@ -13,6 +14,7 @@ mod scripted;
 mod speaking;
 pub mod speaking_examples;
 mod surroundings;
+mod telling;
 
 pub use crate::keeping::{SentDatagram, keep};
 pub use crate::lines::Lines;
@@ -20,3 +22,4 @@ pub use crate::requests::is_own;
 pub use crate::scripted::{Answer, Coming, Happening, Scripted};
 pub use crate::speaking::{Network, Speakers};
 pub use crate::surroundings::{Fault, Surroundings, Told};
+pub use crate::telling::Teller;
