@@ -18,12 +18,11 @@ use scenario_files::{
     Outcome, Row, Scenario, WrittenScenario, input_of, number_in, put_line, read_scenario, value_of,
 };
 use std::alloc::{AllocError, Global};
-use std::io;
 
 const REQUEST: &str = "RQNT 1 aaln/1@rgw.example.net MGCP 1.0\nX: 1\n";
 
 // Puts what words ask for.
-fn put_task(given: &mut Outcome, line: &str) -> io::Result<()> {
+fn put_task(given: &mut Outcome, line: &str) -> Result<(), OutOfMemory> {
     let line = value_of(given.alloc, line)?;
     match asked(given.alloc, Ok(words_of(given.alloc, line.as_str())?)) {
         Ok(Task::Simulate) => given.put(b"simulate"),
@@ -47,7 +46,7 @@ fn numbers(alloc: Global, count: u64) -> Result<Sequence<u64>, OutOfMemory> {
 }
 
 // Puts how long a list is that grew by so many values, and then by a list of so many.
-fn put_length(given: &mut Outcome, fields: &str) -> io::Result<()> {
+fn put_length(given: &mut Outcome, fields: &str) -> Result<(), OutOfMemory> {
     let (count, more) = fields.split_once("  ").unwrap_or((fields, ""));
     let mut all = numbers(given.alloc, number_in(count))?;
     all.append(numbers(given.alloc, number_in(more))?)?;
@@ -56,7 +55,7 @@ fn put_length(given: &mut Outcome, fields: &str) -> io::Result<()> {
 }
 
 // The usual settings with these changes.
-fn settings_with(alloc: Global, changes: &str) -> io::Result<String> {
+fn settings_with(alloc: Global, changes: &str) -> Result<String, OutOfMemory> {
     let mut scenario = read_scenario(alloc, "", false)?;
     scenario.is_at_opening = true;
     let changes = changes.replace(alloc, "  ", "\n")?;
@@ -65,7 +64,7 @@ fn settings_with(alloc: Global, changes: &str) -> io::Result<String> {
 }
 
 // Puts what is told of settings with these changes.
-fn put_flaw(given: &mut Outcome, changes: &str) -> io::Result<()> {
+fn put_flaw(given: &mut Outcome, changes: &str) -> Result<(), OutOfMemory> {
     let settings = settings_with(given.alloc, changes)?;
     let Some(flaw) = flaw_of(given.alloc, settings.as_bytes())? else {
         given.put(b"ok");
@@ -85,7 +84,7 @@ fn setup_told(alloc: Global, config: &[u8]) -> Result<Vec<u8>, OutOfMemory> {
 }
 
 // Puts what is told of a gateway of settings with these changes.
-fn put_setup(given: &mut Outcome, changes: &str) -> io::Result<()> {
+fn put_setup(given: &mut Outcome, changes: &str) -> Result<(), OutOfMemory> {
     let settings = settings_with(given.alloc, changes)?;
     match setup_told(given.alloc, settings.as_bytes()) {
         Ok(lines) => given.put(&lines),
@@ -95,7 +94,7 @@ fn put_setup(given: &mut Outcome, changes: &str) -> io::Result<()> {
 }
 
 // A scenario of one datagram from the agent.
-fn put_heard(script: &mut String, front: &str, lines: &str) -> io::Result<()> {
+fn put_heard(script: &mut String, front: &str, lines: &str) -> Result<(), OutOfMemory> {
     put_line(script, "from 127.0.0.1:2727")?;
     script.push_str(front)?;
     put_line(script, lines)?;
@@ -108,7 +107,7 @@ fn put_scenario(
     call: &str,
     lines: &str,
     text: &str,
-) -> io::Result<bool> {
+) -> Result<bool, OutOfMemory> {
     scenario.is_at_opening = call == "settings" || call == "script";
     match call {
         "settings" => scenario.changes.push_str(lines)?,
@@ -138,7 +137,7 @@ fn answer_in(printed: &str) -> &str {
 }
 
 // Puts what is printed of the scenario that a call is.
-fn put_printed(given: &mut Outcome, call: &str, fields: &str) -> io::Result<()> {
+fn put_printed(given: &mut Outcome, call: &str, fields: &str) -> Result<(), OutOfMemory> {
     let lines = fields.replace(given.alloc, "  ", "\n")?;
     let text = value_of(given.alloc, lines.as_str())?;
     let mut scenario = read_scenario(given.alloc, "", false)?;
@@ -157,11 +156,11 @@ fn put_printed(given: &mut Outcome, call: &str, fields: &str) -> io::Result<()> 
 pub struct Calls;
 
 impl Scenario for Calls {
-    fn begin(_alloc: Global) -> io::Result<Calls> {
+    fn begin(_alloc: Global) -> Result<Calls, OutOfMemory> {
         Ok(Calls)
     }
 
-    fn unlike(&mut self, alloc: Global, row: &str) -> io::Result<Option<String>> {
+    fn unlike(&mut self, alloc: Global, row: &str) -> Result<Option<String>, OutOfMemory> {
         let (rest, wanted) = row.rsplit_once("  ").unwrap_or((row, ""));
         let (call, values) = rest.split_once("  ").unwrap_or((rest, ""));
         let mut row = Row::of(alloc, wanted);

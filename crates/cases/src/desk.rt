@@ -7,9 +7,8 @@
 //! - `type AUEP ..` this is typed at the socket for commands.
 //! - `print ..` a line of standard output.
 use crate::stories::{
-    Place, Program, Records, Story, Transcript, Words, is_told, put_given, words_in,
+    Place, Program, Records, Story, Transcript, Words, put_given, told, words_in,
 };
-use crate::titled::Titled;
 use agent_texts::{AgentConfig, ConfigRefusal, Journal, read_config};
 use bad_network::BadNetwork;
 use call_desk::Switchboard;
@@ -17,7 +16,7 @@ use live_agent::{Recorder, Wire, serve};
 use live_ends::Written;
 use live_gateway::boxed;
 use mg_bytes::OutOfMemory;
-use scenario_files::refused;
+use scenario_files::{Count, Titled};
 use std::alloc::{AllocError, Global};
 use std::net::{Ipv4Addr, Net, SocketAddrV4};
 use std::{io, mem};
@@ -38,6 +37,7 @@ numbers = [\"203\", \"204\"]
 ";
 
 /// The program `rgca`.
+#[derive(Clone, Copy)]
 pub struct CallAgent;
 
 impl Recorder for Records {
@@ -53,11 +53,11 @@ impl Recorder for Records {
 }
 
 // A configuration; nothing where it has a fault.
-fn config_in(alloc: Global, settings: &str) -> io::Result<Option<AgentConfig>> {
+fn config_in(alloc: Global, settings: &str) -> Result<Option<AgentConfig>, OutOfMemory> {
     let text = if settings.is_empty() { USUAL } else { settings };
     match read_config(alloc, text.as_bytes()) {
         Ok(config) => Ok(Some(config)),
-        Err(ConfigRefusal::OutOfMemory) => Err(refused()),
+        Err(ConfigRefusal::OutOfMemory) => Err(AllocError),
         Err(_) => Ok(None),
     }
 }
@@ -71,7 +71,11 @@ fn journal_of(alloc: Global, words: &Words) -> Result<Journal, AllocError> {
 }
 
 // What a call agent stands on, over what a story has of sockets and a clock.
-fn wire_of(alloc: Global, words: &Words, story: &mut Story) -> io::Result<Box<Wire<Scripted>>> {
+fn wire_of(
+    alloc: Global,
+    words: &Words,
+    story: &mut Story,
+) -> Result<Box<Wire<Scripted>>, OutOfMemory> {
     let network = match words.network {
         Some(spoiling) => Some(BadNetwork::new(alloc, spoiling)),
         None => None,
@@ -82,7 +86,7 @@ fn wire_of(alloc: Global, words: &Words, story: &mut Story) -> io::Result<Box<Wi
     around.own = own;
     let end = words.stop_after.unwrap_or(story.moment.saturating_add(1));
     let wire = Wire::new(alloc, around, network, journal, Some(end))?;
-    Ok(boxed(alloc, wire)?)
+    boxed(alloc, wire)
 }
 
 // Puts what is given at the end, with what was counted, where that is asked for.
@@ -125,7 +129,7 @@ fn play_with(
     config: &AgentConfig,
     story: &mut Story,
     given: &mut Transcript,
-) -> io::Result<bool> {
+) -> Result<bool, OutOfMemory> {
     let opened = story.around.time() / MICROSECONDS;
     let mut wire = wire_of(alloc, words, story)?;
     let mut board = Switchboard::of(alloc, config, words.is_routed, opened)?;
@@ -140,7 +144,7 @@ fn play_asked(
     words: &Words,
     story: &mut Story,
     given: &mut Transcript,
-) -> io::Result<bool> {
+) -> Result<bool, OutOfMemory> {
     match config_in(alloc, story.settings.as_str())? {
         Some(config) => play_with(alloc, words, &config, story, given),
         None => Ok(false),
@@ -158,7 +162,7 @@ impl Program for CallAgent {
         }
     }
 
-    fn play(alloc: Global, story: &mut Story, given: &mut Transcript) -> io::Result<bool> {
+    fn play(alloc: Global, story: &mut Story, given: &mut Transcript) -> Result<bool, OutOfMemory> {
         match words_in(alloc, story.words.as_slice(), CallAgent::place().own)? {
             Some(words) => play_asked(alloc, &words, story, given),
             None => Ok(false),
@@ -167,7 +171,12 @@ impl Program for CallAgent {
 }
 
 impl Titled for CallAgent {
-    fn is_told<R: AllocGlobal + Net + Print>(rt: &R, title: &str, lines: &str) -> io::Result<bool> {
-        is_told::<CallAgent, R>(rt, title, lines)
+    fn told<R: AllocGlobal + Net + Print>(
+        &mut self,
+        rt: &R,
+        title: &str,
+        lines: &str,
+    ) -> io::Result<Count> {
+        told::<CallAgent, R>(rt, title, lines)
     }
 }

@@ -18,9 +18,8 @@ mod browsers;
 
 use crate::live::browsers::Browsers;
 use crate::stories::{
-    Place, Program, Records, Story, Transcript, Words, is_told, put_given, words_in,
+    Place, Program, Records, Story, Transcript, Words, put_given, told, words_in,
 };
-use crate::titled::Titled;
 use bad_network::BadNetwork;
 use gateway_core::Gateway;
 use live_ends::{Now, Written};
@@ -28,10 +27,11 @@ use live_gateway::{Admission, Desk, Exchange, Recorder, SpoiltWay, boxed, speake
 use live_journal::{Capture, Journal, Log, MessageTally, Trace};
 use live_page::HostNames;
 use live_play::LivePlay;
+use mg_bytes::OutOfMemory;
 use page_answers::Board;
 use rgw_play::PlayFault;
 use rgw_scenes::gateway_from;
-use scenario_files::{input_of, read_scenario, refused};
+use scenario_files::{Count, Titled, input_of, read_scenario};
 use std::alloc::{AllocError, Global};
 use std::collections::VecDeque;
 use std::net::{Ipv4Addr, Net, SocketAddrV4};
@@ -40,6 +40,7 @@ use surroundings::{Lines, Scripted, Surroundings};
 use traces::{put_verdict, replay};
 
 /// The program `rgwd`.
+#[derive(Clone, Copy)]
 pub struct Live;
 
 impl Recorder<Trace> for Records {
@@ -60,7 +61,7 @@ impl Recorder<Trace> for Records {
 }
 
 // The text of a configuration with these changes.
-fn config_of(alloc: Global, changes: &str) -> io::Result<String> {
+fn config_of(alloc: Global, changes: &str) -> Result<String, OutOfMemory> {
     let mut scenario = read_scenario(alloc, "", false)?;
     scenario.is_at_opening = true;
     scenario.changes.push_str(changes)?;
@@ -68,10 +69,14 @@ fn config_of(alloc: Global, changes: &str) -> io::Result<String> {
 }
 
 // A gateway of a configuration; nothing where that has a fault.
-fn gateway_in(alloc: Global, config: &str, words: &Words) -> io::Result<Option<Box<Gateway>>> {
+fn gateway_in(
+    alloc: Global,
+    config: &str,
+    words: &Words,
+) -> Result<Option<Box<Gateway>>, OutOfMemory> {
     match gateway_from(alloc, config.as_bytes(), words.first.number()) {
         Ok(gateway) => Ok(Some(boxed(alloc, gateway)?)),
-        Err(PlayFault::OutOfMemory) => Err(refused()),
+        Err(PlayFault::OutOfMemory) => Err(AllocError),
         Err(_) => Ok(None),
     }
 }
@@ -184,9 +189,9 @@ fn visitors_of(
 }
 
 // Puts what a replay finds of a trace.
-fn tell_replay(alloc: Global, records: &mut Records, moment: u64) -> io::Result<()> {
+fn tell_replay(alloc: Global, records: &mut Records, moment: u64) -> Result<(), OutOfMemory> {
     let Ok(verdict) = replay(alloc, records.trace.as_slice()) else {
-        return Err(refused());
+        return Err(AllocError);
     };
     let mut text = Vec::new(alloc);
     put_verdict(alloc, &mut text, &verdict)?;
@@ -200,7 +205,7 @@ fn end(
     desk: &mut Desk<Scripted, Trace>,
     records: &mut Records,
     is_counted: bool,
-) -> io::Result<()> {
+) -> Result<(), OutOfMemory> {
     desk.play.end();
     desk.write(records);
     let moment = records.moment_of(desk.exchange.now.time);
@@ -222,7 +227,7 @@ fn run(
     story: &Story,
     is_ended: bool,
     given: &mut Transcript,
-) -> io::Result<bool> {
+) -> Result<bool, OutOfMemory> {
     let opened = desk.exchange.around.time();
     let mut records = Records::new(alloc, opened, story.written);
     records.room = story.room;
@@ -247,7 +252,7 @@ fn play_with(
     gateway: Box<Gateway>,
     story: &mut Story,
     given: &mut Transcript,
-) -> io::Result<bool> {
+) -> Result<bool, OutOfMemory> {
     let mut visitors = visitors_of(alloc, words, story)?;
     let mut desk = desk_of(alloc, words, config, gateway, story)?;
     let is_ended = words.stop_after.is_some();
@@ -260,7 +265,7 @@ fn play_asked(
     words: &mut Words,
     story: &mut Story,
     given: &mut Transcript,
-) -> io::Result<bool> {
+) -> Result<bool, OutOfMemory> {
     let config = config_of(alloc, story.settings.as_str())?;
     match gateway_in(alloc, config.as_str(), words)? {
         Some(gateway) => play_with(alloc, words, config.as_str(), gateway, story, given),
@@ -279,7 +284,7 @@ impl Program for Live {
         }
     }
 
-    fn play(alloc: Global, story: &mut Story, given: &mut Transcript) -> io::Result<bool> {
+    fn play(alloc: Global, story: &mut Story, given: &mut Transcript) -> Result<bool, OutOfMemory> {
         match words_in(alloc, story.words.as_slice(), Live::place().own)? {
             Some(mut words) => play_asked(alloc, &mut words, story, given),
             None => Ok(false),
@@ -288,7 +293,12 @@ impl Program for Live {
 }
 
 impl Titled for Live {
-    fn is_told<R: AllocGlobal + Net + Print>(rt: &R, title: &str, lines: &str) -> io::Result<bool> {
-        is_told::<Live, R>(rt, title, lines)
+    fn told<R: AllocGlobal + Net + Print>(
+        &mut self,
+        rt: &R,
+        title: &str,
+        lines: &str,
+    ) -> io::Result<Count> {
+        told::<Live, R>(rt, title, lines)
     }
 }

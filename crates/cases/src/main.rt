@@ -17,7 +17,7 @@ mod played;
 mod scripts;
 mod stories;
 mod streams;
-mod titled;
+mod unlike;
 
 use crate::calls::Calls;
 use crate::desk::CallAgent;
@@ -26,7 +26,7 @@ use crate::phones::Phones;
 use crate::scripts::Scripts;
 use crate::streams::StreamScenario;
 use rows::Rows;
-use scenario_files::{Count, Kinds, play};
+use scenario_files::{Count, Kinds, play, told, told_titled};
 use std::io;
 use std::net::Net;
 use std::process::ExitCode;
@@ -43,12 +43,12 @@ impl Kinds for All {
         text: &str,
     ) -> io::Result<Option<Count>> {
         let told = match kind {
-            "scripts" => titled::told::<Scripts, R>(rt, text),
-            "program" => scenario_files::told::<Calls, R>(rt, text),
-            "desk" => titled::told::<CallAgent, R>(rt, text),
-            "live" => titled::told::<Live, R>(rt, text),
-            "phones" => titled::told::<Phones, R>(rt, text),
-            "streams" => scenario_files::told::<StreamScenario, R>(rt, text),
+            "scripts" => told_titled(rt, &mut Scripts, text),
+            "program" => told::<Calls, R>(rt, text),
+            "desk" => told_titled(rt, &mut CallAgent, text),
+            "live" => told_titled(rt, &mut Live, text),
+            "phones" => told_titled(rt, &mut Phones, text),
+            "streams" => told::<StreamScenario, R>(rt, text),
             _ => return told_below(rt, kind, text),
         };
         Ok(Some(told?))

@@ -6,20 +6,20 @@
 //! - `<`, `>` lines come from the telephones of gateway gw1, 127.0.0.1:2428, or go there, or from and to the address behind them: those of
 //!   gw2 are at 127.0.0.2:2428.
 //! - `print ..` a line that it says at its end; `print status 1` its exit status.
-use crate::stories::{Place, Program, Story, Transcript, is_told, put_given};
-use crate::titled::Titled;
+use crate::stories::{Place, Program, Story, Transcript, put_given, told};
 use live_agent::{Played, play_phones};
-use mg_bytes::Text;
+use mg_bytes::{OutOfMemory, Text};
 use phone_scripts::{
     Failure, Player, Reader, Script, ScriptFault, Wanted, failure_text, fault_line,
 };
-use scenario_files::refused;
+use scenario_files::{Count, Titled};
 use std::alloc::{AllocError, Global};
 use std::net::{Ipv4Addr, Net, SocketAddrV4};
 use std::{io, mem};
 use surroundings::{Scripted, Surroundings};
 
 /// The play of a script by the program `rgca`.
+#[derive(Clone, Copy)]
 pub struct Phones;
 
 // The telephones of the two gateways.
@@ -61,7 +61,7 @@ fn say_failure(
     moment: u64,
     player: &Player,
     failure: &Failure,
-) -> io::Result<()> {
+) -> Result<(), OutOfMemory> {
     let names = names_of(alloc)?;
     let text = failure_text(alloc, player.files(), names.as_slice(), failure)?;
     let status: &[u8] = match failure {
@@ -78,7 +78,7 @@ fn play_script(
     script: Script,
     story: &mut Story,
     given: &mut Transcript,
-) -> io::Result<()> {
+) -> Result<(), OutOfMemory> {
     let mut around = mem::replace(&mut story.around, Scripted::new(alloc, Phones::place().own));
     let mut player = Player::new(alloc, script, 2, 0)?;
     let played = play_phones(alloc, &mut around, &mut player, &gateways())?;
@@ -104,7 +104,7 @@ impl Program for Phones {
         }
     }
 
-    fn play(alloc: Global, story: &mut Story, given: &mut Transcript) -> io::Result<bool> {
+    fn play(alloc: Global, story: &mut Story, given: &mut Transcript) -> Result<bool, OutOfMemory> {
         let names = names_of(alloc)?;
         let mut reader = Reader::new(alloc, names.as_slice());
         let name = text_of(alloc, b"script")?;
@@ -112,7 +112,7 @@ impl Program for Phones {
         match read(&mut reader, name, script) {
             Ok(Wanted::Nothing) => play_script(alloc, reader.into_script(), story, given)?,
             Ok(Wanted::File { .. }) => return Ok(false),
-            Err(ScriptFault::OutOfMemory) => return Err(refused()),
+            Err(ScriptFault::OutOfMemory) => return Err(AllocError),
             Err(ScriptFault::Line { place, fault }) => {
                 let text = fault_line(alloc, reader.files(), place, fault)?;
                 say(given, 0, text.as_bytes(), b"status 2");
@@ -123,7 +123,12 @@ impl Program for Phones {
 }
 
 impl Titled for Phones {
-    fn is_told<R: AllocGlobal + Net + Print>(rt: &R, title: &str, lines: &str) -> io::Result<bool> {
-        is_told::<Phones, R>(rt, title, lines)
+    fn told<R: AllocGlobal + Net + Print>(
+        &mut self,
+        rt: &R,
+        title: &str,
+        lines: &str,
+    ) -> io::Result<Count> {
+        told::<Phones, R>(rt, title, lines)
     }
 }

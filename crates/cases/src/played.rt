@@ -1,13 +1,13 @@
 //! A scenario as it is played.
-use mg_bytes::split_once;
+use mg_bytes::{OutOfMemory, split_once};
 use rgw_play::{Ending, asked, perform, simulate};
 use scenario_files::{WrittenScenario, input_of};
-use std::alloc::Global;
-use std::io::{self, Write};
+use std::alloc::{AllocError, Global};
+use std::io::Write;
 use std::net::Net;
 
 /// The words of a command line with the program's name before them.
-pub fn words_of(alloc: Global, line: &str) -> io::Result<Vec<String>> {
+pub fn words_of(alloc: Global, line: &str) -> Result<Vec<String>, OutOfMemory> {
     let mut words = Vec::new(alloc);
     words.push("rgw".to_string(alloc)?)?;
     for word in line.split(' ') {
@@ -19,10 +19,14 @@ pub fn words_of(alloc: Global, line: &str) -> io::Result<Vec<String>> {
 }
 
 // What the program says on standard error, and its exit status, where that isn't 0.
-fn put_ending(out: &mut Vec<u8>, ending: Ending) -> io::Result<()> {
-    match ending.status() {
+fn put_ending(out: &mut Vec<u8>, ending: Ending) -> Result<(), OutOfMemory> {
+    let put = match ending.status() {
         0 => write!(out, "{ending}"),
         status => writeln!(out, "{ending}status {status}"),
+    };
+    match put {
+        Ok(()) => Ok(()),
+        Err(_) => Err(AllocError),
     }
 }
 
@@ -53,16 +57,16 @@ fn told_of(
     scenario: &WrittenScenario,
     mut printed: Vec<u8>,
     ending: Ending,
-) -> io::Result<Vec<u8>> {
+) -> Result<Vec<u8>, OutOfMemory> {
     put_ending(&mut printed, ending)?;
     if scenario.is_at_opening {
         return Ok(printed);
     }
-    Ok(Vec::from_slice(alloc, since_ready(&printed))?)
+    Vec::from_slice(alloc, since_ready(&printed))
 }
 
 /// What `simulate` prints of a scenario.
-pub fn simulated(alloc: Global, scenario: &WrittenScenario) -> io::Result<Vec<u8>> {
+pub fn simulated(alloc: Global, scenario: &WrittenScenario) -> Result<Vec<u8>, OutOfMemory> {
     let input = input_of(alloc, scenario)?;
     let mut reader = input.as_bytes();
     let mut printed = Vec::new(alloc);
@@ -75,7 +79,7 @@ pub fn printed_by<R: AllocGlobal + Net>(
     rt: &R,
     scenario: &WrittenScenario,
     words: &str,
-) -> io::Result<Vec<u8>> {
+) -> Result<Vec<u8>, OutOfMemory> {
     let alloc = rt.alloc();
     let task = asked(alloc, Ok(words_of(alloc, words)?));
     let input = input_of(alloc, scenario)?;

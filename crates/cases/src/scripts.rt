@@ -16,12 +16,13 @@
 //! - Before each step of a scenario without an exit status the player puts a mark: a step `show 65535`, which prints
 //!   `! 4 NoSuchLine`. So an output that stands behind another cause differs.
 use crate::played::printed_by;
-use crate::titled::{Titled, tell_unlike};
-use scenario_files::{WrittenScenario, read_scenario};
+use crate::unlike::tell_unlike;
+use scenario_files::{Count, Titled, WrittenScenario, read_scenario};
 use std::io;
 use std::net::Net;
 
 /// Scripts of the program.
+#[derive(Clone, Copy)]
 pub struct Scripts;
 
 // Whether the program with these words prints what the scenario says. What differs is printed, `! 4 NoSuchLine` before what each step
@@ -43,17 +44,31 @@ fn is_played(text: &str) -> bool {
     text.lines().all(|line| !line.starts_with("status "))
 }
 
+// Whether each program that a scenario is played by prints what it says.
+fn is_told<R: AllocGlobal + Net + Print>(
+    rt: &R,
+    title: &str,
+    scenario: &WrittenScenario,
+) -> io::Result<bool> {
+    if !scenario.words.is_empty() {
+        return is_told_by(rt, title, scenario, scenario.words.as_str());
+    }
+    if !is_told_by(rt, title, scenario, "simulate")? {
+        return Ok(false);
+    }
+    is_told_by(rt, title, scenario, "loopback")
+}
+
 // The scenario's output has to be as it is told, that of each cause behind a mark. What can't be played has no marks: it prints
 // nothing of its causes, and may say a line's number.
 impl Titled for Scripts {
-    fn is_told<R: AllocGlobal + Net + Print>(rt: &R, title: &str, lines: &str) -> io::Result<bool> {
+    fn told<R: AllocGlobal + Net + Print>(
+        &mut self,
+        rt: &R,
+        title: &str,
+        lines: &str,
+    ) -> io::Result<Count> {
         let scenario = read_scenario(rt.alloc(), lines, is_played(lines))?;
-        if !scenario.words.is_empty() {
-            return is_told_by(rt, title, &scenario, scenario.words.as_str());
-        }
-        Ok(
-            is_told_by(rt, title, &scenario, "simulate")?
-                && is_told_by(rt, title, &scenario, "loopback")?,
-        )
+        Ok(Count::of(is_told(rt, title, &scenario)?))
     }
 }

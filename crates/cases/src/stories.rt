@@ -13,7 +13,9 @@ use crate::stories::story::read_story;
 pub use crate::stories::story::{Place, Story, Visit};
 pub use crate::stories::transcript::Transcript;
 pub use crate::stories::words::{Words, words_in};
-use crate::titled::tell_unlike;
+use crate::unlike::tell_unlike;
+use mg_bytes::OutOfMemory;
+use scenario_files::Count;
 use std::alloc::Global;
 use std::io;
 
@@ -23,11 +25,14 @@ pub trait Program {
     fn place() -> Place;
 
     /// Puts what it gives to what comes in a story: whether it runs.
-    fn play(alloc: Global, story: &mut Story, given: &mut Transcript) -> io::Result<bool>;
+    fn play(alloc: Global, story: &mut Story, given: &mut Transcript) -> Result<bool, OutOfMemory>;
 }
 
 // What a program gives, and what a story says that it gives; nothing where it doesn't run.
-fn texts_of<P: Program>(alloc: Global, lines: &str) -> io::Result<Option<(Vec<u8>, Vec<u8>)>> {
+fn texts_of<P: Program>(
+    alloc: Global,
+    lines: &str,
+) -> Result<Option<(Vec<u8>, Vec<u8>)>, OutOfMemory> {
     let mut story = read_story(alloc, lines, P::place())?;
     let mut given = Transcript::new(alloc);
     if !P::play(alloc, &mut story, &mut given)? {
@@ -36,17 +41,18 @@ fn texts_of<P: Program>(alloc: Global, lines: &str) -> io::Result<Option<(Vec<u8
     Ok(Some((given.text()?, story.wanted.text()?)))
 }
 
-/// Whether a program gives what a story says. What differs is printed.
-pub fn is_told<P: Program, R: AllocGlobal + Print>(
+/// Tells a story of a program. What differs is printed.
+pub fn told<P: Program, R: AllocGlobal + Print>(
     rt: &R,
     title: &str,
     lines: &str,
-) -> io::Result<bool> {
-    match texts_of::<P>(rt.alloc(), lines)? {
-        Some((given, wanted)) => tell_unlike(rt, title, "the program gives", &given, &wanted),
+) -> io::Result<Count> {
+    let is_right = match texts_of::<P>(rt.alloc(), lines)? {
+        Some((given, wanted)) => tell_unlike(rt, title, "the program gives", &given, &wanted)?,
         None => {
             println!(rt; "= {title}\n  it can't be played")?;
-            Ok(false)
+            false
         }
-    }
+    };
+    Ok(Count::of(is_right))
 }

@@ -7,9 +7,10 @@
 //! - `read 1-32  read fault  ''` each of these calls of the reader fails in its turn, alone;
 //! - `replayed  1 line, all as told\n` the input is replayed as a trace; `replay 3  read fault` where this call of the reader fails;
 //! - `write 2  write fault  line 1\s` this call of the writer fails, and all behind it.
+use mg_bytes::OutOfMemory;
 use rgw_play::{Ending, PlayFault, Played, play};
 use scenario_files::{Outcome, Row, SETTINGS, Scenario, bytes_of, range_in};
-use std::alloc::Global;
+use std::alloc::{AllocError, Global};
 use std::io::{self, BufReader, Read, Write};
 use traces::{ReplayFault, Verdict, put_verdict, replay};
 
@@ -84,7 +85,7 @@ impl Write for SlowWriter {
 }
 
 // Puts what is said of an input that can't be played, a field each line.
-fn put_fault(given: &mut Outcome, fault: PlayFault) -> io::Result<()> {
+fn put_fault(given: &mut Outcome, fault: PlayFault) -> Result<(), OutOfMemory> {
     let line = format!(in given.alloc; "{}", Ending::Fault(fault))?;
     let fields = line.replace(given.alloc, "\n", "  ")?;
     given.put(fields.as_bytes());
@@ -92,7 +93,7 @@ fn put_fault(given: &mut Outcome, fault: PlayFault) -> io::Result<()> {
 }
 
 // Puts how a play ends.
-fn put_ending(given: &mut Outcome, outcome: Result<Played, PlayFault>) -> io::Result<()> {
+fn put_ending(given: &mut Outcome, outcome: Result<Played, PlayFault>) -> Result<(), OutOfMemory> {
     match outcome {
         Ok(Played { commands, refused }) => {
             given.put_shown(commands);
@@ -107,7 +108,7 @@ fn put_ending(given: &mut Outcome, outcome: Result<Played, PlayFault>) -> io::Re
 }
 
 // Puts what a replay finds.
-fn put_found(given: &mut Outcome, found: Result<Verdict, ReplayFault>) -> io::Result<()> {
+fn put_found(given: &mut Outcome, found: Result<Verdict, ReplayFault>) -> Result<(), OutOfMemory> {
     match found {
         Ok(verdict) => {
             let mut text = Vec::new(given.alloc);
@@ -128,7 +129,7 @@ pub struct StreamScenario {
 
 impl StreamScenario {
     // What a field says is the script of the usual settings, or the input whole.
-    fn read(&mut self, alloc: Global, is_script: bool, field: &str) -> io::Result<()> {
+    fn read(&mut self, alloc: Global, is_script: bool, field: &str) -> Result<(), OutOfMemory> {
         let mut input = Vec::new(alloc);
         if is_script {
             input.extend_from_slice(SETTINGS.as_bytes())?;
@@ -140,7 +141,7 @@ impl StreamScenario {
     }
 
     // What comes of the input with this fault.
-    fn put_played(&self, given: &mut Outcome, fault: Fault) -> io::Result<()> {
+    fn put_played(&self, given: &mut Outcome, fault: Fault) -> Result<(), OutOfMemory> {
         let mut reader = SlowReader {
             text: &self.input,
             calls: 0,
@@ -157,18 +158,20 @@ impl StreamScenario {
     }
 
     // What a replay of it as a trace finds, with this fault.
-    fn put_replayed(&self, given: &mut Outcome, fault: Fault) -> io::Result<()> {
+    fn put_replayed(&self, given: &mut Outcome, fault: Fault) -> Result<(), OutOfMemory> {
         let reader = SlowReader {
             text: &self.input,
             calls: 0,
             fault,
         };
-        let buffered = BufReader::new(given.alloc, reader)?;
+        let Ok(buffered) = BufReader::new(given.alloc, reader) else {
+            return Err(AllocError);
+        };
         put_found(given, replay(given.alloc, buffered))
     }
 
     // What comes of it where this call of a stream fails.
-    fn put_failed(&self, given: &mut Outcome, stream: &str, call: u32) -> io::Result<()> {
+    fn put_failed(&self, given: &mut Outcome, stream: &str, call: u32) -> Result<(), OutOfMemory> {
         let call = u64::from(call);
         let fault = match stream {
             "read" => Fault::Read(call),
@@ -180,7 +183,12 @@ impl StreamScenario {
 
     // The same where each of these calls fails in its turn: what comes of the first of which the row doesn't say it, else of
     // the last.
-    fn put_all_failed(&self, row: &mut Row<'_>, stream: &str, calls: &str) -> io::Result<()> {
+    fn put_all_failed(
+        &self,
+        row: &mut Row<'_>,
+        stream: &str,
+        calls: &str,
+    ) -> Result<(), OutOfMemory> {
         let Some((first, last)) = range_in(calls) else {
             row.given.unread();
             return Ok(());
@@ -195,7 +203,7 @@ impl StreamScenario {
         Ok(())
     }
 
-    fn turn(&mut self, row: &mut Row<'_>) -> io::Result<()> {
+    fn turn(&mut self, row: &mut Row<'_>) -> Result<(), OutOfMemory> {
         let first = row.before("  ");
         let (word, rest) = first.split_once(' ').unwrap_or((first, ""));
         match word {
@@ -214,13 +222,13 @@ impl StreamScenario {
 }
 
 impl Scenario for StreamScenario {
-    fn begin(alloc: Global) -> io::Result<StreamScenario> {
+    fn begin(alloc: Global) -> Result<StreamScenario, OutOfMemory> {
         Ok(StreamScenario {
             input: Vec::new(alloc),
         })
     }
 
-    fn unlike(&mut self, alloc: Global, row: &str) -> io::Result<Option<String>> {
+    fn unlike(&mut self, alloc: Global, row: &str) -> Result<Option<String>, OutOfMemory> {
         let mut row = Row::of(alloc, row);
         self.turn(&mut row)?;
         row.unlike_bytes()

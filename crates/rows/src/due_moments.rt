@@ -7,10 +7,10 @@
 //! - `falls 36` so many are due, each behind the one before, and are cleared;
 //! - `keep` and `back`: the table as it was once.
 use crate::keeping::{Kept, Thing};
+use mg_bytes::OutOfMemory;
 use mg_packages::SIGNALS;
 use scenario_files::{Outcome, Row, range_in};
 use std::alloc::Global;
-use std::io;
 use timers::{Due, DueItem, DueKind, LineDue, comes_before};
 
 // How many lines the table has beside the gateway itself.
@@ -123,8 +123,8 @@ fn set_all(due: &mut Due, row: &mut Row<'_>, is_cleared: bool) {
 }
 
 impl Thing for Due {
-    fn begin(alloc: Global) -> io::Result<Due> {
-        Ok(Due::new(alloc, LINES)?)
+    fn begin(alloc: Global) -> Result<Due, OutOfMemory> {
+        Due::new(alloc, LINES)
     }
 
     fn turn(&mut self, row: &mut Row<'_>) {
@@ -142,7 +142,7 @@ impl Thing for Due {
 }
 
 impl Kept for Due {
-    fn copy(&self, _alloc: Global) -> io::Result<Due> {
-        Ok(self.try_copy()?)
+    fn copy(&self, _alloc: Global) -> Result<Due, OutOfMemory> {
+        self.try_copy()
     }
 }

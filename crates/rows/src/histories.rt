@@ -13,7 +13,6 @@ use history::{History, IdSpan, Look};
 use mg_bytes::{OutOfMemory, Sequence, Text};
 use scenario_files::{Outcome, Row, again, range_in};
 use std::alloc::Global;
-use std::io;
 
 // `7` or `1-4096`.
 fn ids_of(given: &mut Outcome, text: &str) -> IdSpan {
@@ -170,7 +169,7 @@ fn put_look(history: &History, row: &mut Row<'_>, ids: &str) {
 }
 
 impl Thing for History {
-    fn begin(alloc: Global) -> io::Result<History> {
+    fn begin(alloc: Global) -> Result<History, OutOfMemory> {
         Ok(History::new(alloc))
     }
 

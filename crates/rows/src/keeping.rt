@@ -1,12 +1,12 @@
 //! Things that rows go on with. Some can be kept as they are, and come back: `keep` and `back` of each such kind.
+use mg_bytes::OutOfMemory;
 use scenario_files::{Row, Scenario};
 use std::alloc::Global;
-use std::io;
 
 /// A thing that rows go on with.
 pub trait Thing {
     /// What it is under a new title.
-    fn begin(alloc: Global) -> io::Result<Self>;
+    fn begin(alloc: Global) -> Result<Self, OutOfMemory>;
 
     /// Plays a row.
     fn turn(&mut self, row: &mut Row<'_>);
@@ -15,11 +15,15 @@ pub trait Thing {
 /// A thing that can be kept. Where a turn was refused memory it isn't used any more.
 pub trait Kept: Thing {
     /// The same once more.
-    fn copy(&self, alloc: Global) -> io::Result<Self>;
+    fn copy(&self, alloc: Global) -> Result<Self, OutOfMemory>;
 }
 
 // What a row gives that it doesn't say, played at a thing.
-fn unlike<T: Thing>(thing: &mut T, alloc: Global, row: &str) -> io::Result<Option<String>> {
+fn unlike<T: Thing>(
+    thing: &mut T,
+    alloc: Global,
+    row: &str,
+) -> Result<Option<String>, OutOfMemory> {
     let mut row = Row::of(alloc, row);
     thing.turn(&mut row);
     row.unlike()
@@ -32,13 +36,13 @@ pub struct Going<T> {
 }
 
 impl<T: Thing + Drop> Scenario for Going<T> {
-    fn begin(alloc: Global) -> io::Result<Going<T>> {
+    fn begin(alloc: Global) -> Result<Going<T>, OutOfMemory> {
         Ok(Going {
             thing: T::begin(alloc)?,
         })
     }
 
-    fn unlike(&mut self, alloc: Global, row: &str) -> io::Result<Option<String>> {
+    fn unlike(&mut self, alloc: Global, row: &str) -> Result<Option<String>, OutOfMemory> {
         unlike(&mut self.thing, alloc, row)
     }
 }
@@ -51,14 +55,14 @@ pub struct Keeping<T> {
 }
 
 impl<T: Kept + Drop> Scenario for Keeping<T> {
-    fn begin(alloc: Global) -> io::Result<Keeping<T>> {
+    fn begin(alloc: Global) -> Result<Keeping<T>, OutOfMemory> {
         let now = T::begin(alloc)?;
         let kept = now.copy(alloc)?;
         Ok(Keeping { now, kept })
     }
 
     // A row is played at a copy, which takes the place of the thing once all is done.
-    fn unlike(&mut self, alloc: Global, row: &str) -> io::Result<Option<String>> {
+    fn unlike(&mut self, alloc: Global, row: &str) -> Result<Option<String>, OutOfMemory> {
         match row {
             "keep" => self.kept = self.now.copy(alloc)?,
             "back" => self.now = self.kept.copy(alloc)?,

@@ -19,12 +19,12 @@ use crate::keeping::{Kept, Thing};
 use crate::requests;
 use crate::texts::unless_fields;
 use acts::{act_of, due_of};
+use mg_bytes::OutOfMemory;
 use mg_line::Line;
 use parameters::request_of;
 use scenario_files::{Outcome, Row};
 use shown::{put_notice, put_state};
 use std::alloc::Global;
-use std::io;
 
 // What a row gives whose turn can't be played.
 const NO_TURN: &[u8] = b"0";
@@ -119,7 +119,7 @@ fn put_shown(line: &mut Line, row: &mut Row<'_>) {
 }
 
 impl Thing for Line {
-    fn begin(alloc: Global) -> io::Result<Line> {
+    fn begin(alloc: Global) -> Result<Line, OutOfMemory> {
         let mut line = Line::new(alloc)?;
         line.opened(0)?;
         Ok(line)
@@ -138,7 +138,7 @@ impl Thing for Line {
 }
 
 impl Kept for Line {
-    fn copy(&self, _alloc: Global) -> io::Result<Line> {
-        Ok(self.try_copy()?)
+    fn copy(&self, _alloc: Global) -> Result<Line, OutOfMemory> {
+        self.try_copy()
     }
 }

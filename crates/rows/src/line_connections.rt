@@ -17,11 +17,10 @@ use crate::keeping::{Kept, Thing};
 use crate::texts::{unless_fields, words_of};
 use asked::{change_of, creation_of, deletion_of, identifier_in};
 use connections::{Audited, Connections, Created, Encoding, mode_text, read_encoding};
-use mg_bytes::CodeFault;
+use mg_bytes::{CodeFault, OutOfMemory};
 use scenario_files::{Outcome, Row};
 use sdp_subset::{Session, write_sdp};
 use std::alloc::Global;
-use std::io;
 use std::net::Ipv4Addr;
 
 // Puts the lines of a description, a field each.
@@ -146,7 +145,7 @@ impl ConnectionsScenario {
 }
 
 impl Thing for ConnectionsScenario {
-    fn begin(alloc: Global) -> io::Result<ConnectionsScenario> {
+    fn begin(alloc: Global) -> Result<ConnectionsScenario, OutOfMemory> {
         Ok(ConnectionsScenario {
             line: Connections::new(Ipv4Addr::LOCALHOST, 3000),
             encoding: Encoding::Mu,
@@ -175,7 +174,7 @@ impl Thing for ConnectionsScenario {
 }
 
 impl Kept for ConnectionsScenario {
-    fn copy(&self, alloc: Global) -> io::Result<ConnectionsScenario> {
+    fn copy(&self, alloc: Global) -> Result<ConnectionsScenario, OutOfMemory> {
         let answer = Vec::from_slice(alloc, &self.answer)?;
         let line = self.line.try_copy()?;
         Ok(ConnectionsScenario {

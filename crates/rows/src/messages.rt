@@ -12,11 +12,11 @@ ghost use Rattle.std.specs.Prelude.{◌<◌, ◌^◌};
 
 use crate::keeping::{Kept, Thing};
 use endpoint_names::Route;
+use mg_bytes::OutOfMemory;
 use mgcp_text::TransactionId;
 use outbound::{Pending, Repeat, Reply};
 use scenario_files::{Outcome, Row, said, value_of};
 use std::alloc::Global;
-use std::io;
 use std::net::{Ipv4Addr, SocketAddrV4};
 
 fn id_in(row: &mut Row<'_>) -> TransactionId {
@@ -52,7 +52,7 @@ pub struct MessageScenario {
 
 impl MessageScenario {
     // `10000000 at 1000  TEXT`.
-    fn begins(&mut self, row: &mut Row<'_>) -> io::Result<()> {
+    fn begins(&mut self, row: &mut Row<'_>) -> Result<(), OutOfMemory> {
         let (id, moment) = (id_in(row), u64::from(row.number_behind("at")));
         let text = value_of(row.given.alloc, row.rest().trim_start())?;
         let route = route_to(self.hosts);
@@ -100,7 +100,7 @@ impl MessageScenario {
 }
 
 impl Thing for MessageScenario {
-    fn begin(alloc: Global) -> io::Result<MessageScenario> {
+    fn begin(alloc: Global) -> Result<MessageScenario, OutOfMemory> {
         let message = Pending::begin(alloc, TransactionId::of(1), route_to(1), b"", 0)?;
         Ok(MessageScenario { message, hosts: 1 })
     }
@@ -130,7 +130,7 @@ impl Thing for MessageScenario {
 }
 
 impl Kept for MessageScenario {
-    fn copy(&self, _alloc: Global) -> io::Result<MessageScenario> {
+    fn copy(&self, _alloc: Global) -> Result<MessageScenario, OutOfMemory> {
         let message = self.message.try_copy()?;
         Ok(MessageScenario {
             message,

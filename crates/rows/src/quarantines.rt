@@ -14,7 +14,6 @@ use mg_line::MOST_QUARANTINED;
 use quarantine::Buffer;
 use scenario_files::{Outcome, Row};
 use std::alloc::Global;
-use std::io;
 
 // `L/hf`: this event comes.
 fn hold(buffer: &mut Buffer, row: &mut Row<'_>) {
@@ -50,8 +49,8 @@ fn become_other(buffer: &mut Buffer, given: &mut Outcome, other: Result<Buffer, 
 }
 
 impl Thing for Buffer {
-    fn begin(alloc: Global) -> io::Result<Buffer> {
-        Ok(Buffer::new(alloc, MOST_QUARANTINED)?)
+    fn begin(alloc: Global) -> Result<Buffer, OutOfMemory> {
+        Buffer::new(alloc, MOST_QUARANTINED)
     }
 
     fn turn(&mut self, row: &mut Row<'_>) {
@@ -77,7 +76,7 @@ impl Thing for Buffer {
 }
 
 impl Kept for Buffer {
-    fn copy(&self, _alloc: Global) -> io::Result<Buffer> {
-        Ok(self.try_copy()?)
+    fn copy(&self, _alloc: Global) -> Result<Buffer, OutOfMemory> {
+        self.try_copy()
     }
 }

@@ -11,10 +11,10 @@ use crate::keeping::Thing;
 use crate::line::parameters::events_of;
 use event_requests::{Decision, Doing, EventRequest, decide};
 use event_syntax::{Action, Embedding, Observed, write_signals};
+use mg_bytes::OutOfMemory;
 use mg_packages::event_of;
 use scenario_files::{Outcome, Row};
 use std::alloc::Global;
-use std::io;
 
 // What is done, as a row says it.
 fn put_decision(given: &mut Outcome, decision: Decision<'_>) {
@@ -127,7 +127,7 @@ impl RequestScenario {
 }
 
 impl Thing for RequestScenario {
-    fn begin(_alloc: Global) -> io::Result<RequestScenario> {
+    fn begin(_alloc: Global) -> Result<RequestScenario, OutOfMemory> {
         let request = EventRequest::nothing();
         Ok(RequestScenario { request })
     }

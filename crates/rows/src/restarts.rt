@@ -7,10 +7,10 @@
 ghost use Rattle.std.specs.Prelude.{◌<◌, ◌^◌};
 
 use crate::keeping::{Kept, Thing};
+use mg_bytes::OutOfMemory;
 use restart::Restart;
 use scenario_files::{Outcome, Row};
 use std::alloc::Global;
-use std::io;
 
 /// An announcement.
 #[derive(Drop)]
@@ -45,7 +45,7 @@ impl RestartScenario {
 }
 
 impl Thing for RestartScenario {
-    fn begin(_alloc: Global) -> io::Result<RestartScenario> {
+    fn begin(_alloc: Global) -> Result<RestartScenario, OutOfMemory> {
         let restart = Restart::Serving;
         Ok(RestartScenario { restart })
     }
@@ -63,7 +63,7 @@ impl Thing for RestartScenario {
 }
 
 impl Kept for RestartScenario {
-    fn copy(&self, _alloc: Global) -> io::Result<RestartScenario> {
+    fn copy(&self, _alloc: Global) -> Result<RestartScenario, OutOfMemory> {
         let restart = self.restart.try_copy()?;
         Ok(RestartScenario { restart })
     }

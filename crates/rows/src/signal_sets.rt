@@ -7,11 +7,11 @@
 //! - `refused on  L/dl  402` the return code with which an S is refused on hook; `-` where it isn't.
 use crate::keeping::Thing;
 use event_syntax::read_signals;
+use mg_bytes::OutOfMemory;
 use mg_packages::{Hook, signal_name, signal_of};
 use scenario_files::{Outcome, Row};
 use signals::{SignalSet, refused};
 use std::alloc::Global;
-use std::io;
 
 // `on` or `off`, up to the next field.
 fn hook_of(row: &mut Row<'_>) -> Hook {
@@ -82,7 +82,7 @@ fn expire(set: &mut SignalSet, row: &mut Row<'_>) {
 }
 
 impl Thing for SignalSet {
-    fn begin(_alloc: Global) -> io::Result<SignalSet> {
+    fn begin(_alloc: Global) -> Result<SignalSet, OutOfMemory> {
         Ok(SignalSet::new())
     }
 

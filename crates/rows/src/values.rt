@@ -16,9 +16,9 @@ mod packing;
 mod shown;
 mod spelled;
 
+use mg_bytes::OutOfMemory;
 use scenario_files::{Outcome, Scenario, bytes_of, said};
 use std::alloc::Global;
-use std::io;
 
 /// Rows that stand alone.
 #[derive(Drop)]
@@ -51,7 +51,7 @@ fn put_answer(given: &mut Outcome, call: &str, value: &[u8]) -> bool {
 }
 
 // What a call gives of a value, as a row says it.
-fn answer_to(given: &mut Outcome, call: &str, field: &str) -> io::Result<String> {
+fn answer_to(given: &mut Outcome, call: &str, field: &str) -> Result<String, OutOfMemory> {
     let value = bytes_of(given.alloc, field)?;
     given.bytes.clear();
     if !put_answer(given, call, &value) {
@@ -69,7 +69,12 @@ fn is_said(answer: &str, wanted: &str) -> bool {
 }
 
 // Puts what a call gives of one of the values that the row doesn't say, with its place; else what the row says.
-fn put_given(given: &mut Outcome, call: &str, values: &str, wanted: &str) -> io::Result<()> {
+fn put_given(
+    given: &mut Outcome,
+    call: &str,
+    values: &str,
+    wanted: &str,
+) -> Result<(), OutOfMemory> {
     for (place, field) in values.split("  ").enumerate() {
         let answer = answer_to(given, call, field)?;
         if !is_said(answer.as_str(), wanted) {
@@ -86,11 +91,11 @@ fn put_given(given: &mut Outcome, call: &str, values: &str, wanted: &str) -> io:
 }
 
 impl Scenario for Values {
-    fn begin(_alloc: Global) -> io::Result<Values> {
+    fn begin(_alloc: Global) -> Result<Values, OutOfMemory> {
         Ok(Values)
     }
 
-    fn unlike(&mut self, alloc: Global, row: &str) -> io::Result<Option<String>> {
+    fn unlike(&mut self, alloc: Global, row: &str) -> Result<Option<String>, OutOfMemory> {
         let (rest, wanted) = row.rsplit_once("  ").unwrap_or((row, ""));
         let (call, values) = rest.split_once("  ").unwrap_or((rest, ""));
         let mut given = Outcome::nothing(alloc);

@@ -1,10 +1,4 @@
 //! Calls that are made again where memory was refused.
-use std::io;
-
-/// Want of memory, which is told by no answer: it ends what is played, which is then played again.
-pub fn refused() -> io::Error {
-    io::Error::from(io::ErrorKind::OutOfMemory)
-}
 
 /// The call, and once more where it failed. What fails changes nothing, so a call that is refused memory once gives
 /// what it gives with ample memory, and one that fails for another reason fails again.

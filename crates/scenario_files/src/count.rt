@@ -13,6 +13,14 @@ impl Count {
         Count { cases: 0, wrong: 0 }
     }
 
+    /// One case.
+    pub fn of(is_right: bool) -> Count {
+        Count {
+            cases: 1,
+            wrong: u32::from(!is_right),
+        }
+    }
+
     /// Counts these too.
     pub fn add(&mut self, more: Count) {
         self.cases = self.cases.wrapping_add(more.cases);

@@ -18,7 +18,7 @@ pub trait Kinds {
 
 // The first line before a file's first title that is no comment: nothing plays what stands there.
 fn unplayed(text: &str) -> Option<&str> {
-    let before = text.split("\n= ").next().unwrap_or("");
+    let (before, _) = text.split_once("\n= ").unwrap_or((text, ""));
     for line in before.lines() {
         if !line.is_empty() && !line.starts_with('#') {
             return Some(line);
@@ -43,14 +43,22 @@ fn told<K: Kinds, R: AllocGlobal + Net + Print>(rt: &R, text: &str) -> io::Resul
     Ok(Count { cases: 1, wrong: 1 })
 }
 
-// Tells the files, and says of each how many cases it has.
+// Tells the file of this name, and says how many cases it has.
+fn told_file<K: Kinds, R: AllocGlobal + Files + Net + Print>(
+    rt: &R,
+    name: &str,
+) -> io::Result<Count> {
+    let text = again!(fs::read_to_string(rt, name))?;
+    let count = told::<K, R>(rt, text.as_str())?;
+    println!(rt; "{name}: {}", count.cases)?;
+    Ok(count)
+}
+
+// Tells the files.
 fn told_all<K: Kinds, R: AllocGlobal + Env + Files + Net + Print>(rt: &R) -> io::Result<Count> {
     let mut all = Count::nothing();
     for name in again!(env::args(rt))?.skip(1) {
-        let text = again!(fs::read_to_string(rt, name.as_str()))?;
-        let count = told::<K, R>(rt, text.as_str())?;
-        println!(rt; "{name}: {}", count.cases)?;
-        all.add(count);
+        all.add(told_file::<K, R>(rt, name.as_str())?);
     }
     Ok(all)
 }

@@ -1,9 +1,10 @@
 //! The input of the program that a scenario stands for.
+use crate::draft::Draft;
 use crate::settings::SETTINGS;
-use crate::texts::{put_line, value_of};
+use crate::texts::value_of;
 use crate::written::WrittenScenario;
+use mg_bytes::OutOfMemory;
 use std::alloc::Global;
-use std::io;
 
 // The first word of a line of the settings.
 fn key_of(line: &str) -> &str {
@@ -36,27 +37,25 @@ fn is_further(change: &str) -> bool {
     key != "no"
 }
 
-fn put_setting(alloc: Global, out: &mut String, line: &str) -> io::Result<()> {
-    let line = value_of(alloc, line)?;
-    put_line(out, line.as_str())
+fn put_setting(alloc: Global, out: &mut Draft, line: &str) {
+    out.put_made(value_of(alloc, line));
+    out.put("\n");
 }
 
 // The usual settings with a scenario's changes.
-fn put_settings(alloc: Global, out: &mut String, changes: &str) -> io::Result<()> {
+fn put_settings(alloc: Global, out: &mut Draft, changes: &str) {
     for usual in SETTINGS.lines() {
-        put_setting(alloc, out, changed(usual, changes))?;
+        put_setting(alloc, out, changed(usual, changes));
     }
-    Ok(())
 }
 
 // Further lines, which stand at the end of the settings, among the names.
-fn put_further(alloc: Global, out: &mut String, changes: &str) -> io::Result<()> {
+fn put_further(alloc: Global, out: &mut Draft, changes: &str) {
     for change in changes.lines() {
         if is_further(change) {
-            put_setting(alloc, out, change)?;
+            put_setting(alloc, out, change);
         }
     }
-    Ok(())
 }
 
 // What stands before a script.
@@ -66,18 +65,17 @@ const SCRIPT: &str = "%%\n";
 const READY: &str = "%%\ntick 1\nfrom 127.0.0.1:2727\n200 1 OK\n--\nat 1000\n";
 
 /// The program's input: the settings, and the script behind what comes before it; without a script the settings alone.
-pub fn input_of(alloc: Global, scenario: &WrittenScenario) -> io::Result<String> {
-    let mut input = String::new(alloc);
-    put_settings(alloc, &mut input, scenario.changes.as_str())?;
-    put_further(alloc, &mut input, scenario.changes.as_str())?;
-    let before = if !scenario.is_at_opening {
+pub fn input_of(alloc: Global, scenario: &WrittenScenario) -> Result<String, OutOfMemory> {
+    let mut input = Draft::new(alloc);
+    put_settings(alloc, &mut input, scenario.changes.as_str());
+    put_further(alloc, &mut input, scenario.changes.as_str());
+    input.put(if !scenario.is_at_opening {
         READY
     } else if scenario.script.is_empty() {
         ""
     } else {
         SCRIPT
-    };
-    input.push_str(before)?;
-    input.push_str(scenario.script.as_str())?;
-    Ok(input)
+    });
+    input.put(scenario.script.as_str());
+    input.end()
 }

@@ -4,10 +4,13 @@
 //! What is refused memory is done again, and must then give what it gives with ample memory: the program is refused each
 //! request for memory in turn (`./refusals`). So a kind of row changes its state last. `docs/SCENARIOS.md` says how
 //! scenarios are written.
+//!
+//! Want of memory, which is told by no answer, is the one error that there is, but where something is printed or a file is read.
 #![tactic(auto)]
 
 mod again;
 mod count;
+mod draft;
 mod files;
 mod input;
 mod lists;
@@ -20,8 +23,8 @@ mod texts;
 mod titles;
 mod written;
 
-pub use crate::again::refused;
 pub use crate::count::Count;
+pub use crate::draft::Draft;
 pub use crate::files::{Kinds, play};
 pub use crate::input::input_of;
 pub use crate::lists::item_at;
@@ -31,5 +34,5 @@ pub use crate::row::Row;
 pub use crate::rows::{Scenario, told};
 pub use crate::settings::SETTINGS;
 pub use crate::texts::{bytes_of, in_full, put_line, said, value_of, yes_or_no};
-pub use crate::titles::Pieces;
+pub use crate::titles::{Titled, told_titled};
 pub use crate::written::{WrittenScenario, read_scenario};

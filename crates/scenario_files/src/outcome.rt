@@ -1,12 +1,10 @@
 //! What comes of a row.
 //!
 //! It is apart from what is read of the row, which is lent: nearly all that plays a row only puts, and is checked for no loan then.
-use crate::again::refused;
 use crate::texts::yes_or_no;
 use mg_bytes::{CodeFault, OutOfMemory, Text};
-use std::alloc::Global;
+use std::alloc::{AllocError, Global};
 use std::fmt::Display;
-use std::io;
 use std::io::Write;
 
 /// What a row gives so far.
@@ -105,9 +103,9 @@ impl Outcome {
     }
 
     /// What is given, unless that is what was wanted, whatever blanks stand before both.
-    pub fn unlike(&self, wanted: &str) -> io::Result<Option<String>> {
+    pub fn unlike(&self, wanted: &str) -> Result<Option<String>, OutOfMemory> {
         if self.is_refused {
-            return Err(refused());
+            return Err(AllocError);
         }
         if self.is_unread {
             return Ok(Some("no such row".to_string(self.alloc)?));

@@ -6,8 +6,8 @@
 use crate::again;
 use crate::outcome::Outcome;
 use crate::texts::{bytes_of, said};
+use mg_bytes::OutOfMemory;
 use std::alloc::Global;
-use std::io;
 
 /// A row: what hasn't been read of it, and what it gives.
 #[derive(Drop)]
@@ -72,12 +72,12 @@ impl<'a> Row<'a> {
     }
 
     /// What is given, unless that is what is left, whatever blanks stand before both.
-    pub fn unlike(&self) -> io::Result<Option<String>> {
+    pub fn unlike(&self) -> Result<Option<String>, OutOfMemory> {
         self.given.unlike(self.left)
     }
 
     /// What is given, unless that is what is left, byte for byte, in short forms.
-    pub fn unlike_bytes(&self) -> io::Result<Option<String>> {
+    pub fn unlike_bytes(&self) -> Result<Option<String>, OutOfMemory> {
         let given = &self.given;
         if given.is_refused || given.is_unread {
             return self.unlike();

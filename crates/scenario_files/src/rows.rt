@@ -2,17 +2,17 @@
 use crate::again;
 use crate::count::Count;
 use crate::texts::in_full;
-use mg_bytes::decimal;
+use mg_bytes::{OutOfMemory, decimal};
 use std::alloc::Global;
 use std::io;
 
 /// What the rows under a title are about.
 pub trait Scenario {
     /// What it is under a new title.
-    fn begin(alloc: Global) -> io::Result<Self>;
+    fn begin(alloc: Global) -> Result<Self, OutOfMemory>;
 
     /// What a row gives that it doesn't say; nothing where it gives what it says. After an error it is as it was.
-    fn unlike(&mut self, alloc: Global, row: &str) -> io::Result<Option<String>>;
+    fn unlike(&mut self, alloc: Global, row: &str) -> Result<Option<String>, OutOfMemory>;
 }
 
 // How often a row is played, and the row: `64 x 1000 flash`.
@@ -26,7 +26,11 @@ fn times_of(row: &str) -> (u64, &str) {
 }
 
 // What a row gives that it doesn't say, the first time that it does. It is played again where memory is refused.
-fn unlike<T: Scenario>(alloc: Global, scenario: &mut T, row: &str) -> io::Result<Option<String>> {
+fn unlike<T: Scenario>(
+    alloc: Global,
+    scenario: &mut T,
+    row: &str,
+) -> Result<Option<String>, OutOfMemory> {
     let (times, once) = times_of(row);
     for _ in 0..times {
         if let Some(given) = again!(scenario.unlike(alloc, once))? {
@@ -36,7 +40,33 @@ fn unlike<T: Scenario>(alloc: Global, scenario: &mut T, row: &str) -> io::Result
     Ok(None)
 }
 
-// The rows under a title. What differs is printed.
+// What a row gives that it doesn't say, as it is written.
+fn unlike_written<T: Scenario>(
+    alloc: Global,
+    scenario: &mut T,
+    written: &str,
+) -> Result<Option<String>, OutOfMemory> {
+    let row = again!(in_full(alloc, written))?;
+    unlike(alloc, scenario, row.as_str())
+}
+
+// Whether a row is as it is told. What differs is printed.
+fn is_told<T: Scenario, R: AllocGlobal + Print>(
+    rt: &R,
+    scenario: &mut T,
+    title: &str,
+    written: &str,
+) -> io::Result<bool> {
+    match unlike_written(rt.alloc(), scenario, written)? {
+        Some(given) => {
+            println!(rt; "{title}: {written}\n  gives {given}")?;
+            Ok(false)
+        }
+        None => Ok(true),
+    }
+}
+
+// The rows under a title.
 fn told_block<T: Scenario + Drop, R: AllocGlobal + Print>(
     rt: &R,
     title: &str,
@@ -45,14 +75,8 @@ fn told_block<T: Scenario + Drop, R: AllocGlobal + Print>(
     let mut scenario = again!(T::begin(rt.alloc()))?;
     let mut count = Count::nothing();
     for written in rows.lines() {
-        if written.is_empty() || written.starts_with('#') {
-            continue;
-        }
-        let row = again!(in_full(rt.alloc(), written))?;
-        let given = unlike(rt.alloc(), &mut scenario, row.as_str())?;
-        count.put(given.is_none());
-        if let Some(given) = given {
-            println!(rt; "{title}: {written}\n  gives {given}")?;
+        if !written.is_empty() && !written.starts_with('#') {
+            count.put(is_told(rt, &mut scenario, title, written)?);
         }
     }
     Ok(count)

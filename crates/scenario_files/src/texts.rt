@@ -1,36 +1,36 @@
 //! Short forms in what is told.
-use mg_bytes::decimal;
+use crate::draft::Draft;
+use mg_bytes::{OutOfMemory, decimal};
 use std::alloc::Global;
-use std::io;
 
 /// Puts a line with its end.
-pub fn put_line(out: &mut String, line: &str) -> io::Result<()> {
+pub fn put_line(out: &mut String, line: &str) -> Result<(), OutOfMemory> {
     out.push_str(line)?;
-    Ok(out.push('\n')?)
+    out.push('\n')
 }
 
 // What stands behind a `{`: `64*1}`, and the text behind it.
-fn put_times(out: &mut String, piece: &str) -> io::Result<()> {
+fn put_times(out: &mut Draft, piece: &str) {
     let Some((times, after)) = piece.split_once('}') else {
-        return Ok(out.push_str(piece)?);
+        return out.put(piece);
     };
     let (count, text) = times.split_once('*').unwrap_or(("1", times));
     for _ in 0..decimal(count.as_bytes()).unwrap_or(0) {
-        out.push_str(text)?;
+        out.put(text);
     }
-    Ok(out.push_str(after)?)
+    out.put(after);
 }
 
 /// The text without short forms: `~` is the domain with the protocol's name, `{64*1}` is 64 times the text `1`.
-pub fn in_full(alloc: Global, text: &str) -> io::Result<String> {
+pub fn in_full(alloc: Global, text: &str) -> Result<String, OutOfMemory> {
     let named = text.replace(alloc, '~', "rgw.example.net MGCP 1.0")?;
-    let mut out = String::new(alloc);
+    let mut out = Draft::new(alloc);
     let mut pieces = named.as_str().split('{');
-    out.push_str(pieces.next().unwrap_or(""))?;
+    out.put(pieces.next().unwrap_or(""));
     for piece in pieces {
-        put_times(&mut out, piece)?;
+        put_times(&mut out, piece);
     }
-    Ok(out)
+    out.end()
 }
 
 // The byte that a short form is, whose letters stand behind a `\`, and what follows it.
@@ -52,23 +52,23 @@ fn hexadecimal_byte(text: &str) -> Option<(u8, &str)> {
 }
 
 // Puts what stands behind a `\`: the byte that its short form is, and what follows it.
-fn put_short(out: &mut Vec<u8>, piece: &str) -> io::Result<()> {
+fn put_short(out: &mut Vec<u8>, piece: &str) -> Result<(), OutOfMemory> {
     let Some((byte, rest)) = short_form(piece) else {
-        return Ok(out.extend_from_slice(piece.as_bytes())?);
+        return out.extend_from_slice(piece.as_bytes());
     };
     out.push(byte)?;
-    Ok(out.extend_from_slice(rest.as_bytes())?)
+    out.extend_from_slice(rest.as_bytes())
 }
 
 // A text without the short forms that are no single byte.
-fn without_pairs(alloc: Global, field: &str) -> io::Result<String> {
+fn without_pairs(alloc: Global, field: &str) -> Result<String, OutOfMemory> {
     let text = field.replace(alloc, "''", "")?;
-    Ok(text.as_str().replace(alloc, "¶", "\r\n")?)
+    text.as_str().replace(alloc, "¶", "\r\n")
 }
 
 /// A value as its bytes: `''` is nothing, `\s` a blank, `\t` a tab, `\n` a line end, `¶` one of two bytes, and `\xff` the
 /// byte with these hexadecimal digits.
-pub fn bytes_of(alloc: Global, field: &str) -> io::Result<Vec<u8>> {
+pub fn bytes_of(alloc: Global, field: &str) -> Result<Vec<u8>, OutOfMemory> {
     let text = without_pairs(alloc, field)?;
     let mut out = Vec::new(alloc);
     let mut pieces = text.as_str().split('\\');
@@ -80,14 +80,14 @@ pub fn bytes_of(alloc: Global, field: &str) -> io::Result<Vec<u8>> {
 }
 
 /// Bytes as a row says them.
-pub fn said(alloc: Global, bytes: &[u8]) -> io::Result<String> {
+pub fn said(alloc: Global, bytes: &[u8]) -> Result<String, OutOfMemory> {
     if bytes.is_empty() {
-        return Ok("''".to_string(alloc)?);
+        return "''".to_string(alloc);
     }
     let mut text = String::from_utf8_lossy(alloc, bytes)?;
     text = text.replace(alloc, "\r\n", "¶")?;
     text = text.replace(alloc, "\t", "\\t")?;
-    Ok(text.replace(alloc, "\n", "\\n")?)
+    text.replace(alloc, "\n", "\\n")
 }
 
 /// A judgement as a row says it.
@@ -96,7 +96,7 @@ pub fn yes_or_no(judged: bool) -> &'static str {
 }
 
 /// A value as a text.
-pub fn value_of(alloc: Global, field: &str) -> io::Result<String> {
+pub fn value_of(alloc: Global, field: &str) -> Result<String, OutOfMemory> {
     let bytes = bytes_of(alloc, field)?;
-    Ok(String::from_utf8_lossy(alloc, &bytes)?)
+    String::from_utf8_lossy(alloc, &bytes)
 }

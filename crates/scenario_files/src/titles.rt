@@ -1,8 +1,12 @@
-//! Lines under titles, some of which stand once, as pieces, and are put in where they are named.
+//! Cases that are lines under titles. Some lines stand once, as pieces, and are put in where they are named.
+use crate::again;
+use crate::count::Count;
+use crate::draft::Draft;
 use crate::numbers::number_in;
-use crate::texts::put_line;
+use mg_bytes::OutOfMemory;
 use std::alloc::Global;
 use std::io;
+use std::net::Net;
 
 // Lines under a name.
 #[derive(Drop)]
@@ -21,91 +25,113 @@ fn lines_of<'a>(pieces: &'a [Piece], name: &str) -> &'a str {
     "no such piece\n"
 }
 
-// Puts these values, which have a `|` between them, into the places `{1}`, `{2}` and so on of a text.
-fn fill(alloc: Global, text: &mut String, values: &str) -> io::Result<()> {
+// A text with these values, which have a `|` between them, in its places `{1}`, `{2}` and so on.
+fn filled(alloc: Global, lines: &str, values: &str) -> Result<String, OutOfMemory> {
+    let mut text = lines.to_string(alloc)?;
     for (place, value) in values.split('|').enumerate() {
         let mark = format!(in alloc; "{{{}}}", place.wrapping_add(1))?;
-        *text = text.replace(alloc, mark.as_str(), value.trim())?;
+        text = text.replace(alloc, mark.as_str(), value.trim())?;
     }
-    Ok(())
+    Ok(text)
 }
 
 // What `do` puts in: the lines of a name, with a value in each place `{1}`, `{2}` and so on.
-fn put_done(alloc: Global, pieces: &[Piece], out: &mut String, call: &str) -> io::Result<()> {
-    let Some((name, values)) = call.split_once('|') else {
-        return Ok(out.push_str(lines_of(pieces, call.trim()))?);
-    };
-    let mut text = lines_of(pieces, name.trim()).to_string(alloc)?;
-    fill(alloc, &mut text, values)?;
-    Ok(out.push_str(text.as_str())?)
+fn put_done(alloc: Global, pieces: &[Piece], out: &mut Draft, call: &str) {
+    match call.split_once('|') {
+        Some((name, values)) => {
+            let lines = lines_of(pieces, name.trim());
+            out.put_made(filled(alloc, lines, values));
+        }
+        None => out.put(lines_of(pieces, call.trim())),
+    }
 }
 
-// Puts in lines with this number in each place `{n}`.
-fn put_numbered(alloc: Global, out: &mut String, lines: &str, number: u64) -> io::Result<()> {
+// Lines with this number in each place `{n}`.
+fn numbered(alloc: Global, lines: &str, number: u64) -> Result<String, OutOfMemory> {
     let number = format!(in alloc; "{number}")?;
-    let lines = lines.replace(alloc, "{n}", number.as_str())?;
-    Ok(out.push_str(lines.as_str())?)
+    lines.replace(alloc, "{n}", number.as_str())
 }
 
 // What `each` puts in: the lines of a name for each number from one to another, which is `{n}`.
-fn put_each(alloc: Global, pieces: &[Piece], out: &mut String, call: &str) -> io::Result<()> {
+fn put_each(alloc: Global, pieces: &[Piece], out: &mut Draft, call: &str) {
     let (first, rest) = call.split_once(' ').unwrap_or((call, ""));
     let (last, name) = rest.split_once(' ').unwrap_or((rest, ""));
     let lines = lines_of(pieces, name);
     for number in number_in(first)..=number_in(last) {
-        put_numbered(alloc, out, lines, number)?;
+        out.put_made(numbered(alloc, lines, number));
     }
-    Ok(())
 }
 
 // A line, or what it puts in.
-fn put_expanded(alloc: Global, pieces: &[Piece], out: &mut String, line: &str) -> io::Result<()> {
-    if let Some(call) = line.strip_prefix("do ") {
-        return put_done(alloc, pieces, out, call);
+fn put_expanded(alloc: Global, pieces: &[Piece], out: &mut Draft, line: &str) {
+    match line.split_once(' ') {
+        Some(("do", call)) => put_done(alloc, pieces, out, call),
+        Some(("each", call)) => put_each(alloc, pieces, out, call),
+        _ => out.put_line(line),
     }
-    if let Some(call) = line.strip_prefix("each ") {
-        return put_each(alloc, pieces, out, call);
-    }
-    put_line(out, line)
 }
 
 // The lines with all that they put in.
-fn expanded(alloc: Global, pieces: &[Piece], lines: &str) -> io::Result<String> {
-    let mut out = String::new(alloc);
+fn expanded(alloc: Global, pieces: &[Piece], lines: &str) -> Result<String, OutOfMemory> {
+    let mut out = Draft::new(alloc);
     for line in lines.lines() {
-        put_expanded(alloc, pieces, &mut out, line)?;
+        put_expanded(alloc, pieces, &mut out, line);
     }
-    Ok(out)
+    out.end()
 }
 
-/// The pieces of a text so far.
-#[derive(Drop)]
-pub struct Pieces {
-    held: Vec<Piece>,
+// The lines under a title, with all that they put in; nothing where they are a piece, which is held from now on.
+// After an error the pieces are as they were.
+fn lines_under(
+    alloc: Global,
+    pieces: &mut Vec<Piece>,
+    title: &str,
+    lines: &str,
+) -> Result<Option<String>, OutOfMemory> {
+    let lines = expanded(alloc, pieces, lines)?;
+    let Some(name) = title.strip_prefix("piece ") else {
+        return Ok(Some(lines));
+    };
+    let name = name.to_string(alloc)?;
+    pieces.push(Piece { name, lines })?;
+    Ok(None)
 }
 
-impl Pieces {
-    /// No pieces.
-    pub fn new(alloc: Global) -> Pieces {
-        Pieces {
-            held: Vec::new(alloc),
-        }
-    }
-
-    /// The lines under a title, with all that they put in; nothing where they are a piece, which is held from now on.
-    /// After an error the pieces are as they were.
-    pub fn lines_under(
+/// A kind of cases that are lines under a title.
+pub trait Titled {
+    /// Tells the lines under a title: how many cases they are. What differs is printed.
+    fn told<R: AllocGlobal + Net + Print>(
         &mut self,
-        alloc: Global,
+        rt: &R,
         title: &str,
         lines: &str,
-    ) -> io::Result<Option<String>> {
-        let lines = expanded(alloc, &self.held, lines)?;
-        let Some(name) = title.strip_prefix("piece ") else {
-            return Ok(Some(lines));
-        };
-        let name = name.to_string(alloc)?;
-        self.held.push(Piece { name, lines })?;
-        Ok(None)
+    ) -> io::Result<Count>;
+}
+
+// Tells the lines under a title, or holds them as a piece.
+fn told_block<T: Titled, R: AllocGlobal + Net + Print>(
+    rt: &R,
+    kind: &mut T,
+    pieces: &mut Vec<Piece>,
+    block: &str,
+) -> io::Result<Count> {
+    let (title, lines) = block.split_once('\n').unwrap_or((block, ""));
+    match again!(lines_under(rt.alloc(), pieces, title, lines))? {
+        Some(lines) => kind.told(rt, title, lines.as_str()),
+        None => Ok(Count::nothing()),
     }
+}
+
+/// Tells the cases of a file, with the pieces that its lines put in.
+pub fn told_titled<T: Titled, R: AllocGlobal + Net + Print>(
+    rt: &R,
+    kind: &mut T,
+    text: &str,
+) -> io::Result<Count> {
+    let mut pieces = Vec::new(rt.alloc());
+    let mut count = Count::nothing();
+    for block in text.split("\n= ").skip(1) {
+        count.add(told_block(rt, kind, &mut pieces, block)?);
+    }
+    Ok(count)
 }

@@ -10,10 +10,12 @@
 use crate::runs::runs_alike;
 use crate::twins::{Played, Twins, are_events, event_of, scene_again, scene_of};
 use gateway_core::Refusal;
+use mg_bytes::OutOfMemory;
 use rgw_scripts::ScriptStep;
-use scenario_files::{Count, Pieces, again, input_of, read_scenario};
+use scenario_files::{Count, Titled, again, input_of, read_scenario, told_titled};
 use std::alloc::Global;
 use std::io;
+use std::net::Net;
 
 // What is said of an input that has no gateway and no steps.
 const UNPLAYED: &str = "it can't be played";
@@ -26,7 +28,7 @@ enum Next<'s> {
 }
 
 // The input that lines are; nothing where they say what is printed.
-fn input_under(alloc: Global, lines: &str) -> io::Result<Option<String>> {
+fn input_under(alloc: Global, lines: &str) -> Result<Option<String>, OutOfMemory> {
     let scenario = read_scenario(alloc, lines, false)?;
     if !scenario.printed.is_empty() {
         return Ok(None);
@@ -35,7 +37,7 @@ fn input_under(alloc: Global, lines: &str) -> io::Result<Option<String>> {
 }
 
 // The steps of `otherwise`; nothing where they can't be read.
-fn steps_of(alloc: Global, lines: &str) -> io::Result<Option<Vec<ScriptStep>>> {
+fn steps_of(alloc: Global, lines: &str) -> Result<Option<Vec<ScriptStep>>, OutOfMemory> {
     let mut scenario = read_scenario(alloc, lines, false)?;
     scenario.is_at_opening = true;
     let input = input_of(alloc, &scenario)?;
@@ -55,7 +57,7 @@ fn refused_at(
     twins: &mut Twins,
     next: Next<'_>,
     place: usize,
-) -> io::Result<Option<&'static str>> {
+) -> Result<Option<&'static str>, OutOfMemory> {
     if !twins.are_alike() {
         return Ok(Some("it was refused, and changed the gateway"));
     }
@@ -80,7 +82,7 @@ fn differing_at(
     step: &ScriptStep,
     next: Next<'_>,
     place: usize,
-) -> io::Result<Option<&'static str>> {
+) -> Result<Option<&'static str>, OutOfMemory> {
     let Some(event) = event_of(step, twins.gateway.now()) else {
         return Ok(Some("it is no event"));
     };
@@ -104,7 +106,7 @@ fn differing_among(
     twins: &mut Twins,
     steps: &[ScriptStep],
     next: Next<'_>,
-) -> io::Result<Option<(usize, &'static str)>> {
+) -> Result<Option<(usize, &'static str)>, OutOfMemory> {
     for (place, step) in steps.iter().enumerate() {
         if let Some(said) = differing_at(alloc, input, twins, step, next, place)? {
             return Ok(Some((place.wrapping_add(1), said)));
@@ -119,7 +121,7 @@ fn differing_twins(
     input: &[u8],
     steps: &[ScriptStep],
     next: Next<'_>,
-) -> io::Result<Option<(usize, &'static str)>> {
+) -> Result<Option<(usize, &'static str)>, OutOfMemory> {
     match Twins::after(alloc, input, 0)? {
         Some(mut twins) => differing_among(alloc, input, &mut twins, steps, next),
         None => Ok(Some((0, UNPLAYED))),
@@ -131,7 +133,7 @@ fn differing_under(
     alloc: Global,
     input: &[u8],
     otherwise: &[ScriptStep],
-) -> io::Result<Option<(usize, &'static str)>> {
+) -> Result<Option<(usize, &'static str)>, OutOfMemory> {
     let Some(scene) = scene_again(alloc, input)? else {
         return Ok(Some((0, UNPLAYED)));
     };
@@ -147,56 +149,61 @@ fn differing_under(
     Ok(Some((0, "one run gives something else than the steps")))
 }
 
-// Whether nothing differs under a title.
-fn is_told<R: AllocGlobal + Print>(
+// Tells the script under a title.
+fn told_script<R: AllocGlobal + Print>(
     rt: &R,
     title: &str,
     lines: &str,
     otherwise: &[ScriptStep],
-) -> io::Result<bool> {
+) -> io::Result<Count> {
     let Some(input) = again!(input_under(rt.alloc(), lines))? else {
         println!(rt; "{title}\n  no script says what is printed")?;
-        return Ok(false);
+        return Ok(Count::of(false));
     };
     match differing_under(rt.alloc(), input.as_bytes(), otherwise)? {
-        None => Ok(true),
+        None => Ok(Count::of(true)),
         Some((step, said)) => {
             println!(rt; "{title}\n  step {step}: {said}")?;
-            Ok(false)
+            Ok(Count::of(false))
         }
     }
 }
 
-// Takes the steps of `otherwise`; whether they are events alone. Where they aren't that is printed.
-fn takes_otherwise<R: AllocGlobal + Print>(
-    rt: &R,
-    lines: &str,
-    otherwise: &mut Vec<ScriptStep>,
-) -> io::Result<bool> {
-    let Some(steps) = again!(steps_of(rt.alloc(), lines))? else {
-        println!(rt; "otherwise\n  it isn't events alone")?;
-        return Ok(false);
-    };
-    *otherwise = steps;
-    Ok(true)
+/// Scripts, and what comes in place of an event that was refused.
+#[derive(Drop)]
+struct RefusedScripts {
+    otherwise: Vec<ScriptStep>,
+}
+
+impl RefusedScripts {
+    // Takes the steps of `otherwise`, which is no case. Where they aren't events alone that is printed.
+    fn take_otherwise<R: AllocGlobal + Print>(&mut self, rt: &R, lines: &str) -> io::Result<Count> {
+        let Some(steps) = again!(steps_of(rt.alloc(), lines))? else {
+            println!(rt; "otherwise\n  it isn't events alone")?;
+            return Ok(Count::of(false));
+        };
+        self.otherwise = steps;
+        Ok(Count::nothing())
+    }
+}
+
+impl Titled for RefusedScripts {
+    fn told<R: AllocGlobal + Net + Print>(
+        &mut self,
+        rt: &R,
+        title: &str,
+        lines: &str,
+    ) -> io::Result<Count> {
+        match title {
+            "otherwise" => self.take_otherwise(rt, lines),
+            _ => told_script(rt, title, lines, &self.otherwise),
+        }
+    }
 }
 
 /// Tells the scripts of a file.
-pub fn told<R: AllocGlobal + Print>(rt: &R, text: &str) -> io::Result<Count> {
-    let alloc = rt.alloc();
-    let mut pieces = Pieces::new(alloc);
-    let mut otherwise = Vec::new(alloc);
-    let mut count = Count::nothing();
-    for block in text.split("\n= ").skip(1) {
-        let (title, lines) = block.split_once('\n').unwrap_or((block, ""));
-        let Some(lines) = again!(pieces.lines_under(alloc, title, lines))? else {
-            continue;
-        };
-        if title != "otherwise" {
-            count.put(is_told(rt, title, lines.as_str(), &otherwise)?);
-        } else if !takes_otherwise(rt, lines.as_str(), &mut otherwise)? {
-            count.put(false);
-        }
-    }
-    Ok(count)
+pub fn told<R: AllocGlobal + Net + Print>(rt: &R, text: &str) -> io::Result<Count> {
+    let otherwise = Vec::new(rt.alloc());
+    let mut scripts = RefusedScripts { otherwise };
+    told_titled(rt, &mut scripts, text)
 }

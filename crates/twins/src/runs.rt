@@ -1,10 +1,10 @@
 //! All events of a script in one run, which goes on at its place where it was refused memory.
 use crate::twins::{are_same, are_same_lists, event_of, scene_again, stepped};
 use gateway_core::{Event, Gateway, Outputs, Refusal};
+use mg_bytes::OutOfMemory;
 use rgw_scripts::ScriptStep;
 use scenario_files::again;
 use std::alloc::Global;
-use std::io;
 
 // The events of steps, and what a gateway gives to each.
 #[derive(Drop)]
@@ -14,7 +14,7 @@ struct Given<'s> {
 }
 
 // So that what was given is kept there is room for it before.
-fn room<'s>(alloc: Global, count: usize) -> io::Result<Given<'s>> {
+fn room<'s>(alloc: Global, count: usize) -> Result<Given<'s>, OutOfMemory> {
     Ok(Given {
         events: Vec::with_capacity(alloc, count)?,
         outputs: Vec::with_capacity(alloc, count)?,
@@ -23,7 +23,7 @@ fn room<'s>(alloc: Global, count: usize) -> io::Result<Given<'s>> {
 
 impl<'s> Given<'s> {
     // A gateway takes this event.
-    fn take(&mut self, gateway: &mut Gateway, event: Event<'s>) -> io::Result<()> {
+    fn take(&mut self, gateway: &mut Gateway, event: Event<'s>) -> Result<(), OutOfMemory> {
         self.events.push(event)?;
         if let Ok(outputs) = stepped(gateway, event) {
             self.outputs.push(outputs)?;
@@ -32,7 +32,11 @@ impl<'s> Given<'s> {
     }
 
     // A gateway takes the events of these steps one by one.
-    fn take_all(&mut self, gateway: &mut Gateway, steps: &'s [ScriptStep]) -> io::Result<()> {
+    fn take_all(
+        &mut self,
+        gateway: &mut Gateway,
+        steps: &'s [ScriptStep],
+    ) -> Result<(), OutOfMemory> {
         for step in steps {
             if let Some(event) = event_of(step, gateway.now()) {
                 self.take(gateway, event)?;
@@ -47,7 +51,7 @@ fn one_by_one<'s>(
     alloc: Global,
     gateway: &mut Gateway,
     steps: &'s [ScriptStep],
-) -> io::Result<Given<'s>> {
+) -> Result<Given<'s>, OutOfMemory> {
     let mut given = again!(room(alloc, steps.len()))?;
     given.take_all(gateway, steps)?;
     Ok(given)
@@ -58,7 +62,7 @@ fn run_once(
     gateway: &mut Gateway,
     given: &mut Vec<Outputs>,
     events: &[Event<'_>],
-) -> io::Result<Option<usize>> {
+) -> Result<Option<usize>, OutOfMemory> {
     match gateway.run(events) {
         Ok(outputs) => {
             given.push(outputs)?;
@@ -79,7 +83,7 @@ fn in_one_run(
     alloc: Global,
     gateway: &mut Gateway,
     events: &[Event<'_>],
-) -> io::Result<Vec<Outputs>> {
+) -> Result<Vec<Outputs>, OutOfMemory> {
     let most = events.len().saturating_add(2);
     let mut given: Vec<Outputs> = again!(Vec::with_capacity(alloc, most))?;
     let mut rest = events;
@@ -98,14 +102,14 @@ fn are_runs_alike(
     gateway: &mut Gateway,
     twin: &mut Gateway,
     steps: &[ScriptStep],
-) -> io::Result<bool> {
+) -> Result<bool, OutOfMemory> {
     let given = one_by_one(alloc, twin, steps)?;
     let outputs = in_one_run(alloc, gateway, &given.events)?;
     Ok(are_same_lists(&outputs, &given.outputs) && are_same(gateway, twin))
 }
 
 /// Whether a gateway that takes all events of an input in one run gives what it gives to them one by one.
-pub fn runs_alike(alloc: Global, input: &[u8]) -> io::Result<bool> {
+pub fn runs_alike(alloc: Global, input: &[u8]) -> Result<bool, OutOfMemory> {
     let Some(mut scene) = scene_again(alloc, input)? else {
         return Ok(false);
     };

@@ -9,7 +9,7 @@
 use crate::twins::scene_of;
 use gateway_core::{DATAGRAM_ROOM, Gateway};
 use rgw_play::UdpWire;
-use scenario_files::{Count, Outcome, Row, SETTINGS, bytes_of, in_full};
+use scenario_files::{Count, Outcome, Row, SETTINGS, Titled, bytes_of, in_full, told_titled};
 use std::alloc::Global;
 use std::io;
 use std::net::{Ipv4Addr, Net, SocketAddrV4, UdpSocket};
@@ -99,17 +99,29 @@ fn is_told<R: AllocGlobal + Print>(
     Ok(false)
 }
 
-/// Tells the rows of a file, with two new ends under each title.
-pub fn told<R: AllocGlobal + Net + Print>(rt: &R, text: &str) -> io::Result<Count> {
-    let mut count = Count::nothing();
-    for block in text.split("\n= ").skip(1) {
-        let (title, rows) = block.split_once('\n').unwrap_or((block, ""));
+// Rows at two new ends under each title.
+#[derive(Clone, Copy)]
+struct SocketRows;
+
+impl Titled for SocketRows {
+    fn told<R: AllocGlobal + Net + Print>(
+        &mut self,
+        rt: &R,
+        title: &str,
+        lines: &str,
+    ) -> io::Result<Count> {
         let mut ends = both_ends(rt)?;
-        for row in rows.lines() {
+        let mut count = Count::nothing();
+        for row in lines.lines() {
             if !row.is_empty() && !row.starts_with('#') {
                 count.put(is_told(rt, &mut ends, title, row)?);
             }
         }
+        Ok(count)
     }
-    Ok(count)
+}
+
+/// Tells the rows of a file.
+pub fn told<R: AllocGlobal + Net + Print>(rt: &R, text: &str) -> io::Result<Count> {
+    told_titled(rt, &mut SocketRows, text)
 }

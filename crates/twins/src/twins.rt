@@ -4,11 +4,12 @@
 //! next, be that the same event or another.
 use connections::Connection;
 use gateway_core::{Event, Gateway, OutDatagram, Outputs, Refusal};
+use mg_bytes::OutOfMemory;
 use rgw_scenes::{Scene, judge};
 use rgw_scripts::{PlayFault, ScriptStep};
-use scenario_files::{again, item_at, refused};
-use std::alloc::Global;
-use std::{io, slice};
+use scenario_files::{again, item_at};
+use std::alloc::{AllocError, Global};
+use std::slice;
 
 /// What an input has to play. The gateway stands in a box, since a check pays for all that a value holds inline at each
 /// step of a function that has one.
@@ -18,23 +19,23 @@ pub struct Played {
     pub steps: Vec<ScriptStep>,
 }
 
-fn boxed(alloc: Global, scene: Scene) -> io::Result<Played> {
+fn boxed(alloc: Global, scene: Scene) -> Result<Played, OutOfMemory> {
     let Scene { gateway, steps } = scene;
     let gateway = Box::new(alloc, gateway)?;
     Ok(Played { gateway, steps })
 }
 
 /// What an input has to play; nothing where it is refused.
-pub fn scene_of(alloc: Global, input: &[u8]) -> io::Result<Option<Played>> {
+pub fn scene_of(alloc: Global, input: &[u8]) -> Result<Option<Played>, OutOfMemory> {
     match judge(alloc, input) {
         Ok(scene) => Ok(Some(boxed(alloc, scene)?)),
-        Err(PlayFault::OutOfMemory) => Err(refused()),
+        Err(PlayFault::OutOfMemory) => Err(AllocError),
         Err(_) => Ok(None),
     }
 }
 
 /// The same, read again where memory was refused.
-pub fn scene_again(alloc: Global, input: &[u8]) -> io::Result<Option<Played>> {
+pub fn scene_again(alloc: Global, input: &[u8]) -> Result<Option<Played>, OutOfMemory> {
     again!(scene_of(alloc, input))
 }
 
@@ -178,7 +179,11 @@ fn advance(gateway: &mut Gateway, steps: &[ScriptStep], count: usize) {
 }
 
 // The gateway of an input after so many of its steps.
-fn gateway_after(alloc: Global, input: &[u8], count: usize) -> io::Result<Option<Box<Gateway>>> {
+fn gateway_after(
+    alloc: Global,
+    input: &[u8],
+    count: usize,
+) -> Result<Option<Box<Gateway>>, OutOfMemory> {
     let Some(mut scene) = scene_again(alloc, input)? else {
         return Ok(None);
     };
@@ -195,7 +200,7 @@ pub struct Twins {
 
 impl Twins {
     /// Two gateways of an input after so many of its steps; nothing where it is refused.
-    pub fn after(alloc: Global, input: &[u8], count: usize) -> io::Result<Option<Twins>> {
+    pub fn after(alloc: Global, input: &[u8], count: usize) -> Result<Option<Twins>, OutOfMemory> {
         let Some(gateway) = gateway_after(alloc, input, count)? else {
             return Ok(None);
         };

@@ -24,9 +24,8 @@ use agent_core::{Agent, IssueFault, Issued};
 use endpoint_names::Route;
 use gateway_core::{Event, OutDatagram, Outputs, Refusal};
 use mg_bytes::{OutOfMemory, Sequence, Text};
-use scenario_files::{Outcome, Row, Scenario, bytes_of, item_at, range_in, refused};
-use std::alloc::Global;
-use std::io;
+use scenario_files::{Outcome, Row, Scenario, bytes_of, item_at, range_in};
+use std::alloc::{AllocError, Global};
 
 /// An agent, and what it sent.
 #[derive(Drop)]
@@ -43,15 +42,15 @@ pub struct AgentScenario {
 }
 
 // An agent in a box, since a check pays for all that a value holds inline at each step of a function that has one.
-fn boxed(alloc: Global, made: Result<Agent, OutOfMemory>) -> io::Result<Box<Agent>> {
+fn boxed(alloc: Global, made: Result<Agent, OutOfMemory>) -> Result<Box<Agent>, OutOfMemory> {
     match made {
         Ok(agent) => Ok(Box::new(alloc, agent)?),
-        Err(_) => Err(refused()),
+        Err(_) => Err(AllocError),
     }
 }
 
 // An agent whose ids begin with this one, or with 1 where none begin with it.
-fn agent_from(alloc: Global, first: u32) -> io::Result<Box<Agent>> {
+fn agent_from(alloc: Global, first: u32) -> Result<Box<Agent>, OutOfMemory> {
     let first = if 1 <= first && first <= 999_999_999 {
         first
     } else {
@@ -255,7 +254,7 @@ impl AgentScenario {
 }
 
 impl Scenario for AgentScenario {
-    fn begin(alloc: Global) -> io::Result<AgentScenario> {
+    fn begin(alloc: Global) -> Result<AgentScenario, OutOfMemory> {
         Ok(AgentScenario {
             agent: agent_from(alloc, 1)?,
             now: 0,
@@ -265,7 +264,7 @@ impl Scenario for AgentScenario {
         })
     }
 
-    fn unlike(&mut self, alloc: Global, row: &str) -> io::Result<Option<String>> {
+    fn unlike(&mut self, alloc: Global, row: &str) -> Result<Option<String>, OutOfMemory> {
         let mut row = Row::of(alloc, row);
         self.turn(&mut row);
         row.unlike_bytes()

@@ -2,12 +2,11 @@
 use crate::gateways::agent_address;
 use agent_core::Agent;
 use event_values::write_observed;
-use mg_bytes::Text;
+use mg_bytes::{OutOfMemory, Text};
 use mg_line::Act;
 use rgw_scripts::{ScriptLine, ScriptStep, line_in};
 use scenario_files::{Outcome, Row, bytes_of};
 use std::alloc::Global;
-use std::io;
 use std::net::SocketAddrV4;
 
 /// A command that is issued: its verb, its endpoint's name, and the bytes behind its line.
@@ -82,9 +81,9 @@ pub fn command_in(given: &mut Outcome, fields: &str) -> Command {
 }
 
 // A line of a script.
-fn script_line(alloc: Global, step: &str, words: &str) -> io::Result<Option<ScriptLine>> {
+fn script_line(alloc: Global, step: &str, words: &str) -> Result<Option<ScriptLine>, OutOfMemory> {
     let line = format!(in alloc; "{step} {words}")?;
-    Ok(line_in(alloc, line.as_bytes())?)
+    line_in(alloc, line.as_bytes())
 }
 
 /// `1 off`: the line, and what is done at its telephone; on hook at line 0 where it says something else, and then there is no

@@ -3,9 +3,8 @@ use endpoint_names::Route;
 use gateway_core::{Config, ConfigFault, Gateway, NamedRoute};
 use mg_bytes::{OutOfMemory, Sequence, Text};
 use mg_line::Hook;
-use scenario_files::{Row, refused};
-use std::alloc::Global;
-use std::io;
+use scenario_files::Row;
+use std::alloc::{AllocError, Global};
 use std::net::{Ipv4Addr, SocketAddrV4};
 
 /// The entity that a gateway reports to where a scenario says no other.
@@ -65,15 +64,15 @@ pub fn config_with(alloc: Global, lines: u32, entity: &[u8]) -> Result<Config, O
 }
 
 // A gateway in a box, since a check pays for all that a value holds inline at each step of a function that has one.
-fn boxed(alloc: Global, made: Result<Gateway, ConfigFault>) -> io::Result<Box<Gateway>> {
+fn boxed(alloc: Global, made: Result<Gateway, ConfigFault>) -> Result<Box<Gateway>, OutOfMemory> {
     match made {
         Ok(gateway) => Ok(Box::new(alloc, gateway)?),
-        Err(_) => Err(refused()),
+        Err(_) => Err(AllocError),
     }
 }
 
 /// The gateway of the usual settings, to which nothing came yet.
-pub fn usual_gateway(alloc: Global) -> io::Result<Box<Gateway>> {
+pub fn usual_gateway(alloc: Global) -> Result<Box<Gateway>, OutOfMemory> {
     let config = config_with(alloc, LINES, ENTITY.as_bytes())?;
     boxed(alloc, Gateway::new(alloc, config))
 }

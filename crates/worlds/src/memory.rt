@@ -19,10 +19,10 @@ use crate::plan::Planned;
 use crate::planned::{event_of, planned_in};
 use crate::playing::MemoryWire;
 use gateway_core::{Event, Gateway, Outputs, Served, Wire};
-use mg_bytes::Sequence;
+use mg_bytes::{OutOfMemory, Sequence};
 use scenario_files::{Outcome, Row, Scenario, number_in, range_in};
 use std::alloc::Global;
-use std::{io, mem};
+use std::mem;
 
 /// A gateway, and the wire over which it is served.
 #[derive(Drop)]
@@ -46,7 +46,7 @@ const NOT_SERVED: Served = Served {
 };
 
 // The events that a plan gives.
-fn events_of(alloc: Global, plan: &[Planned]) -> io::Result<Vec<Event<'_>>> {
+fn events_of(alloc: Global, plan: &[Planned]) -> Result<Vec<Event<'_>>, OutOfMemory> {
     let mut events = Vec::with_capacity(alloc, plan.len())?;
     for planned in plan {
         if let Some(event) = event_of(planned) {
@@ -206,7 +206,7 @@ impl MemoryScenario {
 }
 
 impl Scenario for MemoryScenario {
-    fn begin(alloc: Global) -> io::Result<MemoryScenario> {
+    fn begin(alloc: Global) -> Result<MemoryScenario, OutOfMemory> {
         Ok(MemoryScenario {
             gateway: usual_gateway(alloc)?,
             plan: Vec::new(alloc),
@@ -216,7 +216,7 @@ impl Scenario for MemoryScenario {
         })
     }
 
-    fn unlike(&mut self, alloc: Global, row: &str) -> io::Result<Option<String>> {
+    fn unlike(&mut self, alloc: Global, row: &str) -> Result<Option<String>, OutOfMemory> {
         let mut row = Row::of(alloc, row);
         self.turn(&mut row);
         row.unlike_bytes()

@@ -16,10 +16,9 @@ use crate::gateways::{ENTITY, LINES, put_hook};
 use crate::given::{Given, given_in, world_from, world_of};
 use agent_core::{Step, StepRefusal, World, WorldStopped, world_run};
 use gateway_core::ConfigFault;
-use mg_bytes::Text;
-use scenario_files::{Outcome, Row, Scenario, again, bytes_of, refused};
-use std::alloc::Global;
-use std::io;
+use mg_bytes::{OutOfMemory, Text};
+use scenario_files::{Outcome, Row, Scenario, again, bytes_of};
+use std::alloc::{AllocError, Global};
 
 /// A world, and what it was given.
 #[derive(Drop)]
@@ -47,17 +46,17 @@ fn is_at_once(outcome: Result<(), WorldStopped>) -> bool {
 
 impl WorldScenario {
     // Another world becomes what this one was before memory was refused. It was one, so nothing but memory can fail.
-    fn renew(&mut self, alloc: Global) -> io::Result<()> {
+    fn renew(&mut self, alloc: Global) -> Result<(), OutOfMemory> {
         let mut steps = Vec::with_capacity(alloc, self.given.len())?;
         for given in &self.given {
             steps.push(given.step())?;
         }
         let entity = self.entity.as_bytes();
         let Ok(mut world) = world_from(alloc, self.lines, entity, self.first) else {
-            return Err(refused());
+            return Err(AllocError);
         };
         if world_run(&mut world, &steps).is_err() {
-            return Err(refused());
+            return Err(AllocError);
         }
         self.world = world;
         self.spent = false;
@@ -185,10 +184,10 @@ impl WorldScenario {
 }
 
 impl Scenario for WorldScenario {
-    fn begin(alloc: Global) -> io::Result<WorldScenario> {
+    fn begin(alloc: Global) -> Result<WorldScenario, OutOfMemory> {
         let entity = Text::of(bytes_of(alloc, ENTITY)?);
         let Ok(world) = world_of(alloc, LINES, entity.as_bytes()) else {
-            return Err(refused());
+            return Err(AllocError);
         };
         Ok(WorldScenario {
             lines: LINES,
@@ -201,7 +200,7 @@ impl Scenario for WorldScenario {
         })
     }
 
-    fn unlike(&mut self, alloc: Global, row: &str) -> io::Result<Option<String>> {
+    fn unlike(&mut self, alloc: Global, row: &str) -> Result<Option<String>, OutOfMemory> {
         if self.spent {
             again!(self.renew(alloc))?;
         }

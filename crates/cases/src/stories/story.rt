@@ -3,10 +3,10 @@ use crate::stories::given::typist;
 use crate::stories::transcript::Transcript;
 use live_ends::{TEXT_ROOM, Written};
 use live_gateway::boxed;
+use mg_bytes::OutOfMemory;
 use scenario_files::{bytes_of, in_full, number_in, put_line};
 use std::alloc::Global;
 use std::collections::VecDeque;
-use std::io;
 use std::net::{SocketAddr, SocketAddrV4};
 use surroundings::{Coming, Happening, Scripted};
 
@@ -116,13 +116,13 @@ fn said_by(word: &str) -> Says {
 }
 
 // A value in full, as its bytes.
-fn value_in(alloc: Global, words: &str) -> io::Result<Vec<u8>> {
+fn value_in(alloc: Global, words: &str) -> Result<Vec<u8>, OutOfMemory> {
     let full = in_full(alloc, words)?;
     bytes_of(alloc, full.as_str())
 }
 
 // Puts the lines of a datagram that comes, without the blanks round them.
-fn put_heard(bytes: &mut Vec<u8>, text: &str) -> io::Result<()> {
+fn put_heard(bytes: &mut Vec<u8>, text: &str) -> Result<(), OutOfMemory> {
     for line in text.lines() {
         bytes.extend_from_slice(line.trim().as_bytes())?;
         bytes.extend_from_slice(b"\r\n")?;
@@ -156,13 +156,13 @@ impl Story {
     }
 
     // This happens now.
-    fn add(&mut self, what: Happening) -> io::Result<()> {
+    fn add(&mut self, what: Happening) -> Result<(), OutOfMemory> {
         let moment = self.moment;
-        Ok(self.around.add(Coming { moment, what })?)
+        self.around.add(Coming { moment, what })
     }
 
     // `10.0.0.7:2727 VALUE`: a datagram of these bytes comes.
-    fn put_raw(&mut self, rest: &str) -> io::Result<()> {
+    fn put_raw(&mut self, rest: &str) -> Result<(), OutOfMemory> {
         let (source, value) = rest.split_once(' ').unwrap_or((rest, ""));
         let bytes = value_in(self.alloc, value)?;
         let source = self.peer_in(source);
@@ -170,7 +170,7 @@ impl Story {
     }
 
     // `phone 1 off`, or `10.0.0.9:5000 phone 1 off`: this is typed.
-    fn put_typed(&mut self, rest: &str) -> io::Result<()> {
+    fn put_typed(&mut self, rest: &str) -> Result<(), OutOfMemory> {
         let (front, behind) = rest.split_once(' ').unwrap_or((rest, ""));
         let (from, value) = match front.parse::<SocketAddrV4>() {
             Ok(from) => (from, behind),
@@ -182,7 +182,7 @@ impl Story {
     }
 
     // Somebody visits the page.
-    fn put_visit(&mut self, rest: &str, is_brief: bool) -> io::Result<()> {
+    fn put_visit(&mut self, rest: &str, is_brief: bool) -> Result<(), OutOfMemory> {
         let request = bytes_of(self.alloc, rest)?;
         self.visits.push_back(Visit {
             moment: self.moment,
@@ -193,13 +193,13 @@ impl Story {
     }
 
     // A word that it is called with.
-    fn put_word(&mut self, word: &str) -> io::Result<()> {
+    fn put_word(&mut self, word: &str) -> Result<(), OutOfMemory> {
         let word = word.to_string(self.alloc)?;
         Ok(self.words.push(word)?)
     }
 
     // A socket fails.
-    fn put_fault(&mut self, rest: &str) -> io::Result<()> {
+    fn put_fault(&mut self, rest: &str) -> Result<(), OutOfMemory> {
         if rest == "send" {
             return self.add(Happening::SendFault);
         }
@@ -223,7 +223,7 @@ impl Story {
     }
 
     // A line that stands between datagrams: what it is called with, what comes, or what is to be given.
-    fn put_between(&mut self, line: &str) -> io::Result<()> {
+    fn put_between(&mut self, line: &str) -> Result<(), OutOfMemory> {
         let (word, rest) = line.split_once(' ').unwrap_or((line, ""));
         match said_by(word) {
             Says::Set => return put_line(&mut self.settings, rest),
@@ -257,7 +257,7 @@ impl Story {
     }
 
     // The lines of a datagram that comes are whole.
-    fn end_heard(&mut self) -> io::Result<()> {
+    fn end_heard(&mut self) -> Result<(), OutOfMemory> {
         self.place = LinePlace::Between;
         let full = in_full(self.alloc, self.datagram.as_str())?;
         let mut bytes = Vec::new(self.alloc);
@@ -267,7 +267,7 @@ impl Story {
     }
 
     // The lines of a datagram that goes out are whole.
-    fn end_sent(&mut self) -> io::Result<()> {
+    fn end_sent(&mut self) -> Result<(), OutOfMemory> {
         self.place = LinePlace::Between;
         let full = in_full(self.alloc, self.datagram.as_str())?;
         let peer = self.peer;
@@ -278,7 +278,7 @@ impl Story {
         Ok(())
     }
 
-    fn put(&mut self, line: &str) -> io::Result<()> {
+    fn put(&mut self, line: &str) -> Result<(), OutOfMemory> {
         match self.place {
             LinePlace::Between => self.put_between(line),
             LinePlace::InHeard if line == "--" => self.end_heard(),
@@ -289,7 +289,7 @@ impl Story {
 }
 
 /// Reads a story of a program that is there.
-pub fn read_story(alloc: Global, text: &str, at: Place) -> io::Result<Box<Story>> {
+pub fn read_story(alloc: Global, text: &str, at: Place) -> Result<Box<Story>, OutOfMemory> {
     let mut story = boxed(alloc, Story::new(alloc, at))?;
     for line in text.lines() {
         story.put(line)?;

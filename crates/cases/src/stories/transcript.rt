@@ -1,8 +1,6 @@
 //! What a program gives, by moments.
 use mg_bytes::{OutOfMemory, put_decimal};
-use scenario_files::refused;
-use std::alloc::Global;
-use std::io;
+use std::alloc::{AllocError, Global};
 
 // What stands before the lines of each kind, in the order in which those of one moment are told, behind what is sent and answered.
 const KINDS: [&str; 7] = [
@@ -120,10 +118,10 @@ impl Transcript {
     }
 
     /// All of it, behind a line with its moment, in order. Its only error is want of memory, also for what was given.
-    pub fn text(&mut self) -> io::Result<Vec<u8>> {
+    pub fn text(&mut self) -> Result<Vec<u8>, OutOfMemory> {
         let mut out = Vec::new(self.alloc);
         if self.put_in_order(&mut out).is_err() || self.is_refused {
-            return Err(refused());
+            return Err(AllocError);
         }
         Ok(out)
     }

@@ -2,10 +2,9 @@
 use bad_network::Spoiling;
 use live_gateway::boxed;
 use live_page::HostNames;
-use mg_bytes::decimal;
+use mg_bytes::{OutOfMemory, decimal};
 use new_start::FirstNumber;
 use std::alloc::Global;
-use std::io;
 use std::net::{Ipv4Addr, SocketAddrV4};
 use surroundings::Speakers;
 
@@ -36,7 +35,7 @@ fn address_in(value: &str) -> SocketAddrV4 {
 
 impl Words {
     // Takes a word, with its value: whether there is such a word.
-    fn take(&mut self, alloc: Global, name: &str, value: &str) -> io::Result<bool> {
+    fn take(&mut self, alloc: Global, name: &str, value: &str) -> Result<bool, OutOfMemory> {
         match name {
             "--listen" => self.own[0] = address_in(value),
             "--phones" | "--control" => self.own[1] = address_in(value),
@@ -66,7 +65,7 @@ pub fn words_in(
     alloc: Global,
     words: &[String],
     own: [SocketAddrV4; 2],
-) -> io::Result<Option<Box<Words>>> {
+) -> Result<Option<Box<Words>>, OutOfMemory> {
     let asked = Words {
         own,
         http: None,

@@ -14,9 +14,8 @@ use digit_map::{
 };
 use digit_map_bits::{Compiled, Dialling, SlowMap};
 use mg_bytes::{CodeFault, Letter, OutOfMemory, letter_of};
-use scenario_files::{Outcome, bytes_of, refused, yes_or_no};
-use std::alloc::Global;
-use std::io;
+use scenario_files::{Outcome, bytes_of, yes_or_no};
+use std::alloc::{AllocError, Global};
 
 // What is dialled; nothing where that has another sign, or more than 64.
 fn letters_of(alloc: Global, dialled: &[u8]) -> Result<Option<Vec<Letter>>, OutOfMemory> {
@@ -94,7 +93,7 @@ fn others_say(
 }
 
 // By a map, by a copy of what matches, after and before it is fed, and by the other kinds of matchers.
-fn verdict_by(alloc: Global, map: &MapText, letters: &[Letter]) -> io::Result<&'static str>
+fn verdict_by(alloc: Global, map: &MapText, letters: &[Letter]) -> Result<&'static str, OutOfMemory>
     requires { length letters.now ≤ most_letters }
 {
     let mut matcher = Dialling::start(alloc, map)?;
@@ -109,10 +108,10 @@ fn verdict_by(alloc: Global, map: &MapText, letters: &[Letter]) -> io::Result<&'
     Ok("another matcher says something else")
 }
 
-fn verdict(alloc: Global, map: &[u8], dialled: &[u8]) -> io::Result<&'static str> {
+fn verdict(alloc: Global, map: &[u8], dialled: &[u8]) -> Result<&'static str, OutOfMemory> {
     let map = match read_map(alloc, map) {
         Ok(map) => map,
-        Err(MapFault::OutOfMemory) => return Err(refused()),
+        Err(MapFault::OutOfMemory) => return Err(AllocError),
         Err(_) => return Ok("no map"),
     };
     match letters_of(alloc, dialled)? {
@@ -132,7 +131,7 @@ fn in_range(range: &[u8], key: &[u8]) -> &'static str {
 }
 
 /// Puts the answer of a call of two values: of `verdict` or `in range`.
-pub fn put_answer_of_two(given: &mut Outcome, call: &str, fields: &str) -> io::Result<()> {
+pub fn put_answer_of_two(given: &mut Outcome, call: &str, fields: &str) -> Result<(), OutOfMemory> {
     let (one, other) = fields.split_once("  ").unwrap_or((fields, ""));
     let (one, other) = (bytes_of(given.alloc, one)?, bytes_of(given.alloc, other)?);
     let answer = match call {
