@@ -30,7 +30,6 @@ use scenario_files::{Count, Kinds, play, told, told_titled};
 use std::io;
 use std::net::Net;
 use std::process::ExitCode;
-use twins::Gateways;
 use worlds::Ends;
 
 // All kinds of scenarios.
@@ -62,9 +61,6 @@ fn told_below<R: AllocGlobal + Net + Print>(
     text: &str,
 ) -> io::Result<Option<Count>> {
     if let Some(count) = Rows::told(rt, kind, text)? {
-        return Ok(Some(count));
-    }
-    if let Some(count) = Gateways::told(rt, kind, text)? {
         return Ok(Some(count));
     }
     Ends::told(rt, kind, text)

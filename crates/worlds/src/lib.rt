@@ -1,6 +1,7 @@
-//! Scenarios of a gateway over a wire in memory, of a call agent, and of both, of the kinds that the files' first lines
-//! say. No program is in them.
+//! Scenarios of a gateway and of a call agent, of the kinds that the files' first lines say. No program is in them.
 //!
+//! - `refused`: scripts at a gateway beside a twin, for a run in which memory is refused.
+//! - `sockets`: a gateway that is served over a UDP socket, with the call agent's in the same process.
 //! - `memory`: a gateway that takes events in one run, or over a wire in memory, which plays a plan and fails where that says
 //!   so.
 //! - `agents`: a call agent alone.
@@ -20,6 +21,10 @@ mod outputs;
 mod plan;
 mod planned;
 mod playing;
+mod refused;
+mod runs;
+mod sockets;
+mod twins;
 mod worlds;
 
 use crate::agents::AgentScenario;
@@ -29,7 +34,7 @@ use scenario_files::{Count, Kinds, told};
 use std::io;
 use std::net::Net;
 
-/// The kinds of scenarios of one end in memory, or of both.
+/// The kinds of scenarios of one end, or of both.
 pub struct Ends;
 
 impl Kinds for Ends {
@@ -39,6 +44,8 @@ impl Kinds for Ends {
         text: &str,
     ) -> io::Result<Option<Count>> {
         let told = match kind {
+            "refused" => refused::told(rt, text),
+            "sockets" => sockets::told(rt, text),
             "memory" => told::<MemoryScenario, R>(rt, text),
             "agents" => told::<AgentScenario, R>(rt, text),
             "worlds" => told::<WorldScenario, R>(rt, text),
