@@ -103,20 +103,33 @@ fn put_heard(script: &mut String, front: &str, lines: &str) -> Result<(), OutOfM
 
 // The scenario that a call is, of its values, and of what they say in short forms; no where there is no such call.
 fn put_scenario(
+    alloc: Global,
     scenario: &mut WrittenScenario,
     call: &str,
     lines: &str,
-    text: &str,
 ) -> Result<bool, OutOfMemory> {
+    let text = value_of(alloc, lines)?;
+    let text = text.as_str();
     scenario.is_at_opening = call == "settings" || call == "script";
-    match call {
-        "settings" => scenario.changes.push_str(lines)?,
-        "script" => scenario.script.push_str(text)?,
-        "command" => put_heard(&mut scenario.script, "", text)?,
-        "request" => put_heard(&mut scenario.script, REQUEST, text)?,
+    let put = match call {
+        "settings" => scenario.changes.push_str(lines),
+        "script" => scenario.script.push_str(text),
+        "command" => put_heard(&mut scenario.script, "", text),
+        "request" => put_heard(&mut scenario.script, REQUEST, text),
         _ => return Ok(false),
-    }
+    };
+    put?;
     Ok(true)
+}
+
+// What is printed of the scenario that a call is; nothing where there is no such call.
+fn printed_of(alloc: Global, call: &str, fields: &str) -> Result<Option<Vec<u8>>, OutOfMemory> {
+    let lines = fields.replace(alloc, "  ", "\n")?;
+    let mut scenario = read_scenario(alloc, "", false)?;
+    if !put_scenario(alloc, &mut scenario, call, lines.as_str())? {
+        return Ok(None);
+    }
+    Ok(Some(simulated(alloc, &scenario)?))
 }
 
 // What is printed, as rows say it: one answer to the agent without what stands round it, and a fault without its status.
@@ -138,14 +151,10 @@ fn answer_in(printed: &str) -> &str {
 
 // Puts what is printed of the scenario that a call is.
 fn put_printed(given: &mut Outcome, call: &str, fields: &str) -> Result<(), OutOfMemory> {
-    let lines = fields.replace(given.alloc, "  ", "\n")?;
-    let text = value_of(given.alloc, lines.as_str())?;
-    let mut scenario = read_scenario(given.alloc, "", false)?;
-    if !put_scenario(&mut scenario, call, lines.as_str(), text.as_str())? {
+    let Some(printed) = printed_of(given.alloc, call, fields)? else {
         given.unread();
         return Ok(());
-    }
-    let printed = simulated(given.alloc, &scenario)?;
+    };
     let text = String::from_utf8_lossy(given.alloc, &printed)?;
     given.put(answer_in(text.as_str()).as_bytes());
     Ok(())

@@ -14,9 +14,9 @@ use phone_scripts::{
 };
 use scenario_files::{Count, Titled};
 use std::alloc::{AllocError, Global};
+use std::io;
 use std::net::{Ipv4Addr, Net, SocketAddrV4};
-use std::{io, mem};
-use surroundings::{Scripted, Surroundings};
+use surroundings::Surroundings;
 
 /// The play of a script by the program `rgca`.
 #[derive(Clone, Copy)]
@@ -43,8 +43,9 @@ fn names_of(alloc: Global) -> Result<Vec<Text>, AllocError> {
 }
 
 // Reads a script of one file.
-fn read(reader: &mut Reader<'_>, name: Text, script: Text) -> Result<Wanted, ScriptFault> {
-    reader.begin(name, script)?;
+fn read(alloc: Global, reader: &mut Reader<'_>, script: &str) -> Result<Wanted, ScriptFault> {
+    let name = text_of(alloc, b"script")?;
+    reader.begin(name, text_of(alloc, script.as_bytes())?)?;
     reader.go_on()
 }
 
@@ -73,23 +74,32 @@ fn say_failure(
 }
 
 // Plays a script over what a story has of sockets and a clock, and says how it ends.
+fn play_on(
+    alloc: Global,
+    player: &mut Player,
+    story: &mut Story,
+    given: &mut Transcript,
+) -> Result<(), OutOfMemory> {
+    let played = play_phones(alloc, &mut story.around, player, &gateways())?;
+    put_given(alloc, given, &story.around);
+    let moment = story.around.moment().unwrap_or(0);
+    match &played {
+        Played::Done => say(given, moment, b"", b"status 0"),
+        Played::Failed { failure } => return say_failure(alloc, given, moment, player, failure),
+        Played::Clock => say(given, moment, b"", b"status 3"),
+    }
+    Ok(())
+}
+
+// The same with a player of its own: by reference, since a check pays for all that a value holds at each step of a function that has it.
 fn play_script(
     alloc: Global,
     script: Script,
     story: &mut Story,
     given: &mut Transcript,
 ) -> Result<(), OutOfMemory> {
-    let mut around = mem::replace(&mut story.around, Scripted::new(alloc, Phones::place().own));
     let mut player = Player::new(alloc, script, 2, 0)?;
-    let played = play_phones(alloc, &mut around, &mut player, &gateways())?;
-    put_given(alloc, given, &around);
-    let moment = around.moment().unwrap_or(0);
-    match played {
-        Played::Done => say(given, moment, b"", b"status 0"),
-        Played::Failed { failure } => say_failure(alloc, given, moment, &player, &failure)?,
-        Played::Clock => say(given, moment, b"", b"status 3"),
-    }
-    Ok(())
+    play_on(alloc, &mut player, story, given)
 }
 
 impl Program for Phones {
@@ -107,9 +117,7 @@ impl Program for Phones {
     fn play(alloc: Global, story: &mut Story, given: &mut Transcript) -> Result<bool, OutOfMemory> {
         let names = names_of(alloc)?;
         let mut reader = Reader::new(alloc, names.as_slice());
-        let name = text_of(alloc, b"script")?;
-        let script = text_of(alloc, story.settings.as_bytes())?;
-        match read(&mut reader, name, script) {
+        match read(alloc, &mut reader, story.settings.as_str()) {
             Ok(Wanted::Nothing) => play_script(alloc, reader.into_script(), story, given)?,
             Ok(Wanted::File { .. }) => return Ok(false),
             Err(ScriptFault::OutOfMemory) => return Err(AllocError),
