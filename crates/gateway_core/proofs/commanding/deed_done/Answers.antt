@@ -1,5 +1,9 @@
+use Rattle.std.proofs.Common.{rules}
 use Rattle.plain_machine.proofs.CodeLemmas.{refusal_small}
 use Rattle.gateway_core.proofs.commanding.deed_done.Goals as goal
 
 pub plain-requires : goal.plain-requires
 plain-requires c = refusal_small _ _ _ _ c.in-Some.ensures
+
+pub returns-in-Some-clause-told : goal.returns-in-Some-clause-told
+returns-in-Some-clause-told c = search rules

@@ -1,4 +1,4 @@
-use Rattle.std.proofs.Common.{[], refl, arith}
+use Rattle.std.proofs.Common.{[], refl, arith, rules}
 use Rattle.gateway_core.proofs.StandLemmas.{took_none}
 use Rattle.gateway_core.proofs.ServeLemmas.{serves_nothing, carries_nothing, turned_on}
 use Rattle.gateway_core.proofs.gateway.Gateway.serve.Goals as goal
@@ -21,3 +21,6 @@ loop-preserved g c = record {
   turns = turned_on _ _ _ _ _ _ _ _ _ _ c.loop.invariant.turns (omega (arith, c.loop-test.true, c.ranges.turns.fits)) c.turn-turn.ensures.turn c.note.ensures c.if-served.false;
   room = c.turn-turn.ensures.room;
 }
+
+pub returns-then-served-clause-serves : goal.returns-then-served-clause-serves
+returns-then-served-clause-serves g c = search rules

@@ -1,3 +1,5 @@
+use Rattle.std.proofs.Common.{rules}
+use Rattle.mg_line.specs.Occurring.{acted, embedded}
 use Rattle.mg_line.specs.LineFields.{line_in, hushed}
 use Rattle.mg_line.proofs.RoomLemmas.{embedded_few}
 use Rattle.mg_line.proofs.fields.LineFields.act.Goals as goal
@@ -6,3 +8,7 @@ pub accumulate-requires : goal.accumulate-requires
 accumulate-requires c =
     embedded_few (hushed c.args.goes_on (line_in c.args.self.now)) (line_in c.embed-in-AccumulateAndEmbed.new.self)
     c.in-AccumulateAndEmbed.embedding c.args.moment c.in_ok-embed-in-AccumulateAndEmbed.ensures.ok c.requires.room
+
+pub returns-in_ok-embed-in-Embed-clause-ok : goal.returns-in_ok-embed-in-Embed-clause-ok
+unfolding acted embedded
+returns-in_ok-embed-in-Embed-clause-ok c = search rules

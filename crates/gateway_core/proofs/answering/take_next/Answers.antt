@@ -1,0 +1,5 @@
+use Rattle.std.proofs.Common.{rules}
+use Rattle.gateway_core.proofs.answering.take_next.Goals as goal
+
+pub returns-clause-does : goal.returns-clause-does
+returns-clause-does c = search rules

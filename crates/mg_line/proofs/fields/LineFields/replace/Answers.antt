@@ -1,0 +1,7 @@
+use Rattle.std.proofs.Common.{rules}
+use Rattle.mg_line.specs.Requesting.{replaced}
+use Rattle.mg_line.proofs.fields.LineFields.replace.Goals as goal
+
+pub returns-then-eq-clause-ok : goal.returns-then-eq-clause-ok
+unfolding replaced
+returns-then-eq-clause-ok c = search rules
