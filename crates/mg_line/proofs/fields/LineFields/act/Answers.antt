@@ -1,4 +1,5 @@
-use Rattle.std.proofs.Common.{rules}
+use Rattle.std.proofs.Common.{rules, arith}
+use Rattle.std.proofs.lemmas.Grind.{common_steps}
 use Rattle.mg_line.specs.Occurring.{acted, embedded}
 use Rattle.mg_line.specs.LineFields.{line_in, hushed}
 use Rattle.mg_line.proofs.RoomLemmas.{embedded_few}
@@ -11,4 +12,4 @@ accumulate-requires c =
 
 pub returns-in_ok-embed-in-Embed-clause-ok : goal.returns-in_ok-embed-in-Embed-clause-ok
 unfolding acted embedded
-returns-in_ok-embed-in-Embed-clause-ok c = search rules
+returns-in_ok-embed-in-Embed-clause-ok c = first_of (search rules, grind (arith, common_steps))
