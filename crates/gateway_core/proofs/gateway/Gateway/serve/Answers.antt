@@ -1,4 +1,5 @@
 use Rattle.std.proofs.Common.{[], refl, arith, rules}
+use Rattle.std.proofs.lemmas.Grind.{common_steps}
 use Rattle.gateway_core.proofs.StandLemmas.{took_none}
 use Rattle.gateway_core.proofs.ServeLemmas.{serves_nothing, carries_nothing, turned_on}
 use Rattle.gateway_core.proofs.gateway.Gateway.serve.Goals as goal
@@ -23,4 +24,4 @@ loop-preserved g c = record {
 }
 
 pub returns-then-served-clause-serves : goal.returns-then-served-clause-serves
-returns-then-served-clause-serves g c = search rules
+returns-then-served-clause-serves g c = first_of (search rules, grind (arith, common_steps))
