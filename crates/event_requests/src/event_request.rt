@@ -24,10 +24,21 @@ use std::rc::Rc;
 /// What a line was asked for about its events: R, which may be that of an embedded request, and T (RFC 3435, 2.3.3).
 ///
 /// Copies share the entries. A contract sees the entries of both.
-#[derive(Drop)]
 pub struct EventRequest {
     requested: Requested,
     detected: Detected,
+}
+
+// Written out: a derived drop, and those of all its parts, are proved anew by each crate that lets one go.
+impl Drop for EventRequest {
+    fn drop(self) {
+        let EventRequest {
+            requested,
+            detected,
+        } = self;
+        drop(requested);
+        drop(detected);
+    }
 }
 
 impl Model for EventRequest {
