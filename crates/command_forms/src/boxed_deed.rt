@@ -5,9 +5,16 @@ use std::alloc::Global;
 use std::marker::Model;
 
 /// A deed in a box, so that what asks for a report keeps no room for one. A contract sees the deed.
-#[derive(Drop)]
 pub struct BoxedDeed {
     deed: Box<Deed>,
+}
+
+// Written out: a derived drop, and those of all its parts, are proved anew by each crate that lets one go.
+impl Drop for BoxedDeed {
+    fn drop(self) {
+        let BoxedDeed { deed } = self;
+        drop(deed);
+    }
 }
 
 impl Model for BoxedDeed {
