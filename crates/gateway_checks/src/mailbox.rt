@@ -121,7 +121,12 @@ impl Mailbox {
 fn is_copy(heard: &[Unasked], unasked: &Unasked) -> bool
     ensures { result ≡ is_copy heard.now unasked.now }
 {
-    heard.iter().any(|before| before.is_same(unasked))
+    for before in heard {
+        if before.is_same(unasked) {
+            return true;
+        }
+    }
+    false
 }
 
 // Whether it breaks a silence that began at this moment, in ms.
@@ -135,9 +140,12 @@ fn disturbs(heard: &[Unasked], since: u64, unasked: &Unasked) -> bool
 fn is_disturbed(heard: &[Unasked], waiting: &[Unasked], since: u64) -> bool
     ensures { result ≡ is_disturbed heard.now waiting.now since }
 {
-    waiting
-        .iter()
-        .any(|unasked| disturbs(heard, since, unasked))
+    for unasked in waiting {
+        if disturbs(heard, since, unasked) {
+            return true;
+        }
+    }
+    false
 }
 
 // The gaps with this one, which counts where it is that text again.
