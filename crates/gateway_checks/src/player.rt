@@ -212,15 +212,15 @@ impl<'a> Player<'a> {
         Ok(())
     }
 
-    // The step is done, with this fault in it or none. The first fault is told; those of steps that undo the check don't
-    // count.
-    fn finish(&mut self, fault: Option<Fault>) -> Result<(), OutOfMemory>
+    // The step is done, with this fault in it or none, and asks for nothing more. The first fault is told; those of steps that undo the
+    // check don't count.
+    fn finish(&mut self, fault: Option<Fault>) -> Result<Option<Turn>, OutOfMemory>
         ensures counts { self.old.is_undoing ≡ false → self.new.fault ≡ settled self.old.fault fault }
         ensures undoes { self.old.is_undoing ≡ true → self.new.fault ≡ self.old.fault }
     {
         self.step = None;
         if self.is_undoing {
-            return Ok(());
+            return Ok(None);
         }
         let was_faultless = self.fault.is_none();
         self.fault = settled(self.fault, fault);
@@ -228,7 +228,7 @@ impl<'a> Player<'a> {
             self.due = self.names.filled(self.line)?;
             put_said(&mut self.said, "! due: ", self.due.as_bytes())?;
         }
-        Ok(())
+        Ok(None)
     }
 
     // The step is done, and met or not.
@@ -237,8 +237,7 @@ impl<'a> Player<'a> {
             → self.new.fault ≡ settled self.old.fault (judged is_met false 0) }
         ensures undoes { self.old.is_undoing ≡ true → self.new.fault ≡ self.old.fault }
     {
-        self.finish(judged(is_met, false, 0))?;
-        Ok(None)
+        self.finish(judged(is_met, false, 0))
     }
 
     // The step that is to be played, if one is left. The first fault ends the check, and what undoes it comes last.
@@ -305,10 +304,10 @@ impl<'a> Player<'a> {
                 is_optional,
             } => self.answered(codes, id, is_optional, now),
             Step::Same { id } => self.answered_again(id, now),
-            Step::Silence { ms } => self.silent(ms, now),
-            Step::Wait { ms } => self.waited(ms, now),
-            Step::Has { code, value } => self.has(code, value),
-            Step::Unlike { code, value } => self.unlike(code, value),
+            Step::Silence { ms } => self.quiet(ms, false, now),
+            Step::Wait { ms } => self.waited(ms, true, now),
+            Step::Has { code, value } => self.compared(code, value, false),
+            Step::Unlike { code, value } => self.compared(code, value, true),
             Step::Tells { text } => self.tells(text),
             Step::Keep { name, code } => self.keep(name, code),
             Step::Differ { first, second } => self.differ(first, second),
@@ -323,7 +322,7 @@ impl<'a> Player<'a> {
             Step::Notified { at, name, due } => self.notified(at, name, due, now),
             Step::Announced { at, name, method } => self.announced(at, name, method, now),
             Step::Again { times, grows } => self.came_again(times, grows, now),
-            Step::Quiet { ms } => self.quiet(ms, now),
+            Step::Quiet { ms } => self.quiet(ms, true, now),
             Step::Act { act } => self.ask_for(act),
             _ => self.finish_met(false),
         }
@@ -402,8 +401,7 @@ impl<'a> Player<'a> {
             Some(arrived) => {
                 let code = arrived.code;
                 self.inbox.keep(arrived)?;
-                self.finish(code_fault(codes, is_optional, code))?;
-                Ok(None)
+                self.finish(code_fault(codes, is_optional, code))
             }
             None => self.await_answer(now),
         }
@@ -422,39 +420,29 @@ impl<'a> Player<'a> {
         }
     }
 
-    // Nothing is to come for so long.
-    fn silent(&mut self, ms: u64, now: u64) -> Result<Option<Turn>, OutOfMemory> {
-        let until = self.deadline(ms, now);
-        if now < until && self.inbox.is_empty() {
-            return Ok(Some(Turn::Wait { until }));
-        }
-        let is_silent = self.inbox.is_empty();
-        if is_silent {
-            self.note("(nothing comes)", &[])?;
-        }
-        self.finish_met(is_silent)
-    }
-
-    // So long nothing is asked.
-    fn waited(&mut self, ms: u64, now: u64) -> Result<Option<Turn>, OutOfMemory> {
+    // It is waited for so long; then the step is met or not.
+    fn waited(&mut self, ms: u64, is_met: bool, now: u64) -> Result<Option<Turn>, OutOfMemory> {
         let until = self.deadline(ms, now);
         if now < until {
             return Ok(Some(Turn::Wait { until }));
         }
-        self.finish_met(true)
-    }
-
-    fn has(&mut self, code: &str, value: &str) -> Result<Option<Turn>, OutOfMemory> {
-        let wanted = self.names.filled(value)?;
-        let given = value_of(self.alloc, self.inbox.last(), code)?;
-        let is_met = has_value(bytes_of(&given), value.is_empty(), wanted.as_bytes());
         self.finish_met(is_met)
     }
 
-    fn unlike(&mut self, code: &str, value: &str) -> Result<Option<Turn>, OutOfMemory> {
+    // The last answer has this parameter, with this value or any; or it has it with another one.
+    fn compared(
+        &mut self,
+        code: &str,
+        value: &str,
+        is_other: bool,
+    ) -> Result<Option<Turn>, OutOfMemory> {
         let wanted = self.names.filled(value)?;
         let given = value_of(self.alloc, self.inbox.last(), code)?;
-        let is_met = has_another(bytes_of(&given), wanted.as_bytes());
+        let is_met = if is_other {
+            has_another(bytes_of(&given), wanted.as_bytes())
+        } else {
+            has_value(bytes_of(&given), value.is_empty(), wanted.as_bytes())
+        };
         self.finish_met(is_met)
     }
 
@@ -482,15 +470,6 @@ impl<'a> Player<'a> {
         self.finish_met(is_met)
     }
 
-    // Waits for what the gateway says by itself; where nothing comes in time the step isn't met.
-    fn await_unasked(&mut self, now: u64) -> Result<Option<Turn>, OutOfMemory> {
-        let until = self.deadline(UNASKED_TIME, now);
-        if now < until {
-            return Ok(Some(Turn::Wait { until }));
-        }
-        self.finish_met(false)
-    }
-
     // This is to come to a socket: whether as due or not, its id has this name from here on.
     fn find(
         &mut self,
@@ -500,7 +479,7 @@ impl<'a> Player<'a> {
         now: u64,
     ) -> Result<Option<Turn>, OutOfMemory> {
         let Some((place, is_due)) = self.mailbox.first_meant(at, expected)? else {
-            return self.await_unasked(now);
+            return self.waited(UNASKED_TIME, false, now);
         };
         if let Some(id) = self.mailbox.ask(place)? {
             let id = format!(in self.alloc; "{id}")?;
@@ -563,10 +542,14 @@ impl<'a> Player<'a> {
         self.finish_met(false)
     }
 
-    // The gateway is to say nothing by itself for so long.
-    fn quiet(&mut self, ms: u64, now: u64) -> Result<Option<Turn>, OutOfMemory> {
+    // No answer is to come for so long, or the gateway is to say nothing by itself.
+    fn quiet(&mut self, ms: u64, is_unasked: bool, now: u64) -> Result<Option<Turn>, OutOfMemory> {
         let until = self.deadline(ms, now);
-        let is_quiet = self.mailbox.is_quiet(until.saturating_sub(ms));
+        let is_quiet = if is_unasked {
+            self.mailbox.is_quiet(until.saturating_sub(ms))
+        } else {
+            self.inbox.is_empty()
+        };
         if now < until && is_quiet {
             return Ok(Some(Turn::Wait { until }));
         }
