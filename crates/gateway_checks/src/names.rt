@@ -9,6 +9,9 @@ use std::alloc::Global;
 const SDP: &str =
     "v=0 / o=- 1 1 IN IP4 127.0.0.1 / s=- / c=IN IP4 127.0.0.1 / t=0 0 / m=audio 40000 RTP/AVP 0 8";
 
+// Signs of a datagram's text, and what each stands for.
+const SIGNS: [(&str, &str); 3] = [(" / ", "\r\n"), ("\\t", "\t"), ("\\n", "\n")];
+
 /// A value that an answer gave, and its name.
 #[derive(Drop)]
 struct Kept<'a> {
@@ -137,9 +140,9 @@ impl<'a> Names<'a> {
     pub(crate) fn datagram(&self, text: &str) -> Result<Vec<u8>, OutOfMemory> {
         let alloc = self.alloc;
         let mut text = self.filled(text)?;
-        text = text.replace(alloc, " / ", "\r\n")?;
-        text = text.replace(alloc, "\\t", "\t")?;
-        text = text.replace(alloc, "\\n", "\n")?;
+        for (sign, bytes) in SIGNS.iter() {
+            text = text.replace(alloc, *sign, *bytes)?;
+        }
         if !text.ends_with('\n') {
             text.push_str("\r\n")?;
         }
