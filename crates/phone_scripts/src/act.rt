@@ -27,7 +27,12 @@ pub(crate) fn is_key(sign: u8) -> bool
 fn is_each_key(word: &[u8]) -> bool
     ensures { result ≡ list_all is_key word.now }
 {
-    word.iter().all(|sign| is_key(*sign))
+    for sign in word {
+        if !is_key(*sign) {
+            return false;
+        }
+    }
+    true
 }
 
 /// Whether a word is keys that one line may dial.
