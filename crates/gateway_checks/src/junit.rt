@@ -71,12 +71,9 @@ pub fn put_suite(out: &mut String, cases: &str, tally: &Tally) -> Result<(), Out
         + u64::from(tally.not_played);
     let tests = skipped + u64::from(tally.passed) + u64::from(tally.failed);
     out.push_str("<?xml version=\"1.0\" encoding=\"UTF-8\"?>\n")?;
-    write!(out, "<testsuite name=\"rgca check\" tests=\"{tests}\" ")?;
     write!(
         out,
-        "failures=\"{}\" errors=\"0\" skipped=\"{skipped}\">\n",
+        "<testsuite name=\"rgca check\" tests=\"{tests}\" failures=\"{}\" errors=\"0\" skipped=\"{skipped}\">\n{cases}</testsuite>\n",
         tally.failed
-    )?;
-    out.push_str(cases)?;
-    out.push_str("</testsuite>\n")
+    )
 }

@@ -90,13 +90,8 @@ pub fn put_check(
 pub fn put_tally(out: &mut String, tally: &Tally) -> Result<(), OutOfMemory> {
     write!(
         out,
-        "{} pass, {} fail, {} left open, ",
-        tally.passed, tally.failed, tally.left_open
-    )?;
-    write!(
-        out,
-        "{} not supported, {} not played\n",
-        tally.not_supported, tally.not_played
+        "{} pass, {} fail, {} left open, {} not supported, {} not played\n",
+        tally.passed, tally.failed, tally.left_open, tally.not_supported, tally.not_played
     )
 }
 
