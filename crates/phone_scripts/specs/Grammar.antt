@@ -8,7 +8,7 @@ use Rattle.phone_scripts.specs.declared.said.Said.{Said}
 use Rattle.phone_scripts.specs.declared.said.Said.TheVariants as said
 use Rattle.phone_scripts.specs.declared.fault.LineFault.{LineFault}
 use Rattle.phone_scripts.specs.declared.fault.LineFault.TheVariants as faults
-use Rattle.phone_scripts.specs.Words.{phone_of, act_of, are_keys, usual_gap, time_of, times_of, expected_of, connection_of}
+use Rattle.phone_scripts.specs.Words.{are_words, phone_of, act_of, are_keys, usual_gap, time_of, times_of, expected_of, connection_of}
 
 -- Lines, by how many words they have
 
@@ -50,7 +50,7 @@ line_of_two names a b =
     (if bytes_eq a (codes "include") then Ok (said.Include b) else acts_on names a b)
 
 abbrev pub is_side_by_side : List ℕ → List ℕ → List ℕ → Bool
-is_side_by_side a b c = bytes_eq a (codes "side") && bytes_eq b (codes "by") && bytes_eq c (codes "side")
+is_side_by_side a b c = are_words a b c (codes "side") (codes "by") (codes "side")
 
 unfoldable pub line_of_three : List (List ℕ) → List ℕ → List ℕ → List ℕ → Result Said LineFault
 line_of_three names a b c =
@@ -69,7 +69,7 @@ line_of_five names a b c d e =
     if bytes_eq a (codes "expect") && bytes_eq d (codes "within") then expects names b (signals c) (time_of e) else Err faults.Line
 
 abbrev pub is_connection_within : List ℕ → List ℕ → List ℕ → Bool
-is_connection_within a c e = bytes_eq a (codes "expect") && bytes_eq c (codes "connection") && bytes_eq e (codes "within")
+is_connection_within a c e = are_words a c e (codes "expect") (codes "connection") (codes "within")
 
 unfoldable pub line_of_six : List (List ℕ) → List ℕ → List ℕ → List ℕ → List ℕ → List ℕ → List ℕ → Result Said LineFault
 line_of_six names a b c d e f =

@@ -1,5 +1,5 @@
 -- What a gateway's telephones tell who watches: which line changed, when, how, and under which number; and from which number on it is told.
-use Rattle.std.specs.Prelude.{ℕ, Bool, true, false, ◌&&◌, bytes_eq, codes, if◌then◌else◌, List, [], ◌∷◌, Option, Some, None, Result, Ok, Err, option_map}
+use Rattle.std.specs.Prelude.{ℕ, Bool, true, false, bytes_eq, codes, if◌then◌else◌, List, [], ◌∷◌, Option, Some, None, Result, Ok, Err, option_map}
 use Rattle.connections.specs.declared.mode.Mode.{Mode}
 use Rattle.connections.specs.Modes.{mode_named}
 use Rattle.mg_bytes.specs.Option.{◌>>=◌}
@@ -11,7 +11,7 @@ use Rattle.phone_scripts.specs.declared.telephone.What.TheVariants.{Hook, Begins
 use Rattle.phone_scripts.specs.declared.change.Telling.{Telling}
 use Rattle.phone_scripts.specs.declared.change.Watching.{Watching}
 use Rattle.phone_scripts.specs.declared.change.Head.{Head}
-use Rattle.phone_scripts.specs.Words.{line_of}
+use Rattle.phone_scripts.specs.Words.{are_words, line_of}
 
 abbrev pub found : {A : Type 0} → Result A ℕ → Option A
 found (Ok value) = Some value
@@ -64,7 +64,7 @@ telling_by None words = None
 telling_by (Some head) words = option_map (telling_with head) (what_in words)
 
 abbrev pub is_telling : List ℕ → List ℕ → List ℕ → Bool
-is_telling a b c = bytes_eq a (codes "change") && bytes_eq b (codes "at") && bytes_eq c (codes "line")
+is_telling a b c = are_words a b c (codes "change") (codes "at") (codes "line")
 
 -- `change NUMBER at MOMENT line LINE WHAT`
 unfoldable pub telling_in : List (List ℕ) → Option Telling
@@ -83,7 +83,7 @@ watching_of number moment = do
   Some (record { next = n; moment = m })
 
 abbrev pub is_watching : List ℕ → List ℕ → List ℕ → Bool
-is_watching a b c = bytes_eq a (codes "watching") && bytes_eq b (codes "from") && bytes_eq c (codes "at")
+is_watching a b c = are_words a b c (codes "watching") (codes "from") (codes "at")
 
 -- `watching from NUMBER at MOMENT`
 unfoldable pub watching_in : List (List ℕ) → Option Watching

@@ -14,6 +14,10 @@ use Rattle.phone_scripts.specs.declared.expecting.Expected.TheVariants as kinds
 use Rattle.phone_scripts.specs.declared.statement.Phone.{Phone}
 use Rattle.phone_scripts.specs.Limits.{most_keys, longest_time, most_times}
 
+-- these three words are those
+abbrev pub are_words : List ℕ → List ℕ → List ℕ → List ℕ → List ℕ → List ℕ → Bool
+are_words a b c x y z = bytes_eq a x && bytes_eq b y && bytes_eq c z
+
 -- Telephones
 
 abbrev pub line_from : ℕ → Option ℕ

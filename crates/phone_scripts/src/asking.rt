@@ -3,7 +3,8 @@ ghost use Rattle.std.specs.Prelude.{◌≡◌, ◌++◌, IfOk, OnOk};
 ghost use Rattle.phone_scripts.specs.Asking.{act_word, act_line};
 
 use crate::act::PhoneAct;
-use mg_bytes::{OutOfMemory, Text, put_decimal};
+use crate::fault::put_around;
+use mg_bytes::{OutOfMemory, Text};
 use std::alloc::Global;
 
 /// That it is told for a minute what changes.
@@ -35,9 +36,7 @@ pub(crate) fn act_line(alloc: Global, line: u16, act: PhoneAct) -> Result<Text, 
     ensures { IfOk result (λ text. text ≡ act_line line act) }
 {
     let mut out = Vec::new(alloc);
-    out.extend_from_slice(b"phone ")?;
-    put_decimal(alloc, &mut out, u64::from(line))?;
-    out.push(b' ')?;
+    put_around(alloc, &mut out, b"phone ", u64::from(line), b" ")?;
     put_act(&mut out, act)?;
     out.push(b'\n')?;
     Ok(Text::of(out))

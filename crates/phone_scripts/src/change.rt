@@ -1,10 +1,10 @@
 //! Reads what a gateway's telephones tell who watches.
 ghost use Rattle.std.specs.Prelude.{◌≡◌, IfOk, option_map};
 ghost use Rattle.mg_bytes.specs.Words.{words as words_of};
-ghost use Rattle.phone_scripts.specs.Pushed.{signal_named, hook_in, connection_in, changed_in, what_in, head_in, telling_by, is_telling, telling_in, is_watching, watching_of, watching_in};
+ghost use Rattle.phone_scripts.specs.Pushed.{signal_named, hook_in, connection_in, changed_in, what_in, head_in, telling_by, telling_in, watching_of, watching_in};
 
 use crate::telephone::{Connected, What};
-use crate::words::line_of;
+use crate::words::{are_words, line_of};
 use connections::read_mode;
 use mg_bytes::{OutOfMemory, Text, Words, decimal, words};
 use mg_packages::{Signal, signal_of};
@@ -164,12 +164,6 @@ fn telling_of(
     }))
 }
 
-fn is_telling(a: &[u8], b: &[u8], c: &[u8]) -> bool
-    ensures { result ≡ is_telling a.now b.now c.now }
-{
-    a == b"change".as_slice() && b == b"at".as_slice() && c == b"line".as_slice()
-}
-
 /// What a line tells of a change, if it does.
 #[tactic(auto, unfolding(crate::specs::Pushed::telling_in))]
 pub fn telling_in(alloc: Global, line: &[u8]) -> Result<Option<Telling>, OutOfMemory>
@@ -194,17 +188,11 @@ pub fn telling_in(alloc: Global, line: &[u8]) -> Result<Option<Telling>, OutOfMe
     let Some(l) = rest.next() else {
         return Ok(None);
     };
-    if is_telling(a, b, c) {
+    if are_words(a, b, c, b"change", b"at", b"line") {
         telling_of(alloc, head_in(n, m, l), &mut rest)
     } else {
         Ok(None)
     }
-}
-
-fn is_watching(a: &[u8], b: &[u8], c: &[u8]) -> bool
-    ensures { result ≡ is_watching a.now b.now c.now }
-{
-    a == b"watching".as_slice() && b == b"from".as_slice() && c == b"at".as_slice()
 }
 
 fn watching_of(number: &[u8], moment: &[u8]) -> Option<Watching>
@@ -221,15 +209,13 @@ pub fn watching_in(line: &[u8]) -> Option<Watching>
     ensures { result ≡ watching_in (words_of line.now) }
 {
     let mut rest = words(line);
-    let a = rest.next()?;
-    let b = rest.next()?;
-    let n = rest.next()?;
-    let c = rest.next()?;
-    let m = rest.next()?;
-    if rest.next().is_some() {
+    let (Some(a), Some(b), Some(n)) = (rest.next(), rest.next(), rest.next()) else {
         return None;
-    }
-    if is_watching(a, b, c) {
+    };
+    let (Some(c), Some(m), None) = (rest.next(), rest.next(), rest.next()) else {
+        return None;
+    };
+    if are_words(a, b, c, b"watching", b"from", b"at") {
         watching_of(n, m)
     } else {
         None

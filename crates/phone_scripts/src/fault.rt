@@ -50,8 +50,8 @@ fn put_before(
     put_decimal(alloc, out, number)
 }
 
-// Puts texts around a number.
-fn put_around(
+/// Puts texts around a number. Its only error is want of memory.
+pub(crate) fn put_around(
     alloc: Global,
     out: &mut Vec<u8>,
     before: &[u8],

@@ -152,11 +152,13 @@ impl Watched {
         what: What,
     ) -> Result<(), OutOfMemory> {
         let place = self.place(alloc, line)?;
-        if let Some(known) = self.telephones.get_mut(place) {
-            known.since = Some(moment);
-            known.telephone.change(what)?;
+        match self.telephones.get_mut(place) {
+            Some(known) => {
+                known.since = Some(moment);
+                known.telephone.change(what)
+            }
+            None => Ok(()),
         }
-        Ok(())
     }
 
     /// A line is so, as it was shown. Where none was before, that is the answer to who asked first.

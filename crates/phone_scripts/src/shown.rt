@@ -60,15 +60,19 @@ fn put_lists(
 // Which line it is, its hook, its signals and its connections, of a line that tells so.
 fn parts_of(line: &[u8]) -> Option<(u16, &[u8], &[u8], &[u8])> {
     let mut rest = words(line);
-    if rest.next()? != b"line".as_slice() {
+    let (Some(word), Some(number), Some(hook)) = (rest.next(), rest.next(), rest.next()) else {
+        return None;
+    };
+    let (Some(_), Some(signals)) = (rest.next(), rest.next()) else {
+        return None;
+    };
+    let (Some(_), Some(connections)) = (rest.next(), rest.next()) else {
+        return None;
+    };
+    if word != b"line".as_slice() {
         return None;
     }
-    let number = line_of(rest.next()?)?;
-    let hook = rest.next()?;
-    let _ = rest.next()?;
-    let signals = rest.next()?;
-    let _ = rest.next()?;
-    let connections = rest.next()?;
+    let number = line_of(number)?;
     Some((number, hook, signals, connections))
 }
 

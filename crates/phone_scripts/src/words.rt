@@ -3,8 +3,8 @@ ghost use Rattle.std.specs.Prelude.{◌≡◌, IfOk, MatchResult, option_map, Ok
 ghost use Rattle.std.specs.Option.{ok_or};
 ghost use Rattle.mg_bytes.specs.Words.{words as words_of};
 ghost use Rattle.phone_scripts.specs.declared.fault.LineFault.TheVariants as faults;
-ghost use Rattle.phone_scripts.specs.Words.{line_of, named_from, phone_at, phone_of, time_of, times_of, expected_of, connection_of};
-ghost use Rattle.phone_scripts.specs.Grammar.{signals, modes, is_side_by_side, is_connection_within, waits, acts_on, dials, expects, line_of_one, line_of_two, line_of_three, line_of_four, line_of_five, line_of_six, said_in};
+ghost use Rattle.phone_scripts.specs.Words.{are_words, line_of, named_from, phone_at, phone_of, time_of, times_of, expected_of, connection_of};
+ghost use Rattle.phone_scripts.specs.Grammar.{signals, modes, waits, acts_on, dials, expects, line_of_one, line_of_two, line_of_three, line_of_four, line_of_five, line_of_six, said_in};
 
 use crate::act::{act_of, are_keys};
 use crate::expecting::Expected;
@@ -19,6 +19,13 @@ use std::alloc::Global;
 
 // So long keys are apart where nothing is said, in ms.
 const USUAL_GAP: u64 = 100;
+
+/// Whether these three words are those.
+pub(crate) fn are_words(a: &[u8], b: &[u8], c: &[u8], x: &[u8], y: &[u8], z: &[u8]) -> bool
+    ensures { result ≡ are_words a.now b.now c.now x.now y.now z.now }
+{
+    a == x && b == y && c == z
+}
 
 /// The number of a line, from 1.
 pub(crate) fn line_of(text: &[u8]) -> Option<u16>
@@ -260,13 +267,6 @@ fn line_of_two(
     }
 }
 
-// `side by side`
-fn is_side_by_side(a: &[u8], b: &[u8], c: &[u8]) -> bool
-    ensures { result ≡ is_side_by_side a.now b.now c.now }
-{
-    a == b"side".as_slice() && b == b"by".as_slice() && c == b"side".as_slice()
-}
-
 #[tactic(auto, unfolding(crate::specs::Grammar::line_of_three))]
 fn line_of_three(
     alloc: Global,
@@ -283,7 +283,7 @@ fn line_of_three(
         Ok(expects(names, b, signals(c), Some(0)))
     } else if a == b"repeat".as_slice() && c == b"times".as_slice() {
         Ok(repeats(b))
-    } else if is_side_by_side(a, b, c) {
+    } else if are_words(a, b, c, b"side", b"by", b"side") {
         Ok(Ok(Said::Beside))
     } else {
         Ok(Err(LineFault::Line))
@@ -328,12 +328,6 @@ fn line_of_five(
     }
 }
 
-fn is_connection_within(a: &[u8], c: &[u8], e: &[u8]) -> bool
-    ensures { result ≡ is_connection_within a.now c.now e.now }
-{
-    a == b"expect".as_slice() && c == b"connection".as_slice() && e == b"within".as_slice()
-}
-
 #[tactic(auto, unfolding(crate::specs::Grammar::line_of_six))]
 fn line_of_six(
     names: &[Text],
@@ -346,7 +340,7 @@ fn line_of_six(
 ) -> Result<Said, LineFault>
     ensures { result ≡ line_of_six names.now a.now b.now c.now d.now e.now f.now }
 {
-    if is_connection_within(a, c, e) {
+    if are_words(a, c, e, b"expect", b"connection", b"within") {
         expects(names, b, modes(d), time_of(f))
     } else {
         Err(LineFault::Line)
