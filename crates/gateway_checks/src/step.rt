@@ -84,6 +84,67 @@ pub(crate) enum Step<'a> {
     Unknown,
 }
 
+// A word with which a line begins.
+#[derive(Clone, Copy)]
+enum Word {
+    Send,
+    SendThere,
+    Answer,
+    AnswerIfDone,
+    Same,
+    Silence,
+    Wait,
+    Has,
+    Unlike,
+    Tells,
+    Keep,
+    Differ,
+    Notified,
+    NotifiedThere,
+    Announced,
+    AnnouncedThere,
+    Again,
+    Slower,
+    Quiet,
+    Act,
+    Restart,
+    Unknown,
+}
+
+const WORDS: [(&str, Word); 22] = [
+    (">", Word::Send),
+    (">>", Word::SendThere),
+    ("<", Word::Answer),
+    ("<?", Word::AnswerIfDone),
+    ("same", Word::Same),
+    ("silence", Word::Silence),
+    ("wait", Word::Wait),
+    ("pause", Word::Wait),
+    ("has", Word::Has),
+    ("unlike", Word::Unlike),
+    ("tells", Word::Tells),
+    ("keep", Word::Keep),
+    ("differ", Word::Differ),
+    ("notified", Word::Notified),
+    ("notified-there", Word::NotifiedThere),
+    ("announced", Word::Announced),
+    ("announced-there", Word::AnnouncedThere),
+    ("again", Word::Again),
+    ("slower", Word::Slower),
+    ("quiet", Word::Quiet),
+    ("act", Word::Act),
+    ("restart", Word::Restart),
+];
+
+fn word_of(text: &str) -> Word {
+    for (name, word) in WORDS.iter() {
+        if *name == text {
+            return *word;
+        }
+    }
+    Word::Unknown
+}
+
 // What is sent from a socket: a text, or the last one again.
 fn sent(from: Socket, text: &str) -> Step<'_> {
     match text {
@@ -97,34 +158,36 @@ fn so_long(digits: &str) -> u64 {
     digits.parse::<u64>().unwrap_or(0)
 }
 
-// The socket that a word of a step means.
-fn socket_of(word: &str) -> Socket {
-    match word {
-        "notified-there" | "announced-there" => Socket::Second,
-        _ => Socket::First,
-    }
-}
-
 // The step that a line is which speaks of what the gateway says by itself.
-fn unasked_step<'a>(line: &'a str, word: &str, first: &'a str, second: &'a str) -> Step<'a> {
+fn unasked_step<'a>(line: &'a str, word: Word, first: &'a str, second: &'a str) -> Step<'a> {
     match word {
-        "notified" | "notified-there" => Step::Notified {
-            at: socket_of(word),
+        Word::Notified => Step::Notified {
+            at: Socket::First,
             name: first,
             due: second,
         },
-        "announced" | "announced-there" => Step::Announced {
-            at: socket_of(word),
+        Word::NotifiedThere => Step::Notified {
+            at: Socket::Second,
+            name: first,
+            due: second,
+        },
+        Word::Announced => Step::Announced {
+            at: Socket::First,
             name: first,
             method: second,
         },
-        "again" | "slower" => Step::Again {
-            times: so_long(first),
-            grows: word == "slower",
+        Word::AnnouncedThere => Step::Announced {
+            at: Socket::Second,
+            name: first,
+            method: second,
         },
-        "quiet" => Step::Quiet { ms: so_long(first) },
-        "act" => Step::Act { act: first },
-        "restart" => Step::Act { act: line },
+        Word::Again | Word::Slower => Step::Again {
+            times: so_long(first),
+            grows: matches!(word, Word::Slower),
+        },
+        Word::Quiet => Step::Quiet { ms: so_long(first) },
+        Word::Act => Step::Act { act: first },
+        Word::Restart => Step::Act { act: line },
         _ => Step::Unknown,
     }
 }
@@ -133,31 +196,32 @@ fn unasked_step<'a>(line: &'a str, word: &str, first: &'a str, second: &'a str) 
 pub(crate) fn step_of(line: &str) -> Step<'_> {
     let (word, rest) = line.split_once(' ').unwrap_or((line, ""));
     let (first, second) = rest.split_once(' ').unwrap_or((rest, ""));
+    let word = word_of(word);
     match word {
-        ">" => sent(Socket::First, rest),
-        ">>" => sent(Socket::Second, rest),
-        "<" | "<?" => Step::Answer {
+        Word::Send => sent(Socket::First, rest),
+        Word::SendThere => sent(Socket::Second, rest),
+        Word::Answer | Word::AnswerIfDone => Step::Answer {
             codes: first,
             id: second,
-            is_optional: word == "<?",
+            is_optional: matches!(word, Word::AnswerIfDone),
         },
-        "same" => Step::Same { id: rest },
-        "silence" => Step::Silence { ms: so_long(rest) },
-        "wait" | "pause" => Step::Wait { ms: so_long(rest) },
-        "has" => Step::Has {
+        Word::Same => Step::Same { id: rest },
+        Word::Silence => Step::Silence { ms: so_long(rest) },
+        Word::Wait => Step::Wait { ms: so_long(rest) },
+        Word::Has => Step::Has {
             code: first,
             value: second,
         },
-        "unlike" => Step::Unlike {
+        Word::Unlike => Step::Unlike {
             code: first,
             value: second,
         },
-        "tells" => Step::Tells { text: rest },
-        "keep" => Step::Keep {
+        Word::Tells => Step::Tells { text: rest },
+        Word::Keep => Step::Keep {
             name: first,
             code: second,
         },
-        "differ" => Step::Differ { first, second },
+        Word::Differ => Step::Differ { first, second },
         _ => unasked_step(line, word, first, second),
     }
 }
