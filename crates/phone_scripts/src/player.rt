@@ -86,9 +86,7 @@ impl Player {
 
     /// It fails so, unless it has failed already.
     pub(crate) fn stop(&mut self, failure: Failure) {
-        if self.failure.is_none() {
-            self.failure = Some(failure);
-        }
+        let _ = self.failure.get_or_insert(failure);
     }
 
     /// This is asked of a gateway, by a runner or by the player itself.
