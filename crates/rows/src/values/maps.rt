@@ -69,11 +69,14 @@ fn said<M: Matcher>(
     Ok((said, matcher.critical()))
 }
 
-// Whether copies of matchers of the other kinds say the same before any letter.
-fn are_copies_alike(alloc: Global, map: &MapText) -> Result<bool, OutOfMemory> {
-    let slow = SlowMap::start(alloc, map)?.try_copy()?;
-    let compiled = Compiled::start(alloc, map)?.try_copy()?;
-    Ok(slow.critical() == compiled.critical())
+// Whether T would complete no letters, as a copy of a slow matcher says it.
+fn slow_is_critical(alloc: Global, map: &MapText) -> Result<bool, OutOfMemory> {
+    Ok(SlowMap::start(alloc, map)?.try_copy()?.critical())
+}
+
+// The same, as a copy of a compiled one says it.
+fn compiled_is_critical(alloc: Global, map: &MapText) -> Result<bool, OutOfMemory> {
+    Ok(Compiled::start(alloc, map)?.try_copy()?.critical())
 }
 
 // Whether matchers of the other kinds say the same, and their copies before any letter.
@@ -86,24 +89,37 @@ fn others_say(
     requires { length letters.now ≤ most_letters }
 {
     Ok(
-        are_copies_alike(alloc, map)?
+        slow_is_critical(alloc, map)? == compiled_is_critical(alloc, map)?
             && said::<SlowMap>(alloc, map, letters)? == expected
             && said::<Compiled>(alloc, map, letters)? == expected,
     )
 }
 
-// By a map, by a copy of what matches, after and before it is fed, and by the other kinds of matchers.
+// What is said of letters, unless a copy of what matches says something else, after or before it is fed.
+fn said_by_copy(
+    matcher: &mut Dialling,
+    letters: &[Letter],
+) -> Result<Option<(Option<Verdict>, bool)>, OutOfMemory>
+    requires { length letters.now ≤ most_letters }
+{
+    let said = fed(matcher, letters);
+    let mut copy = matcher.try_copy()?;
+    if copy.critical() != said.1 || fed(&mut copy, letters) != said {
+        return Ok(None);
+    }
+    Ok(Some(said))
+}
+
+// By a map, by a copy of what matches, and by the other kinds of matchers.
 fn verdict_by(alloc: Global, map: &MapText, letters: &[Letter]) -> Result<&'static str, OutOfMemory>
     requires { length letters.now ≤ most_letters }
 {
-    let mut matcher = Dialling::start(alloc, map)?;
-    let (said, is_critical) = fed(&mut matcher, letters);
-    let mut copy = matcher.try_copy()?;
-    if copy.critical() != is_critical || fed(&mut copy, letters) != (said, is_critical) {
+    let said = said_by_copy(&mut Dialling::start(alloc, map)?, letters)?;
+    let Some(said) = said else {
         return Ok("a copy says something else");
-    }
-    if others_say(alloc, map, letters, (said, is_critical))? {
-        return Ok(verdict_text(said, is_critical));
+    };
+    if others_say(alloc, map, letters, said)? {
+        return Ok(verdict_text(said.0, said.1));
     }
     Ok("another matcher says something else")
 }
