@@ -38,7 +38,6 @@ pub fn numbered(call: &str) -> (&str, u16) {
 fn put_answer(given: &mut Outcome, call: &str, value: &[u8]) -> bool {
     spelled::put_answer(given, call, value)
         || maps::put_answer(given, call, value)
-        || commands::put_answer(given, call, value)
         || descriptions::put_answer(given, call, value)
         || bytes::put_answer(given, call, value)
         || names::put_answer(given, call, value)

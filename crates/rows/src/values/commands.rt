@@ -7,7 +7,7 @@ use endpoint_names::{Names, Pattern, Table};
 use event_requests::Request;
 use event_syntax::{write_handling, write_signals};
 use mg_bytes::{CodeFault, Identifier, OutOfMemory, Text};
-use mgcp_text::{Message, TextFault, read_k, read_message};
+use mgcp_text::{Message, read_k};
 use scenario_files::Outcome;
 use sdp_subset::Session;
 use std::alloc::Global;
@@ -163,23 +163,19 @@ fn asked<'m>(alloc: Global, message: &'m Message<'_>) -> Result<Asks<'m>, CodeFa
     form(alloc, message, &confirms, &names)
 }
 
-// Puts what a call gives of a message, or a return code where it is refused.
-fn put_of_message(given: &mut Outcome, call: &str, message: &Message<'_>) {
+/// Whether a call is about what a command asks for.
+pub fn is_known(call: &str) -> bool {
+    call == "command on" || call == "asks" || call == "becomes"
+}
+
+/// Puts what a call gives of a message: a return code where the command is refused. No where there is no such call here.
+pub fn put_answer(given: &mut Outcome, call: &str, message: &Message<'_>) -> bool {
+    if !is_known(call) {
+        return false;
+    }
     match asked(given.alloc, message) {
         Ok(asks) => put_asks(given, call, &asks),
         Err(fault) => given.put_code(fault),
     }
-}
-
-/// Puts what a call gives: a return code where the command is refused. No where there is no such call here.
-pub fn put_answer(given: &mut Outcome, call: &str, value: &[u8]) -> bool {
-    let is_known = call == "command on" || call == "asks" || call == "becomes";
-    if is_known {
-        match read_message(given.alloc, value) {
-            Ok(message) => put_of_message(given, call, &message),
-            Err(TextFault::OutOfMemory) => given.refuse(),
-            Err(_) => given.put(b"no message"),
-        }
-    }
-    is_known
+    true
 }

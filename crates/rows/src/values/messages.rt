@@ -1,4 +1,5 @@
-//! Calls about messages as text.
+//! Calls about messages as text, and about what they ask for.
+use crate::values::commands;
 use mg_bytes::{decimal, split_once};
 use mgcp_text::{
     AnswerContent, KValue, Message, TextFault, TransactionId, is_writable, param_at, read_k,
@@ -7,7 +8,7 @@ use mgcp_text::{
 use scenario_files::Outcome;
 
 // What a fault says, and the transaction's id where it is known.
-fn put_fault(given: &mut Outcome, fault: &TextFault) {
+fn put_fault(given: &mut Outcome, fault: TextFault) {
     given.put_shown(fault.number());
     match fault {
         TextFault::OutOfMemory => given.refuse(),
@@ -23,21 +24,14 @@ fn put_fault(given: &mut Outcome, fault: &TextFault) {
     }
 }
 
-fn put_kind_of(given: &mut Outcome, message: &Message<'_>) {
+// What a text is read as.
+fn put_kind(given: &mut Outcome, message: &Message<'_>) {
     match message {
         Message::Command { id, .. } => {
             given.put(b"command ");
             given.put_shown(id.number());
         }
         Message::Response { .. } => given.put(b"response"),
-    }
-}
-
-// What a text is read as.
-fn put_kind(given: &mut Outcome, text: &[u8]) {
-    match read_message(given.alloc, text) {
-        Ok(message) => put_kind_of(given, &message),
-        Err(fault) => put_fault(given, &fault),
     }
 }
 
@@ -96,35 +90,40 @@ fn put_answered(given: &mut Outcome, value: &[u8]) {
 // Puts what a call gives of a message; no where there is no such call.
 fn put_of_message(given: &mut Outcome, call: &str, message: &Message<'_>) -> bool {
     match call {
+        "message" => put_kind(given, message),
         "written message" => put_again(given, message),
         "parameters" => given.put_shown(message.params().len()),
         "confirms" => put_confirmed(given, message),
         _ => match call.strip_prefix("first ") {
             Some(code) => put_first(given, message, code),
-            None => return false,
+            None => return commands::put_answer(given, call, message),
         },
     }
     true
 }
 
-// The same of a text, where that is a message.
-fn put_of_text(given: &mut Outcome, call: &str, text: &[u8]) -> bool {
-    match read_message(given.alloc, text) {
-        Ok(message) => put_of_message(given, call, &message),
-        Err(TextFault::OutOfMemory) => {
-            given.refuse();
-            true
-        }
-        Err(_) => false,
+// Puts what a call gives of a text that is no message; no where there is no such call.
+fn put_of_other(given: &mut Outcome, call: &str, fault: TextFault) -> bool {
+    if call == "message" {
+        put_fault(given, fault);
+    } else if let TextFault::OutOfMemory = fault {
+        given.refuse();
+    } else if commands::is_known(call) {
+        given.put(b"no message");
+    } else {
+        return false;
     }
+    true
 }
 
 /// Puts what a call gives; no where there is no such call here, and where it is about a message that can't be read.
 pub fn put_answer(given: &mut Outcome, call: &str, value: &[u8]) -> bool {
-    match call {
-        "message" => put_kind(given, value),
-        "answer" => put_answered(given, value),
-        _ => return put_of_text(given, call, value),
+    if call == "answer" {
+        put_answered(given, value);
+        return true;
     }
-    true
+    match read_message(given.alloc, value) {
+        Ok(message) => put_of_message(given, call, &message),
+        Err(fault) => put_of_other(given, call, fault),
+    }
 }
