@@ -66,50 +66,44 @@ pub struct ConnectionsScenario {
 }
 
 impl ConnectionsScenario {
-    fn create(&mut self, alloc: Global, fields: &str) -> Result<Created, CodeFault> {
-        self.line.create(self.encoding, creation_of(alloc, fields)?)
+    fn create(&mut self, given: &mut Outcome, fields: &str) -> Result<(), CodeFault> {
+        let creation = creation_of(given.alloc, fields)?;
+        put_created(given, &self.line.create(self.encoding, creation)?);
+        Ok(())
     }
 
-    fn modify(&mut self, alloc: Global, fields: &str) -> Result<Option<Session>, CodeFault> {
+    fn modify(&mut self, given: &mut Outcome, fields: &str) -> Result<(), CodeFault> {
         let (call, id) = (identifier_in(fields, "C: ")?, identifier_in(fields, "I: ")?);
-        let change = change_of(alloc, fields)?;
-        self.line.modify(self.encoding, &call, &id, change)
-    }
-
-    fn audit(&self, fields: &str) -> Result<Audited, CodeFault> {
-        self.line.audit(&identifier_in(fields, "I: ")?)
-    }
-
-    fn delete(&mut self, fields: &str) -> Result<(), CodeFault> {
-        self.line.delete(&deletion_of(fields)?)
-    }
-
-    fn put_creation(&mut self, given: &mut Outcome, fields: &str) {
-        match self.create(given.alloc, fields) {
-            Ok(created) => put_created(given, &created),
-            Err(fault) => given.put_code(fault),
+        let change = change_of(given.alloc, fields)?;
+        match self.line.modify(self.encoding, &call, &id, change)? {
+            Some(description) => put_description(given, &description),
+            None => given.put(b"-"),
         }
+        Ok(())
     }
 
-    fn put_change(&mut self, given: &mut Outcome, fields: &str) {
-        match self.modify(given.alloc, fields) {
-            Ok(Some(description)) => put_description(given, &description),
-            Ok(None) => given.put(b"-"),
-            Err(fault) => given.put_code(fault),
-        }
+    fn audit(&self, given: &mut Outcome, fields: &str) -> Result<(), CodeFault> {
+        put_audited(given, &self.line.audit(&identifier_in(fields, "I: ")?)?);
+        Ok(())
     }
 
-    fn put_audit(&self, given: &mut Outcome, fields: &str) {
-        match self.audit(fields) {
-            Ok(audited) => put_audited(given, &audited),
-            Err(fault) => given.put_code(fault),
-        }
+    fn delete(&mut self, given: &mut Outcome, fields: &str) -> Result<(), CodeFault> {
+        self.line.delete(&deletion_of(fields)?)?;
+        given.put(b"-");
+        Ok(())
     }
 
-    fn put_deletion(&mut self, given: &mut Outcome, fields: &str) {
-        match self.delete(fields) {
-            Ok(()) => given.put(b"-"),
-            Err(fault) => given.put_code(fault),
+    // A command, and what it is answered.
+    fn command(&mut self, given: &mut Outcome, word: &str, fields: &str) {
+        let done = match word {
+            "create" => self.create(given, fields),
+            "modify" => self.modify(given, fields),
+            "audit" => self.audit(given, fields),
+            "delete" => self.delete(given, fields),
+            _ => return given.unread(),
+        };
+        if let Err(fault) = done {
+            given.put_code(fault);
         }
     }
 
@@ -162,13 +156,7 @@ impl Thing for ConnectionsScenario {
             _ => {}
         }
         let fields = row.parameters();
-        match word {
-            "create" => self.put_creation(&mut row.given, fields),
-            "modify" => self.put_change(&mut row.given, fields),
-            "audit" => self.put_audit(&mut row.given, fields),
-            "delete" => self.put_deletion(&mut row.given, fields),
-            _ => row.given.unread(),
-        }
+        self.command(&mut row.given, word, fields);
         self.answer(row);
     }
 }
