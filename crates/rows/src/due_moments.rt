@@ -7,6 +7,7 @@
 //! - `falls 36` so many are due, each behind the one before, and are cleared;
 //! - `keep` and `back`: the table as it was once.
 use crate::keeping::{Kept, Thing};
+use crate::texts::named;
 use mg_bytes::OutOfMemory;
 use mg_packages::SIGNALS;
 use scenario_files::{Outcome, Row, range_in};
@@ -23,34 +24,14 @@ const KINDS: [(&str, DueKind); 3] = [
     ("announcement", DueKind::Announce),
 ];
 
-/// A kind of some lines.
-#[derive(Clone, Copy)]
-struct Places {
-    first: u32,
-    last: u32,
-    kind: DueKind,
-}
-
 // `T` or `signal 8`.
 fn kind_of(row: &mut Row<'_>) -> Option<DueKind> {
     let word = row.before(" ");
-    if word == "signal" {
-        let signal = SIGNALS.get(row.number() as usize)?;
-        return Some(DueKind::OfLine(LineDue::SignalEnd(*signal)));
+    if word != "signal" {
+        return named(&KINDS, word);
     }
-    for (name, kind) in &KINDS {
-        if *name == word {
-            return Some(*kind);
-        }
-    }
-    None
-}
-
-// `1 T` or `0-32 signal 8`.
-fn places_of(row: &mut Row<'_>) -> Option<Places> {
-    let (first, last) = range_in(row.before(" "))?;
-    let kind = kind_of(row)?;
-    Some(Places { first, last, kind })
+    let signal = SIGNALS.get(row.number() as usize)?;
+    Some(DueKind::OfLine(LineDue::SignalEnd(*signal)))
 }
 
 // What is due first.
@@ -110,12 +91,15 @@ fn set(due: &mut Due, given: &mut Outcome, line: u32, kind: DueKind, moment: Opt
 
 // The same for each of these places, as `0-32 signal 8 600` says.
 fn set_all(due: &mut Due, row: &mut Row<'_>, is_cleared: bool) {
-    let Some(places) = places_of(row) else {
+    let Some((first, last)) = range_in(row.before(" ")) else {
+        return row.given.unread();
+    };
+    let Some(kind) = kind_of(row) else {
         return row.given.unread();
     };
     let moment = if is_cleared { None } else { Some(row.number()) };
-    for line in places.first..=places.last {
-        set(due, &mut row.given, line, places.kind, moment);
+    for line in first..=last {
+        set(due, &mut row.given, line, kind, moment);
         if row.given.is_unread {
             return;
         }

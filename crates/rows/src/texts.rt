@@ -1,5 +1,15 @@
-//! Pieces and fields of what a row gives.
+//! Pieces and fields of what a row gives, and what tables have under the words of a row.
 use scenario_files::{Outcome, Row};
+
+/// What a table has under a name.
+pub fn named<T: Copy>(table: &[(&str, T)], name: &str) -> Option<T> {
+    for (known, meant) in table {
+        if *known == name {
+            return Some(*meant);
+        }
+    }
+    None
+}
 
 /// Bytes of ASCII as words, as they stand in a text that is formed.
 pub fn words_of(bytes: &[u8]) -> &str {
