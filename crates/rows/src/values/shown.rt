@@ -175,9 +175,9 @@ fn tell(given: &mut Outcome, picture: &mut Picture, key: &str, value: &[u8]) {
 // The picture that these words tell.
 fn picture_of(given: &mut Outcome, value: &[u8]) -> Picture {
     let mut picture = Picture::new(given.alloc);
-    for word in value.split(|byte| *byte == b' ') {
-        match split_once(word, b':') {
-            Some((key, value)) => tell(given, &mut picture, words_of(key), value),
+    for word in words_of(value).split(' ') {
+        match word.split_once(':') {
+            Some((key, value)) => tell(given, &mut picture, key, value.as_bytes()),
             None => given.unread(),
         }
     }
