@@ -1,4 +1,6 @@
 //! Pieces and fields of what a row gives, and what tables have under the words of a row.
+ghost use Rattle.std.specs.Iterator.{IsFinite};
+
 use scenario_files::{Outcome, Row};
 
 /// What a table has under a name.
@@ -20,6 +22,16 @@ pub fn words_of(bytes: &[u8]) -> &str {
 pub fn put_piece(given: &mut Outcome, piece: &[u8]) {
     given.put(piece);
     given.put(b"|");
+}
+
+/// Puts pieces, each with a `|` behind it.
+pub fn put_pieces<'v, I: Iterator<Item = &'v [u8]> + Drop>(given: &mut Outcome, pieces: I)
+    requires can { I.can_next pieces }
+    requires ends { IsFinite (I.remaining pieces) }
+{
+    for piece in pieces {
+        put_piece(given, piece);
+    }
 }
 
 // Whether this is one of the fields of a text.

@@ -1,16 +1,10 @@
 //! Calls that take texts apart: lines, words, items, numbers and addresses.
-use crate::texts::{put_piece, words_of};
+use crate::texts::{put_piece, put_pieces, words_of};
 use mg_bytes::{
     decimal, has_dot_line, hex_text, ipv4_address, lines, list_items, port_number, put_decimal,
     same_no_case, split_once, trimmed, words,
 };
 use scenario_files::Outcome;
-
-fn put_lines(given: &mut Outcome, value: &[u8]) {
-    for line in lines(value) {
-        put_piece(given, line);
-    }
-}
 
 // What stands behind each line.
 fn put_rests(given: &mut Outcome, value: &[u8]) {
@@ -18,18 +12,6 @@ fn put_rests(given: &mut Outcome, value: &[u8]) {
     for _ in lines(value) {
         let _line = left.next();
         put_piece(given, left.rest());
-    }
-}
-
-fn put_words(given: &mut Outcome, value: &[u8]) {
-    for word in words(value) {
-        put_piece(given, word);
-    }
-}
-
-fn put_items(given: &mut Outcome, value: &[u8]) {
-    for item in list_items(value) {
-        put_piece(given, item);
     }
 }
 
@@ -59,10 +41,10 @@ fn is_same(value: &[u8]) -> bool {
 /// Puts what a call gives; no where there is no such call here.
 pub fn put_answer(given: &mut Outcome, call: &str, value: &[u8]) -> bool {
     match call {
-        "lines" => put_lines(given, value),
+        "lines" => put_pieces(given, lines(value)),
         "rests" => put_rests(given, value),
-        "words in" => put_words(given, value),
-        "items" => put_items(given, value),
+        "words in" => put_pieces(given, words(value)),
+        "items" => put_pieces(given, list_items(value)),
         "colon" => put_sides(given, value),
         "trimmed" => given.put(trimmed(value)),
         "written number" => put_digits(given, value),

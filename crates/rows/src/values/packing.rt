@@ -3,19 +3,12 @@ ghost use Rattle.std.specs.Prelude.{◌≡◌};
 ghost use Rattle.std.specs.List.{list_all};
 ghost use Rattle.piggyback.specs.Packing.{is_joinable};
 
-use crate::texts::put_piece;
+use crate::texts::put_pieces;
 use crate::values::numbered;
 use mg_bytes::{OutOfMemory, Text};
 use piggyback::{is_joinable, join, parts};
 use scenario_files::Outcome;
 use std::alloc::Global;
-
-// Each part of a datagram, with a `|` behind it.
-fn put_parts(given: &mut Outcome, datagram: &[u8]) {
-    for part in parts(datagram) {
-        put_piece(given, part);
-    }
-}
 
 // The texts of a value, each of which has a `|` behind it.
 fn texts_in(alloc: Global, value: &[u8]) -> Result<Vec<Text>, OutOfMemory> {
@@ -62,7 +55,7 @@ pub fn put_answer(given: &mut Outcome, call: &str, value: &[u8]) -> bool {
     let (call, max) = numbered(call);
     let max = usize::from(max);
     match call {
-        "parts" => put_parts(given, value),
+        "parts" => put_pieces(given, parts(value)),
         "joinable in" => given.put_judged(is_joinable(value, max)),
         "joined in" | "lengths in" => put_joined(given, call, value, max),
         _ => return false,
