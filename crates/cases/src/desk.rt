@@ -18,8 +18,8 @@ use live_gateway::boxed;
 use mg_bytes::OutOfMemory;
 use scenario_files::{Count, Titled};
 use std::alloc::{AllocError, Global};
+use std::io;
 use std::net::{Ipv4Addr, Net, SocketAddrV4};
-use std::{io, mem};
 use surroundings::{Scripted, Surroundings};
 
 // Microseconds in a millisecond.
@@ -70,22 +70,23 @@ fn journal_of(alloc: Global, words: &Words) -> Result<Journal, AllocError> {
     Ok(journal)
 }
 
+fn network_of(alloc: Global, words: &Words) -> Option<BadNetwork> {
+    match words.network {
+        Some(spoiling) => Some(BadNetwork::new(alloc, spoiling)),
+        None => None,
+    }
+}
+
 // What a call agent stands on, over what a story has of sockets and a clock.
 fn wire_of(
     alloc: Global,
     words: &Words,
     story: &mut Story,
 ) -> Result<Box<Wire<Scripted>>, OutOfMemory> {
-    let network = match words.network {
-        Some(spoiling) => Some(BadNetwork::new(alloc, spoiling)),
-        None => None,
-    };
-    let journal = journal_of(alloc, words)?;
-    let own = words.own;
-    let mut around = mem::replace(&mut story.around, Scripted::new(alloc, own));
-    around.own = own;
     let end = words.stop_after.unwrap_or(story.moment.saturating_add(1));
-    let wire = Wire::new(alloc, around, network, journal, Some(end))?;
+    let journal = journal_of(alloc, words)?;
+    let around = story.take_around(words.own);
+    let wire = Wire::new(alloc, around, network_of(alloc, words), journal, Some(end))?;
     boxed(alloc, wire)
 }
 

@@ -103,15 +103,28 @@ fn board_of(alloc: Global, words: &Words) -> Result<Option<Box<Board>>, AllocErr
     }
 }
 
-fn journal_of(alloc: Global, words: &Words, gateway: &Gateway) -> Result<Box<Journal>, AllocError> {
+fn tally_of(alloc: Global) -> Result<Box<MessageTally>, AllocError> {
+    boxed(alloc, MessageTally::new(alloc)?)
+}
+
+fn log_of(alloc: Global, words: &Words, gateway: &Gateway) -> Result<Box<Log>, AllocError> {
+    boxed(alloc, Log::new(alloc, words.has_log, gateway)?)
+}
+
+fn capture_of(alloc: Global, words: &Words) -> Result<Box<Capture>, AllocError> {
     let file = match &words.capture {
         Some(file) => Some(file.as_str()),
         None => None,
     };
+    boxed(alloc, Capture::new(alloc, file, words.own[0])?)
+}
+
+// Each part is made by a function of its own, since a check pays for all that a value holds inline at each step of a function that has it.
+fn journal_of(alloc: Global, words: &Words, gateway: &Gateway) -> Result<Box<Journal>, AllocError> {
     let journal = Journal {
-        tally: boxed(alloc, MessageTally::new(alloc)?)?,
-        log: boxed(alloc, Log::new(alloc, words.has_log, gateway)?)?,
-        capture: boxed(alloc, Capture::new(alloc, file, words.own[0])?)?,
+        tally: tally_of(alloc)?,
+        log: log_of(alloc, words, gateway)?,
+        capture: capture_of(alloc, words)?,
         board: board_of(alloc, words)?,
         written: Written::ALL,
     };
@@ -127,13 +140,11 @@ fn exchange_of(
 ) -> Result<Box<Exchange<Scripted>>, AllocError> {
     let network = network_of(alloc, words, gateway)?;
     let journal = journal_of(alloc, words, gateway)?;
-    let own = words.own;
-    let mut around = mem::replace(&mut story.around, Scripted::new(alloc, own));
-    around.own = own;
     let now = Now {
         clock: 0,
-        time: around.time(),
+        time: story.around.time(),
     };
+    let around = story.take_around(words.own);
     boxed(alloc, Exchange::new(around, network, journal, now))
 }
 
@@ -154,6 +165,22 @@ fn admission_of(
     })
 }
 
+// A gateway that is played, and its trace.
+fn play_of(
+    alloc: Global,
+    words: &Words,
+    config: &str,
+    gateway: Box<Gateway>,
+) -> Result<Box<LivePlay<Trace>>, AllocError> {
+    let first = words.first.number();
+    let trace = Trace::new(alloc, words.has_trace, config.as_bytes(), first);
+    boxed(alloc, LivePlay::new(alloc, gateway, trace))
+}
+
+fn lines_of(alloc: Global) -> Result<Box<Lines>, AllocError> {
+    boxed(alloc, Lines::new(alloc)?)
+}
+
 // A gateway that runs.
 fn desk_of(
     alloc: Global,
@@ -164,10 +191,8 @@ fn desk_of(
 ) -> Result<Box<Desk<Scripted, Trace>>, AllocError> {
     let admission = admission_of(alloc, words, &gateway)?;
     let exchange = exchange_of(alloc, words, &gateway, story)?;
-    let first = words.first.number();
-    let trace = Trace::new(alloc, words.has_trace, config.as_bytes(), first);
-    let play = boxed(alloc, LivePlay::new(alloc, gateway, trace))?;
-    let lines = boxed(alloc, Lines::new(alloc)?)?;
+    let play = play_of(alloc, words, config, gateway)?;
+    let lines = lines_of(alloc)?;
     let end = words.stop_after.unwrap_or(story.moment.saturating_add(1));
     let desk = Desk::new(alloc, play, exchange, lines, admission, Some(end));
     boxed(alloc, desk)

@@ -7,6 +7,7 @@ use mg_bytes::OutOfMemory;
 use scenario_files::{bytes_of, in_full, number_in, put_line};
 use std::alloc::Global;
 use std::collections::VecDeque;
+use std::mem;
 use std::net::{SocketAddr, SocketAddrV4};
 use surroundings::{Coming, Happening, Scripted};
 
@@ -148,6 +149,13 @@ impl Story {
             peer: at.peer,
             datagram: String::new(alloc),
         }
+    }
+
+    /// Its sockets, which are there, and its clock; others stand in their place.
+    pub fn take_around(&mut self, own: [SocketAddrV4; 2]) -> Scripted {
+        let mut around = mem::replace(&mut self.around, Scripted::new(self.alloc, own));
+        around.own = own;
+        around
     }
 
     // The address that is said, or the usual one.
