@@ -3,6 +3,7 @@ use crate::head::{first_in, is_head_end};
 use crate::replaying::{Progress, Replay};
 use crate::verdict::{ReplayFault, Verdict};
 use gateway_core::Gateway;
+use mg_bytes::split_once;
 use new_start::FirstNumber;
 use rgw_scenes::gateway_from;
 use rgw_scripts::{LIMIT, PlayFault};
@@ -85,11 +86,7 @@ fn opened(
 
 // A line is as it is told in the trace, or as it is owed, without its end.
 fn line_of(alloc: Global, text: &[u8]) -> Result<Vec<u8>, ReplayFault> {
-    let end = text.iter().position(|byte| *byte == b'\n');
-    let line = match end {
-        Some(end) => text.get(..end).unwrap_or(text),
-        None => text,
-    };
+    let (line, _) = split_once(text, b'\n').unwrap_or((text, b""));
     Ok(Vec::from_slice(alloc, line)?)
 }
 
