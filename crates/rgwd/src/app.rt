@@ -15,7 +15,7 @@ use live_ends::{
 use live_gateway::{agents_line, boxed};
 use live_journal::{Journal, Trace};
 use mg_bytes::OutOfMemory;
-use rgw_scenes::{Flaw, flaw_of, gateway_from, told, told_setup};
+use rgw_scenes::{flaw_of, gateway_from, told, told_setup};
 use rgw_scripts::LIMIT;
 use std::alloc::{AllocError, Global};
 use std::io;
@@ -83,15 +83,17 @@ fn serve_to_end<'w, R: Files + Net + Clock + RandomSource>(
     rt: &R,
     opened: &mut Opened<'_, R>,
     recording: &mut Recording<R>,
-) -> Result<Ending<'w>, AllocError> {
+) -> Ending<'w> {
     opened.desk.run(&mut opened.visitors, recording);
     opened.desk.play.end();
     opened.desk.write(recording);
-    let counts = opened.desk.counts()?;
+    let Ok(counts) = opened.desk.counts() else {
+        return Ending::Common(CommonEnding::OutOfMemory);
+    };
     let exchange = &opened.desk.exchange;
     let outlets = &mut recording.outlets;
     outlets.finish(rt, counts.as_slice(), exchange.now.time);
-    Ok(served_ending(&exchange.journal, &opened.desk.play.teller, outlets))
+    served_ending(&exchange.journal, &opened.desk.play.teller, outlets)
 }
 
 // Waits as long as a start waits, before its clock begins: so what is recorded of the gateway doesn't tell it.
@@ -112,23 +114,23 @@ fn serve_opened<'w, R: Files + Net + Clock + RandomSource>(
     begun: Begun,
     opened: &mut Opened<'_, R>,
     recording: &mut Recording<R>,
-) -> Result<Ending<'w>, Ending<'w>> {
+) -> Ending<'w> {
     tell_start(alloc, &mut recording.outlets, opened, begun);
     if wait_first(rt, &mut opened.desk.exchange.around, begun).is_err() {
-        return Err(Ending::Common(CommonEnding::Clock));
+        return Ending::Common(CommonEnding::Clock);
     }
     let ending = serve_to_end(rt, opened, recording);
     opened.desk.answer_stop();
-    Ok(ending?)
+    ending
 }
 
 // Says on standard output what this gateway will be, who may speak to it, and its sockets.
-fn check_gateway<'w, F: Write + Drop>(
+fn check_gateway<F: Write + Drop>(
     alloc: Global,
     settings: &Settings<'_>,
     gateway: &Gateway,
     outlets: &mut Outlets<F>,
-) -> Result<Ending<'w>, AllocError> {
+) -> Result<(), AllocError> {
     let lines = told_setup(alloc, gateway.setup())?;
     let agents = agents_line(alloc, settings.agents, gateway.setup())?;
     let (listen, phones) = (settings.listen, settings.phones);
@@ -141,7 +143,7 @@ fn check_gateway<'w, F: Write + Drop>(
     outlets.output.say(lines.as_slice());
     outlets.output.say(agents.as_slice());
     outlets.output.say(sockets.as_bytes());
-    Ok(Ending::Checked)
+    Ok(())
 }
 
 // A gateway of the configuration in this text, which has no flaw, at this start: without one memory alone is refused.
@@ -185,16 +187,17 @@ fn open_files<'w, R: Files + Alloc + Clone + Drop>(
     rt: &R,
     alloc: Global,
     settings: &Settings<'w>,
-    outlets: &mut Outlets<R::File>,
-) -> Result<Option<CaptureFiles>, Ending<'w>> {
+    recording: &mut Recording<R>,
+) -> Result<(), Ending<'w>> {
+    let outlets = &mut recording.outlets;
     if let (Some(name), Some(parting)) = (settings.capture, settings.parting) {
-        let files = open_parted(rt, alloc, settings, name, parting, outlets)?;
-        return Ok(Some(files));
+        recording.files = Some(open_parted(rt, alloc, settings, name, parting, outlets)?);
+        return Ok(());
     }
     match open_capture(rt, alloc, settings.capture) {
         Ok(capture) => {
             outlets.capture = capture;
-            Ok(None)
+            Ok(())
         }
         Err(fault) => Err(unwritable(settings, fault)),
     }
@@ -212,9 +215,8 @@ fn serve_with<'w, R: Files + Net + Clock + RandomSource + Alloc + Clone + Drop>(
 ) -> Result<Ending<'w>, Ending<'w>> {
     let begun = start.begun(gateway.setup().names.domain.as_bytes());
     let mut opened = open(rt, alloc, settings, config, gateway)?;
-    let files = open_files(rt, alloc, settings, &mut recording.outlets)?;
-    recording.files = files;
-    serve_opened(rt, alloc, begun, &mut opened, recording)
+    open_files(rt, alloc, settings, recording)?;
+    Ok(serve_opened(rt, alloc, begun, &mut opened, recording))
 }
 
 // Serves with a gateway of the configuration in this text, which has no flaw; or says what it will be.
@@ -230,24 +232,27 @@ fn serve_config<'w, R: Files + Net + Clock + RandomSource + Alloc + Clone + Drop
     };
     let gateway = gateway_of(alloc, text, &start)?;
     if settings.check {
-        return Ok(check_gateway(alloc, settings, &gateway, &mut recording.outlets)?);
+        check_gateway(alloc, settings, &gateway, &mut recording.outlets)?;
+        return Ok(Ending::Checked);
     }
     serve_with(rt, alloc, settings, start, text, gateway, recording)
 }
 
-// Says on standard error which flaw the configuration in this text has.
-fn tell_flaw<'w, F: Write + Drop>(
+// Whether the configuration in this text has a flaw: which, is said on standard error.
+fn tell_flaw<F: Write + Drop>(
     alloc: Global,
     file: &str,
     text: &[u8],
-    flaw: Flaw,
     outlets: &mut Outlets<F>,
-) -> Result<Ending<'w>, AllocError> {
+) -> Result<bool, AllocError> {
+    let Some(flaw) = flaw_of(alloc, text)? else {
+        return Ok(false);
+    };
     let line = told(alloc, text, flaw)?;
     let line = str::from_utf8(line.as_slice()).unwrap_or("");
     let said = format!(in alloc; "{file}: {line}\n")?;
     outlets.error.say(said.as_bytes());
-    Ok(Ending::Common(CommonEnding::Told))
+    Ok(true)
 }
 
 // Does what the settings ask.
@@ -259,10 +264,10 @@ fn perform<'w, R: Files + Net + Clock + RandomSource + Alloc + Clone + Drop>(
 ) -> Result<Ending<'w>, Ending<'w>> {
     let file = settings.config;
     let text = read_file(rt, alloc, file, LIMIT as u64)?;
-    match flaw_of(alloc, text.as_slice())? {
-        None => serve_config(rt, alloc, settings, text.as_slice(), recording),
-        Some(flaw) => Ok(tell_flaw(alloc, file, text.as_slice(), flaw, &mut recording.outlets)?),
+    if tell_flaw(alloc, file, text.as_slice(), &mut recording.outlets)? {
+        return Ok(Ending::Common(CommonEnding::Told));
     }
+    serve_config(rt, alloc, settings, text.as_slice(), recording)
 }
 
 // The words behind this one, where that is the first.
