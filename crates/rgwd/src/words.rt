@@ -53,47 +53,60 @@ pub struct Settings<'a> {
     pub stop_after: Option<u64>,
 }
 
-// The words that stand there or not.
-const FLAGS: [&str; 4] = ["check", "trace", "log", "phones-open"];
-
-// Those behind which a text stands.
-const NAMES: [&str; 11] = [
-    "listen",
-    "phones",
-    "agents",
-    "http",
-    "http-host",
-    "capture",
-    "capture-size",
-    "capture-files",
-    "network",
-    "first",
-    "spread",
-];
-
-fn with_flags<'a>(alloc: Global, mut command: Command<'a>) -> Result<Command<'a>, AllocError> {
-    for name in FLAGS.iter() {
-        let flag = Arg::new(alloc, *name).long(*name);
-        command = command.arg(flag.action(ArgAction::SetTrue))?;
-    }
-    Ok(command)
+// How a word stands.
+#[derive(Clone, Copy)]
+enum Kind {
+    // By itself, and it has to.
+    Bare,
+    // With a number behind it.
+    Number,
+    // With nothing behind it.
+    Flag,
+    // With a text behind it.
+    Text,
 }
 
-fn with_names<'a>(alloc: Global, mut command: Command<'a>) -> Result<Command<'a>, AllocError> {
-    for name in NAMES.iter() {
-        command = command.arg(Arg::new(alloc, *name).long(*name))?;
+const WORDS: [(&str, Kind); 17] = [
+    ("config", Kind::Bare),
+    ("stop-after", Kind::Number),
+    ("check", Kind::Flag),
+    ("trace", Kind::Flag),
+    ("log", Kind::Flag),
+    ("phones-open", Kind::Flag),
+    ("listen", Kind::Text),
+    ("phones", Kind::Text),
+    ("agents", Kind::Text),
+    ("http", Kind::Text),
+    ("http-host", Kind::Text),
+    ("capture", Kind::Text),
+    ("capture-size", Kind::Text),
+    ("capture-files", Kind::Text),
+    ("network", Kind::Text),
+    ("first", Kind::Text),
+    ("spread", Kind::Text),
+];
+
+// What clap is told of a word.
+fn arg_of<'a>(alloc: Global, name: &'static str, kind: Kind) -> Arg<'a> {
+    match kind {
+        Kind::Bare => Arg::new(alloc, name).required(true),
+        Kind::Number => {
+            let arg = Arg::new(alloc, name).long(name);
+            arg.value_parser(clap::value_parser!(u64))
+        }
+        Kind::Flag => Arg::new(alloc, name).long(name).action(ArgAction::SetTrue),
+        Kind::Text => Arg::new(alloc, name).long(name),
     }
-    Ok(command)
 }
 
 fn command<'a>(alloc: Global) -> Result<Command<'a>, AllocError> {
-    let stop_after = Arg::new(alloc, "stop-after").long("stop-after");
-    let command = Command::new(alloc, "rgwd")
+    let mut command = Command::new(alloc, "rgwd")
         .version(VERSION)
-        .override_usage(USAGE)
-        .arg(Arg::new(alloc, "config").required(true))?
-        .arg(stop_after.value_parser(clap::value_parser!(u64)))?;
-    with_names(alloc, with_flags(alloc, command)?)
+        .override_usage(USAGE);
+    for (name, kind) in WORDS.iter() {
+        command = command.arg(arg_of(alloc, *name, *kind))?;
+    }
+    Ok(command)
 }
 
 /// A word that doesn't ask how the program is used.
