@@ -132,9 +132,9 @@ fn check_gateway<F: Write + Drop>(
     outlets: &mut Outlets<F>,
 ) -> Result<(), AllocError> {
     let lines = told_setup(alloc, gateway.setup())?;
-    let agents = agents_line(alloc, settings.agents, gateway.setup())?;
-    let (listen, phones) = (settings.listen, settings.phones);
-    let sockets = match settings.http {
+    let agents = agents_line(alloc, settings.sockets.agents, gateway.setup())?;
+    let (listen, phones) = (settings.sockets.listen, settings.sockets.phones);
+    let sockets = match settings.sockets.http {
         Some(http) => {
             format!(in alloc; "sockets: --listen {listen} --phones {phones} --http {http}\n")?
         }

@@ -45,11 +45,11 @@ fn open_sockets<'a, 'w, R: Net + Clock>(
     alloc: Global,
     settings: &Settings<'w>,
 ) -> Result<Live<'a, R>, Ending<'w>> {
-    let socket = socket_for(rt, "--listen", settings.listen)?;
-    let phones = socket_for(rt, "--phones", settings.phones)?;
+    let socket = socket_for(rt, "--listen", settings.sockets.listen)?;
+    let phones = socket_for(rt, "--phones", settings.sockets.phones)?;
     match Live::watch(rt, alloc, socket, phones) {
         Ok(live) => Ok(live),
-        Err(fault) => Err(Ending::unbound("--listen", settings.listen, fault.kind())),
+        Err(fault) => Err(Ending::unbound("--listen", settings.sockets.listen, fault.kind())),
     }
 }
 
@@ -60,10 +60,10 @@ fn open_site<'w, R: Net>(
     settings: &Settings<'w>,
     live: &Live<'_, R>,
 ) -> Result<Option<Box<PageReception>>, Ending<'w>> {
-    let Some(address) = settings.http else {
+    let Some(address) = settings.sockets.http else {
         return Ok(None);
     };
-    let names = match settings.http_hosts {
+    let names = match settings.sockets.http_hosts {
         Some(text) => hosts_in(alloc, text)?,
         None => HostNames::none(alloc),
     };
@@ -80,14 +80,14 @@ fn admission_of<'w>(
     gateway: &Gateway,
     own: [SocketAddrV4; 2],
 ) -> Result<Admission, Ending<'w>> {
-    let speakers = match settings.agents {
+    let speakers = match settings.sockets.agents {
         Some(text) => speakers_in(alloc, text)?,
         None => speakers_of(alloc, gateway.setup())?,
     };
     Ok(Admission {
         speakers,
         own,
-        are_phones_open: settings.phones_open,
+        are_phones_open: settings.sockets.phones_open,
     })
 }
 
@@ -107,7 +107,7 @@ fn network_of(
 
 // What the page is shown, if one is asked for.
 fn board_of(alloc: Global, settings: &Settings<'_>) -> Result<Option<Box<Board>>, AllocError> {
-    if settings.http.is_none() {
+    if settings.sockets.http.is_none() {
         return Ok(None);
     }
     Ok(Some(boxed(alloc, Board::new(alloc))?))
@@ -153,7 +153,7 @@ fn exchange_of<'a, R: Net + Clock>(
 ) -> Result<Box<Exchange<Live<'a, R>>>, AllocError> {
     let socket = match live.addresses() {
         Ok((SocketAddr::V4(socket), _)) => socket,
-        _ => settings.listen,
+        _ => settings.sockets.listen,
     };
     let here = captured_address(socket, gateway.setup().media_address);
     let journal = journal_of(alloc, settings, gateway, here)?;

@@ -17,21 +17,13 @@ use std::io::Write;
 use std::net::SocketAddrV4;
 use surroundings::Speakers;
 
-/// What the program is asked to do.
+/// The sockets that the program is asked to open, and whom it is to hear there.
 #[derive(Drop)]
-pub struct Settings<'a> {
-    /// The file that has the configuration.
-    pub config: &'a str,
-    /// Whether it only says what the gateway will be.
-    pub check: bool,
+pub struct Sockets<'a> {
     /// The address of the gateway's socket; port 0 is any free one.
     pub listen: SocketAddrV4,
     /// The address of the telephones' socket; port 0 is any free one.
     pub phones: SocketAddrV4,
-    /// Whether what happens is written to standard output.
-    pub trace: bool,
-    /// Whether what is said is written to standard error, for people.
-    pub log: bool,
     /// Who may speak to it, where that is said: a text that `Speakers::read` takes.
     pub agents: Option<&'a str>,
     /// Whether its telephones are open to other machines.
@@ -40,6 +32,20 @@ pub struct Settings<'a> {
     pub http: Option<SocketAddrV4>,
     /// Under which further names that is asked for counts, where that is said: a text that `HostNames::read` takes.
     pub http_hosts: Option<&'a str>,
+}
+
+/// What the program is asked to do.
+#[derive(Drop)]
+pub struct Settings<'a> {
+    /// The file that has the configuration.
+    pub config: &'a str,
+    /// Whether it only says what the gateway will be.
+    pub check: bool,
+    pub sockets: Sockets<'a>,
+    /// Whether what happens is written to standard output.
+    pub trace: bool,
+    /// Whether what is said is written to standard error, for people.
+    pub log: bool,
     /// The file that datagrams are captured into, and how that is parted, where it is.
     pub capture: Option<&'a str>,
     pub parting: Option<Parting>,
@@ -66,6 +72,7 @@ enum Kind {
     Text,
 }
 
+// The words of the command line.
 const WORDS: [(&str, Kind); 17] = [
     ("config", Kind::Bare),
     ("stop-after", Kind::Number),
@@ -123,16 +130,23 @@ pub fn unless_help<'w>(word: &'w str) -> Result<&'w str, Ending<'w>>
 }
 
 // The address of the site, if that stands there: one of the machine's, since the page answers only those who name its address; or where
-// it has a further name, any.
-fn site_in<'a>(matches: &ArgMatches<'a>) -> Result<Option<SocketAddrV4>, Ending<'a>> {
-    let Some(text) = matches.get_str("http") else {
-        return Ok(None);
+// it has further names, any. What says these, if that stands there, does say names.
+fn site_in<'a>(
+    alloc: Global,
+    matches: &ArgMatches<'a>,
+) -> Result<Option<SocketAddrV4>, Ending<'a>> {
+    let names = matches.get_str("http-host");
+    let site = match matches.get_str("http") {
+        Some(text) => Some(address_in("--http", text)?),
+        None => None,
     };
-    let address = address_in("--http", text)?;
-    if address.ip().is_unspecified() && matches.get_str("http-host").is_none() {
+    if names.is_none() && matches!(site, Some(address) if address.ip().is_unspecified()) {
         return Err(Ending::AnyAddress);
     }
-    Ok(Some(address))
+    if let Some(names) = names {
+        let _ = hosts_in(alloc, names)?;
+    }
+    Ok(site)
 }
 
 /// Who may speak, as this text says it.
@@ -161,18 +175,6 @@ fn agents_in<'a>(alloc: Global, matches: &ArgMatches<'a>) -> Result<Option<&'a s
         return Ok(None);
     };
     let _ = speakers_in(alloc, text)?;
-    Ok(Some(text))
-}
-
-// What says the site's further names, if that stands there.
-fn http_hosts_in<'a>(
-    alloc: Global,
-    matches: &ArgMatches<'a>,
-) -> Result<Option<&'a str>, Ending<'a>> {
-    let Some(text) = matches.get_str("http-host") else {
-        return Ok(None);
-    };
-    let _ = hosts_in(alloc, text)?;
     Ok(Some(text))
 }
 
@@ -220,6 +222,17 @@ fn longest_wait_in<'a>(matches: &ArgMatches<'a>) -> Result<Option<u32>, Ending<'
     }
 }
 
+fn sockets_in<'a>(alloc: Global, matches: &ArgMatches<'a>) -> Result<Sockets<'a>, Ending<'a>> {
+    Ok(Sockets {
+        listen: address_in("--listen", matches.get_str("listen").unwrap_or(LISTEN))?,
+        phones: address_in("--phones", matches.get_str("phones").unwrap_or(PHONES))?,
+        agents: agents_in(alloc, matches)?,
+        phones_open: matches.get_flag("phones-open"),
+        http: site_in(alloc, matches)?,
+        http_hosts: matches.get_str("http-host"),
+    })
+}
+
 fn settings_in<'a>(alloc: Global, matches: &ArgMatches<'a>) -> Result<Settings<'a>, Ending<'a>> {
     let Some(config) = matches.get_str("config") else {
         return Err(Ending::Common(CommonEnding::Usage));
@@ -231,12 +244,7 @@ fn settings_in<'a>(alloc: Global, matches: &ArgMatches<'a>) -> Result<Settings<'
     Ok(Settings {
         config,
         check: matches.get_flag("check"),
-        listen: address_in("--listen", matches.get_str("listen").unwrap_or(LISTEN))?,
-        phones: address_in("--phones", matches.get_str("phones").unwrap_or(PHONES))?,
-        agents: agents_in(alloc, matches)?,
-        phones_open: matches.get_flag("phones-open"),
-        http: site_in(matches)?,
-        http_hosts: http_hosts_in(alloc, matches)?,
+        sockets: sockets_in(alloc, matches)?,
         trace: matches.get_flag("trace"),
         log: matches.get_flag("log"),
         capture: matches.get_str("capture"),
