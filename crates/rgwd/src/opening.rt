@@ -44,11 +44,11 @@ fn open_sockets<'a, 'w, R: Net + Clock>(
     rt: &'a R,
     alloc: Global,
     settings: &Settings<'w>,
-) -> Result<Live<'a, R>, Ending<'w>> {
+) -> Result<Box<Live<'a, R>>, Ending<'w>> {
     let socket = socket_for(rt, "--listen", settings.sockets.listen)?;
     let phones = socket_for(rt, "--phones", settings.sockets.phones)?;
     match Live::watch(rt, alloc, socket, phones) {
-        Ok(live) => Ok(live),
+        Ok(live) => Ok(boxed(alloc, live)?),
         Err(fault) => Err(Ending::unbound("--listen", settings.sockets.listen, fault.kind())),
     }
 }
@@ -149,7 +149,7 @@ fn exchange_of<'a, R: Net + Clock>(
     alloc: Global,
     settings: &Settings<'_>,
     gateway: &Gateway,
-    live: Live<'a, R>,
+    live: Box<Live<'a, R>>,
 ) -> Result<Box<Exchange<Live<'a, R>>>, AllocError> {
     let socket = match live.addresses() {
         Ok((SocketAddr::V4(socket), _)) => socket,
@@ -162,7 +162,10 @@ fn exchange_of<'a, R: Net + Clock>(
         clock: 0,
         time: live.time(),
     };
-    boxed(alloc, Exchange::new(live, network, journal, now))
+    boxed(
+        alloc,
+        Exchange::new(Box::into_inner(live), network, journal, now),
+    )
 }
 
 // A desk for this gateway, whose trace has its head.
