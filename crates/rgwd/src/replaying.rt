@@ -31,12 +31,12 @@ fn verdict_of<'w, R: Files>(rt: &R, alloc: Global, file: &'w str) -> Result<Verd
 }
 
 // Says on standard output what is found; of what is no trace on standard error.
-fn tell_verdict<'w, F: Write + Drop>(
+fn tell_verdict<F: Write + Drop>(
     alloc: Global,
     file: &str,
     verdict: &Verdict,
     outlets: &mut Outlets<F>,
-) -> Result<Ending<'w>, AllocError> {
+) -> Result<(), AllocError> {
     let mut text = Vec::new(alloc);
     put_verdict(alloc, &mut text, verdict)?;
     if matches!(verdict, Verdict::Broken { .. }) {
@@ -46,11 +46,7 @@ fn tell_verdict<'w, F: Write + Drop>(
     } else {
         outlets.output.say(text.as_slice());
     }
-    Ok(match verdict {
-        Verdict::AsTold { .. } => Ending::Replayed,
-        Verdict::Differs { .. } => Ending::Differs,
-        Verdict::Broken { .. } => Ending::NoTrace,
-    })
+    Ok(())
 }
 
 /// Replays the trace in the file that the words behind `--replay` name, and says what is found: how the program ends by that.
@@ -64,5 +60,10 @@ pub fn replay_trace<'w, R: AllocGlobal + Files>(
     };
     let file = unless_help(file.as_str())?;
     let verdict = verdict_of(rt, rt.alloc(), file)?;
-    Ok(tell_verdict(rt.alloc(), file, &verdict, outlets)?)
+    tell_verdict(rt.alloc(), file, &verdict, outlets)?;
+    Ok(match &verdict {
+        Verdict::AsTold { .. } => Ending::Replayed,
+        Verdict::Differs { .. } => Ending::Differs,
+        Verdict::Broken { .. } => Ending::NoTrace,
+    })
 }
