@@ -261,15 +261,17 @@ fn ending_by<'a, F: Write + Drop>(
     alloc: Global,
     fault: &Error,
     said: &mut Outlet<F>,
-) -> Result<Ending<'a>, AllocError> {
+) -> CommonEnding<'a> {
     match fault.kind() {
-        ErrorKind::OutOfMemory => Ok(Ending::Common(CommonEnding::OutOfMemory)),
-        ErrorKind::DisplayHelp => Ok(Ending::Common(CommonEnding::Help)),
-        ErrorKind::DisplayVersion => Ok(Ending::Common(CommonEnding::Version)),
+        ErrorKind::OutOfMemory => CommonEnding::OutOfMemory,
+        ErrorKind::DisplayHelp => CommonEnding::Help,
+        ErrorKind::DisplayVersion => CommonEnding::Version,
         _ => {
-            let text = format!(in alloc; "{fault}")?;
+            let Ok(text) = format!(in alloc; "{fault}") else {
+                return CommonEnding::OutOfMemory;
+            };
             said.say(text.as_bytes());
-            Ok(Ending::Common(CommonEnding::Told))
+            CommonEnding::Told
         }
     }
 }
@@ -282,6 +284,6 @@ pub fn read_words<'a, F: Write + Drop>(
 ) -> Result<Settings<'a>, Ending<'a>> {
     match command(alloc)?.try_get_matches_from(words) {
         Ok(matches) => settings_in(alloc, &matches),
-        Err(fault) => Err(ending_by(alloc, &fault, said)?),
+        Err(fault) => Err(Ending::Common(ending_by(alloc, &fault, said))),
     }
 }
