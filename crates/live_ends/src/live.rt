@@ -15,7 +15,6 @@ use surroundings::{Fault, Surroundings, Told};
 pub const STOP_FROM_AFAR: &[u8] = b"! stop is taken from a loopback address alone, 127.0.0.0/8\n";
 
 /// A socket for datagrams, another for lines of who types, and the machine's clock. What went over sockets isn't told.
-#[derive(Drop)]
 pub struct Live<'a, R> {
     pub rt: &'a R,
     socket: UdpSocket,
@@ -25,6 +24,24 @@ pub struct Live<'a, R> {
     /// What the system told of its sockets, and of a page's.
     pub ready: Box<Readiness>,
     pub clock: LiveClock<'a, R>,
+}
+
+// Written out: a derived drop, and those of all its parts, are proved anew by each crate that lets one go.
+impl<R> Drop for Live<'_, R> {
+    fn drop(self) {
+        let Live {
+            rt: _,
+            socket: datagrams,
+            commands: lines,
+            own: _,
+            ready,
+            clock,
+        } = self;
+        drop(datagrams);
+        drop(lines);
+        drop(ready);
+        drop(clock);
+    }
 }
 
 /// A socket at this address, that is waited for.

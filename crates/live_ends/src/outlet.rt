@@ -35,7 +35,6 @@ pub enum OutletState {
 }
 
 /// Standard output, standard error or a file, and what waits for it.
-#[derive(Drop)]
 pub struct Outlet<F> {
     alloc: Global,
     /// Its name, for people.
@@ -45,6 +44,23 @@ pub struct Outlet<F> {
     state: OutletState,
     // Whether it was told that it isn't open any more.
     is_told: bool,
+}
+
+// Written out: a derived drop, and those of all its parts, are proved anew by each crate that lets one go.
+impl<F: Drop> Drop for Outlet<F> {
+    fn drop(self) {
+        let Outlet {
+            alloc: _,
+            name,
+            stream,
+            backlog,
+            state: _,
+            is_told: _,
+        } = self;
+        drop(name);
+        drop(stream);
+        drop(backlog);
+    }
 }
 
 // Keeps whole lines, as they are, where there is room for them: whether there is.
