@@ -13,12 +13,24 @@ use std::net::SocketAddrV4;
 use surroundings::{SentDatagram, keep};
 
 /// A bad network before the sockets, and what was offered to it on the way out, where that is kept.
-#[derive(Drop)]
 pub struct SpoiltWay {
     alloc: Global,
     network: BadNetwork,
     // Copies of all that was offered on the way out; nothing where none are kept, or memory was refused for one.
     offered: Option<Vec<SentDatagram>>,
+}
+
+// Written out: a derived drop, and those of all its parts, are proved anew by each crate that lets one go.
+impl Drop for SpoiltWay {
+    fn drop(self) {
+        let SpoiltWay {
+            alloc: _,
+            network,
+            offered,
+        } = self;
+        drop(network);
+        drop(offered);
+    }
 }
 
 impl SpoiltWay {
