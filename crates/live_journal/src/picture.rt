@@ -159,6 +159,30 @@ fn put_counts(
     Ok(())
 }
 
+fn put_lines(
+    alloc: Global,
+    views: &mut Vec<LineView>,
+    gateway: &Gateway,
+) -> Result<(), AllocError> {
+    for before in 0..gateway.lines() {
+        views.push(line_view(alloc, gateway, before + 1)?)?;
+    }
+    Ok(())
+}
+
+// What can fail for want of memory, by reference: a picture is large.
+fn put_lists(
+    alloc: Global,
+    picture: &mut Picture,
+    gateway: &Gateway,
+    journal: &Journal,
+    faults: Faults,
+) -> Result<(), AllocError> {
+    put_lines(alloc, &mut picture.lines, gateway)?;
+    put_counts(picture, &journal.tally, faults)?;
+    put_written(alloc, picture, journal)
+}
+
 /// The gateway as it is now, where its clock is so far behind the machine's, in ms.
 pub fn picture_of(
     alloc: Global,
@@ -168,15 +192,11 @@ pub fn picture_of(
     behind: u64,
 ) -> Result<Picture, AllocError> {
     let mut picture = Picture::new(alloc);
+    put_lists(alloc, &mut picture, gateway, journal, faults)?;
     picture.clock = gateway.now();
     picture.behind = behind;
     picture.is_serving = gateway.serves();
     picture.first = gateway.setup().first;
-    for before in 0..gateway.lines() {
-        picture.lines.push(line_view(alloc, gateway, before + 1)?)?;
-    }
-    put_counts(&mut picture, &journal.tally, faults)?;
     picture.counts.transactions = gateway.remembered() as u64;
-    put_written(alloc, &mut picture, journal)?;
     Ok(picture)
 }
