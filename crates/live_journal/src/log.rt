@@ -72,6 +72,17 @@ impl Drop for Log {
     }
 }
 
+// The id of a response.
+fn id_of_response(alloc: Global, text: &[u8]) -> Option<TransactionId> {
+    let Ok(said) = read_message(alloc, text) else {
+        return None;
+    };
+    let Message::Response { id, .. } = &said else {
+        return None;
+    };
+    Some(*id)
+}
+
 impl Log {
     /// The log of this gateway, of which nothing is told yet.
     pub fn new(alloc: Global, is_on: bool, gateway: &Gateway) -> Result<Log, OutOfMemory> {
@@ -126,13 +137,8 @@ impl Log {
 
     // A response came: how long the command waited that it answers, in ms, where that is what its line sent last.
     fn waited(&self, text: &[u8]) -> Option<u64> {
-        let Ok(said) = read_message(self.alloc, text) else {
-            return None;
-        };
-        let Message::Response { id, .. } = &said else {
-            return None;
-        };
-        let own = self.own.get(&line_of_id(*id))?;
+        let id = id_of_response(self.alloc, text)?;
+        let own = self.own.get(&line_of_id(id))?;
         if own.id.number() != id.number() {
             return None;
         }
