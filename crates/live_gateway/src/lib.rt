@@ -27,3 +27,4 @@ pub use crate::recorder::Recorder;
 pub use crate::spoilt_way::SpoiltWay;
 pub use crate::visitors::Visitors;
 pub use crate::watch::Watch;
+pub use live_play::LivePlay;

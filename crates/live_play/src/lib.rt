@@ -14,3 +14,4 @@ mod trace_text;
 pub use crate::ends::Outlet;
 pub use crate::play::LivePlay;
 pub use crate::trace_text::TraceText;
+pub use rgw_scenes::status_of;
