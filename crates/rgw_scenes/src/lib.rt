@@ -26,3 +26,4 @@ pub use crate::settings::read_config;
 pub use crate::setup::told_setup;
 pub use crate::status::status_of;
 pub use crate::wording::told;
+pub use gateway_core::{Event, Gateway, OutDatagram, Outputs, Refusal};

@@ -2,10 +2,9 @@
 use crate::head::{first_in, is_head_end};
 use crate::replaying::{Progress, Replay};
 use crate::verdict::{ReplayFault, Verdict};
-use gateway_core::Gateway;
 use mg_bytes::split_once;
 use new_start::FirstNumber;
-use rgw_scenes::gateway_from;
+use rgw_scenes::{Gateway, gateway_from};
 use rgw_scripts::{LIMIT, PlayFault};
 use std::alloc::Global;
 use std::io::{BufRead, ErrorKind, Read, Take};

@@ -8,9 +8,8 @@ ghost use Rattle.traces.specs.Telling.{told_output, told_text};
 ghost use Rattle.traces.specs.Replaying.{move_in, Showed, Plays};
 
 use crate::telling::{put_outputs, put_shown};
-use gateway_core::{Event, Gateway, OutDatagram, Outputs, Refusal};
 use mg_bytes::OutOfMemory;
-use rgw_scenes::status_of;
+use rgw_scenes::{Event, Gateway, OutDatagram, Outputs, Refusal, status_of};
 use rgw_scripts::{LineStatus, ScriptStep, put_line, put_refusal};
 use std::alloc::{AllocError, Global};
 
