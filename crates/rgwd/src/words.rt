@@ -169,28 +169,12 @@ pub fn hosts_in<'w>(alloc: Global, text: &str) -> Result<HostNames, Ending<'w>>
     }
 }
 
-// What says who may speak, if that stands there.
-fn agents_in<'a>(alloc: Global, matches: &ArgMatches<'a>) -> Result<Option<&'a str>, Ending<'a>> {
-    let Some(text) = matches.get_str("agents") else {
-        return Ok(None);
-    };
-    let _ = speakers_in(alloc, text)?;
-    Ok(Some(text))
-}
-
 // The bytes of a text, if that stands there.
 fn bytes_in<'m>(matches: &'m ArgMatches<'_>, word: &str) -> Option<&'m [u8]> {
     match matches.get_str(word) {
         Some(text) => Some(text.as_bytes()),
         None => None,
     }
-}
-
-// How the capture is parted, if it is.
-fn parting_in<'a>(matches: &ArgMatches<'a>) -> Result<Option<Parting>, Ending<'a>> {
-    let has_capture = matches.get_str("capture").is_some();
-    let size = bytes_in(matches, "capture-size");
-    parting_of(has_capture, size, bytes_in(matches, "capture-files"))
 }
 
 // How a network spoils datagrams, if that stands there.
@@ -223,10 +207,16 @@ fn longest_wait_in<'a>(matches: &ArgMatches<'a>) -> Result<Option<u32>, Ending<'
 }
 
 fn sockets_in<'a>(alloc: Global, matches: &ArgMatches<'a>) -> Result<Sockets<'a>, Ending<'a>> {
+    let listen = address_in("--listen", matches.get_str("listen").unwrap_or(LISTEN))?;
+    let phones = address_in("--phones", matches.get_str("phones").unwrap_or(PHONES))?;
+    let agents = matches.get_str("agents");
+    if let Some(text) = agents {
+        let _ = speakers_in(alloc, text)?;
+    }
     Ok(Sockets {
-        listen: address_in("--listen", matches.get_str("listen").unwrap_or(LISTEN))?,
-        phones: address_in("--phones", matches.get_str("phones").unwrap_or(PHONES))?,
-        agents: agents_in(alloc, matches)?,
+        listen,
+        phones,
+        agents,
         phones_open: matches.get_flag("phones-open"),
         http: site_in(alloc, matches)?,
         http_hosts: matches.get_str("http-host"),
@@ -241,14 +231,16 @@ fn settings_in<'a>(alloc: Global, matches: &ArgMatches<'a>) -> Result<Settings<'
     if first.is_none() && matches.get_str("first").is_some() {
         return Err(Ending::BadFirst);
     }
+    let capture = matches.get_str("capture");
+    let size = bytes_in(matches, "capture-size");
     Ok(Settings {
         config,
         check: matches.get_flag("check"),
         sockets: sockets_in(alloc, matches)?,
         trace: matches.get_flag("trace"),
         log: matches.get_flag("log"),
-        capture: matches.get_str("capture"),
-        parting: parting_in(matches)?,
+        capture,
+        parting: parting_of(capture.is_some(), size, bytes_in(matches, "capture-files"))?,
         network: network_in(matches)?,
         first,
         spread: longest_wait_in(matches)?,
