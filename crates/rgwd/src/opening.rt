@@ -112,7 +112,28 @@ fn board_of(alloc: Global, settings: &Settings<'_>) -> Result<Option<Box<Board>>
     Ok(Some(boxed(alloc, Board::new(alloc))?))
 }
 
-// The journal of this gateway, whose datagrams are captured as those of this address.
+fn tally_of(alloc: Global) -> Result<Box<MessageTally>, AllocError> {
+    boxed(alloc, MessageTally::new(alloc)?)
+}
+
+fn log_of(
+    alloc: Global,
+    settings: &Settings<'_>,
+    gateway: &Gateway,
+) -> Result<Box<Log>, AllocError> {
+    boxed(alloc, Log::new(alloc, settings.log, gateway)?)
+}
+
+fn capture_of(
+    alloc: Global,
+    settings: &Settings<'_>,
+    here: SocketAddrV4,
+) -> Result<Box<Capture>, AllocError> {
+    boxed(alloc, Capture::new(alloc, settings.capture, here)?)
+}
+
+// The journal of this gateway, whose datagrams are captured as those of this address. Each part is made by a function of its own, since a
+// check pays for all that a value holds inline at each step of a function that has it.
 fn journal_of(
     alloc: Global,
     settings: &Settings<'_>,
@@ -120,9 +141,9 @@ fn journal_of(
     here: SocketAddrV4,
 ) -> Result<Box<Journal>, AllocError> {
     let journal = Journal {
-        tally: boxed(alloc, MessageTally::new(alloc)?)?,
-        log: boxed(alloc, Log::new(alloc, settings.log, gateway)?)?,
-        capture: boxed(alloc, Capture::new(alloc, settings.capture, here)?)?,
+        tally: tally_of(alloc)?,
+        log: log_of(alloc, settings, gateway)?,
+        capture: capture_of(alloc, settings, here)?,
         board: board_of(alloc, settings)?,
         written: Written::ALL,
     };
