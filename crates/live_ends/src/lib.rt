@@ -6,6 +6,7 @@
 
 mod asking;
 mod backlog;
+mod boxing;
 mod clock;
 mod ending;
 pub mod ending_examples;
@@ -28,6 +29,7 @@ mod written;
 
 pub use crate::asking::{AskFault, ask};
 pub use crate::backlog::{Backlog, MOST_KEPT, NOTE_ROOM, TEXT_ROOM, lines_ended};
+pub use crate::boxing::boxed;
 pub use crate::clock::{LiveClock, time_of_day};
 pub use crate::ending::{About, CommonEnding, address_in};
 pub use crate::files::read_file;

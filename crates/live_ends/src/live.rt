@@ -1,6 +1,7 @@
 //! The machine's sockets and clock, as a loop stands on them.
 ghost use Rattle.std.specs.Prelude.{◌≡◌};
 
+use crate::boxing::boxed;
 use crate::clock::LiveClock;
 use crate::readiness::Readiness;
 use mio::net::UdpSocket;
@@ -76,7 +77,7 @@ impl<'a, R: Net + Clock> Live<'a, R> {
     ) -> io::Result<Live<'a, R>> {
         let own = [address_of(&socket), address_of(&commands)];
         let ready = Readiness::watch(rt, alloc, &mut socket, &mut commands)?;
-        let Ok(ready) = Box::new(alloc, ready) else {
+        let Ok(ready) = boxed(alloc, ready) else {
             return Err(io::Error::from(ErrorKind::OutOfMemory));
         };
         Ok(Live {

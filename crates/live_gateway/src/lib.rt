@@ -6,7 +6,6 @@
 
 mod admission;
 mod answering;
-mod boxing;
 mod desk;
 pub mod examples;
 mod exchange;
@@ -19,7 +18,6 @@ mod visitors;
 mod watch;
 
 pub use crate::admission::{Admission, speakers_of};
-pub use crate::boxing::boxed;
 pub use crate::desk::Desk;
 pub use crate::exchange::Exchange;
 pub use crate::naming::agents_line;
@@ -27,4 +25,5 @@ pub use crate::recorder::Recorder;
 pub use crate::spoilt_way::SpoiltWay;
 pub use crate::visitors::Visitors;
 pub use crate::watch::Watch;
+pub use live_ends::boxed;
 pub use live_play::LivePlay;

@@ -5,7 +5,7 @@ use crate::desk::Desk;
 use crate::places::Seat;
 use http_server::{Config, Connection};
 use http1::Limits;
-use live_ends::Visit;
+use live_ends::{Visit, boxed};
 use mio::net::TcpStream;
 use std::alloc::{AllocError, Global};
 use std::hash::RandomState;
@@ -58,7 +58,7 @@ impl Visitor {
         keys: RandomState,
         now: u64,
     ) -> Result<Box<Visitor>, AllocError> {
-        let visitor = Box::new(
+        boxed(
             alloc,
             Visitor {
                 stream,
@@ -69,8 +69,7 @@ impl Visitor {
                 deadline: now.saturating_add(PATIENCE),
                 has_turn: true,
             },
-        )?;
-        Ok(visitor)
+        )
     }
 
     /// From where it comes, and since when it is idle.
