@@ -18,13 +18,10 @@ fn make_file<R: Files>(rt: &R, file: &str, text: &str) -> io::Result<()> {
 }
 
 // Writes a report into this file.
-fn write_report<'w, R: Files>(rt: &R, file: &'w str, report: &str) -> Result<(), Ending<'w>> {
+fn write_report<'w, R: Files>(rt: &R, file: &'w str, report: &str) -> Result<(), CommonEnding<'w>> {
     match make_file(rt, file, report) {
         Ok(()) => Ok(()),
-        Err(fault) => Err(Ending::Common(CommonEnding::unwritable(
-            file,
-            SystemFault::of(fault.kind()),
-        ))),
+        Err(fault) => Err(CommonEnding::unwritable(file, SystemFault::of(fault.kind()))),
     }
 }
 
@@ -76,7 +73,7 @@ fn check_by<'w, R: AllocGlobal + Files + Net + Clock, F: Write + Drop>(
     match junit {
         Some(file) => match write_report(rt, file, checked.junit.as_str()) {
             Ok(()) => Ending::Checked { status },
-            Err(ending) => failed(rt.alloc(), out, ending, is_json),
+            Err(ending) => failed(rt.alloc(), out, Ending::Common(ending), is_json),
         },
         None => Ending::Checked { status },
     }
