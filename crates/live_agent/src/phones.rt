@@ -65,6 +65,24 @@ fn take_all<S: Surroundings>(
     Ok(())
 }
 
+// Waits, and takes what has come then: whether the clock can be read.
+fn wait<S: Surroundings>(
+    around: &mut S,
+    player: &mut Player,
+    gateways: &[SocketAddrV4],
+    room: &mut [u8],
+    longest: u64,
+) -> Result<bool, OutOfMemory> {
+    if around.wait(longest).is_err() {
+        return Ok(false);
+    }
+    let Ok(now) = around.moment() else {
+        return Ok(false);
+    };
+    take_all(around, player, gateways, room, now)?;
+    Ok(true)
+}
+
 // Does what is to be done next: how it ended, if it did.
 fn go_on<S: Surroundings>(
     around: &mut S,
@@ -79,20 +97,18 @@ fn go_on<S: Surroundings>(
                 // What can't be sent is as what is lost: no answer comes.
                 let _ = around.send(*address, text.as_bytes());
             }
+            Ok(None)
         }
         Next::Wait { until } => {
-            if around.wait(until.saturating_sub(now)).is_err() {
-                return Ok(Some(Played::Clock));
+            match wait(around, player, gateways, room, until.saturating_sub(now)) {
+                Ok(true) => Ok(None),
+                Ok(false) => Ok(Some(Played::Clock)),
+                Err(refused) => Err(refused),
             }
-            let Ok(now) = around.moment() else {
-                return Ok(Some(Played::Clock));
-            };
-            take_all(around, player, gateways, room, now)?;
         }
-        Next::Done => return Ok(Some(Played::Done)),
-        Next::Failed { failure } => return Ok(Some(Played::Failed { failure })),
+        Next::Done => Ok(Some(Played::Done)),
+        Next::Failed { failure } => Ok(Some(Played::Failed { failure })),
     }
-    Ok(None)
 }
 
 // Nothing more is to be told: the place of who watches is free.
