@@ -136,24 +136,21 @@ fn telephone_in<'a>(
 ) -> Result<Option<Telephone<'a>>, WordFault> {
     let phones = address_behind(matches, "phones", "--phones")?;
     let hook = address_behind(matches, "hook", "--hook")?;
-    match (phones, hook) {
-        (None, None) => Ok(None),
-        (Some(address), None) => Ok(Some(Telephone {
-            address,
-            is_hook: false,
-            line,
-        })),
-        (None, Some(address)) => Ok(Some(Telephone {
-            address,
-            is_hook: true,
-            line,
-        })),
-        (Some(_), Some(_)) => Err(WordFault::Common(CommonEnding::Usage)),
-    }
+    let (address, is_hook) = match (phones, hook) {
+        (None, None) => return Ok(None),
+        (Some(address), None) => (address, false),
+        (None, Some(address)) => (address, true),
+        (Some(_), Some(_)) => return Err(WordFault::Common(CommonEnding::Usage)),
+    };
+    Ok(Some(Telephone {
+        address,
+        is_hook,
+        line,
+    }))
 }
 
 /// The file behind `--junit`, which has the report as JUnit's XML; and the settings of a check.
-#[derive(Drop)]
+#[derive(Clone, Copy)]
 pub struct CheckWords<'a> {
     pub settings: CheckSettings<'a>,
     pub junit: Option<&'a str>,

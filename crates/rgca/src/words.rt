@@ -15,7 +15,7 @@ use std::io::Write;
 use std::net::SocketAddrV4;
 
 /// What the program is asked to do.
-#[derive(Drop)]
+#[derive(Clone, Copy)]
 pub struct Settings<'a> {
     /// The file that has the configuration.
     pub config: &'a str,
