@@ -1,12 +1,12 @@
 -- What who watches is told of a line, and who that is.
-use Rattle.std.specs.Prelude.{◌≡◌, ℕ, codes, decimal, List, [], ◌∷◌, ◌++◌, Option, Some, None, option_map}
+use Rattle.std.specs.Prelude.{◌≡◌, ◌⊎◌, ℕ, codes, decimal, List, [], ◌∷◌, ◌++◌, Option, Some, None, option_map}
 use Rattle.std.specs.declared.net.socket_addr.SocketAddr.{SocketAddr}
 use Rattle.std.specs.declared.net.socket_addr.SocketAddr.TheVariants.{V4}
 use Rattle.line_changes.specs.declared.change.Change.{Change}
 use Rattle.line_changes.specs.declared.watchers.Watcher.{Watcher}
 use Rattle.line_changes.specs.Seen.{SeenLine}
 use Rattle.line_changes.specs.Changes.{changes_of}
-use Rattle.line_changes.specs.Watching.{most_watchers, told_at}
+use Rattle.line_changes.specs.Watching.{most_watchers, nobody, told_at}
 use Rattle.surroundings.specs.Hearing.{AnswersTo}
 
 -- what changed at a line, where it was seen before
@@ -27,3 +27,8 @@ abbrev pub TellsEach : {S : Type 0} → (S → SocketAddr → List ℕ → S →
 TellsEach answers now [] before text after = after ≡ before
 TellsEach {S} answers now (held ∷ places) before text after =
     (between : S) × AnswersTo answers (sender_at now held) before text between × TellsEach answers now places between text after
+
+-- who watches does so still; or all are told that memory is refused, and nobody does any more
+abbrev pub WatchesOn : {S : Type 0} → (S → SocketAddr → List ℕ → S → Type 0) → List (Option Watcher) → S → List (Option Watcher) → Type 0
+WatchesOn {S} answers were after are =
+    (are ≡ were) ⊎ ((are ≡ nobody) × (before : S) × (now : ℕ) × TellsEach answers now were before (codes "! 1 OutOfMemory\n") after)

@@ -6,7 +6,7 @@ ghost use Rattle.gateway_core.specs.Stands.{Stands};
 ghost use Rattle.line_changes.specs.Telling.{with_changes, watching_line};
 ghost use Rattle.line_changes.specs.Watching.{longest_watch, nobody};
 ghost use Rattle.surroundings.specs.Hearing.{AnswersTo};
-ghost use Rattle.live_gateway.specs.Watching.{changes_behind, sender_at, TellsEach};
+ghost use Rattle.live_gateway.specs.Watching.{changes_behind, sender_at, TellsEach, WatchesOn};
 
 use crate::answering::{OUT_OF_MEMORY, UNKNOWN, full_answer};
 use gateway_core::Gateway;
@@ -167,6 +167,7 @@ impl Watch {
     // A line was seen so.
     fn keep(&mut self, line: u16, is: SeenLine)
         requires { 1 ≤ line }
+        ensures watchers { self.new.watchers ≡ self.old.watchers }
     {
         if let Some(was) = self.seen.get_mut(usize::from(line) - 1) {
             *was = is;
@@ -183,7 +184,8 @@ impl Watch {
     ) -> Result<(), OutOfMemory>
         requires low { 1 ≤ line }
         requires high { line ≤ gateway.now.setup.names.lines }
-        ensures { S.traffic around.new ≡ S.traffic around.old }
+        ensures traffic { S.traffic around.new ≡ S.traffic around.old }
+        ensures watchers { self.new.watchers ≡ self.old.watchers }
     {
         let is = seen_line(alloc, gateway, line)?;
         let now = gateway.now();
@@ -203,7 +205,8 @@ impl Watch {
         around: &mut S,
         gateway: &Gateway,
     ) -> Result<(), OutOfMemory>
-        ensures { S.traffic around.new ≡ S.traffic around.old }
+        ensures traffic { S.traffic around.new ≡ S.traffic around.old }
+        ensures watchers { self.new.watchers ≡ self.old.watchers }
     {
         for before in 0..gateway.lines() {
             self.tell_line(alloc, around, gateway, before + 1)?;
@@ -213,7 +216,8 @@ impl Watch {
 
     /// Who watches is told what changed since that was told last. Where memory is refused all are told that, and watch no more.
     pub fn tell<S: Surroundings>(&mut self, alloc: Global, around: &mut S, gateway: &Gateway)
-        ensures { S.traffic around.new ≡ S.traffic around.old }
+        ensures traffic { S.traffic around.new ≡ S.traffic around.old }
+        ensures watchers { WatchesOn S.answers self.old.watchers.places around.new self.new.watchers.places }
     {
         let now = gateway.now();
         if !self.watchers.is_watched(now) {
