@@ -1,7 +1,7 @@
 //! The loop: it asks what comes next, and does that.
 #![tactic(auto, using(crate::proofs::DeskLemmas::stays_so))]
 
-ghost use Rattle.std.specs.Prelude.{◌≡◌, ◌≤◌, ◌⊎◌, ◌-◌, ◌^◌, ℕ, Bool, true, false, not, List, [], IfOk, is_ok};
+ghost use Rattle.std.specs.Prelude.{◌≡◌, ◌↔◌, ◌≤◌, ◌⊎◌, ◌-◌, ◌^◌, ℕ, Bool, true, false, not, codes, List, [], IsTrue, IfOk, is_ok};
 ghost use Rattle.turns.specs.Runs.{is_end};
 ghost use Rattle.plain_machine.specs.Event.{GatewayEvent};
 ghost use Rattle.plain_machine.specs.Lists.{plain};
@@ -13,7 +13,7 @@ ghost use Rattle.surroundings.specs.Hearing.{AnswersTo};
 ghost use Rattle.surroundings.specs.Requests.{requests_from};
 ghost use Rattle.surroundings.specs.Typing.{left_of, behind};
 ghost use Rattle.live_gateway.specs.Desk.{at_desk, with_input, GoesOn};
-ghost use Rattle.live_gateway.specs.Ending.{EndsAt, WroteTimes};
+ghost use Rattle.live_gateway.specs.Ending.{EndsAt, WroteTimes, AsksForEnd};
 
 use crate::admission::Admission;
 use crate::answering::{
@@ -71,6 +71,16 @@ impl<S: Drop, T: Drop> Drop for Desk<S, T> {
         drop(lines);
         drop(admitted);
         drop(watch);
+    }
+}
+
+// Whether the line that is answered next asks for the end, and came from this machine.
+fn asks_for_end(lines: &Lines) -> bool
+    ensures { IsTrue result ↔ AsksForEnd lines.now }
+{
+    match lines.line() {
+        Some(line) => line == b"stop".as_slice() && lines.is_from_loopback(),
+        None => false,
     }
 }
 
@@ -490,12 +500,13 @@ impl<S: Surroundings + Drop, T: Teller + Drop> Desk<S, T> {
 
     /// The gateway has ended, and all is written that is told of it: who asked for the end is answered, where somebody did. What
     /// stands behind that in the datagram isn't done.
-    pub fn answer_stop(&mut self) {
-        let is_asked = match self.lines.line() {
-            Some(line) => line == b"stop".as_slice() && self.lines.is_from_loopback(),
-            None => false,
-        };
-        if is_asked {
+    pub fn answer_stop(&mut self)
+        ensures play { at_desk T.told S.traffic self.new ≡ at_desk T.told S.traffic self.old }
+        ensures stopped { AsksForEnd self.old.lines.value →
+            AnswersTo S.answers self.old.lines.value.sender self.old.exchange.value.around (codes "done\n") self.new.exchange.value.around }
+        ensures other { (AsksForEnd self.old.lines.value → ⊥) → self.new.exchange ≡ self.old.exchange }
+    {
+        if asks_for_end(&self.lines) {
             self.lines.answer_all(&mut self.exchange.around, DONE);
         }
     }
