@@ -14,6 +14,7 @@
 //! - `due 500` when something falls due next; `due none`;
 //! - `answers 1  200  200 1 OK¶` the answer to the command with this id; `answers 2  none`;
 //! - `taken 1  L/hd,D/5` what notifications of a line told; `taken 2  none`.
+use crate::boxing::boxed;
 use crate::forms::{
     Command, act_in, address_in, but_refusal, command_in, number_of, put_answer, put_refusal,
     put_taken, text_of,
@@ -41,10 +42,10 @@ pub struct AgentScenario {
     told: usize,
 }
 
-// An agent in a box, since a check pays for all that a value holds inline at each step of a function that has one.
-fn boxed(alloc: Global, made: Result<Agent, OutOfMemory>) -> Result<Box<Agent>, OutOfMemory> {
+// An agent that was made, in a box.
+fn in_box(alloc: Global, made: Result<Agent, OutOfMemory>) -> Result<Box<Agent>, OutOfMemory> {
     match made {
-        Ok(agent) => Ok(Box::new(alloc, agent)?),
+        Ok(agent) => boxed(alloc, agent),
         Err(_) => Err(AllocError),
     }
 }
@@ -58,7 +59,7 @@ fn agent_from(alloc: Global, first: u32) -> Result<Box<Agent>, OutOfMemory> {
     };
     let domain = Text::of(bytes_of(alloc, "rgw.example.net")?);
     let own = Route::One(agent_address());
-    boxed(
+    in_box(
         alloc,
         Agent::new(alloc, own, gateway_address(), domain, 2, first),
     )

@@ -1,4 +1,5 @@
 //! The gateway that scenarios are about, its configuration, the addresses of both ends, and what rows ask of a gateway.
+use crate::boxing::boxed;
 use endpoint_names::Route;
 use gateway_core::{Config, ConfigFault, Gateway, NamedRoute};
 use mg_bytes::{OutOfMemory, Sequence, Text};
@@ -63,10 +64,10 @@ pub fn config_with(alloc: Global, lines: u32, entity: &[u8]) -> Result<Config, O
     })
 }
 
-// A gateway in a box, since a check pays for all that a value holds inline at each step of a function that has one.
-fn boxed(alloc: Global, made: Result<Gateway, ConfigFault>) -> Result<Box<Gateway>, OutOfMemory> {
+// A gateway that was made, in a box.
+fn in_box(alloc: Global, made: Result<Gateway, ConfigFault>) -> Result<Box<Gateway>, OutOfMemory> {
     match made {
-        Ok(gateway) => Ok(Box::new(alloc, gateway)?),
+        Ok(gateway) => boxed(alloc, gateway),
         Err(_) => Err(AllocError),
     }
 }
@@ -74,7 +75,7 @@ fn boxed(alloc: Global, made: Result<Gateway, ConfigFault>) -> Result<Box<Gatewa
 /// The gateway of the usual settings, to which nothing came yet.
 pub fn usual_gateway(alloc: Global) -> Result<Box<Gateway>, OutOfMemory> {
     let config = config_with(alloc, LINES, ENTITY.as_bytes())?;
-    boxed(alloc, Gateway::new(alloc, config))
+    in_box(alloc, Gateway::new(alloc, config))
 }
 
 /// `1 off`: puts the telephone of a line.

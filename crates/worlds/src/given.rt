@@ -1,4 +1,5 @@
 //! What a world is given: its configuration, and the steps that it takes.
+use crate::boxing::boxed;
 use crate::forms::{Command, act_in, but_refusal, command_in, number_of};
 use crate::gateways::config_with;
 use agent_core::{Step, World};
@@ -57,10 +58,10 @@ pub fn given_in(row: &mut Row<'_>, word: &str) -> Option<Given> {
     })
 }
 
-// A world in a box, since a check pays for all that a value holds inline at each step of a function that has one.
-fn boxed(alloc: Global, made: Result<World, ConfigFault>) -> Result<Box<World>, ConfigFault> {
+// A world that was made, in a box.
+fn in_box(alloc: Global, made: Result<World, ConfigFault>) -> Result<Box<World>, ConfigFault> {
     match made {
-        Ok(world) => Box::new(alloc, world).ok().ok_or(ConfigFault::OutOfMemory),
+        Ok(world) => Ok(boxed(alloc, world)?),
         Err(fault) => Err(fault),
     }
 }
@@ -68,7 +69,7 @@ fn boxed(alloc: Global, made: Result<World, ConfigFault>) -> Result<Box<World>, 
 /// A new world with so many lines, whose gateway reports to this entity; all else as it usually is.
 pub fn world_of(alloc: Global, lines: u32, entity: &[u8]) -> Result<Box<World>, ConfigFault> {
     let config = config_with(alloc, lines, entity)?;
-    boxed(alloc, World::new(alloc, config))
+    in_box(alloc, World::new(alloc, config))
 }
 
 /// The same, whose gateway's ids begin with this number.
@@ -79,5 +80,5 @@ pub fn world_from(
     first: u32,
 ) -> Result<Box<World>, ConfigFault> {
     let config = config_with(alloc, lines, entity)?;
-    boxed(alloc, World::starting_at(alloc, config, first % FIRSTS))
+    in_box(alloc, World::starting_at(alloc, config, first % FIRSTS))
 }

@@ -11,6 +11,7 @@
 #![tactic(auto)]
 
 mod agents;
+mod boxing;
 mod filling;
 mod forms;
 mod gateways;

@@ -2,6 +2,7 @@
 //!
 //! Where the gateway is refused memory it must be as the twin still is: in what can be read of it, and in what it does
 //! next, be that the same event or another.
+use crate::boxing::boxed;
 use connections::Connection;
 use gateway_core::{Event, Gateway, OutDatagram, Outputs, Refusal};
 use mg_bytes::OutOfMemory;
@@ -19,16 +20,16 @@ pub struct Played {
     pub steps: Vec<ScriptStep>,
 }
 
-fn boxed(alloc: Global, scene: Scene) -> Result<Played, OutOfMemory> {
+fn in_box(alloc: Global, scene: Scene) -> Result<Played, OutOfMemory> {
     let Scene { gateway, steps } = scene;
-    let gateway = Box::new(alloc, gateway)?;
+    let gateway = boxed(alloc, gateway)?;
     Ok(Played { gateway, steps })
 }
 
 /// What an input has to play; nothing where it is refused.
 pub fn scene_of(alloc: Global, input: &[u8]) -> Result<Option<Played>, OutOfMemory> {
     match judge(alloc, input) {
-        Ok(scene) => Ok(Some(boxed(alloc, scene)?)),
+        Ok(scene) => Ok(Some(in_box(alloc, scene)?)),
         Err(PlayFault::OutOfMemory) => Err(AllocError),
         Err(_) => Ok(None),
     }

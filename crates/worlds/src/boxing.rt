@@ -1,0 +1,12 @@
+//! Large values in a place of their own.
+use mg_bytes::OutOfMemory;
+use std::alloc::{AllocError, Global};
+
+/// A value in a box, since a check pays for all that a value holds inline at each step of a function that has one. What `Box::new` gives
+/// where memory is refused holds the value too.
+pub fn boxed<T: Drop>(alloc: Global, value: T) -> Result<Box<T>, OutOfMemory> {
+    match Box::new(alloc, value) {
+        Ok(held) => Ok(held),
+        Err(_) => Err(AllocError),
+    }
+}
