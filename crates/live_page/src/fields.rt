@@ -71,7 +71,8 @@ fn put_kept(response: &mut Response, content: Content) -> Result<(), AllocError>
         response,
         header::X_CONTENT_TYPE_OPTIONS,
         HeaderValue::from_static("nosniff"),
-    )
+    )?;
+    Ok(())
 }
 
 // Puts that a browser shows it in no other's frame, and tells nobody of it.
