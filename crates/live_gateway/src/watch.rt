@@ -1,5 +1,5 @@
 //! Who watches is told what changes at the lines.
-ghost use Rattle.std.specs.Prelude.{◌≡◌, ◌≤◌, ◌-◌, ◌⊎◌, [], codes, List, false, Ok, IfOk, IfErr, OnOk, slice_get};
+ghost use Rattle.std.specs.Prelude.{◌≡◌, ◌≤◌, ◌-◌, ◌⊎◌, [], codes, List, false, IfOk, IfErr, OnOk, slice_get};
 ghost use Rattle.plain_machine.specs.Event.{GatewayEvent};
 ghost use Rattle.plain_machine.specs.Lists.{plain};
 ghost use Rattle.gateway_core.specs.Stands.{Stands};
@@ -96,7 +96,7 @@ impl Watch {
     ) -> Result<bool, OutOfMemory>
         requires { seconds ≤ longest_watch }
         ensures told { self.new.told ≡ self.old.told }
-        ensures full { result ≡ Ok false → self.new.watchers ≡ self.old.watchers }
+        ensures full { IfOk result (λ watches. watches ≡ false → self.new.watchers ≡ self.old.watchers) }
         ensures refused { IfErr result (λ _. self.new.watchers ≡ self.old.watchers) }
     {
         let now = gateway.now();
