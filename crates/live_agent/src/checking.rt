@@ -402,7 +402,7 @@ fn check_with<R: Net + Clock, F: Write + Drop>(
 }
 
 // Does that, and gives the exit status, and the report as JUnit's XML, where that is wanted.
-fn checked<R: Net + Clock, F: Write + Drop>(
+fn outcome_of<R: Net + Clock, F: Write + Drop>(
     out: &mut Outlet<F>,
     checking: &mut Checking<'_>,
     ends: &mut Ends<'_, R>,
@@ -434,7 +434,7 @@ fn check_by<R: AllocGlobal + Net + Clock, F: Write + Drop>(
         there: there.as_str(),
         cases: String::new(alloc),
     };
-    checked(out, &mut checking, ends)
+    outcome_of(out, &mut checking, ends)
 }
 
 /// Checks a gateway as the settings ask, and reports by this outlet, a check at a time: what came of it. An error says why nothing
