@@ -82,14 +82,14 @@ fn served_ending<'w>(
     }
 }
 
-// Serves with what is configured: how the program ends then.
+// Serves with what is configured.
 fn serve_with<'w, R: Files + Net + Clock>(
     rt: &R,
     alloc: Global,
     settings: &Settings<'w>,
     config: &AgentConfig,
     outlets: &mut Outlets<R::File>,
-) -> CommonEnding<'w> {
+) -> Result<(), Ending<'w>> {
     let wire = wire_settings(settings, config);
     match serve_agent(
         rt,
@@ -100,22 +100,8 @@ fn serve_with<'w, R: Files + Net + Clock>(
         settings.capture,
         outlets,
     ) {
-        Ok(()) => CommonEnding::Served,
-        Err(fault) => served_ending(fault, wire, settings),
-    }
-}
-
-// Does what the settings ask, with this text of the configuration: how the program ends then.
-fn perform_with<'w, R: Files + Net + Clock>(
-    rt: &R,
-    alloc: Global,
-    settings: &Settings<'w>,
-    text: &[u8],
-    outlets: &mut Outlets<R::File>,
-) -> Ending<'w> {
-    match config_of(alloc, settings, text) {
-        Ok(config) => Ending::Common(serve_with(rt, alloc, settings, &config, outlets)),
-        Err(refusal) => config_ending(settings.config, refusal),
+        Ok(()) => Ok(()),
+        Err(fault) => Err(Ending::Common(served_ending(fault, wire, settings))),
     }
 }
 
@@ -125,10 +111,12 @@ fn perform<'w, R: Files + Net + Clock>(
     alloc: Global,
     settings: &Settings<'w>,
     outlets: &mut Outlets<R::File>,
-) -> Ending<'w> {
-    match read_file(rt, alloc, settings.config, LIMIT as u64) {
-        Ok(text) => perform_with(rt, alloc, settings, text.as_slice(), outlets),
-        Err(ending) => Ending::Common(ending),
+) -> Result<(), Ending<'w>> {
+    let file = settings.config;
+    let text = read_file(rt, alloc, file, LIMIT as u64)?;
+    match config_of(alloc, settings, text.as_slice()) {
+        Ok(config) => serve_with(rt, alloc, settings, &config, outlets),
+        Err(refusal) => Err(config_ending(file, refusal)),
     }
 }
 
@@ -138,9 +126,13 @@ fn ending_of<'w, R: AllocGlobal + Files + Net + Clock>(
     words: &'w [String],
     outlets: &mut Outlets<R::File>,
 ) -> Ending<'w> {
-    match read_words(rt.alloc(), words, &mut outlets.error) {
-        Ok(settings) => perform(rt, rt.alloc(), &settings, outlets),
-        Err(fault) => Ending::from(fault),
+    let settings = match read_words(rt.alloc(), words, &mut outlets.error) {
+        Ok(settings) => settings,
+        Err(fault) => return Ending::from(fault),
+    };
+    match perform(rt, rt.alloc(), &settings, outlets) {
+        Ok(()) => Ending::Common(CommonEnding::Served),
+        Err(ending) => ending,
     }
 }
 

@@ -44,13 +44,12 @@ fn play_with<'w, R: Net + Clock>(
     settings: &PhoneSettings<'w>,
     player: &mut Player,
 ) -> Result<Ending<'w>, OutOfMemory> {
-    match play_phones(alloc, live, player, settings.addresses.as_slice()) {
-        Ok(Played::Done) => Ok(Ending::Played),
-        Ok(Played::Failed { failure }) => {
+    match play_phones(alloc, live, player, settings.addresses.as_slice())? {
+        Played::Done => Ok(Ending::Played),
+        Played::Failed { failure } => {
             failure_ending(alloc, player.files(), settings.names.as_slice(), &failure)
         }
-        Ok(Played::Clock) => Ok(Ending::Common(CommonEnding::Clock)),
-        Err(refused) => Err(refused),
+        Played::Clock => Ok(Ending::Common(CommonEnding::Clock)),
     }
 }
 
@@ -86,14 +85,9 @@ fn play_by<'w, R: Files + Net + Clock>(
     rt: &R,
     alloc: Global,
     settings: &PhoneSettings<'w>,
-) -> Ending<'w> {
-    match read_script(rt, alloc, settings) {
-        Ok(script) => match play(rt, alloc, settings, script) {
-            Ok(ending) => ending,
-            Err(refused) => Ending::from(refused),
-        },
-        Err(ending) => ending,
-    }
+) -> Result<Ending<'w>, Ending<'w>> {
+    let script = read_script(rt, alloc, settings)?;
+    Ok(play(rt, alloc, settings, script)?)
 }
 
 /// How the program ends by a play with these words, of which the first is `phones`.
@@ -102,8 +96,12 @@ pub fn played<'w, R: Files + Net + Clock>(
     alloc: Global,
     words: &'w [String],
 ) -> Ending<'w> {
-    match read_phone_words(alloc, words) {
-        Ok(settings) => play_by(rt, alloc, &settings),
-        Err(fault) => phone_words_ending(fault),
+    let settings = match read_phone_words(alloc, words) {
+        Ok(settings) => settings,
+        Err(fault) => return phone_words_ending(fault),
+    };
+    match play_by(rt, alloc, &settings) {
+        Ok(ending) => ending,
+        Err(ending) => ending,
     }
 }
