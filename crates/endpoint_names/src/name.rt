@@ -156,12 +156,11 @@ fn put_local_name(alloc: Global, out: &mut Vec<u8>, pattern: Pattern) -> Result<
     match pattern {
         Pattern::One(line) => {
             out.extend_from_slice(b"aaln/")?;
-            put_decimal(alloc, out, u64::from(line))?;
+            put_decimal(alloc, out, u64::from(line))
         }
-        Pattern::All => out.push(b'*')?,
-        Pattern::Any => out.push(b'$')?,
+        Pattern::All => out.extend_from_slice(b"*"),
+        Pattern::Any => out.extend_from_slice(b"$"),
     }
-    Ok(())
 }
 
 /// The name of endpoints on the gateway with this domain, as it is written (RFC 3435, 2.1.2): `aaln/` and the line's

@@ -116,18 +116,11 @@ pub(crate) fn put_events(out: &mut Vec<u8>, events: Events) -> Result<(), OutOfM
     ensures { OnOk result (out.new.items ≡ out.old.items ++ events_text events) }
 {
     match events {
-        Events::AllOfLine => {
-            out.extend_from_slice(b"L/all")?;
-            Ok(())
-        }
-        Events::One(event) => {
-            out.extend_from_slice(event_name(event))?;
-            Ok(())
-        }
+        Events::AllOfLine => out.extend_from_slice(b"L/all"),
+        Events::One(event) => out.extend_from_slice(event_name(event)),
         Events::Letters(set) => {
             out.extend_from_slice(b"D/")?;
-            put_letters(out, set)?;
-            Ok(())
+            put_letters(out, set)
         }
     }
 }

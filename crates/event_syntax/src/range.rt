@@ -50,8 +50,7 @@ pub(crate) fn put_letters(out: &mut Vec<u8>, set: [bool; 17]) -> Result<(), OutO
     }
     out.push(b'[')?;
     put_each(out, set)?;
-    out.push(b']')?;
-    Ok(())
+    out.extend_from_slice(b"]")
 }
 
 fn is_single(set: [bool; 17]) -> bool

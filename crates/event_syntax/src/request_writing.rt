@@ -31,18 +31,20 @@ fn put_comma(out: &mut Vec<u8>, before: bool, behind: bool) -> Result<(), OutOfM
     ensures { OnOk result (out.new.items ≡ out.old.items ++ (if before && behind then comma ∷ [] else [])) }
 {
     if before && behind {
-        out.push(b',')?;
+        out.extend_from_slice(b",")
+    } else {
+        Ok(())
     }
-    Ok(())
 }
 
 fn put_keep(out: &mut Vec<u8>, keep: bool) -> Result<(), OutOfMemory>
     ensures { OnOk result (out.new.items ≡ out.old.items ++ listed (keep_text keep)) }
 {
     if keep {
-        out.push(b'K')?;
+        out.extend_from_slice(b"K")
+    } else {
+        Ok(())
     }
-    Ok(())
 }
 
 #[tactic(auto, unfolding(crate::specs::Requested::embedded_event_text))]
@@ -54,8 +56,7 @@ fn put_embedded_event(out: &mut Vec<u8>, event: EmbeddedEvent) -> Result<(), Out
     out.extend_from_slice(action_name(event.action))?;
     put_comma(out, true, event.keep)?;
     put_keep(out, event.keep)?;
-    out.push(b')')?;
-    Ok(())
+    out.extend_from_slice(b")")
 }
 
 fn put_embedded_events(out: &mut Vec<u8>, events: &[EmbeddedEvent]) -> Result<(), OutOfMemory>
@@ -76,8 +77,7 @@ fn put_events_part(out: &mut Vec<u8>, events: &[EmbeddedEvent]) -> Result<(), Ou
     }
     out.extend_from_slice(b"R(")?;
     put_embedded_events(out, events)?;
-    out.push(b')')?;
-    Ok(())
+    out.extend_from_slice(b")")
 }
 
 fn put_signals_part(
@@ -93,8 +93,7 @@ fn put_signals_part(
     let text = write_signals(alloc, signals)?;
     out.extend_from_slice(b"S(")?;
     out.extend_from_slice(text.as_bytes())?;
-    out.push(b')')?;
-    Ok(())
+    out.extend_from_slice(b")")
 }
 
 fn put_map_part(out: &mut Vec<u8>, map: &Option<MapText>) -> Result<(), OutOfMemory>
@@ -104,8 +103,7 @@ fn put_map_part(out: &mut Vec<u8>, map: &Option<MapText>) -> Result<(), OutOfMem
         Some(text) => {
             out.extend_from_slice(b"D(")?;
             out.extend_from_slice(text.as_bytes())?;
-            out.push(b')')?;
-            Ok(())
+            out.extend_from_slice(b")")
         }
         None => Ok(()),
     }
@@ -136,26 +134,18 @@ fn put_embedded(
 {
     out.extend_from_slice(b"E(")?;
     put_parts(alloc, out, request)?;
-    out.push(b')')?;
-    Ok(())
+    out.extend_from_slice(b")")
 }
 
 fn put_reaction(alloc: Global, out: &mut Vec<u8>, reaction: &Reaction) -> Result<(), OutOfMemory>
     ensures { OnOk result (out.new.items ≡ out.old.items ++ listed (actions_text reaction.now)) }
 {
     match reaction {
-        Reaction::Plain(action) => {
-            out.extend_from_slice(action_name(*action))?;
-            Ok(())
-        }
-        Reaction::Embed(embedding) => {
-            put_embedded(alloc, out, embedding.request())?;
-            Ok(())
-        }
+        Reaction::Plain(action) => out.extend_from_slice(action_name(*action)),
+        Reaction::Embed(embedding) => put_embedded(alloc, out, embedding.request()),
         Reaction::AccumulateAndEmbed(embedding) => {
             out.extend_from_slice(b"A,")?;
-            put_embedded(alloc, out, embedding.request())?;
-            Ok(())
+            put_embedded(alloc, out, embedding.request())
         }
     }
 }
@@ -173,8 +163,7 @@ fn put_requested(
     put_reaction(alloc, out, &entry.reaction)?;
     put_comma(out, true, entry.keep)?;
     put_keep(out, entry.keep)?;
-    out.push(b')')?;
-    Ok(())
+    out.extend_from_slice(b")")
 }
 
 /// The written form of the R of an embedded request (RFC 3435, 2.3.3): the entries with commas between them, each with its

@@ -147,10 +147,10 @@ pub fn read_observed(alloc: Global, value: &[u8]) -> Result<Sequence<Observed>, 
 fn put_completion(out: &mut Vec<u8>, signal: Signal) -> Result<(), OutOfMemory>
     ensures { OnOk result (out.new.items ≡ out.old.items ++ completion_name (completion_of (package_of signal))) }
 {
-    if let Some(completion) = completion_of(signal.package()) {
-        out.extend_from_slice(event_name(completion))?;
+    match completion_of(signal.package()) {
+        Some(completion) => out.extend_from_slice(event_name(completion)),
+        None => Ok(()),
     }
-    Ok(())
 }
 
 #[tactic(auto, unfolding(crate::specs::Observed::observed_entry_text))]
@@ -158,16 +158,12 @@ fn put_observed(out: &mut Vec<u8>, observed: Observed) -> Result<(), OutOfMemory
     ensures { OnOk result (out.new.items ≡ out.old.items ++ observed_entry_text observed) }
 {
     match observed {
-        Observed::Happened(event) => {
-            out.extend_from_slice(event_name(event))?;
-            Ok(())
-        }
+        Observed::Happened(event) => out.extend_from_slice(event_name(event)),
         Observed::Ended(signal) => {
             put_completion(out, signal)?;
             out.push(b'(')?;
             out.extend_from_slice(signal_name(signal))?;
-            out.push(b')')?;
-            Ok(())
+            out.extend_from_slice(b")")
         }
     }
 }

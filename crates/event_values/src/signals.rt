@@ -220,15 +220,11 @@ fn put_setting(alloc: Global, out: &mut Vec<u8>, setting: Setting) -> Result<(),
 {
     match setting {
         Setting::Start => Ok(()),
-        Setting::Stop => {
-            out.extend_from_slice(b"(-)")?;
-            Ok(())
-        }
+        Setting::Stop => out.extend_from_slice(b"(-)"),
         Setting::Lasting(ms) => {
             out.extend_from_slice(b"(to=")?;
             put_decimal(alloc, out, u64::from(ms))?;
-            out.extend_from_slice(b")")?;
-            Ok(())
+            out.extend_from_slice(b")")
         }
     }
 }
