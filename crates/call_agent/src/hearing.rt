@@ -37,10 +37,7 @@ fn handle(
             let origin = Origin { source, id: *id };
             execute(context, state, origin, *verb, name.as_slice(), said, out)
         }
-        Message::Response { code, id, .. } => {
-            respond(context, state, *id, *code, text)?;
-            Ok(())
-        }
+        Message::Response { code, id, .. } => respond(context, state, *id, *code, text),
     }
 }
 

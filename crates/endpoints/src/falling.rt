@@ -94,12 +94,11 @@ fn happen(
 {
     let DueItem { moment, line, kind } = item;
     match owner_of(line) {
-        PostOwner::Gateway => happen_itself(context, store, moment, kind, out)?,
+        PostOwner::Gateway => happen_itself(context, store, moment, kind, out),
         PostOwner::Line(line) => {
-            happen_on_line(context, store, Occasion { line, moment }, kind, out)?
+            happen_on_line(context, store, Occasion { line, moment }, kind, out)
         }
     }
-    Ok(())
 }
 
 // What is due up to a moment happens, the first first.

@@ -205,10 +205,9 @@ pub fn respond_to_its_id(
     ensures err { OnErr result (IsUndoneByItsOwner out.old.items out.new.items) }
 {
     match owner_of(line_of_id(response.id)) {
-        PostOwner::Gateway => respond_whole(context, store, moment, response, out)?,
+        PostOwner::Gateway => respond_whole(context, store, moment, response, out),
         PostOwner::Line(line) => {
-            respond_on_line(context, store, Occasion { line, moment }, response, out)?
+            respond_on_line(context, store, Occasion { line, moment }, response, out)
         }
     }
-    Ok(())
 }
