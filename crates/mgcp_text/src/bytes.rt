@@ -4,16 +4,25 @@ ghost use Rattle.std.specs.Prelude.{◌≡◌};
 use mg_bytes::Text;
 use std::marker::Model;
 
-#[derive(Drop)]
 enum Held<'a> {
     Borrowed(&'a [u8]),
     Owned(Text),
 }
 
 /// A part of a text, borrowed or owned. A contract sees the list of its bytes.
-#[derive(Drop)]
 pub struct Bytes<'a> {
     held: Held<'a>,
+}
+
+// Written out: a derived drop, and those of all its parts, are proved anew by each crate that lets one go.
+impl Drop for Bytes<'_> {
+    fn drop(self) {
+        let Bytes { held } = self;
+        match held {
+            Held::Borrowed(_) => {}
+            Held::Owned(text) => drop(text),
+        }
+    }
 }
 
 impl<'a> Model for Bytes<'a> {

@@ -6,10 +6,18 @@ use crate::id::TransactionId;
 use mg_bytes::{OutOfMemory, Sequence};
 
 /// A parameter: a code and a value (RFC 3435, 3.2.2).
-#[derive(Drop)]
 pub struct Param<'a> {
     pub code: Bytes<'a>,
     pub value: Bytes<'a>,
+}
+
+// Written out: a derived drop, and those of all its parts, are proved anew by each crate that lets one go.
+impl Drop for Param<'_> {
+    fn drop(self) {
+        let Param { code, value } = self;
+        drop(code);
+        drop(value);
+    }
 }
 
 /// Parameters in their order. A contract sees their list.
