@@ -12,6 +12,43 @@ const SDP: &str =
 // Signs of a datagram's text, and what each stands for.
 const SIGNS: [(&str, &str); 3] = [(" / ", "\r\n"), ("\\t", "\t"), ("\\n", "\n")];
 
+// What a name stands for in each check.
+#[derive(Clone, Copy)]
+enum Meaning {
+    Line,
+    UpperLine,
+    Other,
+    Local,
+    Domain,
+    Here,
+    There,
+    Call,
+    Description,
+    // That of a value that an answer gave.
+    Kept,
+}
+
+const NAMES: [(&str, Meaning); 9] = [
+    ("line", Meaning::Line),
+    ("LINE", Meaning::UpperLine),
+    ("other", Meaning::Other),
+    ("local", Meaning::Local),
+    ("domain", Meaning::Domain),
+    ("here", Meaning::Here),
+    ("there", Meaning::There),
+    ("call", Meaning::Call),
+    ("sdp", Meaning::Description),
+];
+
+fn meaning_of(text: &str) -> Meaning {
+    for (name, meaning) in NAMES.iter() {
+        if *name == text {
+            return *meaning;
+        }
+    }
+    Meaning::Kept
+}
+
 /// A value that an answer gave, and its name.
 #[derive(Drop)]
 struct Kept<'a> {
@@ -103,17 +140,17 @@ impl<'a> Names<'a> {
             return write!(out, "{id}");
         }
         let places = &self.places;
-        match name {
-            "line" => write!(out, "{}@{}", places.local, places.domain),
-            "LINE" => self.put_upper(out),
-            "other" => write!(out, "{}@{}", places.other, places.domain),
-            "local" => out.push_str(places.local),
-            "domain" => out.push_str(places.domain),
-            "here" => out.push_str(places.here),
-            "there" => out.push_str(places.there),
-            "call" => write!(out, "{}", self.base),
-            "sdp" => out.push_str(SDP),
-            _ => self.put_kept(out, name),
+        match meaning_of(name) {
+            Meaning::Line => write!(out, "{}@{}", places.local, places.domain),
+            Meaning::UpperLine => self.put_upper(out),
+            Meaning::Other => write!(out, "{}@{}", places.other, places.domain),
+            Meaning::Local => out.push_str(places.local),
+            Meaning::Domain => out.push_str(places.domain),
+            Meaning::Here => out.push_str(places.here),
+            Meaning::There => out.push_str(places.there),
+            Meaning::Call => write!(out, "{}", self.base),
+            Meaning::Description => out.push_str(SDP),
+            Meaning::Kept => self.put_kept(out, name),
         }
     }
 
