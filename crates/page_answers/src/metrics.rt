@@ -1,7 +1,7 @@
 //! What was counted, in Prometheus' text format.
-ghost use Rattle.std.specs.Prelude.{◌≡◌, ◌++◌, OnOk, IfOk};
+ghost use Rattle.std.specs.Prelude.{◌≡◌, ◌++◌, codes, OnOk, IfOk};
 ghost use Rattle.std.specs.List.{flat_map};
-ghost use Rattle.page_answers.specs.Metrics.{escaped_byte, escaped, help_line, type_line, family_head, plain_sample, label_begun, label_ended, labelled_sample, code_text, verb_sample, verb_samples, code_sample, code_samples, file_sample, file_samples, single, datagrams_text, commands_head, answers_head, traffic_text, own_counters, given_up_text, sends_text, sent_text, repeats_text, useless_counters, faults_text, dropped_text, write_faults_head, records_text, number_if, gauges_text, metrics_of};
+ghost use Rattle.page_answers.specs.Metrics.{escaped_byte, escaped, family_head, plain_sample, label_begun, label_ended, labelled_sample, code_text, verb_sample, verb_samples, code_sample, code_samples, file_sample, file_samples, single, datagrams_text, commands_head, answers_head, traffic_text, own_counters, given_up_text, sends_text, sent_text, repeats_text, useless_counters, faults_text, dropped_text, write_faults_head, records_text, number_if, gauges_text, metrics_of};
 ghost use Rattle.page_answers.specs.Samples.{single_of, family_of};
 
 use crate::counts::{CodeCount, Counts, FileCount, PLACES, VerbCount, verb_word};
@@ -36,23 +36,14 @@ fn put_escaped(out: &mut Vec<u8>, text: &[u8]) -> Result<(), OutOfMemory>
     Ok(())
 }
 
-fn put_help(out: &mut Vec<u8>, name: &[u8], help: &[u8]) -> Result<(), OutOfMemory>
-    ensures { OnOk result (out.new.items ≡ out.old.items ++ help_line name.now help.now) }
+// A line that says something of a metric: which this is stands before its name.
+fn put_said(out: &mut Vec<u8>, what: &[u8], name: &[u8], text: &[u8]) -> Result<(), OutOfMemory>
+    ensures { OnOk result (out.new.items ≡ out.old.items ++ (what.now ++ name.now ++ codes " " ++ text.now ++ codes "\n")) }
 {
-    out.extend_from_slice(b"# HELP ")?;
+    out.extend_from_slice(what)?;
     out.extend_from_slice(name)?;
     out.extend_from_slice(b" ")?;
-    out.extend_from_slice(help)?;
-    out.extend_from_slice(b"\n")
-}
-
-fn put_type(out: &mut Vec<u8>, name: &[u8], kind: &[u8]) -> Result<(), OutOfMemory>
-    ensures { OnOk result (out.new.items ≡ out.old.items ++ type_line name.now kind.now) }
-{
-    out.extend_from_slice(b"# TYPE ")?;
-    out.extend_from_slice(name)?;
-    out.extend_from_slice(b" ")?;
-    out.extend_from_slice(kind)?;
+    out.extend_from_slice(text)?;
     out.extend_from_slice(b"\n")
 }
 
@@ -61,8 +52,8 @@ fn put_head(out: &mut Vec<u8>, metric: Metric) -> Result<(), OutOfMemory>
     ensures { OnOk result (out.new.items
         ≡ out.old.items ++ family_head metric.name.now metric.kind.now metric.help.now) }
 {
-    put_help(out, metric.name, metric.help)?;
-    put_type(out, metric.name, metric.kind)
+    put_said(out, b"# HELP ", metric.name, metric.help)?;
+    put_said(out, b"# TYPE ", metric.name, metric.kind)
 }
 
 fn put_plain(alloc: Global, out: &mut Vec<u8>, name: &[u8], number: u64) -> Result<(), OutOfMemory>
