@@ -5,5 +5,6 @@ pub mod Admitting
 pub mod Naming
 pub mod Desk
 pub mod Ending
+pub mod Turning
 pub mod Watching
 pub mod Example

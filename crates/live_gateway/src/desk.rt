@@ -3,7 +3,7 @@
 
 ghost use Rattle.std.specs.Prelude.{◌≡◌, ◌↔◌, ◌≤◌, ◌⊎◌, ◌-◌, ◌^◌, ℕ, Bool, true, false, not, codes, List, [], IsTrue, IfOk, is_ok};
 ghost use Rattle.turns.specs.Runs.{is_end};
-ghost use Rattle.plain_machine.specs.Event.{GatewayEvent};
+ghost use Rattle.plain_machine.specs.Event.{GatewayEvent, tick};
 ghost use Rattle.plain_machine.specs.Lists.{plain};
 ghost use Rattle.gateway_core.specs.Stands.{Stands};
 ghost use Rattle.line_changes.specs.Watching.{longest_watch};
@@ -14,6 +14,8 @@ ghost use Rattle.surroundings.specs.Requests.{requests_from};
 ghost use Rattle.surroundings.specs.Typing.{left_of, behind};
 ghost use Rattle.live_gateway.specs.Desk.{at_desk, with_input, GoesOn};
 ghost use Rattle.live_gateway.specs.Ending.{EndsAt, WroteTimes, AsksForEnd};
+ghost use Rattle.live_gateway.specs.Turning.{Tries, TriesHeard, LooksForOne, DoesLine, Does, DoesNext};
+ghost use Rattle.traces.specs.Writing.{passed};
 
 use crate::admission::Admission;
 use crate::answering::{
@@ -206,7 +208,8 @@ impl<S: Surroundings + Drop, T: Teller + Drop> Desk<S, T> {
     // The clock goes on.
     #[tactic(auto, using(crate::proofs::DeskLemmas::ticks))]
     fn tick(&mut self, moment: u64)
-        ensures { GoesOn T.told S.traffic self.old self.new }
+        ensures play { GoesOn T.told S.traffic self.old self.new }
+        ensures tried { Tries (passed moment) (tick moment) (at_desk T.told S.traffic self.old) (at_desk T.told S.traffic self.new) }
     {
         self.exchange.begin(moment);
         let done = self.play.tick(&mut *self.exchange, moment);
@@ -230,7 +233,9 @@ impl<S: Surroundings + Drop, T: Teller + Drop> Desk<S, T> {
     // A datagram is taken, if one is there, and who sent it is heard.
     #[tactic(auto, using(crate::proofs::DeskLemmas::hears_nobody, crate::proofs::DeskLemmas::hears))]
     fn datagram(&mut self)
-        ensures { GoesOn T.told S.traffic self.old self.new }
+        ensures play { GoesOn T.told S.traffic self.old self.new }
+        ensures looked { LooksForOne S.receives }
+        ensures tried { TriesHeard self.old.admission (at_desk T.told S.traffic self.old) (at_desk T.told S.traffic self.new) }
     {
         let mut room = [0u8; DATAGRAM_ROOM];
         let admission = &self.admission;
@@ -246,7 +251,8 @@ impl<S: Surroundings + Drop, T: Teller + Drop> Desk<S, T> {
 
     // This is answered to the line, which is done with.
     fn answer(&mut self, text: &[u8])
-        ensures play { GoesOn T.told S.traffic self.old self.new }
+        ensures play { at_desk T.told S.traffic self.new ≡ at_desk T.told S.traffic self.old }
+        ensures admission { self.new.admission ≡ self.old.admission }
         ensures answered { AnswersTo S.answers self.old.lines.value.sender self.old.exchange.value.around text.now self.new.exchange.value.around }
         ensures left { left_of self.new.lines.value ≡ requests_from (behind (left_of self.old.lines.value)) }
     {
@@ -255,7 +261,8 @@ impl<S: Surroundings + Drop, T: Teller + Drop> Desk<S, T> {
 
     // This is answered to all lines of the datagram, which are done with.
     fn answer_all(&mut self, text: &[u8])
-        ensures play { GoesOn T.told S.traffic self.old self.new }
+        ensures play { at_desk T.told S.traffic self.new ≡ at_desk T.told S.traffic self.old }
+        ensures admission { self.new.admission ≡ self.old.admission }
         ensures answered { AnswersTo S.answers self.old.lines.value.sender self.old.exchange.value.around text.now self.new.exchange.value.around }
         ensures left { left_of self.new.lines.value ≡ [] }
     {
@@ -300,7 +307,8 @@ impl<S: Surroundings + Drop, T: Teller + Drop> Desk<S, T> {
 
     // What was counted so far is answered.
     fn answer_counts(&mut self)
-        ensures { GoesOn T.told S.traffic self.old self.new }
+        ensures play { at_desk T.told S.traffic self.new ≡ at_desk T.told S.traffic self.old }
+        ensures admission { self.new.admission ≡ self.old.admission }
     {
         match self.counts() {
             Ok(counts) => self.answer(counts.as_slice()),
@@ -310,7 +318,8 @@ impl<S: Surroundings + Drop, T: Teller + Drop> Desk<S, T> {
 
     // What each line is is answered.
     fn answer_all_shown(&mut self)
-        ensures { GoesOn T.told S.traffic self.old self.new }
+        ensures play { at_desk T.told S.traffic self.new ≡ at_desk T.told S.traffic self.old }
+        ensures admission { self.new.admission ≡ self.old.admission }
     {
         match all_shown(self.alloc, &self.play.gateway) {
             Ok(text) => self.answer(text.as_slice()),
@@ -330,10 +339,10 @@ impl<S: Surroundings + Drop, T: Teller + Drop> Desk<S, T> {
     }
 
     // That is answered.
-    #[tactic(auto, using(crate::proofs::DeskLemmas::stays_so, crate::proofs::DeskLemmas::goes_on_then))]
     fn answer_watch(&mut self, seconds: u64)
         requires { seconds ≤ longest_watch }
-        ensures { GoesOn T.told S.traffic self.old self.new }
+        ensures play { at_desk T.told S.traffic self.new ≡ at_desk T.told S.traffic self.old }
+        ensures admission { self.new.admission ≡ self.old.admission }
     {
         match self.watch_answer(seconds) {
             Ok(text) => self.answer(text.as_slice()),
@@ -354,7 +363,8 @@ impl<S: Surroundings + Drop, T: Teller + Drop> Desk<S, T> {
     // What the line asks for that is to be answered next is done.
     #[tactic(auto, using(crate::proofs::DeskLemmas::stays_so, crate::proofs::DeskLemmas::stays, crate::proofs::DeskLemmas::ticks))]
     fn take_line(&mut self)
-        ensures { GoesOn T.told S.traffic self.old self.new }
+        ensures play { GoesOn T.told S.traffic self.old self.new }
+        ensures line { DoesLine (at_desk T.told S.traffic self.old) (at_desk T.told S.traffic self.new) }
     {
         let typist = self.typist();
         let Some(text) = self.lines.line() else {
@@ -398,7 +408,8 @@ impl<S: Surroundings + Drop, T: Teller + Drop> Desk<S, T> {
     // A line is taken, if one is there. Who types and the page take turns: behind what was typed comes one act of the page's.
     #[tactic(auto, using(crate::proofs::DeskLemmas::stays_so, crate::proofs::DeskLemmas::goes_on_then))]
     fn command(&mut self)
-        ensures { GoesOn T.told S.traffic self.old self.new }
+        ensures play { GoesOn T.told S.traffic self.old self.new }
+        ensures line { DoesLine (at_desk T.told S.traffic self.old) (at_desk T.told S.traffic self.new) }
     {
         let was_page = self.is_of_page;
         self.is_of_page = false;
@@ -409,7 +420,8 @@ impl<S: Surroundings + Drop, T: Teller + Drop> Desk<S, T> {
 
     // A visitor is served, if one is there.
     fn visit<V: Visitors<S>>(&mut self, visitors: &mut Option<Box<V>>, moment: u64)
-        ensures { GoesOn T.told S.traffic self.old self.new }
+        ensures play { at_desk T.told S.traffic self.new ≡ at_desk T.told S.traffic self.old }
+        ensures admission { self.new.admission ≡ self.old.admission }
     {
         let faults = self.exchange.faults;
         let behind = moment.saturating_sub(self.play.gateway.now());
@@ -427,6 +439,7 @@ impl<S: Surroundings + Drop, T: Teller + Drop> Desk<S, T> {
     // A turn of somebody's, or a wait, where it is now this moment.
     fn do_turn<V: Visitors<S>>(&mut self, turn: Turn, visitors: &mut Option<Box<V>>, moment: u64)
         ensures play { GoesOn T.told S.traffic self.old self.new }
+        ensures does { Does S.receives self.old.admission turn (at_desk T.told S.traffic self.old) (at_desk T.told S.traffic self.new) }
         ensures over { is_end turn ≡ true → (self.new.play ≡ self.old.play) × (self.new.end ≡ self.old.end) }
     {
         match turn {
@@ -451,6 +464,7 @@ impl<S: Surroundings + Drop, T: Teller + Drop> Desk<S, T> {
     pub fn turn<V: Visitors<S>>(&mut self, visitors: &mut Option<Box<V>>) -> bool
         ensures play { GoesOn T.told S.traffic self.old self.new }
         ensures end { EndsAt self.old.end self.old.play.value.gateway.value (not result) }
+        ensures does { DoesNext S.receives self.old.schedule self.old.admission (at_desk T.told S.traffic self.old) (at_desk T.told S.traffic self.new) }
         ensures over { result ≡ false → (self.new.play ≡ self.old.play) × (self.new.end ≡ self.old.end) }
     {
         let at = self.situation(visitors);

@@ -1,10 +1,12 @@
-use Rattle.std.proofs.Common.{refl}
+use Rattle.std.proofs.Common.{inl, inr, refl, ap}
+use Rattle.live_play.specs.Coming.{Came}
 use Rattle.live_gateway.specs.Exchanging.{handed_by}
 use Rattle.live_gateway.proofs.DeskLemmas.{ticks, asks}
+use Rattle.live_gateway.proofs.TurningLemmas.{tries_act, asks_of}
 use Rattle.live_gateway.proofs.desk.Desk.take_line.Goals as goal
 
-pub returns-in-Show : goal.returns-in-Show
-returns-in-Show g c =
+pub returns-in-Show-clause-play : goal.returns-in-Show-clause-play
+returns-in-Show-clause-play g c =
     asks g.T.Teller.told g.S.Surroundings.traffic _ _
     (rw (c.answer.ensures.traffic, c.deref_mut-in-Show-3.ensures.value)
     (rw (c.deref_mut-in-Show.ensures.value) at
@@ -12,10 +14,39 @@ returns-in-Show g c =
     (rw (c.answer.ensures.traffic, c.deref_mut-in-Show-3.ensures.value) refl)
     refl
 
-pub returns-in-Act : goal.returns-in-Act
-returns-in-Act g c =
+pub returns-in-Show-clause-line : goal.returns-in-Show-clause-line
+returns-in-Show-clause-line g c =
+    inr (inr (
+      _,
+      _,
+      c.in-Show.ensures.said,
+      asks_of _ _ c.ask-asked.result _ _ _
+          (rw (c.answer.ensures.traffic, c.deref_mut-in-Show-3.ensures.value)
+          (rw (c.deref_mut-in-Show.ensures.value) at
+          (c.ask-asked.ensures.answered (handed_by c.args.self.now.exchange.value.network (g.S.Surroundings.traffic c.args.self.now.exchange.value.around).sent))))
+          (rw (c.answer.ensures.traffic, c.deref_mut-in-Show-3.ensures.value)
+          (rw (c.deref_mut-in-Show.ensures.value) at
+          (c.ask-asked.ensures.ran (handed_by c.args.self.now.exchange.value.network (g.S.Surroundings.traffic c.args.self.now.exchange.value.around).sent)))),
+    ))
+
+pub returns-in-Act-clause-play : goal.returns-in-Act-clause-play
+returns-in-Act-clause-play g c =
     ticks g.T.Teller.told g.S.Surroundings.traffic _ _ _ _
     (rw (c.deref_mut-in-Act-2.ensures.value, c.deref_mut-in-Act-3.ensures.value, c.deref_mut.ensures.value) at c.act-done.ensures.ran)
     (rw (c.deref_mut-in-Act-3.ensures.value, c.deref_mut.ensures.value) at c.act-done.ensures.came)
     c.answer_act.ensures.play
     c.answer_act.ensures.admission
+
+pub returns-in-Act-clause-line : goal.returns-in-Act-clause-line
+returns-in-Act-clause-line g c =
+    inr (inl (
+      _,
+      _,
+      _,
+      c.in-Act.ensures.said,
+      tries_act _ _ _ c.act-done.result _ _ _ _
+          (rw (c.deref_mut-in-Act-2.ensures.value, c.deref_mut-in-Act-3.ensures.value, c.deref_mut.ensures.value) at c.act-done.ensures.taken)
+          (rw (c.deref_mut-in-Act-2.ensures.value, c.deref_mut-in-Act-3.ensures.value, c.deref_mut.ensures.value) at c.act-done.ensures.refused)
+          (ap (λ (x : Came). x.refused) (rw (c.deref_mut-in-Act-3.ensures.value, c.deref_mut.ensures.value) at c.act-done.ensures.came))
+          c.answer_act.ensures.play,
+    ))

@@ -1,0 +1,59 @@
+-- What a turn does, from what its calls say.
+use Rattle.std.proofs.Common.{◌≡◌, inl, inr, ℕ, List, [], Option, sym, ◌∙◌, ap, subst}
+use Rattle.std.specs.Prelude.{not, is_ok, Result, Ok, Err, OnOk, OnErr, IfErr}
+use Rattle.std.specs.declared.net.socket_addr.SocketAddrV4.{SocketAddrV4}
+use Rattle.mg_line.specs.declared.phone.Act.{Act}
+use Rattle.gateway_core.specs.Wire.{counted}
+use Rattle.plain_machine.specs.Event.{GatewayEvent, phone}
+use Rattle.plain_machine.specs.declared.refusal.Refusal.{Refusal}
+use Rattle.surroundings.specs.declared.surroundings.Fault.{Fault}
+use Rattle.traces.specs.Writing.{Input, typed}
+use Rattle.turns.specs.declared.turn.Turn.{Turn}
+use Rattle.live_play.specs.Running.{Ran, HeardFrom, Takes, Refuses, Asked}
+use Rattle.live_gateway.specs.declared.admission.Admission.{Admission}
+use Rattle.live_gateway.specs.Desk.{Standing, with_input}
+use Rattle.live_gateway.specs.Turning.{Tries, TriesAct, Asks, DoesLine, Does}
+
+-- it was taken, or refused, and that is counted
+pub tries : {A B : Type 0} (input : Input) (event : GatewayEvent) (done : Result A B) (was mid is : Standing) → OnOk done (Takes was.live input event mid.live)
+    → OnErr done (Ran was.live [] mid.live) → mid.came.refused ≡ was.came.refused → is ≡ with_input (not (is_ok done)) mid → Tries input event was is
+tries input event (Ok done) was mid is takes misses counts same =
+    inl (subst (λ (s : Standing). Takes was.live input event s.live) (sym same) takes, ap (λ (s : Standing). s.came.refused) same ∙ counts)
+tries input event (Err why) was mid is takes misses counts same =
+    inr (
+      subst (λ (s : Standing). Ran was.live [] s.live) (sym same) misses,
+      ap (λ (s : Standing). s.came.refused) same ∙ ap (λ (n : ℕ). counted n 1) counts,
+    )
+
+-- so was an act, and why it was refused is told
+pub tries_act : {A : Type 0} (text : List ℕ) (line : ℕ) (act : Act) (done : Result A Refusal) (printed : List ℕ) (was mid is : Standing)
+    → OnOk done (Takes was.live (typed text) (phone line act) mid.live)
+    → IfErr done (λ refusal. Refuses was.live text (phone line act) refusal printed mid.live)
+    → mid.came.refused ≡ was.came.refused → is ≡ with_input (not (is_ok done)) mid → TriesAct text line act was is
+tries_act text line act (Ok done) printed was mid is takes misses counts same =
+    inl (subst (λ (s : Standing). Takes was.live (typed text) (phone line act) s.live) (sym same) takes, ap (λ (s : Standing). s.came.refused) same ∙ counts)
+tries_act text line act (Err refusal) printed was mid is takes misses counts same =
+    inr (
+      refusal,
+      printed,
+      subst (λ (s : Standing). Refuses was.live text (phone line act) refusal printed s.live) (sym same) misses,
+      ap (λ (s : Standing). s.came.refused) same ∙ ap (λ (n : ℕ). counted n 1) counts,
+    )
+
+-- what a line is was told, unless memory was refused
+pub asks_of : {A B : Type 0} (text : List ℕ) (line : ℕ) (done : Result A B) (printed : List ℕ) (was is : Standing)
+    → OnOk done (Asked was.live text line printed is.live) → HeardFrom (λ (nobody : SocketAddrV4). ⊥) was.live is.live → Asks text line was is
+asks_of text line (Ok done) printed was is asked heard = inl (printed, asked)
+asks_of text line (Err why) printed was is asked heard = inr heard
+
+-- what comes before and behind changes nothing of how it stands
+
+pub line_between : (was mid after is : Standing) → mid ≡ was → is ≡ after → DoesLine mid after → DoesLine was is
+line_between was mid after is before behind does =
+    subst (λ (s : Standing). DoesLine s is) before (subst (λ (s : Standing). DoesLine mid s) (sym behind) does)
+
+pub does_between : {S : Type 0} (receives : S → Result (Option (SocketAddrV4 × ℕ)) Fault → List ℕ → S → Type 0) (admission other : Admission) (turn : Turn)
+    (was mid after is : Standing) → other ≡ admission → mid ≡ was → is ≡ after → Does receives other turn mid after → Does receives admission turn was is
+does_between receives admission other turn was mid after is same before behind does =
+    subst (λ (a : Admission). Does receives a turn was is) same (subst (λ (s : Standing). Does receives other turn s is) before
+    (subst (λ (s : Standing). Does receives other turn mid s) (sym behind) does))
