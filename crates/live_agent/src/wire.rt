@@ -1,6 +1,12 @@
 //! The wire: what datagrams and typed lines come over, and a bad network, where one lies between; and the journal of what goes over it.
-ghost use Rattle.std.specs.Prelude.{◌≡◌, [], false, IfOk};
-ghost use Rattle.surroundings.specs.Typing.{left_of};
+ghost use Rattle.std.specs.Prelude.{◌≡◌, ◌≤◌, ◌∷◌, ℕ, Bool, Option, Result, [], true, false, length, is_some, IfOk, IfSome};
+ghost use Rattle.std.specs.declared.net.socket_addr.SocketAddrV4.{SocketAddrV4 as Peer};
+ghost use Rattle.live_agent.specs.Wiring.{due_of, with_read, read_at, heard_at};
+ghost use Rattle.surroundings.specs.Hearing.{Hears, AnswersTo};
+ghost use Rattle.surroundings.specs.Requests.{requests_from};
+ghost use Rattle.surroundings.specs.Sending.{Grows};
+ghost use Rattle.surroundings.specs.Typing.{left_of, behind};
+ghost use Rattle.surroundings.specs.declared.surroundings.Fault.{Fault};
 
 use agent_texts::{Journal, count};
 use bad_network::{BadNetwork, Fate, Packet, Way};
@@ -111,12 +117,16 @@ impl<S: Surroundings + Drop> Wire<S> {
     }
 
     /// A turn begins.
-    pub(crate) fn begin(&mut self) {
+    pub(crate) fn begin(&mut self)
+        ensures { self.new ≡ record self.old { now = record self.old.now { time = self.new.now.time } } }
+    {
         self.now.time = self.around.time();
     }
 
     /// The moment at which the network hands something out, in ms, if it will.
-    pub(crate) fn network_due(&self) -> Option<u64> {
+    pub(crate) fn network_due(&self) -> Option<u64>
+        ensures { result ≡ due_of self.now.network }
+    {
         match &self.network {
             Some(network) => network.next_due(),
             None => None,
@@ -134,7 +144,12 @@ impl<S: Surroundings + Drop> Wire<S> {
     }
 
     /// A datagram, where one has come: who sent it, and its length. One without a port can't be answered, and doesn't count.
-    pub(crate) fn receive(&mut self, room: &mut [u8]) -> Option<(SocketAddrV4, usize)> {
+    pub(crate) fn receive(&mut self, room: &mut [u8]) -> Option<(SocketAddrV4, usize)>
+        ensures length { length room.new ≡ length room.old }
+        ensures within { IfSome result (λ p. p.1 ≤ length room.new) }
+        ensures looked { (outcome : Result (Option (Peer × ℕ)) Fault) × S.receives self.old.around outcome room.new self.new.around
+            × (result ≡ heard_at outcome) × (self.new.read ≡ read_at outcome self.old.read) }
+    {
         match self.around.receive(room) {
             Ok(Some((source, len))) => {
                 self.read = self.read.saturating_add(1);
@@ -152,24 +167,38 @@ impl<S: Surroundings + Drop> Wire<S> {
     }
 
     /// Takes a datagram of lines, where one has come and none is left of the one before.
-    pub(crate) fn hear_lines(&mut self) {
+    pub(crate) fn hear_lines(&mut self)
+        ensures { (taken : Bool) × Hears S.sockets S.hears self.old.around self.old.lines taken self.new.around self.new.lines
+            × (self.new.read ≡ with_read taken self.old.read) }
+    {
         if self.lines.hear(&mut self.around) {
             self.read = self.read.saturating_add(1);
         }
     }
 
     /// Answers the line that was typed, and goes on to the next.
-    pub(crate) fn answer(&mut self, text: &[u8]) {
+    pub(crate) fn answer(&mut self, text: &[u8])
+        ensures answered { AnswersTo S.answers self.old.lines.sender self.old.around text.now self.new.around }
+        ensures left { left_of self.new.lines ≡ requests_from (behind (left_of self.old.lines)) }
+        ensures rest { self.new ≡ record self.old { around = self.new.around; lines = self.new.lines } }
+    {
         self.lines.answer(&mut self.around, text);
     }
 
     /// Answers it together with all that stands behind it in its datagram.
-    pub(crate) fn answer_all(&mut self, text: &[u8]) {
+    pub(crate) fn answer_all(&mut self, text: &[u8])
+        ensures answered { AnswersTo S.answers self.old.lines.sender self.old.around text.now self.new.around }
+        ensures left { left_of self.new.lines ≡ [] }
+        ensures rest { self.new ≡ record self.old { around = self.new.around; lines = self.new.lines } }
+    {
         self.lines.answer_all(&mut self.around, text);
     }
 
     // Offers a packet to the network that spoils it: whether there is one.
-    fn offer(&mut self, way: Way, peer: SocketAddrV4, bytes: &[u8]) -> bool {
+    fn offer(&mut self, way: Way, peer: SocketAddrV4, bytes: &[u8]) -> bool
+        ensures spoilt { result ≡ is_some self.old.network }
+        ensures around { self.new.around ≡ self.old.around }
+    {
         let stamp = Stamp {
             moment: self.now.time,
             peer,
@@ -185,7 +214,10 @@ impl<S: Surroundings + Drop> Wire<S> {
     }
 
     /// What has come is offered to the network that spoils it: whether there is one.
-    pub(crate) fn is_spoilt(&mut self, peer: SocketAddrV4, bytes: &[u8]) -> bool {
+    pub(crate) fn is_spoilt(&mut self, peer: SocketAddrV4, bytes: &[u8]) -> bool
+        ensures spoilt { result ≡ is_some self.old.network }
+        ensures around { self.new.around ≡ self.old.around }
+    {
         self.offer(Way::In, peer, bytes)
     }
 
@@ -210,7 +242,10 @@ impl<S: Surroundings + Drop> Wire<S> {
     }
 
     // Puts a datagram onto the machine's network. One that doesn't leave is counted, and noted in the log.
-    fn transmit(&mut self, to: SocketAddrV4, bytes: &[u8]) {
+    fn transmit(&mut self, to: SocketAddrV4, bytes: &[u8])
+        ensures sent { Grows (S.traffic self.old.around).sent (record { to = to; bytes = bytes.now } ∷ []) (S.traffic self.new.around).sent }
+        ensures received { (S.traffic self.new.around).received ≡ (S.traffic self.old.around).received }
+    {
         if self.around.send(to, bytes).is_ok() {
             return;
         }
@@ -223,7 +258,11 @@ impl<S: Surroundings + Drop> Wire<S> {
     }
 
     /// Sends a datagram, for the first time or again.
-    pub(crate) fn send(&mut self, to: SocketAddrV4, bytes: &[u8], is_repeat: bool) {
+    pub(crate) fn send(&mut self, to: SocketAddrV4, bytes: &[u8], is_repeat: bool)
+        ensures sent { is_some self.old.network ≡ false →
+            Grows (S.traffic self.old.around).sent (record { to = to; bytes = bytes.now } ∷ []) (S.traffic self.new.around).sent }
+        ensures offered { is_some self.old.network ≡ true → self.new.around ≡ self.old.around }
+    {
         self.journal.sent(self.now.time, to, bytes, is_repeat);
         if !self.offer(Way::Out, to, bytes) {
             self.transmit(to, bytes);
@@ -249,7 +288,9 @@ impl<S: Surroundings + Drop> Wire<S> {
     }
 
     /// Something that was recorded waits to be taken, or nothing does.
-    pub(crate) fn note_offering(&mut self, is_offering: bool) {
+    pub(crate) fn note_offering(&mut self, is_offering: bool)
+        ensures { self.new ≡ record self.old { is_offering = is_offering } }
+    {
         self.is_offering = is_offering;
     }
 

@@ -1,0 +1,36 @@
+-- What calls of a wire give and leave.
+use Rattle.std.specs.Prelude.{ℕ, ◌+◌, ◌-◌, ◌^◌, Bool, true, false, min, nat_lt, if◌then◌else◌, Option, Some, None, Result, Ok, Err}
+use Rattle.std.specs.declared.net.socket_addr.SocketAddrV4.{SocketAddrV4}
+use Rattle.bad_network.specs.declared.network.BadNetwork.{BadNetwork}
+use Rattle.bad_network.specs.Waiting.{first_due}
+use Rattle.surroundings.specs.declared.surroundings.Fault.{Fault}
+
+-- one more; a number of 64 bits goes no further than its last
+abbrev pub one_more : ℕ → ℕ
+one_more n = min (n + 1) (2 ^ 64 - 1)
+
+-- when the bad network hands out what it holds, if it will
+abbrev pub due_of : Option BadNetwork → Option ℕ
+due_of None = None
+due_of (Some network) = first_due network.waiting.items
+
+-- one datagram more was read, or none was
+abbrev pub with_read : Bool → ℕ → ℕ
+with_read true read = one_more read
+with_read false read = read
+
+-- a datagram counts where one was found, whatever becomes of it
+abbrev pub read_at : Result (Option (SocketAddrV4 × ℕ)) Fault → ℕ → ℕ
+read_at (Ok None) read = read
+read_at (Ok (Some found)) read = one_more read
+read_at (Err fault) read = read
+
+-- what has no port can't be answered
+abbrev pub answerable : SocketAddrV4 × ℕ → Option (SocketAddrV4 × ℕ)
+answerable found = if nat_lt 0 found.0.port then Some found else None
+
+-- what is heard of what was looked for
+abbrev pub heard_at : Result (Option (SocketAddrV4 × ℕ)) Fault → Option (SocketAddrV4 × ℕ)
+heard_at (Ok None) = None
+heard_at (Ok (Some found)) = answerable found
+heard_at (Err fault) = None
