@@ -125,7 +125,7 @@ impl<S: Surroundings + Drop> Wire<S> {
 
     /// The moment at which the network hands something out, in ms, if it will.
     pub(crate) fn network_due(&self) -> Option<u64>
-        ensures { result ≡ due_of self.now.network }
+        ensures { result ≡ due_of self.entry.now.network }
     {
         match &self.network {
             Some(network) => network.next_due(),
