@@ -1,5 +1,5 @@
 -- What a turn does, from what its calls say.
-use Rattle.std.proofs.Common.{◌≡◌, inl, inr, ℕ, List, [], Option, sym, ◌∙◌, ap, subst}
+use Rattle.std.proofs.Common.{◌≡◌, ◌⊎◌, inl, inr, ℕ, List, [], Option, sym, ◌∙◌, ap, subst}
 use Rattle.std.specs.Prelude.{not, is_ok, Result, Ok, Err, OnOk, OnErr, IfErr}
 use Rattle.std.specs.declared.net.socket_addr.SocketAddrV4.{SocketAddrV4}
 use Rattle.mg_line.specs.declared.phone.Act.{Act}
@@ -9,10 +9,10 @@ use Rattle.plain_machine.specs.declared.refusal.Refusal.{Refusal}
 use Rattle.surroundings.specs.declared.surroundings.Fault.{Fault}
 use Rattle.traces.specs.Writing.{Input, typed}
 use Rattle.turns.specs.declared.turn.Turn.{Turn}
-use Rattle.live_play.specs.Running.{Ran, HeardFrom, Takes, Refuses, Asked}
+use Rattle.live_play.specs.Running.{Live, Ran, HeardFrom, Takes, Refuses, Asked}
 use Rattle.live_gateway.specs.declared.admission.Admission.{Admission}
 use Rattle.live_gateway.specs.Desk.{Standing, with_input}
-use Rattle.live_gateway.specs.Turning.{Tries, TriesAct, Asks, DoesLine, Does}
+use Rattle.live_gateway.specs.Turning.{Tries, TriesAct, DoesLine, Does}
 
 -- it was taken, or refused, and that is counted
 pub tries : {A B : Type 0} (input : Input) (event : GatewayEvent) (done : Result A B) (was mid is : Standing) → OnOk done (Takes was.live input event mid.live)
@@ -41,8 +41,9 @@ tries_act text line act (Err refusal) printed was mid is takes misses counts sam
     )
 
 -- what a line is was told, unless memory was refused
-pub asks_of : {A B : Type 0} (text : List ℕ) (line : ℕ) (done : Result A B) (printed : List ℕ) (was is : Standing)
-    → OnOk done (Asked was.live text line printed is.live) → HeardFrom (λ (nobody : SocketAddrV4). ⊥) was.live is.live → Asks text line was is
+pub asks_of : {A B : Type 0} (text : List ℕ) (line : ℕ) (done : Result A B) (printed : List ℕ) (was is : Live)
+    → OnOk done (Asked was text line printed is) → HeardFrom (λ (nobody : SocketAddrV4). ⊥) was is
+    → ((told : List ℕ) × Asked was text line told is) ⊎ HeardFrom (λ (nobody : SocketAddrV4). ⊥) was is
 asks_of text line (Ok done) printed was is asked heard = inl (printed, asked)
 asks_of text line (Err why) printed was is asked heard = inr heard
 

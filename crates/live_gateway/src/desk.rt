@@ -159,6 +159,7 @@ impl<S: Surroundings + Drop, T: Teller + Drop> Desk<S, T> {
         ensures play { at_desk T.told S.traffic self.new ≡ at_desk T.told S.traffic self.old }
         ensures admission { self.new.admission ≡ self.old.admission }
         ensures rest { (self.new.play ≡ self.old.play) × (self.new.end ≡ self.old.end) }
+        ensures schedule { self.new.schedule ≡ self.old.schedule }
         ensures end { result.end ≡ self.old.end }
         ensures ticked { (events : List GatewayEvent) → Stands self.old.play.value.gateway.value events
             → result.ticked ≡ (plain self.old.play.value.gateway.value.setup events).now }

@@ -1,6 +1,6 @@
 use Rattle.std.proofs.Common.{inr, ◌∙◌, ap}
 use Rattle.live_play.specs.Coming.{Came}
-use Rattle.live_gateway.specs.Desk.{with_input}
+use Rattle.live_gateway.specs.Desk.{at_desk, with_input}
 use Rattle.live_gateway.proofs.DeskLemmas.{hears}
 use Rattle.live_gateway.proofs.HearingLemmas.{heard_still}
 use Rattle.live_gateway.proofs.TurningLemmas.{tries}
@@ -27,7 +27,7 @@ returns-clause-tried g c =
       c.in-Some.source,
       _,
       c.in-Some.ensures.admitted,
-      tries _ _ c.datagram-done.result _ _ _
+      tries _ _ c.datagram-done.result (at_desk g.T.Teller.told g.S.Surroundings.traffic c.args.self.now) _ _
           (rw (c.deref_mut-2.ensures.value, c.deref_mut-3.ensures.value, c.receive.ensures.handed, c.deref_mut.ensures.value) at c.datagram-done.ensures.taken)
           (rw (c.deref_mut-2.ensures.value, c.deref_mut-3.ensures.value, c.receive.ensures.handed, c.deref_mut.ensures.value) at c.datagram-done.ensures.refused)
           (ap (λ (x : Came). x.refused) same ∙ (rw (c.deref_mut.ensures.value) at c.receive.ensures.refused))

@@ -1,5 +1,6 @@
 use Rattle.std.proofs.Common.{inl, inr, refl, ap}
 use Rattle.live_play.specs.Coming.{Came}
+use Rattle.live_gateway.specs.Desk.{at_desk}
 use Rattle.live_gateway.specs.Exchanging.{handed_by}
 use Rattle.live_gateway.proofs.DeskLemmas.{ticks, asks}
 use Rattle.live_gateway.proofs.TurningLemmas.{tries_act, asks_of}
@@ -20,7 +21,7 @@ returns-in-Show-clause-line g c =
       _,
       _,
       c.in-Show.ensures.said,
-      asks_of _ _ c.ask-asked.result _ _ _
+      asks_of _ _ c.ask-asked.result c.ask-asked.new.self.printed.items _ _
           (rw (c.answer.ensures.traffic, c.deref_mut-in-Show-3.ensures.value)
           (rw (c.deref_mut-in-Show.ensures.value) at
           (c.ask-asked.ensures.answered (handed_by c.args.self.now.exchange.value.network (g.S.Surroundings.traffic c.args.self.now.exchange.value.around).sent))))
@@ -44,7 +45,7 @@ returns-in-Act-clause-line g c =
       _,
       _,
       c.in-Act.ensures.said,
-      tries_act _ _ _ c.act-done.result _ _ _ _
+      tries_act _ _ _ c.act-done.result _ (at_desk g.T.Teller.told g.S.Surroundings.traffic c.args.self.now) _ _
           (rw (c.deref_mut-in-Act-2.ensures.value, c.deref_mut-in-Act-3.ensures.value, c.deref_mut.ensures.value) at c.act-done.ensures.taken)
           (rw (c.deref_mut-in-Act-2.ensures.value, c.deref_mut-in-Act-3.ensures.value, c.deref_mut.ensures.value) at c.act-done.ensures.refused)
           (ap (λ (x : Came). x.refused) (rw (c.deref_mut-in-Act-3.ensures.value, c.deref_mut.ensures.value) at c.act-done.ensures.came))

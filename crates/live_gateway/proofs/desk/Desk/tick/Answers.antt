@@ -1,5 +1,6 @@
 use Rattle.std.proofs.Common.{ap}
 use Rattle.live_play.specs.Coming.{Came}
+use Rattle.live_gateway.specs.Desk.{at_desk}
 use Rattle.live_gateway.proofs.DeskLemmas.{ticks}
 use Rattle.live_gateway.proofs.TurningLemmas.{tries}
 use Rattle.live_gateway.proofs.desk.Desk.tick.Goals as goal
@@ -14,7 +15,7 @@ returns-clause-play g c =
 
 pub returns-clause-tried : goal.returns-clause-tried
 returns-clause-tried g c =
-    tries _ _ c.tick-done.result _ _ _
+    tries _ _ c.tick-done.result (at_desk g.T.Teller.told g.S.Surroundings.traffic c.args.self.now) _ _
     (rw (c.deref_mut-2.ensures.value, c.deref_mut-3.ensures.value, c.begin.ensures.network, c.begin.ensures.around, c.deref_mut.ensures.value) at c.tick-done.ensures.taken)
     (rw (c.deref_mut-2.ensures.value, c.deref_mut-3.ensures.value, c.begin.ensures.network, c.begin.ensures.around, c.deref_mut.ensures.value) at c.tick-done.ensures.refused)
     (ap (λ (x : Came). x.refused)

@@ -14,7 +14,7 @@ returns-clause-does g c = (
   c.situation-at.result,
   c.next-turn.result,
   _,
-  c.next-turn.ensures,
+  rw (c.situation-at.ensures.schedule) at c.next-turn.ensures,
   does_between g.S.Surroundings.receives _ _ c.next-turn.result _ _ _ _ c.situation-at.ensures.admission
       (rw (c.begin.ensures.network, c.begin.ensures.around, c.begin.ensures.faults, c.deref_mut.ensures.value) c.situation-at.ensures.play)
       c.tell_watchers.ensures.play c.do_turn.ensures.does,
