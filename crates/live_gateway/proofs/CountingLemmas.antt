@@ -1,8 +1,7 @@
 -- What is counted of looks for datagrams.
-use Rattle.std.proofs.Common.{inl, inr, ◌≡◌, ℕ, List, Option, sym, ◌∙◌, ap}
+use Rattle.std.proofs.Common.{inl, inr, ◌≡◌, ℕ, List, Option, ◌∙◌, ap}
 use Rattle.std.specs.Prelude.{IsSome, Result}
 use Rattle.std.specs.declared.net.socket_addr.SocketAddrV4.{SocketAddrV4}
-use Rattle.live_journal.specs.declared.reporting.Faults.{Faults}
 use Rattle.surroundings.specs.declared.surroundings.Fault.{Fault}
 use Rattle.live_gateway.specs.declared.exchange.Exchange.{Exchange}
 use Rattle.live_gateway.specs.Exchanging.{IsSameTurn, read_at, faults_at, LooksOnce, CountsReceived}

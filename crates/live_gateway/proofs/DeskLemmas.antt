@@ -6,7 +6,7 @@ use Rattle.surroundings.specs.Sending.{Received, Traffic, Grows}
 use Rattle.surroundings.proofs.TrafficLemmas.{grows_nothing, nothing_more, grows_on}
 use Rattle.gateway_core.specs.Wire.{counted}
 use Rattle.gateway_core.proofs.ServeLemmas.{counted_on}
-use Rattle.plain_machine.specs.Event.{GatewayEvent, datagram}
+use Rattle.plain_machine.specs.Event.{datagram}
 use Rattle.rgw_scripts.specs.Moves.{give, sends}
 use Rattle.traces.specs.Writing.{Entry, arrived, showed}
 use Rattle.live_play.specs.Coming.{Came, arrived_in, AreAllBut}

@@ -1,4 +1,3 @@
-use Rattle.std.proofs.Common.{◌≡◌}
 use Rattle.live_gateway.specs.Desk.{GoesOn}
 use Rattle.live_gateway.specs.Ending.{WroteTimes}
 use Rattle.live_gateway.proofs.desk.Desk.run.Given as goal
