@@ -16,7 +16,8 @@ use Rattle.plain_machine.specs.declared.refusal.Refusal.{Refusal}
 use Rattle.plain_machine.specs.declared.refusal.Refusal.TheVariants.{OutOfMemory, NoSuchLine}
 use Rattle.plain_machine.specs.Event.{GatewayEvent, phone}
 use Rattle.plain_machine.specs.Lists.{plain, outputs_from, refusal_at}
-use Rattle.plain_machine.specs.Refusing.{Ends}
+use Rattle.plain_machine.specs.Machine.{Machine}
+use Rattle.plain_machine.specs.Refusing.{Ends, ends, refusal_of, takes_none}
 use Rattle.plain_machine.proofs.EndLaws.{ends_fine, ends_cause}
 use Rattle.gateway_core.specs.GatewayState.{GatewayState}
 use Rattle.gateway_core.specs.Stands.{Stands, Took}
@@ -408,6 +409,20 @@ pub goes_on_refused : (speaks : SocketAddrV4 → Type 0) (was is : Live) (line :
 goes_on_refused speaks was is line event refusal text (inl quiet) = record { entries = []; ran = quiet.1; from = tt }
 goes_on_refused speaks was is line event refusal text (inr r) =
     record { entries = showed (typed line) (give event) (refuses refusal) ∷ []; ran = r.1; from = (tt, tt) }
+
+-- an act that can be done ends as its event does, also where want of memory is told of it
+pub ends_as_told : (m : Machine) (event : GatewayEvent) (line text : List ℕ) (refusal answer : Refusal) (were are : Option (List ℕ)) (was is : Script)
+    → refusal_of m event ≡ None → Ends m event (Some refusal) → TellsRefusal line refusal answer text were was are is → Ends m event (Some answer)
+ends_as_told m event line text refusal answer were are was is possible ended told =
+    wanted (refusal_of m event) (takes_none m event) possible ended (memory told) where
+      memory : TellsRefusal line refusal answer text were was are is → refusal ≡ OutOfMemory → answer ≡ OutOfMemory
+      memory (inl quiet) wants = quiet.0
+      memory (inr said) wants = absurd (said.1 wants)
+
+      wanted : (r : Option Refusal) (free : Bool) → r ≡ None → ends r free (Some refusal) → (refusal ≡ OutOfMemory → answer ≡ OutOfMemory) → ends r free (Some answer)
+      wanted (Some cause) free possible ended wants = absurd cc
+      wanted None true possible ended wants = absurd cc
+      wanted None false possible ended wants = wants ended
 
 -- ---- lines that say an act or a question
 

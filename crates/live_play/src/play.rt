@@ -6,7 +6,7 @@ ghost use Rattle.mg_bytes.specs.Words.{words};
 ghost use Rattle.plain_machine.specs.declared.refusal.Refusal.TheVariants.{NoSuchLine};
 ghost use Rattle.plain_machine.specs.Event.{GatewayEvent, event_of, datagram, phone, tick};
 ghost use Rattle.plain_machine.specs.Lists.{plain};
-ghost use Rattle.plain_machine.specs.Refusing.{Ends};
+ghost use Rattle.plain_machine.specs.Refusing.{Ends, refusal_of};
 ghost use Rattle.gateway_core.specs.Stands.{Stands, Took};
 ghost use Rattle.rgw_scripts.specs.declared.step.ScriptStep.TheVariants.{Phone, Show};
 ghost use Rattle.rgw_scripts.specs.declared.step.ScriptLine.TheVariants.{Whole};
@@ -356,7 +356,7 @@ impl<T: Teller + Drop> LivePlay<T> {
     }
 
     /// Something is done at the telephone of a line, as a line of text said: what the gateway sends at it is handed out. A refused act
-    /// changes nothing; why it was refused is `printed`.
+    /// changes nothing; why it was refused is `printed`, and saying that may want memory. An act that can be done and takes none is done.
     pub fn act<O: Outlet>(
         &mut self,
         out: &mut O,
@@ -375,6 +375,9 @@ impl<T: Teller + Drop> LivePlay<T> {
         ensures refused { IfErr result (λ refusal. Refuses
             (live self.old.gateway.value self.old.script (T.told self.old.teller) (O.handed out.old)) text.now (phone line act) refusal self.new.printed.items
             (live self.new.gateway.value self.new.script (T.told self.new.teller) (O.handed out.new))) }
+        ensures ends { (before : List GatewayEvent) → Stands self.old.gateway.value before
+            → refusal_of (plain self.old.gateway.value.setup before) (phone line act) ≡ None
+            → Ends (plain self.old.gateway.value.setup before) (phone line act) (result_err result) }
     {
         match take(&mut self.gateway, Event::Phone { line, act }) {
             Ok(outputs) => {

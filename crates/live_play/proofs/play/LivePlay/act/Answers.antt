@@ -3,7 +3,7 @@ use Rattle.std.specs.declared.net.socket_addr.SocketAddrV4.{SocketAddrV4}
 use Rattle.plain_machine.specs.Event.{phone}
 use Rattle.traces.specs.Writing.{typed}
 use Rattle.live_play.specs.Running.{live}
-use Rattle.live_play.proofs.RunLemmas.{takes_so, goes_on_by, refuses_so, goes_on_refused, says_act}
+use Rattle.live_play.proofs.RunLemmas.{takes_so, goes_on_by, refuses_so, goes_on_refused, says_act, ends_as_told}
 use Rattle.live_play.proofs.play.LivePlay.act.Goals as goal
 
 pub returns-in-Ok-clause-taken : goal.returns-in-Ok-clause-taken
@@ -29,3 +29,10 @@ pub returns-in-Err-clause-ran : goal.returns-in-Err-clause-ran
 returns-in-Err-clause-ran g c = goes_on_refused (λ (nobody : SocketAddrV4). ⊥) _ _ c.args.text.now (phone c.args.line c.args.act) c.refuse.result c.refuse.new.self.printed.items (
     refuses_so _ _ c.args.text.now (phone c.args.line c.args.act) c.in-Err.refusal c.refuse.result c.refuse.new.self.printed.items (says_act c.args.text.now c.args.line c.args.act c.requires)
     (rw (ap (λ gateway. gateway.value) c.refuse.ensures.gateway) c.in-Err.ensures.err) c.in-Err.ensures.ends refl c.refuse.ensures.told)
+
+pub returns-in-Ok-clause-ends : goal.returns-in-Ok-clause-ends
+returns-in-Ok-clause-ends g c = λ before stands possible. c.in-Ok.ensures.ends before stands
+
+pub returns-in-Err-clause-ends : goal.returns-in-Err-clause-ends
+returns-in-Err-clause-ends g c = λ before stands possible.
+    ends_as_told _ _ c.args.text.now c.refuse.new.self.printed.items c.in-Err.refusal c.refuse.result _ _ _ _ possible (c.in-Err.ensures.ends before stands) c.refuse.ensures.told
