@@ -1,11 +1,16 @@
 -- What the worked examples speak of.
-use Rattle.std.specs.Prelude.{ℕ, List, false, true, codes}
+use Rattle.std.specs.Prelude.{ℕ, List, [], ◌∷◌, false, true, codes}
 use Rattle.endpoint_names.specs.declared.route.Route.TheVariants.{One}
 use Rattle.endpoint_names.specs.RouteExample.{agent_at}
 use Rattle.outbound.specs.Flight.{InFlight, sent_first}
 use Rattle.mgcp_text.specs.declared.message.Param.{Param}
 use Rattle.call_routing.specs.declared.phase.Side.{Side}
+use Rattle.call_routing.specs.declared.phase.Side.TheVariants.{Caller}
 use Rattle.call_routing.specs.declared.phase.Part.{Part}
+use Rattle.call_routing.specs.declared.phase.Phase.TheVariants.{Resting, InCall}
+use Rattle.call_routing.specs.declared.command.Command.TheVariants.{Create}
+use Rattle.call_routing.specs.Line.{new_line, sent}
+use Rattle.call_routing.specs.Exchange.{ExchangeState}
 use Rattle.call_desk.specs.declared.care.Care.{Care}
 use Rattle.call_desk.specs.Duties.{new_care, begun, landed}
 
@@ -28,6 +33,13 @@ part side = record { call = 7; other = 3; side = side; answered = false }
 
 abbrev pub answered_part : Side → Part
 answered_part side = record { call = 7; other = 3; side = side; answered = true }
+
+-- an exchange of two lines, at the second of which a connection is created for its caller
+abbrev pub creating : ExchangeState
+creating = record {
+  calls = record { last = 7; phases = Resting ∷ InCall (part Caller) ∷ [] };
+  lines = new_line ∷ sent (Create 7 false) new_line ∷ [];
+}
 
 -- a command that was issued at moment 0
 abbrev pub issued : InFlight

@@ -1,9 +1,8 @@
 -- Which turn of the exchange it is that something has happened to a line: what the exchange is then.
-use Rattle.std.specs.Prelude.{◌≡◌, ◌≢◌, ℕ, Bool, if◌then◌else◌, List, Option, Some, None}
+use Rattle.std.specs.Prelude.{ℕ, Bool, if◌then◌else◌, List, Option, Some, None}
 use Rattle.mgcp_text.specs.Reading.{read_text}
 use Rattle.call_routing.specs.declared.told.Told.{Told}
 use Rattle.call_routing.specs.declared.told.Told.TheVariants.{Restarted}
-use Rattle.call_routing.specs.declared.command.Outcome.{Outcome}
 use Rattle.call_routing.specs.declared.command.Outcome.TheVariants.{GivenUp}
 use Rattle.call_routing.specs.Exchange.{ExchangeState, phase_of, line_of, flight_in, told, answered}
 use Rattle.call_desk.specs.declared.care.Duty.{Duty}
@@ -27,15 +26,10 @@ heard_by exchange line (Some event) = told exchange line event
 abbrev pub announced_by : Bool → ExchangeState → ℕ → ExchangeState
 announced_by is_restart exchange line = if is_restart then told exchange line Restarted else exchange
 
--- A response with this code answered the exchange's command. Where memory is refused for reading it that counts as given up.
-pub record IsAnswered (was is : ExchangeState) (line code : ℕ) (text : List ℕ) : Type 0 where
-  pub outcome : Outcome
-  pub read : outcome ≢ GivenUp → outcome ≡ outcome_by code (flight_in (line_of was line)) text
-  pub turn : is ≡ answered was line outcome
+-- a final response with this code answered the exchange's command to the line
+abbrev pub answered_with : ExchangeState → ℕ → ℕ → List ℕ → ExchangeState
+answered_with exchange line code text = answered exchange line (outcome_by code (flight_in (line_of exchange line)) text)
 
--- A response answered an audit of the line, which tells this. Where memory is refused for reading it no hook is told.
-pub record IsAudited (was is : ExchangeState) (line : ℕ) (text : List ℕ) (event : Told) : Type 0 where
-  pub hook : Option Bool
-  pub read : hook ≢ None → hook ≡ hook_by (read_text text)
-  pub tells : event ≡ told_by_hook hook (was_off (phase_of was line))
-  pub turn : is ≡ told was line event
+-- what the exchange is told of the line by an answer to an audit of it
+abbrev pub told_by_audit : ExchangeState → ℕ → List ℕ → Told
+told_by_audit exchange line text = told_by_hook (hook_by (read_text text)) (was_off (phase_of exchange line))

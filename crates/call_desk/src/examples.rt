@@ -18,10 +18,10 @@ ghost use Rattle.call_desk.specs.Duties.{new_care, duty_begun, begun, landed, ow
 ghost use Rattle.call_desk.specs.Hooks.{hook_of, hook_among, hook_told, is_off, was_off, told_by_hook, notified};
 ghost use Rattle.call_desk.specs.Responses.{creates, connection_in, created, is_creation, created_by, outcome_by};
 ghost use Rattle.call_desk.specs.Orders.{duty_of, flight_of, was_found_off, cared, ordered};
-ghost use Rattle.call_desk.specs.Turns.{forsaken, heard_by, announced_by};
+ghost use Rattle.call_desk.specs.Turns.{forsaken, heard_by, announced_by, answered_with, told_by_audit};
 ghost use Rattle.call_desk.specs.Boards.{settling_in, taking_in};
 ghost use Rattle.call_desk.specs.Typed.{typed_from, typed_text, typed_in};
-ghost use Rattle.call_desk.specs.Example.{cleared, audited, found_off, param, part, answered_part, issued};
+ghost use Rattle.call_desk.specs.Example.{cleared, audited, found_off, param, part, answered_part, creating, issued};
 
 use agent_texts::Standing;
 use call_routing::{Asked, Command, Outcome, Phase, Side, Told, Tone};
@@ -125,6 +125,10 @@ pub fn what_happens_to_a_line_is_a_turn()
     ensures heard { (exchange line : _) → heard_by exchange line (Some Told.OffHook) ≡ told exchange line Told.OffHook }
     ensures restarted { (exchange line : _) → announced_by true exchange line ≡ told exchange line Told.Restarted }
     ensures disconnected { (exchange line : _) → announced_by false exchange line ≡ exchange }
+    ensures created { answered_with creating 1 200 (codes "200 7 OK\r\nI: 1F\r\n\r\nv=0\r\n")
+        ≡ answered creating 1 (Outcome.Created (codes "1F") (codes "v=0\r\n")) }
+    ensures refused { (text : _) → answered_with creating 1 500 text ≡ answered creating 1 (Outcome.Answered 500) }
+    ensures audited { told_by_audit creating 1 (codes "200 7 OK\r\nES: L/hu\r\n") ≡ Told.OnHook }
 {}
 
 /// An exchange settles its own lines; a gateway's lines are taken where there is one.

@@ -1,13 +1,13 @@
 //! What an answer to an audit tells of a line's hook, and what the exchange is told by that.
-ghost use Rattle.std.specs.Prelude.{◌≡◌, ◌≢◌, None};
+ghost use Rattle.std.specs.Prelude.{◌≡◌, IfOk};
 ghost use Rattle.mg_bytes.specs.Items.{items_of};
 ghost use Rattle.mgcp_text.specs.Reading.{read_text};
 ghost use Rattle.call_desk.specs.Hooks.{hook_of, hook_among, hook_told, hook_by, is_lifted, is_off, was_off, changed, told_by_hook, is_off_hook, notified};
 
 use call_routing::{Phase, Side, Told};
-use mg_bytes::{list_items, same_no_case};
-use mgcp_text::{Param, param_at, read_message};
-use std::alloc::Global;
+use mg_bytes::{OutOfMemory, list_items, same_no_case};
+use mgcp_text::{Param, TextFault, param_at, read_message};
+use std::alloc::{AllocError, Global};
 
 // Whether a telephone is off the hook, as an event state says it (RFC 3435, 2.3.10).
 fn hook_of(state: &[u8]) -> Option<bool>
@@ -46,13 +46,16 @@ fn hook_told(params: &[Param<'_>]) -> Option<bool>
     }
 }
 
-/// What an answer to an audit tells of a hook; nothing where memory is refused.
-pub(crate) fn audited_hook(alloc: Global, text: &[u8]) -> Option<bool>
-    ensures { result ≢ None → result ≡ hook_by (read_text text.now) }
+/// What an answer to an audit tells of a hook.
+pub(crate) fn audited_hook(alloc: Global, text: &[u8]) -> Result<Option<bool>, OutOfMemory>
+    ensures { IfOk result (λ hook. hook ≡ hook_by (read_text text.now)) }
 {
     match read_message(alloc, text) {
-        Ok(message) => hook_told(message.params()),
-        Err(_) => None,
+        Err(TextFault::OutOfMemory) => Err(AllocError),
+        Err(TextFault::NoHeader | TextFault::BadVersion { .. } | TextFault::BadBody { .. }) => Ok(
+            None,
+        ),
+        Ok(message) => Ok(hook_told(message.params())),
     }
 }
 

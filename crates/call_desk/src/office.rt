@@ -1,15 +1,16 @@
 //! The exchange in the program's hands: which command each line is sent, and what its answer means for the line's calls.
 //!
 //! Nothing goes over all lines but the opening: those to which something has happened wait, and are settled.
-ghost use Rattle.std.specs.Prelude.{◌≡◌, ◌⊎◌, ℕ, true, length, replicate, IfOk, IfSome, OnOk, OnErr, option_map, slice_get, slice_set};
+ghost use Rattle.std.specs.Prelude.{◌≡◌, ◌⊎◌, ℕ, true, length, replicate, Some, IfOk, IfSome, OnOk, OnErr, option_map, slice_get, slice_set};
 ghost use Rattle.call_routing.specs.Phases.{named_by};
-ghost use Rattle.call_routing.specs.Exchange.{opening, phase_of, flight_in, line_of};
+ghost use Rattle.call_routing.specs.declared.told.Told.TheVariants.{Flash};
+ghost use Rattle.call_routing.specs.Exchange.{opening, phase_of, flight_in, line_of, told};
 ghost use Rattle.call_routing.specs.Numbers.{told_in};
-ghost use Rattle.call_desk.specs.declared.care.Duty.TheVariants.{Audit};
+ghost use Rattle.call_desk.specs.declared.care.Duty.TheVariants.{Audit, Route};
 ghost use Rattle.call_desk.specs.Duties.{new_care, begun, landed, owed, lost, announced, found, told_of, told_care};
 ghost use Rattle.call_desk.specs.Hooks.{notified};
 ghost use Rattle.call_desk.specs.Orders.{shown, duty_of, flight_of, was_found_off, cared, routed, ordered};
-ghost use Rattle.call_desk.specs.Turns.{forsaken, heard_by, announced_by, IsAnswered, IsAudited};
+ghost use Rattle.call_desk.specs.Turns.{forsaken, heard_by, announced_by, answered_with, told_by_audit};
 ghost use Rattle.call_desk.specs.Waiting.{waits, settling, settled_at, Settles};
 
 use crate::care::{Care, Duty, NEW_CARE, fixed_order};
@@ -205,21 +206,33 @@ fn forsake(exchange: &mut Exchange, line: usize, duty: Option<Duty>)
     }
 }
 
-// The exchange's command to the line was answered.
+// The exchange's command to the line was answered. Where memory is refused for reading that it counts as given up.
 fn answer(alloc: Global, exchange: &mut Exchange, line: usize, code: u16, text: &[u8])
-    ensures { IsAnswered exchange.old exchange.new line code text.now }
+    ensures { (exchange.new ≡ answered_with exchange.old line code text.now)
+        ⊎ (exchange.new ≡ forsaken exchange.old line (Some Route)) }
 {
-    let outcome = outcome_of(alloc, code, flight_at(exchange, line), text);
-    exchange.answer(line, outcome);
+    match outcome_of(alloc, code, flight_at(exchange, line), text) {
+        Ok(outcome) => exchange.answer(line, outcome),
+        Err(_) => exchange.answer(line, Outcome::GivenUp),
+    }
 }
 
-// The line was audited: what that tells.
+// The line was audited: what that tells. Where memory is refused for reading it no hook is told.
 fn tell_hook(alloc: Global, exchange: &mut Exchange, line: usize, text: &[u8]) -> Told
-    ensures { IsAudited exchange.old exchange.new line text.now result }
+    ensures event { (result ≡ told_by_audit exchange.old line text.now) ⊎ (result ≡ Flash) }
+    ensures exchange { exchange.new ≡ told exchange.old line result }
 {
-    let told = told_by_hook(audited_hook(alloc, text), exchange.phase(line));
-    exchange.tell(line, told);
-    told
+    match audited_hook(alloc, text) {
+        Ok(hook) => {
+            let told = told_by_hook(hook, exchange.phase(line));
+            exchange.tell(line, told);
+            told
+        }
+        Err(_) => {
+            exchange.tell(line, Told::Flash);
+            Told::Flash
+        }
+    }
 }
 
 // A line that is announced has started again: a call that it was in is over.

@@ -1,14 +1,13 @@
 //! What a final response to a command of the exchange says became of it.
-ghost use Rattle.std.specs.Prelude.{◌≡◌, ◌≢◌, IfOk};
+ghost use Rattle.std.specs.Prelude.{◌≡◌, IfOk};
 ghost use Rattle.mgcp_text.specs.Reading.{read_text};
-ghost use Rattle.call_routing.specs.declared.command.Outcome.TheVariants.{GivenUp};
 ghost use Rattle.call_desk.specs.Responses.{creates, connection_in, created, created_by, is_creation, outcome_by};
 
 use agent_texts::copied;
 use call_routing::{Command, Outcome};
 use mg_bytes::{Identifier, OutOfMemory};
-use mgcp_text::{Message, Param, param_at, read_message};
-use std::alloc::Global;
+use mgcp_text::{Message, Param, TextFault, param_at, read_message};
+use std::alloc::{AllocError, Global};
 
 fn creates(flight: Option<Command>) -> bool
     ensures { result ≡ creates flight }
@@ -50,20 +49,22 @@ fn created(
     })
 }
 
-// What the answer to a CRCX says. Where memory is refused it counts as given up: then the connection is deleted again.
-fn creation(alloc: Global, code: u16, text: &[u8]) -> Outcome
-    ensures { result ≢ GivenUp → result ≡ created_by code (read_text text.now) }
+// What the answer to a CRCX says. One that can't be read counts as given up: then the connection is deleted again.
+fn creation(alloc: Global, code: u16, text: &[u8]) -> Result<Outcome, OutOfMemory>
+    ensures { IfOk result (λ outcome. outcome ≡ created_by code (read_text text.now)) }
 {
     match read_message(alloc, text) {
-        Ok(Message::Response { params, body, .. }) => {
-            let connection = connection_in(params.as_slice());
-            match created(alloc, code, connection, body.as_slice()) {
-                Ok(outcome) => outcome,
-                Err(_) => Outcome::GivenUp,
-            }
-        }
-        Ok(Message::Command { .. }) => Outcome::Answered(code),
-        Err(_) => Outcome::GivenUp,
+        Err(TextFault::OutOfMemory) => Err(AllocError),
+        Err(TextFault::NoHeader | TextFault::BadVersion { .. } | TextFault::BadBody { .. }) => Ok(
+            Outcome::GivenUp,
+        ),
+        Ok(Message::Response { params, body, .. }) => created(
+            alloc,
+            code,
+            connection_in(params.as_slice()),
+            body.as_slice(),
+        ),
+        Ok(Message::Command { .. }) => Ok(Outcome::Answered(code)),
     }
 }
 
@@ -74,13 +75,18 @@ fn is_creation(code: u16, flight: Option<Command>) -> bool
     code < 300 && creates(flight)
 }
 
-/// What this final response with this code says became of the command in flight. Where memory is refused that counts as given up.
-pub(crate) fn outcome_of(alloc: Global, code: u16, flight: Option<Command>, text: &[u8]) -> Outcome
-    ensures { result ≢ GivenUp → result ≡ outcome_by code flight text.now }
+/// What this final response with this code says became of the command in flight.
+pub(crate) fn outcome_of(
+    alloc: Global,
+    code: u16,
+    flight: Option<Command>,
+    text: &[u8],
+) -> Result<Outcome, OutOfMemory>
+    ensures { IfOk result (λ outcome. outcome ≡ outcome_by code flight text.now) }
 {
     if is_creation(code, flight) {
         creation(alloc, code, text)
     } else {
-        Outcome::Answered(code)
+        Ok(Outcome::Answered(code))
     }
 }
