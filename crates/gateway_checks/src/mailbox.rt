@@ -1,5 +1,5 @@
 //! What the gateway said by itself, as long as a check is played.
-ghost use Rattle.std.specs.Prelude.{◌≡◌, ◌++◌, ◌∷◌, [], None, OnOk, IfOk, vec_len};
+ghost use Rattle.std.specs.Prelude.{◌≡◌, ◌<◌, ◌++◌, ◌∷◌, [], None, OnOk, IfOk, vec_len, option_to_list};
 ghost use Rattle.gateway_checks.specs.Unasked.{is_copy, disturbs, is_disturbed, is_quiet, counts_at, likeness_at, first_meant};
 ghost use Rattle.gateway_checks.specs.Unasked.{last_of, with_copy, gaps_of, gaps_behind};
 
@@ -96,9 +96,13 @@ impl Mailbox {
         Ok(Some(id))
     }
 
-    /// Takes one of all that has come; nothing where none is left.
+    /// Takes one of all that has come: the last that waits, else the one that a step asked for last; nothing where none is left.
     pub(crate) fn take(&mut self) -> Option<Unasked>
-        ensures { result ≡ None → (vec_len self.new.waiting ≡ 0) × (vec_len self.new.heard ≡ 0) }
+        ensures waiting { 0 < vec_len self.old.waiting
+            → (self.old.waiting.items ≡ self.new.waiting.items ++ option_to_list result) × (self.new.heard ≡ self.old.heard) }
+        ensures heard { vec_len self.old.waiting ≡ 0
+            → (self.old.heard.items ≡ self.new.heard.items ++ option_to_list result) × (vec_len self.new.waiting ≡ 0) }
+        ensures none { result ≡ None → (vec_len self.new.waiting ≡ 0) × (vec_len self.new.heard ≡ 0) }
     {
         match self.waiting.pop() {
             Some(unasked) => Some(unasked),
