@@ -1,3 +1,4 @@
 pub mod Computing
 pub mod FlightLemmas
+pub mod TurnLemmas
 pub mod WaitingLemmas

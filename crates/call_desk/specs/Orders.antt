@@ -1,5 +1,5 @@
 -- Which command a line is sent now.
-use Rattle.std.specs.Prelude.{ℕ, Bool, false, List, Option, Some, None, slice_get, slice_set}
+use Rattle.std.specs.Prelude.{ℕ, Bool, true, false, List, Option, Some, None, slice_get, slice_set}
 use Rattle.call_routing.specs.declared.command.Command.{Command}
 use Rattle.call_routing.specs.Parameters.{verb_of, parameters_of}
 use Rattle.call_routing.specs.Exchange.{ExchangeState, due, sent_to}
@@ -27,6 +27,16 @@ flight_of (Some care) = care.flight
 abbrev pub was_found_off : Option Care → Bool
 was_found_off None = false
 was_found_off (Some care) = care.is_found_off
+
+-- the gateway has started again since the command in flight was issued
+abbrev pub is_outlived : Option Care → Bool
+is_outlived None = false
+is_outlived (Some care) = care.is_outlived
+
+-- the line has told something since it was audited, so that an answer to that is older; a line that there isn't has nothing to be told
+abbrev pub has_told : Option Care → Bool
+has_told None = true
+has_told (Some care) = care.has_told
 
 abbrev pub cared_to : (Care → Care) → List Care → ℕ → Option Care → List Care
 cared_to change cares line None = cares

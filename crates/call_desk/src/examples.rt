@@ -17,8 +17,8 @@ ghost use Rattle.call_desk.specs.Clock.{first_id, tick_to};
 ghost use Rattle.call_desk.specs.Duties.{new_care, duty_begun, begun, landed, owed, lost, outlived, announced, found, told_of, told_care, fixed_order};
 ghost use Rattle.call_desk.specs.Hooks.{hook_of, hook_among, hook_told, is_off, was_off, told_by_hook, notified};
 ghost use Rattle.call_desk.specs.Responses.{creates, connection_in, created, is_creation, created_by, outcome_by};
-ghost use Rattle.call_desk.specs.Orders.{duty_of, flight_of, was_found_off, cared, ordered};
-ghost use Rattle.call_desk.specs.Turns.{forsaken, heard_by, announced_by, answered_with, told_by_audit};
+ghost use Rattle.call_desk.specs.Orders.{duty_of, flight_of, was_found_off, is_outlived, has_told, cared, ordered};
+ghost use Rattle.call_desk.specs.Turns.{forsaken, heard_by, announced_by, answered_with, told_by_audit, TakesResponse};
 ghost use Rattle.call_desk.specs.Boards.{settling_in, taking_in};
 ghost use Rattle.call_desk.specs.Typed.{typed_from, typed_text, typed_in};
 ghost use Rattle.call_desk.specs.Example.{cleared, audited, found_off, param, part, answered_part, creating, issued};
@@ -129,6 +129,26 @@ pub fn what_happens_to_a_line_is_a_turn()
         ≡ answered creating 1 (Outcome.Created (codes "1F") (codes "v=0\r\n")) }
     ensures refused { (text : _) → answered_with creating 1 500 text ≡ answered creating 1 (Outcome.Answered 500) }
     ensures audited { told_by_audit creating 1 (codes "200 7 OK\r\nES: L/hu\r\n") ≡ Told.OnHook }
+{}
+
+/// What an answer is to a line is by what its command was for: one that is older than what the line told is nothing, nor is one to a
+/// command that cleared it.
+pub fn a_response_is_taken_by_what_was_asked()
+    ensures outlived { is_outlived (Some (outlived (begun new_care))) ≡ true }
+    ensures not_outlived { is_outlived (Some new_care) ≡ false }
+    ensures never_outlived { is_outlived None ≡ false }
+    ensures has_told { has_told (Some (told_care audited)) ≡ true }
+    ensures has_not { has_told (Some audited) ≡ false }
+    ensures no_line { has_told None ≡ true }
+    ensures nothing { (text : _) → TakesResponse None 1 200 text creating [] creating [] }
+    ensures clearing { (text : _) → TakesResponse (Some Clear) 1 200 text creating [] creating [] }
+    ensures older { (text : _) → TakesResponse (Some Audit) 1 200 text creating [] creating [] }
+    ensures audited { TakesResponse (Some Audit) 1 200 (codes "200 7 OK\r\nES: L/hu\r\n") creating (cleared ∷ audited ∷ [])
+        (told creating 1 Told.OnHook) (cleared ∷ found false audited ∷ []) }
+    ensures unread { (text : _) → TakesResponse (Some Audit) 1 200 text creating (cleared ∷ audited ∷ [])
+        (told creating 1 Told.Flash) (cleared ∷ found false audited ∷ []) }
+    ensures routed { (text : _) → TakesResponse (Some Route) 1 500 text creating [] (answered creating 1 (Outcome.Answered 500)) [] }
+    ensures given_up { (text : _) → TakesResponse (Some Route) 1 500 text creating [] (answered creating 1 Outcome.GivenUp) [] }
 {}
 
 /// An exchange settles its own lines; a gateway's lines are taken where there is one.

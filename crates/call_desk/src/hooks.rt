@@ -111,7 +111,8 @@ pub(crate) fn told_by_hook(hook: Option<bool>, phase: Option<Phase>) -> Told
     }
 }
 
-fn is_off_hook(told: Option<Told>) -> bool
+/// Whether this tells that the handset was lifted.
+pub(crate) fn is_off_hook(told: Option<Told>) -> bool
     ensures { result ≡ is_off_hook told }
 {
     match told {

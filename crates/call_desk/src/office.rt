@@ -1,7 +1,7 @@
 //! The exchange in the program's hands: which command each line is sent, and what its answer means for the line's calls.
 //!
 //! Nothing goes over all lines but the opening: those to which something has happened wait, and are settled.
-ghost use Rattle.std.specs.Prelude.{◌≡◌, ◌⊎◌, ℕ, true, length, replicate, Some, IfOk, IfSome, OnOk, OnErr, option_map, slice_get, slice_set};
+ghost use Rattle.std.specs.Prelude.{◌≡◌, ◌⊎◌, ℕ, true, false, length, replicate, Some, IfOk, IfSome, OnOk, OnErr, option_map, slice_get, slice_set};
 ghost use Rattle.call_routing.specs.Phases.{named_by};
 ghost use Rattle.call_routing.specs.declared.told.Told.TheVariants.{Flash};
 ghost use Rattle.call_routing.specs.Exchange.{opening, phase_of, flight_in, line_of, told};
@@ -9,12 +9,12 @@ ghost use Rattle.call_routing.specs.Numbers.{told_in};
 ghost use Rattle.call_desk.specs.declared.care.Duty.TheVariants.{Audit, Route};
 ghost use Rattle.call_desk.specs.Duties.{new_care, begun, landed, owed, lost, announced, found, told_of, told_care};
 ghost use Rattle.call_desk.specs.Hooks.{notified};
-ghost use Rattle.call_desk.specs.Orders.{shown, duty_of, flight_of, was_found_off, cared, routed, ordered};
-ghost use Rattle.call_desk.specs.Turns.{forsaken, heard_by, announced_by, answered_with, told_by_audit};
+ghost use Rattle.call_desk.specs.Orders.{shown, duty_of, flight_of, was_found_off, is_outlived, has_told, cared, routed, ordered};
+ghost use Rattle.call_desk.specs.Turns.{forsaken, heard_by, announced_by, answered_with, told_by_audit, TakesAudit, TakesResponse};
 ghost use Rattle.call_desk.specs.Waiting.{waits, settling, settled_at, Settles};
 
 use crate::care::{Care, Duty, NEW_CARE, fixed_order};
-use crate::hooks::{audited_hook, notified, told_by_hook};
+use crate::hooks::{audited_hook, is_off_hook, notified, told_by_hook};
 use crate::responses::outcome_of;
 use crate::worklist::Worklist;
 use agent_texts::{Journal, Standing, Station, copied, standing_of, tell_change};
@@ -156,6 +156,26 @@ fn find(cares: &mut Vec<Care>, line: usize, is_off: bool)
     set_care(cares, line, care);
 }
 
+// Whether the gateway has started again since the command in flight to the line was issued.
+fn is_outlived(cares: &[Care], line: usize) -> bool
+    ensures { result ≡ is_outlived (slice_get cares.now line) }
+{
+    match cares.get(line) {
+        Some(care) => care.is_outlived,
+        None => false,
+    }
+}
+
+// Whether the line has told something since it was audited.
+fn has_told(cares: &[Care], line: usize) -> bool
+    ensures { result ≡ has_told (slice_get cares.now line) }
+{
+    match cares.get(line) {
+        Some(care) => care.has_told,
+        None => true,
+    }
+}
+
 // How the line stands is told: how it stood when that was told last.
 fn show(cares: &mut Vec<Care>, line: usize, standing: Standing) -> Option<Standing>
     ensures was { result ≡ option_map (λ care. care.shown) (slice_get cares.old.items line) }
@@ -232,6 +252,44 @@ fn tell_hook(alloc: Global, exchange: &mut Exchange, line: usize, text: &[u8]) -
             exchange.tell(line, Told::Flash);
             Told::Flash
         }
+    }
+}
+
+// The line was audited. What it told since then is newer.
+fn take_audit(
+    alloc: Global,
+    exchange: &mut Exchange,
+    cares: &mut Vec<Care>,
+    line: usize,
+    text: &[u8],
+)
+    ensures { TakesAudit (has_told (slice_get cares.old.items line)) line text.now exchange.old cares.old.items
+        exchange.new cares.new.items }
+{
+    if has_told(cares.as_slice(), line) {
+        return;
+    }
+    let told = tell_hook(alloc, exchange, line, text);
+    find(cares, line, is_off_hook(Some(told)));
+}
+
+// A final response came to a command to the line that was for this, which has landed.
+fn take_response(
+    alloc: Global,
+    exchange: &mut Exchange,
+    cares: &mut Vec<Care>,
+    line: usize,
+    duty: Option<Duty>,
+    code: u16,
+    text: &[u8],
+)
+    ensures { TakesResponse duty line code text.now exchange.old cares.old.items exchange.new cares.new.items }
+{
+    match duty {
+        Some(Duty::Route) => answer(alloc, exchange, line, code, text),
+        Some(Duty::Audit) => take_audit(alloc, exchange, cares, line, text),
+        Some(Duty::Clear) => {}
+        None => {}
     }
 }
 
@@ -373,38 +431,30 @@ impl Office {
         Ok(order)
     }
 
-    // The line was audited. What it told since then is newer.
-    fn audited(&mut self, alloc: Global, line: usize, text: &[u8]) {
-        let has_told = match self.cares.get(line) {
-            Some(care) => care.has_told,
-            None => true,
-        };
-        if !has_told {
-            let told = tell_hook(alloc, &mut self.exchange, line, text);
-            find(&mut self.cares, line, matches!(told, Told::OffHook));
-        }
-    }
-
-    // Whether the gateway has started again since the command in flight to the line was issued.
-    fn is_outlived(&self, line: usize) -> bool {
-        match self.cares.get(line) {
-            Some(care) => care.is_outlived,
-            None => false,
-        }
-    }
-
     /// The command in flight to the line was answered by this final response. Where the gateway has started again since, that says
     /// nothing of what is there now, and the command counts as given up.
-    pub(crate) fn answered(&mut self, alloc: Global, line: usize, code: u16, text: &[u8]) {
-        if self.is_outlived(line) {
+    pub(crate) fn answered(&mut self, alloc: Global, line: usize, code: u16, text: &[u8])
+        ensures outlived { is_outlived (slice_get self.old.cares.items line) ≡ true
+            → self.new.exchange ≡ forsaken self.old.exchange line (flight_of (slice_get self.old.cares.items line)) }
+        ensures taken { is_outlived (slice_get self.old.cares.items line) ≡ false
+            → TakesResponse (flight_of (slice_get self.old.cares.items line)) line code text.now
+            self.old.exchange (cared landed self.old.cares.items line) self.new.exchange self.new.cares.items }
+        ensures waits { waits self.new.worklist.waiting.items self.new.worklist.is_all line ≡ true }
+    {
+        if is_outlived(self.cares.as_slice(), line) {
             return self.given_up(line);
         }
         touch(&mut self.worklist, &self.exchange, line);
-        match land(&mut self.cares, line) {
-            Some(Duty::Route) => answer(alloc, &mut self.exchange, line, code, text),
-            Some(Duty::Audit) => self.audited(alloc, line, text),
-            Some(Duty::Clear) | None => {}
-        }
+        let duty = land(&mut self.cares, line);
+        take_response(
+            alloc,
+            &mut self.exchange,
+            &mut self.cares,
+            line,
+            duty,
+            code,
+            text,
+        );
         touch(&mut self.worklist, &self.exchange, line);
     }
 
