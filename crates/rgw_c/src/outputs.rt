@@ -1,5 +1,5 @@
 //! What was sent at the last event, datagram by datagram.
-ghost use Rattle.std.specs.Prelude.{◌≡◌, ◌≢◌, length, take, slice_get, IfSome};
+ghost use Rattle.std.specs.Prelude.{◌≡◌, ◌≢◌, length, take, slice_get, IfSome, None};
 ghost use Rattle.rgw_c.specs.Telling.{open_number, output_of, output_number_by, output_number, output_at};
 
 use crate::copying::copy_out;
@@ -38,6 +38,8 @@ fn tell_output(
     ensures needed { IfSome (slice_get outputs.now index) (λ datagram. needed.new ≡ length datagram.bytes) }
     ensures copied { result ≡ OK → IfSome (slice_get outputs.now index) (λ datagram. take (length datagram.bytes) buffer.new ≡ datagram.bytes) }
     ensures left { result ≢ OK → buffer.new ≡ buffer.old }
+    ensures untold { slice_get outputs.now index ≡ None → output.new ≡ output.old }
+    ensures unasked { slice_get outputs.now index ≡ None → needed.new ≡ needed.old }
 {
     match outputs.get(index) {
         Some(datagram) => {
@@ -53,7 +55,8 @@ fn tell_output(
 }
 
 /// A datagram that the last event sent, by its index from 0, in their order: where to and when, and its bytes, which are copied to the
-/// start of the buffer. `needed` is how many they are. Where the buffer is too small, it alone is as it was.
+/// start of the buffer. `needed` is how many they are. Where the buffer is too small, it alone is as it was; where there is no such
+/// datagram, or no gateway, all three are.
 #[unsafe(no_mangle)]
 pub extern "C" fn rgw_output_nonnull(
     alloc: Global,
@@ -69,6 +72,8 @@ pub extern "C" fn rgw_output_nonnull(
     ensures copied { result ≡ OK → IfSome (output_at handle.old.held index) (λ datagram.
         take (length datagram.bytes) buffer.new ≡ datagram.bytes) }
     ensures left { result ≢ OK → buffer.new ≡ buffer.old }
+    ensures untold { output_at handle.old.held index ≡ None → output.new ≡ output.old }
+    ensures unasked { output_at handle.old.held index ≡ None → needed.new ≡ needed.old }
     ensures kept { handle.new.held ≡ handle.old.held }
 {
     let Some(instance) = take(handle, alloc) else {
