@@ -6,7 +6,7 @@
         gateway.expect(line=1, signal="L/dl", within=2000)
 
 `gateway` is a `World` of a gateway with four lines; `network(lose=.2, copy=.1, late=(0, 2000), seed=7)` spoils its network. A test that
-fails prints the conversation, and the script that replays it. `rgw_config` is the configuration: a test module may have its own.
+fails prints the conversation, and the trace that replays it. `rgw_config` is the configuration: a test module may have its own.
 """
 
 from collections.abc import Callable, Generator

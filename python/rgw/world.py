@@ -5,19 +5,21 @@
     world.expect(line=1, signal="G/rt", within=2000)
 
 An agent is a callable: it is given the moment, where a datagram came from and its bytes, and gives what it sends because of it, each as
-bytes, which go back there, or as an address with bytes. One that has a time of its own has also `next_due`, a moment or None, and
-`tick(moment)`, which gives the same. An agent in another process is its UDP address, as "127.0.0.1:2727".
+bytes, which go back there, or as an address with bytes, which go to that address. One that has a time of its own has also `next_due`, a
+moment or None, and `tick(moment)`, which gives the same. An agent in another process is its UDP address, as "127.0.0.1:2727".
 """
 
 import random
+import re
 import socket
+import tomllib
 from collections.abc import Callable, Iterable
 from heapq import heappop, heappush
 from types import TracebackType
 from typing import Protocol
 
-from rgw.gateway import LONGEST_TICK, Address, Gateway, Line, Output, address_of
-from rgw.numbers import EventRefused
+from rgw.gateway import LONGEST_TICK, Address, Gateway, Line, Message, Output, address_of
+from rgw.numbers import OutOfMemory
 
 CONFIG = """domain = "rgw.example.net"
 lines = 4
@@ -107,28 +109,54 @@ def agent_of(agent: Agent | str) -> Agent:
     return UdpAgent(agent) if isinstance(agent, str) else agent
 
 
-def shown(data: bytes, domain: str) -> str:
-    """A message in a line, as `rgwd --log` tells it: printable ASCII, names without the gateway's own domain, long values cut."""
-    words: list[str] = []
-    for line in data.decode("latin-1").splitlines():
-        if not line.strip():
-            break
-        text = line.strip().replace("@" + domain, "").removesuffix(" MGCP 1.0")
-        text = "".join(c if " " <= c <= "~" else f"\\x{ord(c):02x}" for c in text)
-        words.append(text if len(text) <= LONGEST_VALUE + 3 else text[: LONGEST_VALUE + 3] + "..")
-    return " ".join(words)
+def lines_of(data: bytes) -> list[str]:
+    """The lines of a text, without their ends and the blanks round them."""
+    lines = data.decode("latin-1").split("\n")
+    if lines[-1] == "":
+        lines.pop()
+    return [line.removesuffix("\r").strip(" \t") for line in lines]
 
 
-def step_of(source: Address, data: bytes) -> str:
-    """A datagram as a step of a script: its lines, where those are just its bytes, else in hexadecimal digits."""
-    try:
-        lines = data.decode("ascii").split("\r\n")
-    except UnicodeDecodeError:
-        lines = []
-    is_plain = len(lines) > 1 and lines[-1] == "" and all(line == line.strip() and line.isprintable() and line != "--" for line in lines)
-    if not is_plain:
-        return f"raw {source} {data.hex()}" if data else f"from {source}\n--"
-    return "\n".join([f"from {source}", *lines[:-1], "--"])
+def messages_of(data: bytes) -> list[list[str]]:
+    """The messages of a datagram, each as its lines: a line of a single dot parts them (RFC 3435, 3.5.5)."""
+    messages: list[list[str]] = [[]]
+    for line in lines_of(data):
+        if line == ".":
+            messages.append([])
+        else:
+            messages[-1].append(line)
+    return messages
+
+
+def value_shown(value: str) -> str:
+    """A value in printable ASCII, and of a long one the front."""
+    front = "".join(c if " " <= c <= "~" and c != "\\" else f"\\x{ord(c):02x}" for c in value[:LONGEST_VALUE])
+    return front if len(value) <= LONGEST_VALUE else front + ".."
+
+
+def shown(lines: list[str], domain: str) -> str:
+    """A message in a line, as `rgwd --log` tells it: three words of its header, where a name lacks the gateway's own domain, and what
+    stands in its other lines."""
+    words = [word for word in re.split("[ \t]", lines[0]) if word][:3] if lines else []
+    if len(words) == 3 and words[2].partition("@")[2].lower() == domain.lower():
+        words[2] = words[2].partition("@")[0]
+    return " ".join(value_shown(value) for value in [*words, *lines[1:]] if value)
+
+
+def fate_told(late: list[int]) -> str:
+    """What a network does to a datagram, as the log notes it."""
+    by = " and ".join(str(delay) for delay in late)
+    return ("lost on its way", f"late by {by} ms", f"copied, late by {by} ms")[min(len(late), 2)]
+
+
+def step_of(source: Address, data: bytes) -> list[str]:
+    """A datagram that came, as a trace has it."""
+    return [f"raw {source} {data.hex()}"] if data else [f"from {source}", "--"]
+
+
+def trace_of(output: Output) -> list[str]:
+    """A datagram that is sent, as a trace has it."""
+    return [f"| > {output.to}", *(f"| {line}" for line in lines_of(output.data)), "| --"]
 
 
 class World:
@@ -140,11 +168,13 @@ class World:
         self.gateway, self.network, self.agent_at = gateway, network, agent_at
         self._agent = agent_of(agent)
         self.conversation: list[str] = []
-        self._steps: list[str] = []
-        self._on_way: list[tuple[int, int, bool, Address, bytes]] = []
+        self._trace: list[str] = []
+        # What is on its way: when it arrives, which it is, by how much it is late, whether it goes to the agent, the agent's address.
+        self._on_way: list[tuple[int, int, int, bool, Address, bytes]] = []
         self._count = 0
-        text = gateway.config.decode("utf-8", "replace")
-        self._domain = text.partition("domain")[2].partition('"')[2].partition('"')[0]
+        # The command that each line sent last, 0 for the gateway's own, and when.
+        self._own: dict[int | None, tuple[int, int]] = {}
+        self._domain = str(tomllib.loads(gateway.config.decode())["domain"])
 
     def __enter__(self) -> "World":
         return self
@@ -175,22 +205,23 @@ class World:
     # --- What is done ---
 
     def phone(self, line: int, act: str) -> None:
-        """An act at a telephone: `off`, `on`, `flash` or a key. What is sent because of it is on its way."""
-        self._steps.append(f"phone {line} {act}")
-        self._send(self.gateway.phone(line, act))
+        """An act at a telephone: `off`, `on`, `flash` or a key. What is sent because of it is on its way. One that is refused raises,
+        and stands in no trace."""
+        self._send([f"phone {line} {act}"], self.gateway.phone(line, act))
 
-    def dial(self, line: int, number: str, pause: int = 200) -> None:
-        """Lifts a handset that is on hook, and presses keys, with a pause (ms) behind each act."""
+    def dial(self, line: int, number: str, pause: int = 200, within: int = 30_000) -> None:
+        """Lifts a handset that is on hook and waits for dial tone, which has to come within so many ms; then presses keys, with a pause
+        (ms) behind each."""
         if self.line(line).hook == "on":
             self.phone(line, "off")
-            self.run(pause)
+            self.expect(line, signal="L/dl", within=within)
         for key in number:
             self.phone(line, key)
             self.run(pause)
 
     def say(self, data: bytes, source: Address | None = None) -> None:
         """The agent sends a datagram to the gateway."""
-        self._put(False, source or self.agent_at, data)
+        self._say(source or self.agent_at, data)
 
     def run(self, by: int) -> None:
         """Lets so many ms go by."""
@@ -212,14 +243,14 @@ class World:
 
     # --- What is told ---
 
-    def script(self) -> str:
-        """What came to the gateway, as a script that `rgw simulate` plays again."""
-        return self.gateway.config.decode("utf-8", "replace").rstrip("\n") + "\n%%\n" + "".join(step + "\n" for step in self._steps)
+    def trace(self) -> str:
+        """What came to the gateway and what it sent, as `rgwd --trace` writes it: `rgwd --replay` plays it again, and compares."""
+        first = [f"| first {self.gateway.first}"] if self.gateway.first else []
+        return "\n".join([self.gateway.config.decode().rstrip("\n"), "%%", *first, *self._trace, ""])
 
     def told(self) -> str:
-        """The conversation, and the script that replays it."""
-        first = f", whose ids begin with {self.gateway.first}" if self.gateway.first else ""
-        return "\n".join(["the conversation:", *self.conversation, f"what replays it, by rgw simulate{first}:", self.script()])
+        """The conversation, and the trace that replays it."""
+        return "\n".join(["the conversation:", *self.conversation, "the trace, for rgwd --replay:", self.trace()])
 
     # --- How time goes by ---
 
@@ -239,37 +270,77 @@ class World:
         return False
 
     def _tick(self, moment: int) -> None:
-        self._steps.append(f"at {moment}")
-        self._send(self.gateway.tick(moment))
+        self._send([f"at {moment}"], self.gateway.tick(moment))
 
-    def _send(self, outputs: list[Output]) -> None:
+    def _send(self, step: list[str], outputs: list[Output]) -> None:
+        """The gateway took this step: what it sends because of it goes into the network."""
+        self._trace += step
+        labels = iter(self.gateway.messages if outputs else ())
         for output in outputs:
-            self._put(True, output.to, output.data)
+            self._trace += trace_of(output)
+            for message, label in zip(messages_of(output.data), labels):
+                self._tell_sent(label, message)
+            late = self.network()
+            if late != [0]:
+                self._tell(output.to, "!", fate_told(late))
+            self._go(late, True, output.to, output.data)
 
-    def _put(self, is_to_agent: bool, peer: Address, data: bytes) -> None:
-        """A datagram goes into the network."""
-        self._tell(peer, "<" if is_to_agent else ">", shown(data, self._domain))
+    def _tell_sent(self, label: Message, message: list[str]) -> None:
+        if label.what == "again":
+            self._tell(label.to, "!", f"repeat of {label.id}, answered again")
+        elif label.what == "resent":
+            self._tell(label.to, "!", f"repeat of {label.id}, no answer yet")
+        else:
+            # An answer goes out at the moment at which its command came.
+            waited = " +0 ms" if label.what == "answer" else ""
+            self._tell(label.to, "<", shown(message, self._domain) + waited)
+        if label.what == "command":
+            self._own[label.line] = (label.id, self.now)
+
+    def _say(self, own: Address, data: bytes) -> None:
+        """A datagram goes from the agent into the network. It is told when it arrives, or where it is lost."""
         late = self.network()
-        if len(late) != 1 or late != [0]:
-            by = " and ".join(str(delay) for delay in late)
-            self._tell(peer, "!", ("lost on its way", f"late by {by} ms", f"copied, late by {by} ms")[min(len(late), 2)])
+        if not late:
+            self._tell_come(own, data)
+            self._tell(own, "!", fate_told(late))
+        self._go(late, False, own, data)
+
+    def _go(self, late: list[int], is_to_agent: bool, peer: Address, data: bytes) -> None:
         for delay in late:
             self._count += 1
-            heappush(self._on_way, (self.now + delay, self._count, is_to_agent, peer, data))
+            heappush(self._on_way, (self.now + delay, self._count, delay, is_to_agent, peer, data))
 
-    def _arrive(self, is_to_agent: bool, peer: Address, data: bytes) -> None:
+    def _arrive(self, delay: int, is_to_agent: bool, peer: Address, data: bytes) -> None:
         if is_to_agent:
             self._speak(peer, self.agent(self.now, GATEWAY_AT, data))
             return
-        self._steps.append(step_of(peer, data))
+        self._tell_come(peer, data)
+        if delay:
+            self._tell(peer, "!", fate_told([delay]))
         try:
-            self._send(self.gateway.datagram(peer, data))
-        except EventRefused as refusal:
-            self._tell(peer, "!", f"{refusal}")
+            outputs = self.gateway.datagram(peer, data)
+        except OutOfMemory:
+            self._tell(peer, "!", "out of memory, nothing was done")
+            return
+        self._send(step_of(peer, data), outputs)
+
+    def _tell_come(self, peer: Address, data: bytes) -> None:
+        for message in messages_of(data):
+            self._tell(peer, ">", shown(message, self._domain) + self._waited(message))
+
+    def _waited(self, message: list[str]) -> str:
+        """How long the command waited that a response answers, where that is what its line sent last."""
+        kind, id = (message[0].split() + ["", ""])[:2] if message else ("", "")
+        sent = [moment for own, moment in self._own.values() if kind.isdigit() and str(own) == id]
+        return f" +{self.now - sent[0]} ms" if sent else ""
 
     def _speak(self, own: Address, sent: Sent) -> None:
         for item in sent:
-            self._put(False, own, item if isinstance(item, bytes) else item[1])
+            to, data = (GATEWAY_AT, item) if isinstance(item, bytes) else item
+            if to == GATEWAY_AT:
+                self._say(own, data)
+            else:
+                self._tell(Address(*to), "!", "no gateway is there")
 
     def _tell(self, peer: Address, mark: str, text: str) -> None:
         self.conversation.append(f"{self.now:>9} {peer} {mark} {text}")

@@ -1,14 +1,16 @@
 """The plugin: what a test of an agent looks like, and what one that fails prints."""
 
+import re
 import socket
 import threading
 from collections.abc import Callable
 
 import pytest
 from agents import CarefulAgent
+from scenarios import Player
 
 from rgw import Address, Gateway
-from rgw.world import CONFIG, BadNetwork, World, shown, step_of
+from rgw.world import CONFIG, BadNetwork, Sent, World, lines_of, shown, step_of
 
 pytest_plugins = ["pytester"]
 
@@ -43,19 +45,75 @@ def test_a_seed_says_all() -> None:
     assert told(3) == told(3) != told(4)
 
 
-def test_a_script_replays_a_world() -> None:
-    from scenarios import Player
-
-    with World(Gateway(CONFIG), CarefulAgent(), BadNetwork(0.2, 0.2, (0, 900), 5)) as world:
+def test_a_trace_replays_a_world() -> None:
+    with World(Gateway(CONFIG, first=7), CarefulAgent(), BadNetwork(0.2, 0.2, (0, 900), 5)) as world:
         world.run(5000)
         world.phone(1, "off")
         world.run(5000)
-        config, _, script = world.script().partition("%%\n")
-        with Gateway(config) as again:
+        config, _, rest = world.trace().partition("%%\n")
+        first, *lines = rest.splitlines()
+        assert first == "| first 7"
+        with Gateway(config, first=7) as again:
             player = Player(again)
-            player.play(script.splitlines())
+            player.play([line for line in lines if not line.startswith("| ")])
             assert again.now == world.now and again.line(1).signals == world.line(1).signals
-            assert sum(line.startswith("> ") for line in player.printed) == sum(" < " in line for line in world.conversation)
+            sent = [re.sub(r"^> \d+ ", "> ", line) for line in player.printed]
+            assert sent == [line[2:] for line in lines if line.startswith("| ")] and len(sent) > 10
+
+
+def test_the_conversation_is_as_the_log() -> None:
+    request = b"RQNT 1207 aaln/1@RGW.example.net MGCP 1.0\r\nX: A1\r\nS: L/rg\r\n"
+    with World(Gateway(CONFIG), lambda moment, source, data: []) as world:
+        world.run(2)
+        for data, wait in ((b"200 1 OK\r\n", 1205), (request, 0), (request, 793)):
+            world.say(data)
+            world.run(wait)
+        world.phone(1, "off")
+        world.run(722)
+        world.say(b"200 10000000 OK\r\n")
+        world.say(b"AUEP 1 aaln/1@rgw.example.net MGCP 1.0\n.\nAUEP 2 aaln/1@other.net MGCP 1.0\nX-A: \\" + b"a" * 65 + b"\n")
+        world.run(0)
+        world.network = BadNetwork(late=(200, 200))
+        world.say(b"AUEP 3 aaln/1@rgw.example.net MGCP 1.0\r\n")
+        world.run(200)
+        world.network = BadNetwork(lose=1)
+        world.say(b"AUEP 4 aaln/1@rgw.example.net MGCP 1.0\r\n")
+        assert [line.replace("127.0.0.2:2727 ", "").strip() for line in world.conversation] == [
+            "1 < RSIP 1 * RM: restart",
+            "2 > 200 1 OK +1 ms",
+            "1207 > RQNT 1207 aaln/1 X: A1 S: L/rg",
+            "1207 < 200 1207 OK +0 ms",
+            "1207 > RQNT 1207 aaln/1 X: A1 S: L/rg",
+            "1207 ! repeat of 1207, answered again",
+            "2000 < NTFY 10000000 aaln/1 X: A1 O: L/hd",
+            "2500 ! repeat of 10000000, no answer yet",
+            "2722 > 200 10000000 OK +722 ms",
+            "2722 > AUEP 1 aaln/1",
+            "2722 > AUEP 2 aaln/1@other.net X-A: \\x5c" + "a" * 58 + "..",
+            "2722 < 200 1 OK +0 ms",
+            "2722 < 500 2 +0 ms",
+            "2922 > AUEP 3 aaln/1",
+            "2922 ! late by 200 ms",
+            "2922 < 200 3 OK +0 ms",
+            "2922 ! late by 200 ms",
+            "2922 > AUEP 4 aaln/1",
+            "2922 ! lost on its way",
+        ]
+
+
+def test_dial_waits_for_dial_tone(network: Callable[..., World]) -> None:
+    world = network(lose=0.2, copy=0.1, late=(0, 2000), seed=7, agent=CarefulAgent())
+    world.dial(1, "203")
+    world.expect(line=1, signal="G/rt", within=30_000)
+
+
+def test_what_goes_elsewhere_reaches_no_gateway() -> None:
+    def agent(moment: int, source: Address, data: bytes) -> Sent:
+        return [(Address("127.0.0.9", 2427), b"200 1 OK\r\n")]
+
+    with World(Gateway(CONFIG), agent) as world:
+        world.run(10)
+        assert world.conversation[1:] == ["        1 127.0.0.9:2427 ! no gateway is there"]
 
 
 def test_what_fails_is_told(pytester: pytest.Pytester) -> None:
@@ -84,16 +142,15 @@ def test_an_agent_may_be_in_another_process(gateway: World) -> None:
         gateway.agent = f"127.0.0.1:{other.getsockname()[1]}"
         gateway.run(10)
         thread.join()
-    assert [line.split()[-3:] for line in gateway.conversation] == [["*", "RM:", "restart"], ["200", "1", "OK"]]
+    assert [line.split()[2:] for line in gateway.conversation] == [["<", "RSIP", "1", "*", "RM:", "restart"], [">", "200", "1", "OK", "+0", "ms"]]
 
 
 def test_a_line_shows_no_raw_byte() -> None:
-    assert shown(b"NTFY 1 aaln/1@rgw.example.net MGCP 1.0\r\nX: \x1b" + b"a" * 99, "rgw.example.net").startswith(
-        "NTFY 1 aaln/1 X: \\x1baaa"
-    )
+    lines = lines_of(b"NTFY 1 aaln/1@rgw.example.net MGCP 1.0\r\nX: \x1b" + b"a" * 99)
+    assert shown(lines, "rgw.example.net") == "NTFY 1 aaln/1 X: \\x1b" + "a" * 60 + ".."
 
 
 def test_a_step_has_the_bytes() -> None:
     at = Address("10.0.0.1", 2727)
-    assert step_of(at, b"200 1 OK\r\n") == "from 10.0.0.1:2727\n200 1 OK\n--"
-    assert step_of(at, b"200 1 OK\n") == "raw 10.0.0.1:2727 323030203120" + "4f4b0a"
+    assert step_of(at, b"200 1 OK\n") == ["raw 10.0.0.1:2727 323030203120" + "4f4b0a"]
+    assert step_of(at, b"") == ["from 10.0.0.1:2727", "--"]
