@@ -83,7 +83,7 @@ enum {
     RGW_BAD_DOMAIN = 12,
     /* There are no lines, or more than RGW_MOST_LINES. */
     RGW_BAD_LINES = 13,
-    /* A host's name, its addresses, or the agent is none. */
+    /* A host's name isn't as a domain is, or stands twice, there are more than 64 of them, or the agent is none. */
     RGW_BAD_AGENT = 14,
     /* A wait isn't 1 to 600,000 ms. */
     RGW_BAD_WAIT = 15,
@@ -400,7 +400,7 @@ static inline const char *rgw_strerror(rgw_result result) {
     case RGW_PHONE_STATE: return "the hook state rules the act out";
     case RGW_BAD_DOMAIN: return "configuration: the domain is none";
     case RGW_BAD_LINES: return "configuration: there are not 1 to 96 lines";
-    case RGW_BAD_AGENT: return "configuration: a name, its addresses or the agent is none";
+    case RGW_BAD_AGENT: return "configuration: a host's name or the agent is none, or there are too many";
     case RGW_BAD_WAIT: return "configuration: a wait is not 1 to 600,000 ms";
     case RGW_BAD_MEDIA: return "configuration: the lowest media port is none";
     case RGW_BAD_TOML: return "configuration: it can't be read";
