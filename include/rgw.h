@@ -332,7 +332,8 @@ static inline rgw_result rgw_output(rgw_gateway *gateway, size_t index, rgw_outp
 }
 
 /*
- * How many messages were sent at the last event that was taken: several may share a datagram (RFC 3435, 3.5.5). RGW_NOT_OPEN.
+ * How many messages were sent at the last event that was taken: several may share a datagram, a line of a single dot between them (RFC
+ * 3435, 3.5.5). They stand in the order of the datagrams, and of the texts in each. RGW_NOT_OPEN.
  * Keep: one call at a time on `gateway`; `count` lies outside it.
  */
 static inline rgw_result rgw_messages(rgw_gateway *gateway, size_t *count) {
