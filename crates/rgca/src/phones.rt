@@ -37,25 +37,46 @@ fn open_sockets<'a, R: Net + Clock>(rt: &'a R, alloc: Global) -> Option<Live<'a,
     Live::watch(rt, alloc, socket, other).ok()
 }
 
-// Plays a script over sockets.
+// Plays a script with this player, over these sockets.
+fn play_with<'w, R: Net + Clock>(
+    alloc: Global,
+    live: &mut Live<'_, R>,
+    settings: &PhoneSettings<'w>,
+    player: &mut Player,
+) -> Result<Ending<'w>, OutOfMemory> {
+    match play_phones(alloc, live, player, settings.addresses.as_slice())? {
+        Played::Done => Ok(Ending::Played),
+        Played::Failed { failure } => {
+            failure_ending(alloc, player.files(), settings.names.as_slice(), &failure)
+        }
+        Played::Clock => Ok(Ending::Common(CommonEnding::Clock)),
+    }
+}
+
+// Plays a script over these sockets.
+fn play_over<'w, R: Net + Clock>(
+    alloc: Global,
+    live: &mut Live<'_, R>,
+    settings: &PhoneSettings<'w>,
+    script: Script,
+) -> Result<Ending<'w>, OutOfMemory> {
+    let gateways = u16::try_from(settings.addresses.len()).unwrap_or(u16::MAX);
+    match Player::new(alloc, script, gateways, 0) {
+        Ok(mut player) => play_with(alloc, live, settings, &mut player),
+        Err(refused) => Err(refused),
+    }
+}
+
+// Plays a script.
 fn play<'w, R: Net + Clock>(
     rt: &R,
     alloc: Global,
     settings: &PhoneSettings<'w>,
     script: Script,
 ) -> Result<Ending<'w>, OutOfMemory> {
-    let Some(mut live) = open_sockets(rt, alloc) else {
-        return Ok(Ending::System);
-    };
-    let gateways = settings.addresses.as_slice();
-    let most = u16::try_from(gateways.len()).unwrap_or(u16::MAX);
-    let mut player = Player::new(alloc, script, most, 0)?;
-    match play_phones(alloc, &mut live, &mut player, gateways)? {
-        Played::Done => Ok(Ending::Played),
-        Played::Failed { failure } => {
-            failure_ending(alloc, player.files(), settings.names.as_slice(), &failure)
-        }
-        Played::Clock => Ok(Ending::Common(CommonEnding::Clock)),
+    match open_sockets(rt, alloc) {
+        Some(mut live) => play_over(alloc, &mut live, settings, script),
+        None => Ok(Ending::System),
     }
 }
 
