@@ -82,14 +82,14 @@ fn served_ending<'w>(
     }
 }
 
-// Serves with what is configured.
+// Serves with what is configured: how the program ends then.
 fn serve_with<'w, R: Files + Net + Clock>(
     rt: &R,
     alloc: Global,
     settings: &Settings<'w>,
     config: &AgentConfig,
     outlets: &mut Outlets<R::File>,
-) -> Result<(), Ending<'w>> {
+) -> CommonEnding<'w> {
     let wire = wire_settings(settings, config);
     match serve_agent(
         rt,
@@ -100,8 +100,22 @@ fn serve_with<'w, R: Files + Net + Clock>(
         settings.capture,
         outlets,
     ) {
-        Ok(()) => Ok(()),
-        Err(fault) => Err(Ending::Common(served_ending(fault, wire, settings))),
+        Ok(()) => CommonEnding::Served,
+        Err(fault) => served_ending(fault, wire, settings),
+    }
+}
+
+// Does what the settings ask, with this text of the configuration: how the program ends then.
+fn perform_with<'w, R: Files + Net + Clock>(
+    rt: &R,
+    alloc: Global,
+    settings: &Settings<'w>,
+    text: &[u8],
+    outlets: &mut Outlets<R::File>,
+) -> Ending<'w> {
+    match config_of(alloc, settings, text) {
+        Ok(config) => Ending::Common(serve_with(rt, alloc, settings, &config, outlets)),
+        Err(refusal) => config_ending(settings.config, refusal),
     }
 }
 
@@ -111,12 +125,10 @@ fn perform<'w, R: Files + Net + Clock>(
     alloc: Global,
     settings: &Settings<'w>,
     outlets: &mut Outlets<R::File>,
-) -> Result<(), Ending<'w>> {
-    let file = settings.config;
-    let text = read_file(rt, alloc, file, LIMIT as u64)?;
-    match config_of(alloc, settings, text.as_slice()) {
-        Ok(config) => serve_with(rt, alloc, settings, &config, outlets),
-        Err(refusal) => Err(config_ending(file, refusal)),
+) -> Ending<'w> {
+    match read_file(rt, alloc, settings.config, LIMIT as u64) {
+        Ok(text) => perform_with(rt, alloc, settings, text.as_slice(), outlets),
+        Err(ending) => Ending::Common(ending),
     }
 }
 
@@ -130,10 +142,7 @@ fn ending_of<'w, R: AllocGlobal + Files + Net + Clock>(
         Ok(settings) => settings,
         Err(fault) => return Ending::from(fault),
     };
-    match perform(rt, rt.alloc(), &settings, outlets) {
-        Ok(()) => Ending::Common(CommonEnding::Served),
-        Err(ending) => ending,
-    }
+    perform(rt, rt.alloc(), &settings, outlets)
 }
 
 // What the program says at its end.
