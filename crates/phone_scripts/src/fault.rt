@@ -37,8 +37,8 @@ pub enum LineFault {
     TooLong,
 }
 
-// Puts a text before a number.
-fn put_before(
+/// Puts a text before a number. Its only error is want of memory.
+pub(crate) fn put_before(
     alloc: Global,
     out: &mut Vec<u8>,
     before: &[u8],

@@ -4,7 +4,7 @@ ghost use Rattle.phone_scripts.specs.Wording.{hook_word, signals_text, connectio
 
 use crate::expecting::Expected;
 use crate::failure::{Failure, Unmet};
-use crate::fault::LineFault;
+use crate::fault::{LineFault, put_around, put_before};
 use crate::limits::MOST_BESIDE;
 use crate::statement::{Phone, Place};
 use crate::telephone::{Connected, Telephone};
@@ -92,9 +92,7 @@ pub fn put_place(
     ensures { OnOk result (out.new.items ≡ out.old.items ++ place_text files.now place) }
 {
     out.extend_from_slice(text_at(files, place.file))?;
-    out.push(b':')?;
-    put_decimal(alloc, out, place.line)?;
-    out.extend_from_slice(b": ")
+    put_around(alloc, out, b":", place.line, b": ")
 }
 
 fn put_naming(out: &mut Vec<u8>, name: &[u8]) -> Result<(), OutOfMemory>
@@ -171,8 +169,7 @@ fn put_wanted(
     put_phone(alloc, out, names, unmet.phone)?;
     out.push(b' ')?;
     put_expected(out, unmet.expected)?;
-    out.extend_from_slice(b" within ")?;
-    put_decimal(alloc, out, unmet.within)
+    put_before(alloc, out, b" within ", unmet.within)
 }
 
 fn put_since(alloc: Global, out: &mut Vec<u8>, since: Option<u64>) -> Result<(), OutOfMemory>
@@ -191,8 +188,7 @@ fn put_was(alloc: Global, out: &mut Vec<u8>, unmet: &Unmet) -> Result<(), OutOfM
 {
     out.extend_from_slice(b"\nsince ")?;
     put_since(alloc, out, unmet.since)?;
-    out.extend_from_slice(b": ")?;
-    out.extend_from_slice(unmet.was.as_bytes())
+    put_both(out, b": ", unmet.was.as_bytes())
 }
 
 fn put_unmet(
@@ -219,8 +215,7 @@ fn put_refused(
     ensures { OnOk result (out.new.items ≡ out.old.items ++ refused_text files.now place answer.now) }
 {
     put_place(alloc, out, files, place)?;
-    out.extend_from_slice(b"answered ")?;
-    out.extend_from_slice(answer.as_bytes())
+    put_both(out, b"answered ", answer.as_bytes())
 }
 
 fn put_too_many(
@@ -232,9 +227,13 @@ fn put_too_many(
     ensures { OnOk result (out.new.items ≡ out.old.items ++ too_many_text files.now place) }
 {
     put_place(alloc, out, files, place)?;
-    out.extend_from_slice(b"more than ")?;
-    put_decimal(alloc, out, MOST_BESIDE as u64)?;
-    out.extend_from_slice(b" side by side")
+    put_around(
+        alloc,
+        out,
+        b"more than ",
+        MOST_BESIDE as u64,
+        b" side by side",
+    )
 }
 
 fn put_unanswered(out: &mut Vec<u8>, names: &[Text], gateway: u16) -> Result<(), OutOfMemory>
@@ -267,8 +266,7 @@ fn put_lost(
     ensures { OnOk result (out.new.items ≡ out.old.items ++ lost_text names.now gateway number) }
 {
     put_gateway(out, names, gateway)?;
-    out.extend_from_slice(b": changes were lost, from number ")?;
-    put_decimal(alloc, out, number)
+    put_before(alloc, out, b": changes were lost, from number ", number)
 }
 
 // Puts why a script isn't played to its end.
