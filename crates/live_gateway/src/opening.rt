@@ -1,0 +1,152 @@
+//! Opens a gateway that runs, over surroundings that it is given: its journal, the way between it and others, its play and its desk, as
+//! is asked for. Each part is made by a function of its own, since a check pays for all that a value holds inline at each step of a
+//! function that has it.
+ghost use Rattle.std.specs.Prelude.{◌≡◌, IfOk};
+
+use crate::admission::Admission;
+use crate::desk::Desk;
+use crate::exchange::Exchange;
+use crate::spoilt_way::SpoiltWay;
+use bad_network::{BadNetwork, Spoiling};
+use gateway_core::Gateway;
+use live_ends::{Now, Written, boxed};
+use live_journal::{Capture, Journal, Log, MessageTally, Trace};
+use live_play::LivePlay;
+use page_answers::Board;
+use std::alloc::{AllocError, Global};
+use std::net::SocketAddrV4;
+use surroundings::{Lines, Surroundings};
+
+/// What is asked of a gateway that runs, beside its configuration.
+#[derive(Clone, Copy)]
+pub struct DeskSettings<'a> {
+    /// Whether what happens is told in a trace.
+    pub has_trace: bool,
+    /// Whether what is said is told in a log, for people.
+    pub has_log: bool,
+    /// The file that datagrams are captured into, and the address that this tells of the gateway.
+    pub capture: Option<&'a str>,
+    pub here: SocketAddrV4,
+    /// Whether there is a page to be shown what happens.
+    pub has_page: bool,
+    /// How a network spoils its datagrams, where one is asked for.
+    pub network: Option<Spoiling>,
+    /// The moment at which it ends, in ms.
+    pub end: Option<u64>,
+}
+
+fn tally_of(alloc: Global) -> Result<Box<MessageTally>, AllocError> {
+    boxed(alloc, MessageTally::new(alloc)?)
+}
+
+fn log_of(alloc: Global, has_log: bool, gateway: &Gateway) -> Result<Box<Log>, AllocError> {
+    boxed(alloc, Log::new(alloc, has_log, gateway)?)
+}
+
+fn capture_of(alloc: Global, settings: &DeskSettings<'_>) -> Result<Box<Capture>, AllocError> {
+    boxed(alloc, Capture::new(alloc, settings.capture, settings.here)?)
+}
+
+// What a page is shown, if there is one.
+fn board_of(alloc: Global, has_page: bool) -> Result<Option<Box<Board>>, AllocError> {
+    if !has_page {
+        return Ok(None);
+    }
+    Ok(Some(boxed(alloc, Board::new(alloc))?))
+}
+
+fn journal_of(
+    alloc: Global,
+    settings: &DeskSettings<'_>,
+    gateway: &Gateway,
+) -> Result<Box<Journal>, AllocError> {
+    let journal = Journal {
+        tally: tally_of(alloc)?,
+        log: log_of(alloc, settings.has_log, gateway)?,
+        capture: capture_of(alloc, settings)?,
+        board: board_of(alloc, settings.has_page)?,
+        written: Written::ALL,
+    };
+    boxed(alloc, journal)
+}
+
+// A network of the gateway's own, which spoils as this says.
+fn spoilt_by(
+    alloc: Global,
+    spoiling: Spoiling,
+    gateway: &Gateway,
+) -> Result<Box<SpoiltWay>, AllocError> {
+    let domain = gateway.setup().names.domain.as_bytes();
+    let network = BadNetwork::new(alloc, spoiling.with_name(domain));
+    boxed(alloc, SpoiltWay::new(alloc, network))
+}
+
+// The bad network, if one is asked for.
+fn network_of(
+    alloc: Global,
+    asked: Option<Spoiling>,
+    gateway: &Gateway,
+) -> Result<Option<Box<SpoiltWay>>, AllocError> {
+    match asked {
+        Some(spoiling) => Ok(Some(spoilt_by(alloc, spoiling, gateway)?)),
+        None => Ok(None),
+    }
+}
+
+// The way between a gateway and others, over which nothing went.
+fn exchange_of<S: Surroundings + Drop>(
+    alloc: Global,
+    settings: &DeskSettings<'_>,
+    gateway: &Gateway,
+    around: Box<S>,
+) -> Result<Box<Exchange<S>>, AllocError>
+    ensures { IfOk result (λ exchange. exchange.value.around ≡ around.value) }
+{
+    let journal = journal_of(alloc, settings, gateway)?;
+    let network = network_of(alloc, settings.network, gateway)?;
+    let around = Box::into_inner(around);
+    let now = Now {
+        clock: 0,
+        time: around.time(),
+    };
+    boxed(alloc, Exchange::new(around, network, journal, now))
+}
+
+// A gateway that is played, and its trace, which has its head.
+fn play_of(
+    alloc: Global,
+    has_trace: bool,
+    config: &[u8],
+    gateway: Box<Gateway>,
+) -> Result<Box<LivePlay<Trace>>, AllocError>
+    ensures { IfOk result (λ play. play.value.gateway ≡ gateway) }
+{
+    let trace = Trace::new(alloc, has_trace, config, gateway.setup().first);
+    boxed(alloc, LivePlay::new(alloc, gateway, trace))
+}
+
+fn lines_of(alloc: Global) -> Result<Box<Lines>, AllocError> {
+    boxed(alloc, Lines::new(alloc)?)
+}
+
+/// A gateway over these surroundings, as the settings ask for it, which hears these; its trace has begun with this configuration.
+/// The only error is want of memory.
+pub fn open_desk<S: Surroundings + Drop>(
+    alloc: Global,
+    settings: &DeskSettings<'_>,
+    config: &[u8],
+    gateway: Box<Gateway>,
+    around: Box<S>,
+    admission: Admission,
+) -> Result<Box<Desk<S, Trace>>, AllocError>
+    ensures around { IfOk result (λ desk. desk.value.exchange.value.around ≡ around.value) }
+    ensures gateway { IfOk result (λ desk. desk.value.play.value.gateway ≡ gateway) }
+    ensures admission { IfOk result (λ desk. desk.value.admission ≡ admission) }
+    ensures end { IfOk result (λ desk. desk.value.end ≡ settings.now.end) }
+{
+    let exchange = exchange_of(alloc, settings, &gateway, around)?;
+    let play = play_of(alloc, settings.has_trace, config, gateway)?;
+    let lines = lines_of(alloc)?;
+    let desk = Desk::new(alloc, play, exchange, lines, admission, settings.end);
+    boxed(alloc, desk)
+}
