@@ -20,15 +20,11 @@ use crate::live::browsers::Browsers;
 use crate::stories::{
     Place, Program, Records, Story, Transcript, Words, put_given, told, words_in,
 };
-use bad_network::BadNetwork;
 use gateway_core::Gateway;
-use live_ends::{Now, Written};
-use live_gateway::{Admission, Desk, Exchange, Recorder, SpoiltWay, boxed, speakers_of};
-use live_journal::{Capture, Journal, Log, MessageTally, Trace};
+use live_gateway::{Admission, Desk, DeskSettings, Recorder, boxed, open_desk, speakers_of};
+use live_journal::{Journal, Trace};
 use live_page::HostNames;
-use live_play::LivePlay;
 use mg_bytes::OutOfMemory;
-use page_answers::Board;
 use rgw_play::PlayFault;
 use rgw_scenes::gateway_from;
 use scenario_files::{Count, Titled, input_of, read_scenario};
@@ -36,7 +32,7 @@ use std::alloc::{AllocError, Global};
 use std::collections::VecDeque;
 use std::net::{Ipv4Addr, Net, SocketAddrV4};
 use std::{io, mem};
-use surroundings::{Lines, Scripted, Surroundings};
+use surroundings::{Scripted, Surroundings};
 use traces::{put_verdict, replay};
 
 /// The program `rgwd`.
@@ -81,73 +77,6 @@ fn gateway_in(
     }
 }
 
-// The bad network, if one is asked for.
-fn network_of(
-    alloc: Global,
-    words: &Words,
-    gateway: &Gateway,
-) -> Result<Option<Box<SpoiltWay>>, AllocError> {
-    let Some(spoiling) = words.network else {
-        return Ok(None);
-    };
-    let domain = gateway.setup().names.domain.as_bytes();
-    let network = BadNetwork::new(alloc, spoiling.with_name(domain));
-    Ok(Some(boxed(alloc, SpoiltWay::new(alloc, network))?))
-}
-
-// What a page is shown, if there is one.
-fn board_of(alloc: Global, words: &Words) -> Result<Option<Box<Board>>, AllocError> {
-    match words.http {
-        Some(_) => Ok(Some(boxed(alloc, Board::new(alloc))?)),
-        None => Ok(None),
-    }
-}
-
-fn tally_of(alloc: Global) -> Result<Box<MessageTally>, AllocError> {
-    boxed(alloc, MessageTally::new(alloc)?)
-}
-
-fn log_of(alloc: Global, words: &Words, gateway: &Gateway) -> Result<Box<Log>, AllocError> {
-    boxed(alloc, Log::new(alloc, words.has_log, gateway)?)
-}
-
-fn capture_of(alloc: Global, words: &Words) -> Result<Box<Capture>, AllocError> {
-    let file = match &words.capture {
-        Some(file) => Some(file.as_str()),
-        None => None,
-    };
-    boxed(alloc, Capture::new(alloc, file, words.own[0])?)
-}
-
-// Each part is made by a function of its own, since a check pays for all that a value holds inline at each step of a function that has it.
-fn journal_of(alloc: Global, words: &Words, gateway: &Gateway) -> Result<Box<Journal>, AllocError> {
-    let journal = Journal {
-        tally: tally_of(alloc)?,
-        log: log_of(alloc, words, gateway)?,
-        capture: capture_of(alloc, words)?,
-        board: board_of(alloc, words)?,
-        written: Written::ALL,
-    };
-    boxed(alloc, journal)
-}
-
-// The way between a gateway and others, over what a story has of sockets and a clock.
-fn exchange_of(
-    alloc: Global,
-    words: &Words,
-    gateway: &Gateway,
-    story: &mut Story,
-) -> Result<Box<Exchange<Scripted>>, AllocError> {
-    let network = network_of(alloc, words, gateway)?;
-    let journal = journal_of(alloc, words, gateway)?;
-    let now = Now {
-        clock: 0,
-        time: story.around.time(),
-    };
-    let around = story.take_around(words.own);
-    boxed(alloc, Exchange::new(around, network, journal, now))
-}
-
 // Whom a gateway hears, and who may type.
 fn admission_of(
     alloc: Global,
@@ -165,23 +94,24 @@ fn admission_of(
     })
 }
 
-// A gateway that is played, and its trace.
-fn play_of(
-    alloc: Global,
-    words: &Words,
-    config: &str,
-    gateway: Box<Gateway>,
-) -> Result<Box<LivePlay<Trace>>, AllocError> {
-    let first = words.first.number();
-    let trace = Trace::new(alloc, words.has_trace, config.as_bytes(), first);
-    boxed(alloc, LivePlay::new(alloc, gateway, trace))
+// What is asked of a gateway, which ends behind what comes where no word says when.
+fn settings_of<'w>(words: &'w Words, story: &Story) -> DeskSettings<'w> {
+    let capture = match &words.capture {
+        Some(file) => Some(file.as_str()),
+        None => None,
+    };
+    DeskSettings {
+        has_trace: words.has_trace,
+        has_log: words.has_log,
+        capture,
+        here: words.own[0],
+        has_page: words.http.is_some(),
+        network: words.network,
+        end: Some(words.stop_after.unwrap_or(story.moment.saturating_add(1))),
+    }
 }
 
-fn lines_of(alloc: Global) -> Result<Box<Lines>, AllocError> {
-    boxed(alloc, Lines::new(alloc)?)
-}
-
-// A gateway that runs.
+// A gateway that runs, over what a story has of sockets and a clock.
 fn desk_of(
     alloc: Global,
     words: &mut Words,
@@ -190,12 +120,16 @@ fn desk_of(
     story: &mut Story,
 ) -> Result<Box<Desk<Scripted, Trace>>, AllocError> {
     let admission = admission_of(alloc, words, &gateway)?;
-    let exchange = exchange_of(alloc, words, &gateway, story)?;
-    let play = play_of(alloc, words, config, gateway)?;
-    let lines = lines_of(alloc)?;
-    let end = words.stop_after.unwrap_or(story.moment.saturating_add(1));
-    let desk = Desk::new(alloc, play, exchange, lines, admission, Some(end));
-    boxed(alloc, desk)
+    let around = boxed(alloc, story.take_around(words.own))?;
+    let settings = settings_of(words, story);
+    open_desk(
+        alloc,
+        &settings,
+        config.as_bytes(),
+        gateway,
+        around,
+        admission,
+    )
 }
 
 // Who visits the page, if there is one.
