@@ -1,3 +1,5 @@
 pub mod Coming
 pub mod Running
 pub mod Keeping
+pub mod Readable
+pub mod Replay

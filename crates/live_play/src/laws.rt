@@ -1,10 +1,17 @@
-//! A live run is a play: laws, whose functions do nothing.
+//! A live run is a play, and what its trace says of it, played again, is what the gateway did: laws of definitions, whose functions do
+//! nothing.
 ghost use Rattle.std.specs.Prelude.{◌≡◌, ◌++◌, ℕ, List, map, Some};
 ghost use Rattle.surroundings.specs.Sending.{Sent};
 ghost use Rattle.plain_machine.specs.Event.{GatewayEvent};
 ghost use Rattle.gateway_core.specs.Stands.{Stands};
 ghost use Rattle.traces.specs.Writing.{Entry, IsPlay, taken_after, sent_in, written, script_after};
 ghost use Rattle.live_play.specs.Running.{Live, Ran, AreInPlace, sent_of};
+
+pub mod lines;
+pub mod live;
+pub mod replays;
+pub mod shown;
+pub mod ticks;
 
 /// A gateway that went on by entries stands for what it took at them; what they show is what the plain machine shows; what was handed
 /// out, and what the trace was told, is theirs, in their order; what became of a datagram is said behind the entry that sent it, once at

@@ -2,7 +2,7 @@
 ghost use Rattle.std.specs.Prelude.{[], List};
 ghost use Rattle.plain_machine.specs.declared.setup.Setup.{Setup};
 ghost use Rattle.traces.specs.Writing.{Entry, IsPlay, opening_script};
-ghost use Rattle.live_laws.specs.Replay.{AreWritable, ReadsBack};
+ghost use Rattle.live_play.specs.Replay.{AreWritable, ReadsBack};
 
 /// The printed form of a play reads back as that play: its replay comes to its end, tells just what went out, and stands where the
 /// gateway stood; ticks that were told together send the same.

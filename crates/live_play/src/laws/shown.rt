@@ -6,7 +6,7 @@ ghost use Rattle.plain_machine.specs.Event.{GatewayEvent};
 ghost use Rattle.rgw_scripts.specs.Moves.{Move, Shown};
 ghost use Rattle.traces.specs.Telling.{told as shown_text};
 ghost use Rattle.traces.specs.Running.{run_from};
-ghost use Rattle.live_laws.specs.Replay.{owing};
+ghost use Rattle.live_play.specs.Replay.{owing};
 
 /// A replay that owes what was shown reads the text of that, whatever follows it, and owes nothing then.
 pub fn what_is_shown_is_read()

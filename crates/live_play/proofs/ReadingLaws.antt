@@ -22,7 +22,7 @@ use Rattle.sdp_subset.proofs.DecimalLemmas.{decimal_digits, decimal_some, decima
 use Rattle.rgw_scripts.specs.declared.step.ScriptLine.{ScriptLine}
 use Rattle.rgw_scripts.specs.declared.step.ScriptLine.TheVariants.{From, Whole}
 use Rattle.rgw_scripts.specs.declared.step.ScriptStep.TheVariants.{Datagram, At}
-use Rattle.live_laws.specs.Readable.{Never, CanAnswer}
+use Rattle.live_play.specs.Readable.{Never, CanAnswer}
 use Rattle.rgw_scripts.specs.Script.{hex_digit, hex_byte, hex_bytes, address_of, line_in, line_of_two, line_of_three}
 
 -- ---- bytes that never stand in a text

@@ -5,8 +5,8 @@ use Rattle.traces.specs.declared.script.Script.{Script}
 use Rattle.traces.specs.Writing.{Entry, clock_text, opening_script, written, script_after, whole_text}
 use Rattle.live_play.specs.Running.{Live, Ran}
 use Rattle.live_play.proofs.RunLemmas.{told_known, script_known}
-use Rattle.live_laws.specs.Replay.{AreWritable, ReadsBack}
-use Rattle.live_laws.proofs.ReplayLaws.{reads_back}
+use Rattle.live_play.specs.Replay.{AreWritable, ReadsBack}
+use Rattle.live_play.proofs.ReplayLaws.{reads_back}
 
 pub live_text : (was is : Live) (entries : List Entry) (head text : List ℕ) → Ran was entries is → was.script ≡ opening_script
     → was.told ≡ Some head → is.told ≡ Some text → text ++ clock_text is.script ≡ head ++ whole_text entries

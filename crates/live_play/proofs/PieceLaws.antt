@@ -31,9 +31,9 @@ use Rattle.traces.specs.declared.telling.Mark.TheVariants.{Unsent, Lost}
 use Rattle.traces.specs.Telling.{mark, begins, is_whole, told_line, told_text, told_datagram, told_output, told_mark, number_behind, is_mark, told as shown_text}
 use Rattle.traces.specs.Replaying.{Replayed, Comes, goes_on, tells, move_in, moved, played, came, compared, proceeded, by_opened, next}
 use Rattle.traces.specs.Running.{Run, with_line, run_from}
-use Rattle.live_laws.specs.Readable.{Never}
-use Rattle.live_laws.specs.Replay.{owing}
-use Rattle.live_laws.proofs.ReadingLaws.{never_append, never_decimal}
+use Rattle.live_play.specs.Readable.{Never}
+use Rattle.live_play.specs.Replay.{owing}
+use Rattle.live_play.proofs.ReadingLaws.{never_append, never_decimal}
 
 -- ---- runs
 

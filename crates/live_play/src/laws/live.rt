@@ -3,7 +3,7 @@ ghost use Rattle.std.specs.Prelude.{◌≡◌, ◌++◌, [], List, ℕ, Some};
 ghost use Rattle.gateway_core.specs.Stands.{Stands};
 ghost use Rattle.traces.specs.Writing.{Entry, clock_text, opening_script, whole_text};
 ghost use Rattle.live_play.specs.Running.{Live, Ran};
-ghost use Rattle.live_laws.specs.Replay.{AreWritable, ReadsBack};
+ghost use Rattle.live_play.specs.Replay.{AreWritable, ReadsBack};
 
 /// A gateway to which nothing had come went on live: behind the head that its trace had, and with the moment that is told at the end, the
 /// trace is the printed form of what it went on by; and that reads back.

@@ -1,5 +1,5 @@
-use Rattle.live_laws.proofs.TickLaws.{joined_machine, joined_sent}
-use Rattle.live_laws.proofs.ticks.two_ticks_are_one.Goals as goal
+use Rattle.live_play.proofs.TickLaws.{joined_machine, joined_sent}
+use Rattle.live_play.proofs.laws.ticks.two_ticks_are_one.Goals as goal
 
 pub returns-clause-machine : goal.returns-clause-machine
 returns-clause-machine c = joined_machine

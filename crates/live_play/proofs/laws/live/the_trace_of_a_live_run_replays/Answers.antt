@@ -1,5 +1,5 @@
-use Rattle.live_laws.proofs.LiveLaws.{live_text, live_replays}
-use Rattle.live_laws.proofs.live.the_trace_of_a_live_run_replays.Goals as goal
+use Rattle.live_play.proofs.LiveLaws.{live_text, live_replays}
+use Rattle.live_play.proofs.laws.live.the_trace_of_a_live_run_replays.Goals as goal
 
 pub returns-clause-text : goal.returns-clause-text
 returns-clause-text c = live_text

@@ -12,7 +12,7 @@ use Rattle.traces.specs.Replaying.{may_end}
 use Rattle.traces.specs.Running.{Run, opening_run, run_from}
 use Rattle.traces.specs.Telling.{mark, begins, told as shown_text}
 use Rattle.traces.specs.Writing.{Input, Entry, showed, became, arrived, typed, passed, longest_step, is_far, passed_to, datagrams_in, after_entry, opening_script, script_after, whole_text, taken_after}
-use Rattle.live_laws.specs.Readable.{Never, CanAnswer}
+use Rattle.live_play.specs.Readable.{Never, CanAnswer}
 
 -- Its moves: ticks that were told together are one
 

@@ -39,11 +39,11 @@ use Rattle.traces.specs.Replaying.{move_in}
 use Rattle.traces.specs.Telling.{mark, begins, is_mark, unsent_words, lost_words, broken_off, number_behind, told_output, told_mark, told as shown_text}
 use Rattle.traces.specs.Running.{Run, opening_run, run_from}
 use Rattle.traces.specs.Writing.{Entry, showed, became, arrived, typed, passed, hex_text, datagram_text, clock_text, at_clock, is_far, pass_text, caught_up, passed_to, opening_script, after_entry, entry_text, written, script_after, whole_text, step_move, IsPlay, taken_after}
-use Rattle.live_laws.specs.Readable.{Never, CanAnswer}
-use Rattle.live_laws.specs.Replay.{clock_moves, pass_moves, entry_moves, moves_of, KeepsClock, IsWritable, AreWritable, owing, entry_told, told_in, ReadsBack}
-use Rattle.live_laws.proofs.TickLaws.{joined_machine, joined_sent}
-use Rattle.live_laws.proofs.ReadingLaws.{at_again, from_again, raw_again, never_append, never_decimal, never_address, never_hex, decimal_again}
-use Rattle.live_laws.proofs.PieceLaws.{ended_line, cut_line, cut_ended, reads_input, reads_empty, reads_mark, reads_shown}
+use Rattle.live_play.specs.Readable.{Never, CanAnswer}
+use Rattle.live_play.specs.Replay.{clock_moves, pass_moves, entry_moves, moves_of, KeepsClock, IsWritable, AreWritable, owing, entry_told, told_in, ReadsBack}
+use Rattle.live_play.proofs.TickLaws.{joined_machine, joined_sent}
+use Rattle.live_play.proofs.ReadingLaws.{at_again, from_again, raw_again, never_append, never_decimal, never_address, never_hex, decimal_again}
+use Rattle.live_play.proofs.PieceLaws.{ended_line, cut_line, cut_ended, reads_input, reads_empty, reads_mark, reads_shown}
 
 -- ---- texts that are read
 

@@ -1,5 +1,0 @@
-pub mod TickLaws
-pub mod ReadingLaws
-pub mod PieceLaws
-pub mod ReplayLaws
-pub mod LiveLaws
