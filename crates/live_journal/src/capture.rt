@@ -10,7 +10,6 @@ use std::alloc::Global;
 use std::net::SocketAddrV4;
 
 /// The capture of a gateway's datagrams.
-#[derive(Drop)]
 pub struct Capture {
     alloc: Global,
     // The address of the gateway's socket.
@@ -18,6 +17,20 @@ pub struct Capture {
     /// The name of its file; empty where there is none.
     pub name: Text,
     pub record: Record,
+}
+
+// Written out: a derived drop, and those of all its parts, are proved anew by each crate that lets one go.
+impl Drop for Capture {
+    fn drop(self) {
+        let Capture {
+            alloc: _,
+            here: _,
+            name,
+            record,
+        } = self;
+        drop(name);
+        drop(record);
+    }
 }
 
 // The head of a file, and these bytes.

@@ -15,7 +15,7 @@ use std::net::SocketAddrV4;
 const OTHERS: usize = PLACES - 1;
 
 /// Sends of commands of its own, by the place of their receiver among the addresses of its agent; the last are those to others.
-#[derive(Drop)]
+#[derive(Clone, Copy)]
 pub struct PlaceCounts {
     pub sends: [u64; PLACES],
 }

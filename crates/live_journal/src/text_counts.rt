@@ -8,7 +8,7 @@ use mgcp_text::Verb;
 use sent_counts::place_of;
 
 /// What was counted of the texts that came.
-#[derive(Drop)]
+#[derive(Clone, Copy)]
 pub struct TextCounts {
     /// Commands that came, by verb.
     pub commands: [u64; 10],

@@ -12,13 +12,24 @@ use traces::{broken_off_line, put_first};
 
 /// The trace of a gateway. What it is told has its place in what is kept for its outlet at once, and so before anything goes out that
 /// it tells: where there is no room for it, the trace is broken off there.
-#[derive(Drop)]
 pub struct Trace {
     pub record: Record,
     // So much room is left in what is kept, in bytes, behind what waits and what it was told since.
     room: usize,
     // It was told more than there was room for.
     is_broken_off: bool,
+}
+
+// Written out: a derived drop, and those of all its parts, are proved anew by each crate that lets one go.
+impl Drop for Trace {
+    fn drop(self) {
+        let Trace {
+            record,
+            room: _,
+            is_broken_off: _,
+        } = self;
+        drop(record);
+    }
 }
 
 // Puts the configuration, whose last line has its end.
