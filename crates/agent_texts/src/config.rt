@@ -17,7 +17,6 @@ const KEYS: [&str; 3] = ["own", "digit_map", "gateways"];
 const GATEWAY_KEYS: [&str; 3] = ["address", "numbers", "phones"];
 
 /// A gateway that a call agent works with.
-#[derive(Drop)]
 pub struct GatewayConfig {
     /// What stands behind the `@` of its endpoints' names.
     pub domain: Text,
@@ -28,14 +27,40 @@ pub struct GatewayConfig {
     pub numbers: Vec<Text>,
 }
 
+// Written out: a derived drop, and those of all its parts, are proved anew by each crate that lets one go.
+impl Drop for GatewayConfig {
+    fn drop(self) {
+        let GatewayConfig {
+            domain,
+            address: _,
+            phones: _,
+            numbers,
+        } = self;
+        drop(domain);
+        drop(numbers);
+    }
+}
+
 /// What a call agent is configured to be.
-#[derive(Drop)]
 pub struct AgentConfig {
     /// Its own address, as gateways know it.
     pub own: SocketAddrV4,
     /// By which numbers are dialled.
     pub map: Option<Text>,
     pub gateways: Vec<GatewayConfig>,
+}
+
+// Written out: a derived drop, and those of all its parts, are proved anew by each crate that lets one go.
+impl Drop for AgentConfig {
+    fn drop(self) {
+        let AgentConfig {
+            own: _,
+            map,
+            gateways,
+        } = self;
+        drop(map);
+        drop(gateways);
+    }
 }
 
 // It is refused so, or for want of memory.

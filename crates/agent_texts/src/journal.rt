@@ -26,7 +26,6 @@ use transmission::texts;
 const NO_DOMAIN: &[u8] = b"";
 
 /// What is told, and was counted.
-#[derive(Drop)]
 pub struct Journal {
     alloc: Global,
     // The address of the socket for gateways.
@@ -41,6 +40,26 @@ pub struct Journal {
     // What became of what was recorded.
     written: Written,
     pub tally: Tally,
+}
+
+// Written out: a derived drop, and those of all its parts, are proved anew by each crate that lets one go.
+impl Drop for Journal {
+    fn drop(self) {
+        let Journal {
+            alloc: _,
+            here: _,
+            told,
+            log,
+            capture,
+            capture_name,
+            written: _,
+            tally: _,
+        } = self;
+        drop(told);
+        drop(log);
+        drop(capture);
+        drop(capture_name);
+    }
 }
 
 // Each byte that isn't printable ASCII is told as a dot.
