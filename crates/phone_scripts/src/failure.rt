@@ -4,7 +4,6 @@ use crate::statement::{Phone, Place};
 use mg_bytes::Text;
 
 /// What wasn't so in time, and what was.
-#[derive(Drop)]
 pub struct Unmet {
     /// Where it is expected.
     pub place: Place,
@@ -17,6 +16,21 @@ pub struct Unmet {
     pub was: Text,
     /// Since when, in ms of its gateway's clock, if that told a change.
     pub since: Option<u64>,
+}
+
+// Written out: a derived drop, and those of all its parts, are proved anew by each crate that lets one go.
+impl Drop for Unmet {
+    fn drop(self) {
+        let Unmet {
+            place: _,
+            phone: _,
+            expected: _,
+            within: _,
+            was,
+            since: _,
+        } = self;
+        drop(was);
+    }
 }
 
 /// Why a script isn't played to its end.

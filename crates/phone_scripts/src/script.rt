@@ -20,10 +20,18 @@ pub struct Placed {
 }
 
 /// A script: the names of its files, in the order in which they were begun, and what they say.
-#[derive(Drop)]
 pub struct Script {
     pub files: Vec<Text>,
     pub statements: Vec<Placed>,
+}
+
+// Written out: a derived drop, and those of all its parts, are proved anew by each crate that lets one go.
+impl Drop for Script {
+    fn drop(self) {
+        let Script { files, statements } = self;
+        drop(files);
+        drop(statements);
+    }
 }
 
 /// Why a script can't be played.
@@ -63,13 +71,26 @@ pub enum Wanted {
 
 // A file that is being read: which it is, its text, where its next line begins and which line that is, and how many blocks were open
 // before it.
-#[derive(Drop)]
 struct Level {
     file: u16,
     text: Text,
     begin: usize,
     line: u64,
     depth: usize,
+}
+
+// Written out: a derived drop, and those of all its parts, are proved anew by each crate that lets one go.
+impl Drop for Level {
+    fn drop(self) {
+        let Level {
+            file: _,
+            text,
+            begin: _,
+            line: _,
+            depth: _,
+        } = self;
+        drop(text);
+    }
 }
 
 /// Reads a script. Gateways have these names.
