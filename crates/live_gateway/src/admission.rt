@@ -12,13 +12,24 @@ use std::net::{Ipv4Addr, SocketAddrV4};
 use surroundings::Speakers;
 
 /// Whom a gateway hears, and whether its telephones are open to other machines.
-#[derive(Drop)]
 pub struct Admission {
     /// Who may speak to it.
     pub speakers: Speakers,
     /// The addresses of its own sockets, from which it hears nothing.
     pub own: [SocketAddrV4; 2],
     pub are_phones_open: bool,
+}
+
+// Written out: a derived drop, and those of all its parts, are proved anew by each crate that lets one go.
+impl Drop for Admission {
+    fn drop(self) {
+        let Admission {
+            speakers,
+            own: _,
+            are_phones_open: _,
+        } = self;
+        drop(speakers);
+    }
 }
 
 // Whether no other machine can send from this address, 127.0.0.0/8 (RFC 1122, 3.2.1.3).
