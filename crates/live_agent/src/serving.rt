@@ -1,11 +1,13 @@
 //! Serves a call agent from its opening to its end.
+ghost use Rattle.std.specs.Prelude.{◌≡◌, IfOk};
+
 use crate::serve_fault::ServeFault;
 use crate::session::serve;
 use crate::wire::Wire;
 use agent_texts::{AgentConfig, Journal};
 use bad_network::{BadNetwork, Spoiling};
 use call_desk::Switchboard;
-use live_ends::{Live, LiveClock, Outlets, SystemFault, bind, open_capture};
+use live_ends::{Live, LiveClock, Outlets, SystemFault, bind, boxed, open_capture};
 use mg_bytes::OutOfMemory;
 use std::alloc::Global;
 use std::io::{ErrorKind, Write};
@@ -55,12 +57,23 @@ fn capture_fault(fault: SystemFault) -> ServeFault {
     }
 }
 
+// Sockets and a clock in a box: a check pays for all that a value holds inline at each step of a function that has it.
+fn boxed_live<'a, R: Net + Clock>(
+    alloc: Global,
+    live: Live<'a, R>,
+) -> Result<Box<Live<'a, R>>, ServeFault> {
+    match boxed(alloc, live) {
+        Ok(live) => Ok(live),
+        Err(_) => Err(ServeFault::OutOfMemory),
+    }
+}
+
 // The sockets, and the clock at moment 0.
 fn open_sockets<'a, R: Net + Clock>(
     rt: &'a R,
     alloc: Global,
     settings: WireSettings,
-) -> Result<Live<'a, R>, ServeFault> {
+) -> Result<Box<Live<'a, R>>, ServeFault> {
     if LiveClock::start(rt).is_err() {
         return Err(ServeFault::Clock);
     }
@@ -73,7 +86,7 @@ fn open_sockets<'a, R: Net + Clock>(
         Err(e) => return Err(control_fault(e.kind())),
     };
     match Live::watch(rt, alloc, socket, commands) {
-        Ok(live) => Ok(live),
+        Ok(live) => boxed_live(alloc, live),
         Err(e) => Err(listen_fault(e.kind())),
     }
 }
@@ -86,20 +99,35 @@ fn network_of(alloc: Global, spoiling: Option<Spoiling>) -> Option<BadNetwork> {
     }
 }
 
+/// The wire over these surroundings, whose socket for gateways is here, as the settings ask for it. An error is for want of memory.
+pub fn wire_over<S: Surroundings + Drop>(
+    alloc: Global,
+    around: Box<S>,
+    here: SocketAddrV4,
+    settings: WireSettings,
+) -> Result<Box<Wire<S>>, OutOfMemory>
+    ensures around { IfOk result (λ wire. wire.value.around ≡ around.value) }
+    ensures end { IfOk result (λ wire. wire.value.end ≡ settings.end) }
+{
+    let journal = Journal::new(alloc, settings.has_log, settings.has_capture, here);
+    let network = network_of(alloc, settings.network);
+    let around = Box::into_inner(around);
+    let wire = Wire::new(alloc, around, network, journal, settings.end)?;
+    boxed(alloc, wire)
+}
+
 // The wire over the machine's sockets and clock.
 fn open_wire<'a, R: Net + Clock>(
     rt: &'a R,
     alloc: Global,
     settings: WireSettings,
-) -> Result<Wire<Live<'a, R>>, ServeFault> {
+) -> Result<Box<Wire<Live<'a, R>>>, ServeFault> {
     let live = open_sockets(rt, alloc, settings)?;
     let here = match live.addresses() {
         Ok((SocketAddr::V4(here), _)) => here,
         _ => settings.listen,
     };
-    let journal = Journal::new(alloc, settings.has_log, settings.has_capture, here);
-    let network = network_of(alloc, settings.network);
-    match Wire::new(alloc, live, network, journal, settings.end) {
+    match wire_over(alloc, live, here, settings) {
         Ok(wire) => Ok(wire),
         Err(_) => Err(ServeFault::OutOfMemory),
     }
