@@ -10,9 +10,8 @@ use crate::stories::{
     Place, Program, Records, Story, Transcript, Words, put_given, told, words_in,
 };
 use agent_texts::{AgentConfig, ConfigRefusal, Journal, read_config};
-use bad_network::BadNetwork;
 use call_desk::Switchboard;
-use live_agent::{Recorder, Wire, serve};
+use live_agent::{Recorder, Wire, WireSettings, serve, wire_over};
 use live_ends::Written;
 use live_gateway::boxed;
 use mg_bytes::OutOfMemory;
@@ -62,18 +61,15 @@ fn config_in(alloc: Global, settings: &str) -> Result<Option<AgentConfig>, OutOf
     }
 }
 
-fn journal_of(alloc: Global, words: &Words) -> Result<Journal, AllocError> {
-    let mut journal = Journal::new(alloc, words.has_log, words.capture.is_some(), words.own[0]);
-    if let Some(file) = &words.capture {
-        journal.name_capture(file.as_str())?;
-    }
-    Ok(journal)
-}
-
-fn network_of(alloc: Global, words: &Words) -> Option<BadNetwork> {
-    match words.network {
-        Some(spoiling) => Some(BadNetwork::new(alloc, spoiling)),
-        None => None,
+// What is asked of a wire, which ends behind what comes where no word says when.
+fn settings_of(words: &Words, story: &Story) -> WireSettings {
+    WireSettings {
+        listen: words.own[0],
+        control: words.own[1],
+        network: words.network,
+        has_log: words.has_log,
+        has_capture: words.capture.is_some(),
+        end: Some(words.stop_after.unwrap_or(story.moment.saturating_add(1))),
     }
 }
 
@@ -83,11 +79,13 @@ fn wire_of(
     words: &Words,
     story: &mut Story,
 ) -> Result<Box<Wire<Scripted>>, OutOfMemory> {
-    let end = words.stop_after.unwrap_or(story.moment.saturating_add(1));
-    let journal = journal_of(alloc, words)?;
-    let around = story.take_around(words.own);
-    let wire = Wire::new(alloc, around, network_of(alloc, words), journal, Some(end))?;
-    boxed(alloc, wire)
+    let settings = settings_of(words, story);
+    let around = boxed(alloc, story.take_around(words.own))?;
+    let mut wire = wire_over(alloc, around, words.own[0], settings)?;
+    if let Some(file) = &words.capture {
+        wire.journal.name_capture(file.as_str())?;
+    }
+    Ok(wire)
 }
 
 // Puts what is given at the end, with what was counted, where that is asked for.
