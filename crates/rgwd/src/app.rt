@@ -1,4 +1,5 @@
 //! The program: reads its words and its configuration, opens its sockets, and serves.
+use crate::behind::Behind;
 use crate::ending::Ending;
 use crate::help::of_program;
 use crate::opening::{Opened, open};
@@ -10,7 +11,7 @@ use crate::words::{Settings, read_words};
 use gateway_core::Gateway;
 use live_ends::{
     CaptureFiles, CommonEnding, Live, Outlets, Parting, SystemFault, end, hold_standard,
-    open_capture, open_outlets, read_file, words_of,
+    open_capture, open_outlets, put_pieces, read_file, words_of,
 };
 use live_gateway::{agents_line, boxed};
 use live_journal::{Journal, Trace};
@@ -36,13 +37,18 @@ fn start_line<R: Net + Clock>(
     let Ok((listen, phones)) = opened.desk.exchange.around.addresses() else {
         return Ok(String::new(alloc));
     };
-    let Some(reception) = &opened.visitors else {
-        return format!(in alloc; "listen {listen} phones {phones} {begun}\n");
+    let page = match &opened.visitors {
+        Some(reception) => reception.site.address(),
+        None => None,
     };
-    match reception.site.address() {
-        Some(http) => format!(in alloc; "listen {listen} phones {phones} http {http} {begun}\n"),
-        None => Ok(String::new(alloc)),
+    if opened.visitors.is_some() && page.is_none() {
+        return Ok(String::new(alloc));
     }
+    let page = Behind {
+        word: " http ",
+        address: page,
+    };
+    format!(in alloc; "listen {listen} phones {phones}{page} {begun}\n")
 }
 
 // Says on standard error where the sockets are, and how it starts.
@@ -134,12 +140,11 @@ fn check_gateway<F: Write + Drop>(
     let lines = told_setup(alloc, gateway.setup())?;
     let agents = agents_line(alloc, settings.sockets.agents, gateway.setup())?;
     let (listen, phones) = (settings.sockets.listen, settings.sockets.phones);
-    let sockets = match settings.sockets.http {
-        Some(http) => {
-            format!(in alloc; "sockets: --listen {listen} --phones {phones} --http {http}\n")?
-        }
-        None => format!(in alloc; "sockets: --listen {listen} --phones {phones}\n")?,
+    let page = Behind {
+        word: " --http ",
+        address: settings.sockets.http,
     };
+    let sockets = format!(in alloc; "sockets: --listen {listen} --phones {phones}{page}\n")?;
     outlets.output.say(lines.as_slice());
     outlets.output.say(agents.as_slice());
     outlets.output.say(sockets.as_bytes());
@@ -250,8 +255,9 @@ fn tell_flaw<F: Write + Drop>(
     };
     let line = told(alloc, text, flaw)?;
     let line = str::from_utf8(line.as_slice()).unwrap_or("");
-    let said = format!(in alloc; "{file}: {line}\n")?;
-    outlets.error.say(said.as_bytes());
+    let mut said = Vec::new(alloc);
+    put_pieces(&mut said, &[file, ": ", line, "\n"])?;
+    outlets.error.say(said.as_slice());
     Ok(true)
 }
 

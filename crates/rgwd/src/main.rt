@@ -3,6 +3,7 @@
 #![tactic(auto)]
 
 mod app;
+mod behind;
 mod ending;
 mod examples;
 mod help;

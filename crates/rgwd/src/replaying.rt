@@ -1,7 +1,7 @@
 //! Replays a trace, and says whether each line that went out is what the gateway sends for the lines before it.
 use crate::ending::Ending;
 use crate::words::unless_help;
-use live_ends::{CommonEnding, Outlets};
+use live_ends::{CommonEnding, Outlets, put_pieces};
 use std::alloc::{AllocError, Global};
 use std::fs::File;
 use std::io::{BufReader, Write};
@@ -41,8 +41,9 @@ fn tell_verdict<F: Write + Drop>(
     put_verdict(alloc, &mut text, verdict)?;
     if matches!(verdict, Verdict::Broken { .. }) {
         let line = str::from_utf8(text.as_slice()).unwrap_or("");
-        let said = format!(in alloc; "{file}: {line}")?;
-        outlets.error.say(said.as_bytes());
+        let mut said = Vec::new(alloc);
+        put_pieces(&mut said, &[file, ": ", line])?;
+        outlets.error.say(said.as_slice());
     } else {
         outlets.output.say(text.as_slice());
     }

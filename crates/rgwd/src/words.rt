@@ -18,7 +18,7 @@ use std::net::SocketAddrV4;
 use surroundings::Speakers;
 
 /// The sockets that the program is asked to open, and whom it is to hear there.
-#[derive(Drop)]
+#[derive(Clone, Copy)]
 pub struct Sockets<'a> {
     /// The address of the gateway's socket; port 0 is any free one.
     pub listen: SocketAddrV4,
@@ -35,7 +35,7 @@ pub struct Sockets<'a> {
 }
 
 /// What the program is asked to do.
-#[derive(Drop)]
+#[derive(Clone, Copy)]
 pub struct Settings<'a> {
     /// The file that has the configuration.
     pub config: &'a str,
