@@ -1,7 +1,7 @@
 //! Reads the words behind `check`.
 use crate::help::CHECK_USAGE;
-use crate::words::{WordFault, address_behind, fault_of, flag_word};
-use clap::{Arg, ArgMatches, Command};
+use crate::words::{Kind, WordFault, address_behind, fault_of, with_words};
+use clap::{ArgMatches, Command};
 use live_agent::{CheckSettings, Telephone, is_check};
 use live_ends::{CommonEnding, Outlet};
 use std::alloc::{AllocError, Global};
@@ -11,23 +11,6 @@ use std::net::SocketAddrV4;
 // So many characters the local name of an endpoint has at most (RFC 3435, 2.1.2).
 const LONGEST_NAME: usize = 64;
 
-// How a word stands.
-#[derive(Clone, Copy)]
-enum Kind {
-    // By itself, and it has to.
-    Bare,
-    // With something behind it, and it has to.
-    Needed,
-    // With something behind it.
-    Valued,
-    // With something behind it, once or more.
-    Several,
-    // With an address behind it; else with any port of this machine.
-    Own,
-    // With nothing behind it.
-    Flag,
-}
-
 // Which gateway is checked, and which lines of it; who takes part, the agent that the gateway is configured for, and who works its
 // telephones; which checks are played, and how they are reported.
 const WORDS: [(&str, Kind); 11] = [
@@ -35,7 +18,7 @@ const WORDS: [(&str, Kind); 11] = [
     ("domain", Kind::Needed),
     ("line", Kind::Needed),
     ("more-lines", Kind::Several),
-    ("own", Kind::Own),
+    ("own", Kind::Or("0.0.0.0:0")),
     ("phones", Kind::Valued),
     ("hook", Kind::Valued),
     ("slow", Kind::Flag),
@@ -44,24 +27,9 @@ const WORDS: [(&str, Kind); 11] = [
     ("junit", Kind::Valued),
 ];
 
-// What clap is told of a word.
-fn arg_of<'a>(alloc: Global, name: &'static str, kind: Kind) -> Arg<'a> {
-    match kind {
-        Kind::Bare => Arg::new(alloc, name).required(true),
-        Kind::Needed => Arg::new(alloc, name).long(name).required(true),
-        Kind::Valued => Arg::new(alloc, name).long(name),
-        Kind::Several => Arg::new(alloc, name).long(name).num_args(1usize..),
-        Kind::Own => Arg::new(alloc, name).long(name).default_value("0.0.0.0:0"),
-        Kind::Flag => flag_word(alloc, name),
-    }
-}
-
 fn command<'a>(alloc: Global) -> Result<Command<'a>, AllocError> {
-    let mut command = Command::new(alloc, "check").override_usage(CHECK_USAGE);
-    for (name, kind) in WORDS.iter() {
-        command = command.arg(arg_of(alloc, *name, *kind))?;
-    }
-    Ok(command)
+    let command = Command::new(alloc, "check").override_usage(CHECK_USAGE);
+    with_words(alloc, command, &WORDS)
 }
 
 // The address that a word has, which stands there or has a default.
@@ -117,12 +85,22 @@ fn other_in<'a>(matches: &ArgMatches<'a>, line: &str) -> Result<Option<&'a str>,
     Ok(Some(other))
 }
 
+// Whether each of these names, which have commas between them, is that of a check.
+fn are_checks(names: &str) -> bool {
+    for name in names.split(',') {
+        if !is_check(name.trim()) {
+            return false;
+        }
+    }
+    true
+}
+
 // The names behind `--only`, each of which is that of a check.
 fn names_in<'a>(matches: &ArgMatches<'a>) -> Result<Option<&'a str>, WordFault> {
     let Some(names) = matches.get_str("only") else {
         return Ok(None);
     };
-    if names.split(',').all(|name| is_check(name.trim())) {
+    if are_checks(names) {
         Ok(Some(names))
     } else {
         Err(WordFault::NoCheck)

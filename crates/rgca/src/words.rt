@@ -54,61 +54,70 @@ impl From<AllocError> for WordFault {
     }
 }
 
-// A word of the command line.
+/// How a word stands.
 #[derive(Clone, Copy)]
-enum Word {
-    Config,
-    Listen,
-    Control,
-    Route,
-    Log,
-    Capture,
-    Network,
-    StopAfter,
+pub enum Kind {
+    /// By itself, and it has to.
+    Bare,
+    /// With something behind it, and it has to.
+    Needed,
+    /// With something behind it.
+    Valued,
+    /// With something behind it, once or more.
+    Several,
+    /// With a number behind it.
+    Number,
+    /// With something behind it; else this is meant.
+    Or(&'static str),
+    /// With nothing behind it.
+    Flag,
 }
 
-const WORDS: [Word; 8] = [
-    Word::Config,
-    Word::Listen,
-    Word::Control,
-    Word::Route,
-    Word::Log,
-    Word::Capture,
-    Word::Network,
-    Word::StopAfter,
+const WORDS: [(&str, Kind); 8] = [
+    ("config", Kind::Bare),
+    ("listen", Kind::Valued),
+    ("control", Kind::Or(CONTROL)),
+    ("route", Kind::Flag),
+    ("log", Kind::Flag),
+    ("capture", Kind::Valued),
+    ("network", Kind::Valued),
+    ("stop-after", Kind::Number),
 ];
 
-/// A word with nothing behind it.
-pub fn flag_word<'a>(alloc: Global, name: &'a str) -> Arg<'a> {
-    Arg::new(alloc, name).long(name).action(ArgAction::SetTrue)
+// What clap is told of a word.
+fn arg_of<'a>(alloc: Global, name: &'static str, kind: Kind) -> Arg<'a> {
+    match kind {
+        Kind::Bare => Arg::new(alloc, name).required(true),
+        Kind::Needed => Arg::new(alloc, name).long(name).required(true),
+        Kind::Valued => Arg::new(alloc, name).long(name),
+        Kind::Several => Arg::new(alloc, name).long(name).num_args(1usize..),
+        Kind::Number => {
+            let arg = Arg::new(alloc, name).long(name);
+            arg.value_parser(clap::value_parser!(u64))
+        }
+        Kind::Or(other) => Arg::new(alloc, name).long(name).default_value(other),
+        Kind::Flag => Arg::new(alloc, name).long(name).action(ArgAction::SetTrue),
+    }
 }
 
-// What clap is told of a word.
-fn arg_of<'a>(alloc: Global, word: Word) -> Arg<'a> {
-    match word {
-        Word::Config => Arg::new(alloc, "config").required(true),
-        Word::Listen => Arg::new(alloc, "listen").long("listen"),
-        Word::Control => Arg::new(alloc, "control")
-            .long("control")
-            .default_value(CONTROL),
-        Word::Route => flag_word(alloc, "route"),
-        Word::Log => flag_word(alloc, "log"),
-        Word::Capture => Arg::new(alloc, "capture").long("capture"),
-        Word::Network => Arg::new(alloc, "network").long("network"),
-        Word::StopAfter => Arg::new(alloc, "stop-after")
-            .long("stop-after")
-            .value_parser(clap::value_parser!(u64)),
+/// A command that takes these words too. An error is for want of memory.
+pub fn with_words<'a>(
+    alloc: Global,
+    command: Command<'a>,
+    words: &[(&'static str, Kind)],
+) -> Result<Command<'a>, AllocError> {
+    let mut command = command;
+    for (name, kind) in words {
+        command = command.arg(arg_of(alloc, *name, *kind))?;
     }
+    Ok(command)
 }
 
 fn command<'a>(alloc: Global) -> Result<Command<'a>, AllocError> {
-    let mut command = Command::new(alloc, "rgca")
+    let command = Command::new(alloc, "rgca")
         .version(VERSION)
         .override_usage(USAGE);
-    for word in WORDS.iter() {
-        command = command.arg(arg_of(alloc, *word))?;
-    }
-    Ok(command)
+    with_words(alloc, command, &WORDS)
 }
 
 /// The address behind a word, if that stands there.
