@@ -98,7 +98,12 @@ fn put_out<F: Write + Drop>(said: &mut Outlet<F>, text: &str) -> Result<(), Chec
 
 // Whether a name is among these, which have commas between them.
 fn is_among(names: &str, name: &str) -> bool {
-    names.split(',').any(|it| it.trim() == name)
+    for other in names.split(',') {
+        if other.trim() == name {
+            return true;
+        }
+    }
+    false
 }
 
 // Whether the means are there that a check needs: another line, the address of the gateway's call agent, someone at the

@@ -68,20 +68,21 @@ fn boxed_live<'a, R: Net + Clock>(
     }
 }
 
-// The sockets, and the clock at moment 0.
-fn open_sockets<'a, R: Net + Clock>(
+/// The machine's sockets for gateways and for commands, at these addresses, and its clock at moment 0.
+pub fn open_sockets<'a, R: Net + Clock>(
     rt: &'a R,
     alloc: Global,
-    settings: WireSettings,
+    listen: SocketAddrV4,
+    control: SocketAddrV4,
 ) -> Result<Box<Live<'a, R>>, ServeFault> {
     if LiveClock::start(rt).is_err() {
         return Err(ServeFault::Clock);
     }
-    let socket = match bind(rt, settings.listen) {
+    let socket = match bind(rt, listen) {
         Ok(socket) => socket,
         Err(e) => return Err(listen_fault(e.kind())),
     };
-    let commands = match bind(rt, settings.control) {
+    let commands = match bind(rt, control) {
         Ok(commands) => commands,
         Err(e) => return Err(control_fault(e.kind())),
     };
@@ -122,7 +123,7 @@ fn open_wire<'a, R: Net + Clock>(
     alloc: Global,
     settings: WireSettings,
 ) -> Result<Box<Wire<Live<'a, R>>>, ServeFault> {
-    let live = open_sockets(rt, alloc, settings)?;
+    let live = open_sockets(rt, alloc, settings.listen, settings.control)?;
     let here = match live.addresses() {
         Ok((SocketAddr::V4(here), _)) => here,
         _ => settings.listen,
