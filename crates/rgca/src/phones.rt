@@ -2,8 +2,8 @@
 use crate::ending::{Ending, phone_words_ending};
 use crate::phone_files::read_script;
 use crate::phone_words::{PhoneSettings, read_phone_words};
-use live_agent::{Played, play_phones};
-use live_ends::{CommonEnding, Live, bind};
+use live_agent::{Played, open_sockets, play_phones};
+use live_ends::{CommonEnding, Live};
 use mg_bytes::{OutOfMemory, Text};
 use phone_scripts::{Failure, Player, Script, failure_text};
 use std::alloc::Global;
@@ -27,14 +27,6 @@ fn failure_ending<'w>(
         Failure::Unmet(_) => Ok(Ending::Unexpected { text }),
         _ => Ok(Ending::Unplayed { text }),
     }
-}
-
-// Two sockets, of which the first is used, and the clock.
-fn open_sockets<'a, R: Net + Clock>(rt: &'a R, alloc: Global) -> Option<Live<'a, R>> {
-    let (Ok(socket), Ok(other)) = (bind(rt, any_port()), bind(rt, any_port())) else {
-        return None;
-    };
-    Live::watch(rt, alloc, socket, other).ok()
 }
 
 // Plays a script with this player, over these sockets.
@@ -61,23 +53,22 @@ fn play_over<'w, R: Net + Clock>(
     script: Script,
 ) -> Result<Ending<'w>, OutOfMemory> {
     let gateways = u16::try_from(settings.addresses.len()).unwrap_or(u16::MAX);
-    match Player::new(alloc, script, gateways, 0) {
-        Ok(mut player) => play_with(alloc, live, settings, &mut player),
-        Err(refused) => Err(refused),
-    }
+    let mut player = Player::new(alloc, script, gateways, 0)?;
+    play_with(alloc, live, settings, &mut player)
 }
 
-// Plays a script.
+// Plays a script, over two sockets, of which the first is used.
 fn play<'w, R: Net + Clock>(
     rt: &R,
     alloc: Global,
     settings: &PhoneSettings<'w>,
     script: Script,
 ) -> Result<Ending<'w>, OutOfMemory> {
-    match open_sockets(rt, alloc) {
-        Some(mut live) => play_over(alloc, &mut live, settings, script),
-        None => Ok(Ending::System),
-    }
+    let mut live = match open_sockets(rt, alloc, any_port(), any_port()) {
+        Ok(live) => live,
+        Err(_) => return Ok(Ending::System),
+    };
+    play_over(alloc, &mut live, settings, script)
 }
 
 // Reads a script, and plays it.
