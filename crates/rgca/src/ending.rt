@@ -1,8 +1,10 @@
 //! How the program ends: its status, and what it says then.
-ghost use Rattle.std.specs.Prelude.{◌≡◌, ◌++◌, codes, OnOk};
+ghost use Rattle.std.specs.Prelude.{◌≡◌, ◌++◌, ◌∷◌, [], codes, OnOk};
+ghost use Rattle.std.specs.Net.Text.{socket_v4_text};
+ghost use Rattle.live_ends.specs.Wording.{joined};
 ghost use Rattle.rgca.specs.Statuses.{status_of, is_asked};
 ghost use Rattle.rgca.specs.Endings.{word_ending, check_ending, phone_ending, config_by};
-ghost use Rattle.rgca.specs.Texts.{unanswered_text, unserved_text, ending_text};
+ghost use Rattle.rgca.specs.Texts.{ending_text};
 
 use crate::phone_words::PhoneWordFault;
 use crate::words::WordFault;
@@ -23,6 +25,11 @@ const NO_CHECK: &str = "--only: no check has this name; rgca check --list has th
 
 // What a word is that names no gateway.
 const NO_GATEWAY: &str = ": wanted NAME=ADDRESS, each name and each address once\n";
+
+// What is said of a gateway that doesn't answer, and of one that waits for its call agent.
+const NO_ANSWER: &str = ": no answer\n";
+
+const NOT_SERVING: &str = ": 405, it waits for its call agent (--own answers for that)\n";
 
 /// What is said of the program, of its checks, and of its scripts of telephones.
 #[derive(Clone, Copy)]
@@ -137,8 +144,8 @@ impl<'a> Ending<'a> {
             Ending::SameLine => put_pieces(out, &["--more-lines: the same line as --line\n"]),
             Ending::NoCheck => put_pieces(out, &[NO_CHECK]),
             Ending::Config { file, line } => put_config(out, *file, line.as_slice()),
-            Ending::NoAnswer { address } => put_unanswered(alloc, out, *address),
-            Ending::NotServing { address } => put_unserved(alloc, out, *address),
+            Ending::NoAnswer { address } => put_of(alloc, out, *address, NO_ANSWER),
+            Ending::NotServing { address } => put_of(alloc, out, *address, NOT_SERVING),
             Ending::NoSuchLine { word } => {
                 put_pieces(
                     out,
@@ -249,32 +256,18 @@ fn put_config(out: &mut Vec<u8>, file: &str, line: &[u8]) -> Result<(), OutOfMem
 {
     put_pieces(out, &[file, ": "])?;
     out.extend_from_slice(line)?;
-    out.extend_from_slice(b"\n")?;
-    Ok(())
+    out.extend_from_slice(b"\n")
 }
 
-// The gateway at this address doesn't answer.
-fn put_unanswered(
+// Says this of the gateway at this address.
+fn put_of(
     alloc: Global,
     out: &mut Vec<u8>,
     address: SocketAddrV4,
+    what: &str,
 ) -> Result<(), OutOfMemory>
-    ensures { OnOk result (out.new.items ≡ out.old.items ++ unanswered_text address) }
+    ensures { OnOk result (out.new.items ≡ out.old.items ++ joined (socket_v4_text address ∷ what.now ∷ [])) }
 {
     let address = peer_text(alloc, address)?;
-    put_pieces(out, &[address.as_str(), ": no answer\n"])
-}
-
-// It waits for its call agent.
-fn put_unserved(alloc: Global, out: &mut Vec<u8>, address: SocketAddrV4) -> Result<(), OutOfMemory>
-    ensures { OnOk result (out.new.items ≡ out.old.items ++ unserved_text address) }
-{
-    let address = peer_text(alloc, address)?;
-    put_pieces(
-        out,
-        &[
-            address.as_str(),
-            ": 405, it waits for its call agent (--own answers for that)\n",
-        ],
-    )
+    put_pieces(out, &[address.as_str(), what])
 }
