@@ -9,9 +9,16 @@ use mg_bytes::{Text, list_items, same_no_case, split_once};
 use std::alloc::{AllocError, Global};
 
 /// Names of hosts.
-#[derive(Drop)]
 pub struct HostNames {
     names: Vec<Text>,
+}
+
+// Written out: a derived drop, and those of all its parts, are proved anew by each crate that lets one go.
+impl Drop for HostNames {
+    fn drop(self) {
+        let HostNames { names } = self;
+        drop(names);
+    }
 }
 
 fn is_name_byte(byte: u8) -> bool
