@@ -1,8 +1,7 @@
 //! Visitors of a page in memory: each asks once, and gets an answer.
 use crate::stories::{Transcript, Visit};
-use http_server::{Config, Connection};
-use live_gateway::{Visitors, boxed};
-use live_page::{Desk, HostNames};
+use live_gateway::Visitors;
+use live_page::{Desk, HostNames, answer_to};
 use page_answers::Board;
 use std::alloc::Global;
 use std::collections::VecDeque;
@@ -30,34 +29,6 @@ pub struct Browsers {
     visits: VecDeque<Visit>,
     /// What they got.
     pub given: Transcript,
-}
-
-// Puts what is answered to a request.
-fn put_answer(
-    connection: &mut Connection,
-    desk: &mut Desk<'_>,
-    request: &[u8],
-    out: &mut Vec<u8>,
-) -> io::Result<()> {
-    let mut reader = request;
-    connection.read_from(&mut reader)?;
-    connection.advance(desk);
-    for _ in 0..u16::MAX {
-        if !connection.wants_write() {
-            return Ok(());
-        }
-        connection.write_to(out)?;
-    }
-    Ok(())
-}
-
-// What is answered to a request, over a connection of its own.
-fn answered(alloc: Global, desk: &mut Desk<'_>, request: &[u8]) -> io::Result<Vec<u8>> {
-    let keys = RandomState::new(&KnownKeys)?;
-    let mut connection = boxed(alloc, Connection::new(alloc, keys, Config::default()))?;
-    let mut answer = Vec::new(alloc);
-    put_answer(&mut connection, desk, request, &mut answer)?;
-    Ok(answer)
 }
 
 // The head of an answer, and the first line of its body.
@@ -100,7 +71,8 @@ impl Browsers {
             return Ok(());
         };
         let mut desk = Desk::new(self.site, &self.names, board);
-        let answer = answered(self.alloc, &mut desk, visit.request.as_slice())?;
+        let keys = RandomState::new(&KnownKeys)?;
+        let answer = answer_to(self.alloc, keys, &mut desk, visit.request.as_slice())?;
         let told = if visit.is_brief {
             front_of(answer.as_slice())
         } else {
