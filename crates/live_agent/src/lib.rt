@@ -26,7 +26,6 @@ pub use crate::kept_records::KeptRecords;
 pub use crate::phones::{Played, play_phones};
 pub use crate::recorder::Recorder;
 pub use crate::serve_fault::ServeFault;
-pub use crate::serving::{WireSettings, open_sockets, serve_agent, wire_over};
-pub use crate::session::serve;
+pub use crate::serving::{WireSettings, open_sockets, serve_agent, serve_config, wire_over};
 pub use crate::telephone::Telephone;
 pub use crate::wire::Wire;

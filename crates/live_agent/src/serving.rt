@@ -1,6 +1,7 @@
 //! Serves a call agent from its opening to its end.
 ghost use Rattle.std.specs.Prelude.{◌≡◌, IfOk};
 
+use crate::recorder::Recorder;
 use crate::serve_fault::ServeFault;
 use crate::session::serve;
 use crate::wire::Wire;
@@ -131,6 +132,28 @@ fn open_wire<'a, R: Net + Clock>(
     match wire_over(alloc, live, here, settings) {
         Ok(wire) => Ok(wire),
         Err(_) => Err(ServeFault::OutOfMemory),
+    }
+}
+
+/// Serves the gateways of a configuration over a wire until the end, and routes calls between their lines where that is asked for. What
+/// is recorded is written after each turn.
+pub fn serve_config<S: Surroundings + Drop, W: Recorder>(
+    alloc: Global,
+    config: &AgentConfig,
+    is_routed: bool,
+    wire: &mut Wire<S>,
+    recorder: &mut W,
+) -> Result<(), ServeFault> {
+    let time = wire.now.time / MICROSECONDS;
+    let mut board = match Switchboard::of(alloc, config, is_routed, time) {
+        Ok(board) => board,
+        Err(_) => return Err(ServeFault::OutOfMemory),
+    };
+    let served = serve(alloc, &mut board, wire, recorder);
+    board.close();
+    match served {
+        Ok(()) => Ok(()),
+        Err(_) => Err(ServeFault::Clock),
     }
 }
 

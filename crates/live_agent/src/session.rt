@@ -373,7 +373,7 @@ fn turn<S: Surroundings + Drop>(
 }
 
 /// Serves until the end comes, and writes after each turn what was recorded. An error is of the clock.
-pub fn serve<S: Surroundings + Drop, W: Recorder>(
+pub(crate) fn serve<S: Surroundings + Drop, W: Recorder>(
     alloc: Global,
     board: &mut Switchboard,
     wire: &mut Wire<S>,
