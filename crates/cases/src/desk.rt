@@ -10,8 +10,7 @@ use crate::stories::{
     Place, Program, Records, Story, Transcript, Words, put_given, told, words_in,
 };
 use agent_texts::{AgentConfig, ConfigRefusal, Journal, read_config};
-use call_desk::Switchboard;
-use live_agent::{Recorder, Wire, WireSettings, serve, wire_over};
+use live_agent::{Recorder, ServeFault, Wire, WireSettings, serve_config, wire_over};
 use live_ends::Written;
 use live_gateway::boxed;
 use mg_bytes::OutOfMemory;
@@ -20,9 +19,6 @@ use std::alloc::{AllocError, Global};
 use std::io;
 use std::net::{Ipv4Addr, Net, SocketAddrV4};
 use surroundings::{Scripted, Surroundings};
-
-// Microseconds in a millisecond.
-const MICROSECONDS: u64 = 1000;
 
 // The configuration where a story says no other.
 const USUAL: &str = "own = \"127.0.0.1:2727\"
@@ -104,21 +100,26 @@ fn end(
     Ok(())
 }
 
-// Serves to the end, and puts what is given.
+// Serves with this configuration to the end, and puts what is given.
 fn run(
     alloc: Global,
-    board: &mut Switchboard,
+    config: &AgentConfig,
+    is_routed: bool,
     wire: &mut Wire<Scripted>,
     is_counted: bool,
     given: &mut Transcript,
-) {
+) -> Result<bool, OutOfMemory> {
     let mut records = Records::new(alloc, wire.around.time(), Written::ALL);
-    let _ = serve(alloc, board, wire, &mut records);
+    let served = serve_config(alloc, config, is_routed, wire, &mut records);
+    if matches!(served, Err(ServeFault::OutOfMemory)) {
+        return Err(AllocError);
+    }
     if end(wire, &mut records, is_counted).is_err() {
         given.refuse();
     }
     put_given(alloc, given, &wire.around);
     given.append(&mut records.given);
+    Ok(true)
 }
 
 // Plays a story with a call agent of this configuration.
@@ -129,12 +130,9 @@ fn play_with(
     story: &mut Story,
     given: &mut Transcript,
 ) -> Result<bool, OutOfMemory> {
-    let opened = story.around.time() / MICROSECONDS;
     let mut wire = wire_of(alloc, words, story)?;
-    let mut board = Switchboard::of(alloc, config, words.is_routed, opened)?;
-    run(alloc, &mut board, &mut wire, story.is_counted, given);
-    board.close();
-    Ok(true)
+    let is_counted = story.is_counted;
+    run(alloc, config, words.is_routed, &mut wire, is_counted, given)
 }
 
 // Plays a story where the program is called with these words.
