@@ -1,5 +1,6 @@
 -- The report of checks, as JSON: an object for each check, and one for how many came to what, or for why nothing can be checked.
 use Rattle.std.specs.Prelude.{ℕ, codes, List, Option}
+use Rattle.std.specs.Borrow.{Bor}
 use Rattle.serde_json.specs.Data.{Data, number, unsigned, string, object, Members, no_members, put}
 use Rattle.gateway_checks.specs.declared.check.Check.{Check}
 use Rattle.gateway_checks.specs.declared.judging.Verdict.{Verdict}
@@ -15,6 +16,13 @@ check_data check verdict due said came =
 
 abbrev pub put_count : List ℕ → ℕ → Members → Members
 put_count name count members = put name (number (unsigned count)) members
+
+-- a member that is a text, and one that is a count
+abbrev pub with_text : Members → Bor (List ℕ) × Bor (List ℕ) → Members
+with_text members named = put named.0.now (string named.1.now) members
+
+abbrev pub with_count : Members → Bor (List ℕ) × ℕ → Members
+with_count members named = put_count named.0.now named.1 members
 
 -- how many checks came to what
 abbrev pub tally_data : Tally → Data

@@ -1,14 +1,14 @@
 //! The report as JSON: an object a line, one for each check, and one for how many came to what.
-ghost use Rattle.std.specs.Prelude.{◌≡◌, IfOk, string_bytes};
-ghost use Rattle.serde_json.specs.Data.{Data};
-ghost use Rattle.serde_json.specs.View.{view};
+ghost use Rattle.std.specs.Prelude.{◌≡◌, fold, IfOk, OnOk, string_bytes};
+ghost use Rattle.serde_json.specs.Data.{Data, string, put as with_member};
+ghost use Rattle.serde_json.specs.View.{view, members_view};
 ghost use Rattle.serde_json.specs.Written.{IsInOrder};
-ghost use Rattle.live_agent.specs.Report.{check_data, tally_data, fault_data};
+ghost use Rattle.live_agent.specs.Report.{with_text, with_count, check_data, tally_data, fault_data};
 
 use gateway_checks::{Check, Tally, Verdict, word_of};
 use mg_bytes::OutOfMemory;
 use piggyback::parts;
-use serde_json::{Value, json};
+use serde_json::{Map, Value, put};
 use std::alloc::Global;
 
 // The lines of a text, without their ends; what is no UTF-8 is replaced.
@@ -43,6 +43,47 @@ fn came_value(alloc: Global, came: &[Vec<u8>]) -> Result<Value, OutOfMemory> {
     Ok(Value::Array(messages))
 }
 
+// Puts a member that is a text.
+fn put_text(
+    alloc: Global,
+    map: &mut Map<String, Value>,
+    name: &str,
+    text: &str,
+) -> Result<(), OutOfMemory>
+    ensures { OnOk result (members_view map.new.entries ≡ with_member name.now (string text.now) (members_view map.old.entries)) }
+{
+    let text = String::from_str(alloc, text)?;
+    put(map, alloc, name, Value::from(text))
+}
+
+// Puts members that are texts.
+fn put_texts(
+    alloc: Global,
+    map: &mut Map<String, Value>,
+    texts: &[(&str, &str)],
+) -> Result<(), OutOfMemory>
+    ensures { OnOk result (members_view map.new.entries ≡ fold with_text (members_view map.old.entries) texts.now) }
+{
+    for (name, text) in texts {
+        put_text(alloc, map, *name, *text)?;
+    }
+    Ok(())
+}
+
+// Puts members that are counts.
+fn put_counts(
+    alloc: Global,
+    map: &mut Map<String, Value>,
+    counts: &[(&str, u32)],
+) -> Result<(), OutOfMemory>
+    ensures { OnOk result (members_view map.new.entries ≡ fold with_count (members_view map.old.entries) counts.now) }
+{
+    for (name, count) in counts {
+        put(map, alloc, *name, Value::from(u64::from(*count)))?;
+    }
+    Ok(())
+}
+
 // What came of a check, in which this was said, this was due, and this came.
 fn check_object(
     alloc: Global,
@@ -54,15 +95,18 @@ fn check_object(
 ) -> Result<Value, OutOfMemory>
     ensures { IfOk result (λ value. view value ≡ check_data check.now verdict due.now (view said) (view came)) }
 {
-    json!(in alloc; {
-        "name": check.name,
-        "sections": check.sections,
-        "rule": check.rule,
-        "result": word_of(verdict),
-        "expected": due,
-        "received": came,
-        "said": said
-    })
+    let texts = [
+        ("name", check.name),
+        ("sections", check.sections),
+        ("rule", check.rule),
+        ("result", word_of(verdict)),
+        ("expected", due),
+    ];
+    let mut map = Map::new(alloc);
+    put_texts(alloc, &mut map, &texts)?;
+    put(&mut map, alloc, "received", came)?;
+    put(&mut map, alloc, "said", said)?;
+    Ok(Value::from(map))
 }
 
 /// What came of a check: its name, its rule, its verdict, if it was played, what was due where something else came, the messages
@@ -87,13 +131,16 @@ pub(crate) fn check_text(
 fn tally_value(alloc: Global, tally: &Tally) -> Result<Value, OutOfMemory>
     ensures { IfOk result (λ value. view value ≡ tally_data tally.now) }
 {
-    json!(in alloc; {
-        "passed": tally.passed,
-        "failed": tally.failed,
-        "left_open": tally.left_open,
-        "not_supported": tally.not_supported,
-        "not_played": tally.not_played
-    })
+    let counts = [
+        ("passed", tally.passed),
+        ("failed", tally.failed),
+        ("left_open", tally.left_open),
+        ("not_supported", tally.not_supported),
+        ("not_played", tally.not_played),
+    ];
+    let mut map = Map::new(alloc);
+    put_counts(alloc, &mut map, &counts)?;
+    Ok(Value::from(map))
 }
 
 /// How many checks came to what.
@@ -108,9 +155,9 @@ pub(crate) fn tally_text(alloc: Global, tally: &Tally) -> Result<String, OutOfMe
 fn fault_value(alloc: Global, why: &str) -> Result<Value, OutOfMemory>
     ensures { IfOk result (λ value. view value ≡ fault_data why.now) }
 {
-    json!(in alloc; {
-        "fault": why
-    })
+    let mut map = Map::new(alloc);
+    put_text(alloc, &mut map, "fault", why)?;
+    Ok(Value::from(map))
 }
 
 /// Why nothing can be checked, which this says.
