@@ -9,10 +9,10 @@ use Rattle.gateway_core.proofs.ServeLemmas.{counted_on}
 use Rattle.plain_machine.specs.Event.{datagram}
 use Rattle.rgw_scripts.specs.Moves.{give, sends}
 use Rattle.traces.specs.Writing.{Entry, arrived, showed}
-use Rattle.live_play.specs.Coming.{Came, arrived_in, AreAllBut}
-use Rattle.live_play.specs.Running.{Live, Ran, Takes, HeardFrom}
-use Rattle.live_play.proofs.CameLemmas.{arrived_both, marks_bring_nothing, nobody_came, all_of, all_but_both}
-use Rattle.live_play.proofs.RunLemmas.{ran_on, ran_stays, ran_written_off}
+use Rattle.live_gateway.specs.Coming.{Came, arrived_in, AreAllBut}
+use Rattle.live_gateway.specs.Running.{Live, Ran, Takes, HeardFrom}
+use Rattle.live_gateway.proofs.CameLemmas.{arrived_both, marks_bring_nothing, nobody_came, all_of, all_but_both}
+use Rattle.live_gateway.proofs.RunLemmas.{ran_on, ran_stays, ran_written_off}
 use Rattle.live_gateway.specs.declared.admission.Admission.{Admission}
 use Rattle.live_gateway.specs.declared.desk.Desk.{Desk}
 use Rattle.live_gateway.specs.Admitting.{heard_of, HeardSince}

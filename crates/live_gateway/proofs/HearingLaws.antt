@@ -4,9 +4,9 @@ use Rattle.std.specs.Prelude.{⊤}
 use Rattle.surroundings.specs.Sending.{Received}
 use Rattle.gateway_core.specs.Wire.{counted}
 use Rattle.traces.specs.Writing.{Entry, arrived, typed, passed, showed, became}
-use Rattle.live_play.specs.Coming.{arrived_in, AreAllBut}
-use Rattle.live_play.specs.Running.{AreFrom}
-use Rattle.live_play.proofs.CameLemmas.{none_missing}
+use Rattle.live_gateway.specs.Coming.{arrived_in, AreAllBut}
+use Rattle.live_gateway.specs.Running.{AreFrom}
+use Rattle.live_gateway.proofs.CameLemmas.{none_missing}
 use Rattle.live_gateway.specs.declared.admission.Admission.{Admission}
 use Rattle.live_gateway.specs.Admitting.{is_heard, heard_of}
 use Rattle.live_gateway.specs.Desk.{IsHeard, Standing, GoesOnBy}

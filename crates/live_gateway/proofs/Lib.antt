@@ -1,3 +1,10 @@
+pub mod RunLemmas
+pub mod CameLemmas
+pub mod TickLaws
+pub mod ReadingLaws
+pub mod PieceLaws
+pub mod ReplayLaws
+pub mod LiveLaws
 pub mod Computing
 pub mod HearingLemmas
 pub mod CountingLemmas

@@ -9,7 +9,7 @@ use Rattle.plain_machine.specs.declared.refusal.Refusal.{Refusal}
 use Rattle.surroundings.specs.declared.surroundings.Fault.{Fault}
 use Rattle.traces.specs.Writing.{Input, typed}
 use Rattle.turns.specs.declared.turn.Turn.{Turn}
-use Rattle.live_play.specs.Running.{Live, Ran, HeardFrom, Takes, Refuses, Asked}
+use Rattle.live_gateway.specs.Running.{Live, Ran, HeardFrom, Takes, Refuses, Asked}
 use Rattle.live_gateway.specs.declared.admission.Admission.{Admission}
 use Rattle.live_gateway.specs.Desk.{Standing, with_input}
 use Rattle.live_gateway.specs.Turning.{Tries, TriesAct, DoesLine, Does}

@@ -4,8 +4,8 @@ use Rattle.std.specs.declared.net.socket_addr.SocketAddrV4.{SocketAddrV4}
 use Rattle.gateway_core.specs.Wire.{counted}
 use Rattle.surroundings.specs.Sending.{Received, Traffic, Grows}
 use Rattle.traces.specs.Writing.{Entry}
-use Rattle.live_play.specs.Coming.{Came, arrived_in, AreAllBut}
-use Rattle.live_play.specs.Running.{Live, live, Ran}
+use Rattle.live_gateway.specs.Coming.{Came, arrived_in, AreAllBut}
+use Rattle.live_gateway.specs.Running.{Live, live, Ran}
 use Rattle.live_gateway.specs.declared.admission.Admission.{Admission}
 use Rattle.live_gateway.specs.declared.desk.Desk.{Desk}
 use Rattle.live_gateway.specs.Admitting.{is_heard, heard_of}

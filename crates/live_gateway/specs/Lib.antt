@@ -1,3 +1,8 @@
+pub mod Coming
+pub mod Running
+pub mod Keeping
+pub mod Readable
+pub mod Replay
 pub mod Offering
 pub mod Exchanging
 pub mod Asking

@@ -1,14 +1,14 @@
 //! What lines for the telephones are answered.
 ghost use Rattle.std.specs.Prelude.{◌≡◌, ◌≢◌, ◌≤◌, ◌++◌, ℕ, List, codes, IfOk, IfErr, OnOk, Err};
-ghost use Rattle.live_play.specs.Running.{IsAnswer};
+ghost use Rattle.live_gateway.specs.Running.{IsAnswer};
 ghost use Rattle.live_gateway.specs.Watching.{full_text};
 
 use gateway_core::{Gateway, Refusal};
 use line_changes::MOST_WATCHERS;
 use live_ends::put_around;
 use live_journal::{Faults, Journal, picture_of};
-use live_play::status_of;
 use mg_bytes::OutOfMemory;
+use rgw_scenes::status_of;
 use rgw_scripts::put_line;
 use std::alloc::Global;
 use surroundings::Lines;

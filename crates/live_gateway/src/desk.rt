@@ -23,6 +23,7 @@ use crate::answering::{
     take_act,
 };
 use crate::exchange::Exchange;
+use crate::play::LivePlay;
 use crate::recorder::Recorder;
 use crate::telephones::{TelephoneRequest, Typist, request_in, typist_of};
 use crate::visitors::Visitors;
@@ -31,7 +32,6 @@ use exchange_log::Note;
 use gateway_core::{DATAGRAM_ROOM, Refusal};
 use live_ends::STOP_FROM_AFAR;
 use live_journal::report;
-use live_play::LivePlay;
 use std::alloc::{AllocError, Global};
 use std::net::SocketAddrV4;
 use surroundings::{Lines, Surroundings, Teller};

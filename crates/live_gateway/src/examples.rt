@@ -9,7 +9,7 @@ ghost use Rattle.live_journal.specs.declared.reporting.Faults.{Faults};
 ghost use Rattle.rgw_scripts.specs.Moves.{Move, Shown};
 ghost use Rattle.traces.specs.declared.telling.Mark.{Mark};
 ghost use Rattle.traces.specs.Writing.{arrived, typed, passed, showed, became};
-ghost use Rattle.live_play.specs.Coming.{arrived_in};
+ghost use Rattle.live_gateway.specs.Coming.{arrived_in};
 ghost use Rattle.surroundings.specs.Sending.{Received};
 ghost use Rattle.surroundings.specs.Speaking.{nobody, may_speak, admitted_by};
 ghost use Rattle.live_gateway.specs.declared.telephones.Typist.TheVariants.{Here, Elsewhere, Stranger};

@@ -7,6 +7,7 @@ ghost use Rattle.live_gateway.specs.Admitting.{is_heard, HeardSince};
 ghost use Rattle.live_gateway.specs.Exchanging.{handed_by, received_by, next_due, faultless, refusals, with_refused, with_unreceived, with_read, IsSameTurn, LooksOnce, CountsReceived};
 
 use crate::admission::Admission;
+use crate::ends::Outlet;
 use crate::spoilt_way::SpoiltWay;
 use crate::visitors::Visitors;
 use bad_network::{Fate, Packet, Way};
@@ -14,7 +15,6 @@ use exchange_log::Note;
 use gateway_core::Gateway;
 use live_ends::{NEXT_OFFER, Now};
 use live_journal::{Faults, Journal, count};
-use live_play::Outlet;
 use std::net::SocketAddrV4;
 use surroundings::{Fault, Lines, Surroundings};
 use traces::Mark;

@@ -1,31 +1,39 @@
 //! The loop of the program `rgwd`: a turn at a time, as a schedule says what comes next.
 //!
 //! It stands on surroundings, which are the machine's sockets and clock, or a script in memory; on a bad network before these, where
-//! one is asked for; and on visitors of a page, where there is one. What goes over it is told to a journal and to a trace.
+//! one is asked for; and on visitors of a page, where there is one. What goes over it is told to a journal and to a trace. A gateway
+//! that runs live is a play: what it is given, asked and sends is, in order, what its trace says, and that can be played again.
 #![tactic(auto)]
 
 mod admission;
 mod answering;
 mod desk;
+mod ends;
 pub mod examples;
 mod exchange;
 pub mod laws;
 mod naming;
 mod opening;
+mod placed;
+mod play;
+pub mod play_laws;
 mod recorder;
 mod spoilt_way;
 mod telephones;
+mod trace_text;
 mod visitors;
 mod watch;
 
 pub use crate::admission::{Admission, speakers_of};
 pub use crate::desk::Desk;
+pub use crate::ends::Outlet;
 pub use crate::exchange::Exchange;
 pub use crate::naming::agents_line;
 pub use crate::opening::{DeskSettings, open_desk};
+pub use crate::play::LivePlay;
 pub use crate::recorder::Recorder;
 pub use crate::spoilt_way::SpoiltWay;
+pub use crate::trace_text::TraceText;
 pub use crate::visitors::Visitors;
 pub use crate::watch::Watch;
 pub use live_ends::boxed;
-pub use live_play::LivePlay;

@@ -1,5 +1,5 @@
 use Rattle.std.proofs.Common.{refl}
-use Rattle.live_play.proofs.RunLemmas.{answers_line}
+use Rattle.live_gateway.proofs.RunLemmas.{answers_line}
 use Rattle.live_gateway.proofs.answering.put_shown.Goals as goal
 
 -- what was printed of the line is what is shown of it

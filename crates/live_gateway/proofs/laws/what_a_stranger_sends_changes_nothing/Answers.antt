@@ -1,4 +1,4 @@
-use Rattle.live_play.proofs.RunLemmas.{handed_known}
+use Rattle.live_gateway.proofs.RunLemmas.{handed_known}
 use Rattle.live_gateway.proofs.HearingLaws.{are_from}
 use Rattle.live_gateway.proofs.laws.what_a_stranger_sends_changes_nothing.Goals as goal
 

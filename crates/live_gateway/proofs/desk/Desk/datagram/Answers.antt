@@ -1,5 +1,5 @@
 use Rattle.std.proofs.Common.{inr, ◌∙◌, ap}
-use Rattle.live_play.specs.Coming.{Came}
+use Rattle.live_gateway.specs.Coming.{Came}
 use Rattle.live_gateway.specs.Desk.{at_desk, with_input}
 use Rattle.live_gateway.proofs.DeskLemmas.{hears}
 use Rattle.live_gateway.proofs.HearingLemmas.{heard_still}

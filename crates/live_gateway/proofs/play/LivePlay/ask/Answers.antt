@@ -1,0 +1,22 @@
+use Rattle.std.proofs.Common.{refl, ap, subst}
+use Rattle.std.specs.declared.net.socket_addr.SocketAddrV4.{SocketAddrV4}
+use Rattle.gateway_core.specs.GatewayState.{GatewayState}
+use Rattle.live_gateway.specs.Running.{IsAnswer}
+use Rattle.live_gateway.proofs.RunLemmas.{answers_so, goes_on_answered, stays}
+use Rattle.live_gateway.proofs.play.LivePlay.ask.Goals as goal
+
+pub returns-in_err-put_answer-clause-ran : goal.returns-in_err-put_answer-clause-ran
+returns-in_err-put_answer-clause-ran g c = λ handed. stays (λ (nobody : SocketAddrV4). ⊥) _
+
+pub returns-clause-answered : goal.returns-clause-answered
+returns-clause-answered g c =
+    λ handed. answers_so _ _ c.args.text.now c.args.line c.tell_answered.new.self.printed.items c.requires
+    (rw (c.tell_answered.ensures.printed) (subst (λ (gateway : GatewayState). IsAnswer gateway c.args.line c.put_answer.new.out.items) c.deref.ensures c.in_ok-put_answer.ensures))
+    (ap (λ gateway. gateway.value) c.tell_answered.ensures.gateway) refl (rw (c.tell_answered.ensures.printed) c.tell_answered.ensures.told) c.tell_answered.ensures.script
+
+pub returns-clause-ran : goal.returns-clause-ran
+returns-clause-ran g c =
+    λ handed. goes_on_answered (λ (nobody : SocketAddrV4). ⊥) _ _ c.args.text.now c.args.line c.tell_answered.new.self.printed.items (
+    answers_so _ _ c.args.text.now c.args.line c.tell_answered.new.self.printed.items c.requires
+    (rw (c.tell_answered.ensures.printed) (subst (λ (gateway : GatewayState). IsAnswer gateway c.args.line c.put_answer.new.out.items) c.deref.ensures c.in_ok-put_answer.ensures))
+    (ap (λ gateway. gateway.value) c.tell_answered.ensures.gateway) refl (rw (c.tell_answered.ensures.printed) c.tell_answered.ensures.told) c.tell_answered.ensures.script)

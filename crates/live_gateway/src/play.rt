@@ -1,0 +1,420 @@
+//! The play.
+ghost use Rattle.std.specs.Prelude.{◌≡◌, ◌+◌, ◌≤◌, ◌++◌, ◌∷◌, [], List, Option, Some, None, IfSome, IfOk, IfErr, OnOk, OnErr, ℕ};
+ghost use Rattle.std.specs.Result.{result_err};
+ghost use Rattle.surroundings.specs.Sending.{Sent, Grows};
+ghost use Rattle.mg_bytes.specs.Words.{words};
+ghost use Rattle.plain_machine.specs.declared.refusal.Refusal.TheVariants.{NoSuchLine};
+ghost use Rattle.plain_machine.specs.Event.{GatewayEvent, event_of, datagram, phone, tick};
+ghost use Rattle.plain_machine.specs.Lists.{plain};
+ghost use Rattle.plain_machine.specs.Refusing.{Ends, refusal_of};
+ghost use Rattle.gateway_core.specs.Stands.{Stands, Took};
+ghost use Rattle.rgw_scripts.specs.declared.step.ScriptStep.TheVariants.{Phone, Show};
+ghost use Rattle.rgw_scripts.specs.declared.step.ScriptLine.TheVariants.{Whole};
+ghost use Rattle.rgw_scripts.specs.Moves.{sends};
+ghost use Rattle.rgw_scripts.specs.Printing.{printed_line, refusal_line};
+ghost use Rattle.rgw_scripts.specs.Script.{line_in};
+ghost use Rattle.traces.specs.Telling.{told_mark, told_text};
+ghost use Rattle.traces.specs.Writing.{Entry, arrived, typed, passed, tick_text, after_tick, input_text, at_clock, clock_text, opening_script};
+ghost use Rattle.live_gateway.specs.Running.{live, Ran, HeardFrom, HandsOut, Takes, Refuses, Asked, IsAnswer, TellsRefusal};
+
+use crate::ends::Outlet;
+use crate::placed::{Placed, tell_trace, untold};
+use gateway_core::{Event, Gateway, OutDatagram, Outputs, Refusal};
+use mg_bytes::OutOfMemory;
+use mg_line::Act;
+use rgw_scenes::status_of;
+use rgw_scripts::{put_line, put_refusal};
+use std::alloc::Global;
+use std::net::SocketAddrV4;
+use surroundings::Teller;
+use traces::{Mark, Script, put_mark};
+
+/// A gateway that runs, and its trace.
+pub struct LivePlay<T> {
+    alloc: Global,
+    pub gateway: Box<Gateway>,
+    script: Script,
+    // What its trace is told next.
+    text: Vec<u8>,
+    // What is answered to who asked last, or did something that was refused.
+    printed: Vec<u8>,
+    pub teller: T,
+}
+
+// Written out: a derived drop, and those of all its parts, are proved anew by each crate that lets one go.
+impl<T: Drop> Drop for LivePlay<T> {
+    fn drop(self) {
+        let LivePlay {
+            alloc: _,
+            gateway,
+            script: _,
+            text,
+            printed,
+            teller,
+        } = self;
+        drop(gateway);
+        drop(text);
+        drop(printed);
+        drop(teller);
+    }
+}
+
+// The gateway takes an event, or refuses it.
+fn take(gateway: &mut Box<Gateway>, event: Event<'_>) -> Result<Outputs, Refusal>
+    ensures ok { IfOk result (λ outputs. Took gateway.old.value (event_of event.entry ∷ []) gateway.new.value [] outputs) }
+    ensures err { OnErr result (Took gateway.old.value [] gateway.new.value [] []) }
+    ensures ends { (before : List GatewayEvent) → Stands gateway.old.value before →
+        Ends (plain gateway.old.value.setup before) (event_of event.entry) (result_err result) }
+{
+    gateway.step(event)
+}
+
+// What a line is is put, to be answered.
+fn put_status(
+    alloc: Global,
+    gateway: &Gateway,
+    line: u16,
+    out: &mut Vec<u8>,
+) -> Result<(), OutOfMemory>
+    requires low { 1 ≤ line }
+    requires high { line ≤ gateway.now.setup.names.lines }
+    ensures { OnOk result (IsAnswer gateway.now line out.new.items) }
+{
+    out.clear();
+    let status = status_of(gateway, line);
+    put_line(alloc, out, &status)?;
+    Ok(())
+}
+
+// That there is no such line is put, to be answered.
+fn put_no_line(alloc: Global, out: &mut Vec<u8>) -> Result<(), OutOfMemory>
+    ensures { OnOk result (out.new.items ≡ printed_line (refusal_line NoSuchLine)) }
+{
+    out.clear();
+    put_refusal(alloc, out, Refusal::NoSuchLine)
+}
+
+// What a line is is put, to be answered, or that there is none.
+fn put_answer(
+    alloc: Global,
+    gateway: &Gateway,
+    line: u16,
+    out: &mut Vec<u8>,
+) -> Result<(), OutOfMemory>
+    ensures { OnOk result (IsAnswer gateway.now line out.new.items) }
+{
+    if line >= 1 && line <= gateway.lines() {
+        put_status(alloc, gateway, line, out)?;
+        return Ok(());
+    }
+    put_no_line(alloc, out)?;
+    Ok(())
+}
+
+impl<T: Teller + Drop> LivePlay<T> {
+    /// The play of a gateway to which nothing has come, and of a trace that was told its head.
+    pub fn new(alloc: Global, gateway: Box<Gateway>, teller: T) -> LivePlay<T>
+        ensures gateway { result.gateway ≡ gateway }
+        ensures teller { result.teller ≡ teller }
+        ensures script { result.script ≡ opening_script }
+    {
+        LivePlay {
+            alloc,
+            gateway,
+            script: Script::starting(),
+            text: Vec::new(alloc),
+            printed: Vec::new(alloc),
+            teller,
+        }
+    }
+
+    /// What is answered to a line by which something was asked, or was done that was refused.
+    pub fn printed(&self) -> &[u8]
+        ensures { result.now ≡ self.now.printed.items }
+    {
+        self.printed.as_slice()
+    }
+
+    // The trace is told what was put for it, if memory was there for that.
+    #[tactic(auto, using(crate::proofs::RunLemmas::ends_all, crate::proofs::RunLemmas::if_none))]
+    fn tell(&mut self, put: Result<(), OutOfMemory>) -> Placed
+        ensures told { (text : List ℕ) → OnOk put (self.old.text.items ≡ text) → Grows (T.told self.old.teller) text (T.told self.new.teller) }
+        ensures broken_off { OnErr put (T.told self.new.teller ≡ None) }
+        ensures gateway { self.new.gateway ≡ self.old.gateway }
+        ensures script { self.new.script ≡ self.old.script }
+        ensures printed { self.new.printed ≡ self.old.printed }
+    {
+        tell_trace(&mut self.teller, put, self.text.as_slice())
+    }
+
+    // A tick, and what was sent at it.
+    #[tactic(auto, using(crate::proofs::RunLemmas::ends_all, crate::proofs::RunLemmas::if_none))]
+    fn tell_tick(&mut self, moment: u64, sent: &[OutDatagram]) -> Placed
+        ensures told { Grows (T.told self.old.teller) (tick_text self.old.script moment sent.now) (T.told self.new.teller) }
+        ensures script { IfSome (T.told self.new.teller) (λ text. self.new.script ≡ after_tick self.old.script moment sent.now) }
+        ensures gateway { self.new.gateway ≡ self.old.gateway }
+    {
+        if !self.teller.is_telling() {
+            return untold(&self.teller);
+        }
+        self.text.clear();
+        let put = self
+            .script
+            .put_tick(self.alloc, &mut self.text, moment, sent);
+        self.tell(put)
+    }
+
+    // A datagram that came, and what was sent at it.
+    #[tactic(auto, using(crate::proofs::RunLemmas::ends_all, crate::proofs::RunLemmas::if_none))]
+    fn tell_datagram(&mut self, source: SocketAddrV4, bytes: &[u8], sent: &[OutDatagram]) -> Placed
+        ensures told { Grows (T.told self.old.teller) (input_text self.old.script (arrived source bytes.now) (sends sent.now)) (T.told self.new.teller) }
+        ensures script { IfSome (T.told self.new.teller) (λ text. self.new.script ≡ at_clock self.old.script) }
+        ensures gateway { self.new.gateway ≡ self.old.gateway }
+    {
+        if !self.teller.is_telling() {
+            return untold(&self.teller);
+        }
+        self.text.clear();
+        let put = self
+            .script
+            .put_datagram(self.alloc, &mut self.text, source, bytes, sent);
+        self.tell(put)
+    }
+
+    // A line by which something was done, and what was sent at it.
+    #[tactic(auto, using(crate::proofs::RunLemmas::ends_all, crate::proofs::RunLemmas::if_none))]
+    fn tell_act(&mut self, line: &[u8], sent: &[OutDatagram]) -> Placed
+        ensures told { Grows (T.told self.old.teller) (input_text self.old.script (typed line.now) (sends sent.now)) (T.told self.new.teller) }
+        ensures script { IfSome (T.told self.new.teller) (λ text. self.new.script ≡ at_clock self.old.script) }
+        ensures gateway { self.new.gateway ≡ self.old.gateway }
+    {
+        if !self.teller.is_telling() {
+            return untold(&self.teller);
+        }
+        self.text.clear();
+        let put = self.script.put_act(self.alloc, &mut self.text, line, sent);
+        self.tell(put)
+    }
+
+    // A line, and what is answered to it.
+    #[tactic(auto, using(crate::proofs::RunLemmas::ends_all, crate::proofs::RunLemmas::if_none))]
+    fn tell_answered(&mut self, line: &[u8])
+        ensures told { Grows (T.told self.old.teller) (clock_text self.old.script ++ printed_line line.now ++ told_text self.old.printed.items) (T.told self.new.teller) }
+        ensures script { IfSome (T.told self.new.teller) (λ text. self.new.script ≡ at_clock self.old.script) }
+        ensures gateway { self.new.gateway ≡ self.old.gateway }
+        ensures printed { self.new.printed ≡ self.old.printed }
+    {
+        if self.teller.is_telling() {
+            self.text.clear();
+            let put = self
+                .script
+                .put_answered(self.alloc, &mut self.text, line, self.printed.as_slice());
+            let _ = self.tell(put);
+        }
+    }
+
+    // What became of the datagram at this place among those of this turn.
+    #[tactic(auto, using(crate::proofs::RunLemmas::ends_all, crate::proofs::RunLemmas::if_none))]
+    fn tell_mark(&mut self, mark: Mark, place: u64)
+        ensures told { Grows (T.told self.old.teller) (told_mark mark place) (T.told self.new.teller) }
+        ensures script { self.new.script ≡ self.old.script }
+        ensures gateway { self.new.gateway ≡ self.old.gateway }
+    {
+        if self.teller.is_telling() {
+            self.text.clear();
+            let put = put_mark(self.alloc, &mut self.text, mark, place);
+            let _ = self.tell(put);
+        }
+    }
+
+    // The datagram at this place is handed out.
+    #[tactic(auto, using(crate::proofs::RunLemmas::one_handed))]
+    fn hand<O: Outlet>(&mut self, out: &mut O, datagram: &OutDatagram, place: u64)
+        ensures handed { (before : ℕ) → place ≡ before + 1 → (marks : List Entry) × HandsOut
+            (live self.old.gateway.value self.old.script (T.told self.old.teller) (O.handed out.old)) before (datagram.now ∷ []) marks
+            (live self.new.gateway.value self.new.script (T.told self.new.teller) (O.handed out.new)) }
+        ensures came { O.came out.new ≡ O.came out.old }
+    {
+        if let Some(mark) = out.hand(datagram.to, datagram.bytes.as_bytes()) {
+            self.tell_mark(mark, place);
+        }
+    }
+
+    // Datagrams are handed out in their order.
+    #[tactic(auto, using(crate::proofs::RunLemmas::none_handed, crate::proofs::RunLemmas::one_more))]
+    fn hand_all<O: Outlet>(&mut self, out: &mut O, datagrams: &[OutDatagram])
+        ensures handed { (marks : List Entry) × HandsOut
+            (live self.old.gateway.value self.old.script (T.told self.old.teller) (O.handed out.old)) 0 datagrams.now marks
+            (live self.new.gateway.value self.new.script (T.told self.new.teller) (O.handed out.new)) }
+        ensures came { O.came out.new ≡ O.came out.old }
+    {
+        let mut place: u64 = 0;
+        for datagram in datagrams {
+            place = place.saturating_add(1);
+            self.hand(out, datagram, place);
+        }
+    }
+
+    // The gateway took an event, at which it sends these datagrams: the trace was told of that, and they are handed out in their order.
+    fn hand_out<O: Outlet>(&mut self, out: &mut O, datagrams: &[OutDatagram], _told: Placed)
+        ensures handed { (marks : List Entry) × HandsOut
+            (live self.old.gateway.value self.old.script (T.told self.old.teller) (O.handed out.old)) 0 datagrams.now marks
+            (live self.new.gateway.value self.new.script (T.told self.new.teller) (O.handed out.new)) }
+        ensures came { O.came out.new ≡ O.came out.old }
+    {
+        out.turned(&self.gateway);
+        self.hand_all(out, datagrams);
+    }
+
+    /// The clock goes to this moment, in ms: what the gateway sends at it is handed out. A refused tick changes nothing.
+    #[tactic(auto, using(crate::proofs::RunLemmas::goes_on_quietly))]
+    pub fn tick<O: Outlet>(&mut self, out: &mut O, moment: u64) -> Result<(), Refusal>
+        ensures ran { HeardFrom (λ nobody. ⊥)
+            (live self.old.gateway.value self.old.script (T.told self.old.teller) (O.handed out.old))
+            (live self.new.gateway.value self.new.script (T.told self.new.teller) (O.handed out.new)) }
+        ensures came { O.came out.new ≡ O.came out.old }
+        ensures taken { OnOk result (Takes
+            (live self.old.gateway.value self.old.script (T.told self.old.teller) (O.handed out.old)) (passed moment) (tick moment)
+            (live self.new.gateway.value self.new.script (T.told self.new.teller) (O.handed out.new))) }
+        ensures refused { OnErr result (Ran
+            (live self.old.gateway.value self.old.script (T.told self.old.teller) (O.handed out.old)) []
+            (live self.new.gateway.value self.new.script (T.told self.new.teller) (O.handed out.new))) }
+        ensures ends { (before : List GatewayEvent) → Stands self.old.gateway.value before →
+            Ends (plain self.old.gateway.value.setup before) (tick moment) (result_err result) }
+    {
+        match take(&mut self.gateway, Event::Tick { moment }) {
+            Ok(outputs) => {
+                let sent = outputs.as_slice();
+                let told = self.tell_tick(moment, sent);
+                self.hand_out(out, sent, told);
+                Ok(())
+            }
+            Err(refusal) => Err(refusal),
+        }
+    }
+
+    /// A datagram came from there: what the gateway sends at it is handed out. Where memory is refused for it nothing is changed.
+    #[tactic(auto, using(crate::proofs::RunLemmas::goes_on_quietly))]
+    pub fn datagram<O: Outlet>(
+        &mut self,
+        out: &mut O,
+        source: SocketAddrV4,
+        bytes: &[u8],
+    ) -> Result<(), Refusal>
+        ensures ran { HeardFrom (λ sender. sender ≡ source)
+            (live self.old.gateway.value self.old.script (T.told self.old.teller) (O.handed out.old))
+            (live self.new.gateway.value self.new.script (T.told self.new.teller) (O.handed out.new)) }
+        ensures came { O.came out.new ≡ O.came out.old }
+        ensures taken { OnOk result (Takes
+            (live self.old.gateway.value self.old.script (T.told self.old.teller) (O.handed out.old)) (arrived source bytes.now) (datagram source bytes.now)
+            (live self.new.gateway.value self.new.script (T.told self.new.teller) (O.handed out.new))) }
+        ensures refused { OnErr result (Ran
+            (live self.old.gateway.value self.old.script (T.told self.old.teller) (O.handed out.old)) []
+            (live self.new.gateway.value self.new.script (T.told self.new.teller) (O.handed out.new))) }
+        ensures ends { (before : List GatewayEvent) → Stands self.old.gateway.value before →
+            Ends (plain self.old.gateway.value.setup before) (datagram source bytes.now) (result_err result) }
+    {
+        match take(&mut self.gateway, Event::Datagram { source, bytes }) {
+            Ok(outputs) => {
+                let sent = outputs.as_slice();
+                let told = self.tell_datagram(source, bytes, sent);
+                self.hand_out(out, sent, told);
+                Ok(())
+            }
+            Err(refusal) => Err(refusal),
+        }
+    }
+
+    // An act was refused, and not for want of memory: why is put, and told.
+    fn tell_refusal(&mut self, line: &[u8], refusal: Refusal) -> Result<(), OutOfMemory>
+        ensures ok { OnOk result (Grows (T.told self.old.teller)
+            (clock_text self.old.script ++ printed_line line.now ++ told_text (printed_line (refusal_line refusal))) (T.told self.new.teller)) }
+        ensures ok_script { OnOk result (IfSome (T.told self.new.teller) (λ text. self.new.script ≡ at_clock self.old.script)) }
+        ensures ok_printed { OnOk result (self.new.printed.items ≡ printed_line (refusal_line refusal)) }
+        ensures err { OnErr result (T.told self.new.teller ≡ T.told self.old.teller) }
+        ensures err_script { OnErr result (self.new.script ≡ self.old.script) }
+        ensures gateway { self.new.gateway ≡ self.old.gateway }
+    {
+        self.printed.clear();
+        put_refusal(self.alloc, &mut self.printed, refusal)?;
+        self.tell_answered(line);
+        Ok(())
+    }
+
+    // The same, but that nothing is told where the refusal is want of memory.
+    fn refuse(&mut self, line: &[u8], refusal: Refusal) -> Refusal
+        ensures told { TellsRefusal line.now refusal result self.new.printed.items (T.told self.old.teller) self.old.script (T.told self.new.teller) self.new.script }
+        ensures gateway { self.new.gateway ≡ self.old.gateway }
+    {
+        if refusal == Refusal::OutOfMemory {
+            return refusal;
+        }
+        match self.tell_refusal(line, refusal) {
+            Ok(()) => refusal,
+            Err(_) => Refusal::OutOfMemory,
+        }
+    }
+
+    /// Something is done at the telephone of a line, as a line of text said: what the gateway sends at it is handed out. A refused act
+    /// changes nothing; why it was refused is `printed`, and saying that may want memory. An act that can be done and takes none is done.
+    pub fn act<O: Outlet>(
+        &mut self,
+        out: &mut O,
+        text: &[u8],
+        line: u16,
+        act: Act,
+    ) -> Result<(), Refusal>
+        requires { line_in (words text.now) ≡ Some (Whole (Phone line act)) }
+        ensures ran { HeardFrom (λ nobody. ⊥)
+            (live self.old.gateway.value self.old.script (T.told self.old.teller) (O.handed out.old))
+            (live self.new.gateway.value self.new.script (T.told self.new.teller) (O.handed out.new)) }
+        ensures came { O.came out.new ≡ O.came out.old }
+        ensures taken { OnOk result (Takes
+            (live self.old.gateway.value self.old.script (T.told self.old.teller) (O.handed out.old)) (typed text.now) (phone line act)
+            (live self.new.gateway.value self.new.script (T.told self.new.teller) (O.handed out.new))) }
+        ensures refused { IfErr result (λ refusal. Refuses
+            (live self.old.gateway.value self.old.script (T.told self.old.teller) (O.handed out.old)) text.now (phone line act) refusal self.new.printed.items
+            (live self.new.gateway.value self.new.script (T.told self.new.teller) (O.handed out.new))) }
+        ensures ends { (before : List GatewayEvent) → Stands self.old.gateway.value before
+            → refusal_of (plain self.old.gateway.value.setup before) (phone line act) ≡ None
+            → Ends (plain self.old.gateway.value.setup before) (phone line act) (result_err result) }
+    {
+        match take(&mut self.gateway, Event::Phone { line, act }) {
+            Ok(outputs) => {
+                let sent = outputs.as_slice();
+                let told = self.tell_act(text, sent);
+                self.hand_out(out, sent, told);
+                Ok(())
+            }
+            Err(refusal) => Err(self.refuse(text, refusal)),
+        }
+    }
+
+    /// Nothing comes any more: the trace is told to which moment its gateway has come.
+    #[tactic(auto, using(crate::proofs::RunLemmas::ends_all, crate::proofs::RunLemmas::if_none))]
+    pub fn end(&mut self)
+        ensures told { Grows (T.told self.old.teller) (clock_text self.old.script) (T.told self.new.teller) }
+        ensures gateway { self.new.gateway ≡ self.old.gateway }
+    {
+        if self.teller.is_telling() {
+            self.text.clear();
+            let put = self.script.put_clock(self.alloc, &mut self.text);
+            let _ = self.tell(put);
+        }
+    }
+
+    /// What a line is is asked, as a line of text said: the answer is `printed`.
+    pub fn ask(&mut self, text: &[u8], line: u16) -> Result<(), OutOfMemory>
+        requires { line_in (words text.now) ≡ Some (Whole (Show line)) }
+        ensures ran { (handed : Option (List Sent)) → HeardFrom (λ nobody. ⊥)
+            (live self.old.gateway.value self.old.script (T.told self.old.teller) handed)
+            (live self.new.gateway.value self.new.script (T.told self.new.teller) handed) }
+        ensures answered { (handed : Option (List Sent)) → OnOk result (Asked
+            (live self.old.gateway.value self.old.script (T.told self.old.teller) handed) text.now line self.new.printed.items
+            (live self.new.gateway.value self.new.script (T.told self.new.teller) handed)) }
+    {
+        put_answer(self.alloc, &self.gateway, line, &mut self.printed)?;
+        self.tell_answered(text);
+        Ok(())
+    }
+}

@@ -1,5 +1,0 @@
-pub mod Coming
-pub mod Running
-pub mod Keeping
-pub mod Readable
-pub mod Replay
