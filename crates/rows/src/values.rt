@@ -56,7 +56,9 @@ fn answer_to(given: &mut Outcome, call: &str, field: &str) -> Result<String, Out
     if !put_answer(given, call, &value) {
         given.unread();
     }
-    said(given.alloc, &given.bytes)
+    let text = said(given.alloc, &given.bytes)?;
+    // Fields are parted by two blanks.
+    text.replace(given.alloc, "  ", "\\s\\s")
 }
 
 // Whether a row says this answer.

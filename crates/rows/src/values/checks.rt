@@ -4,11 +4,12 @@
 //! `B 200 1 OK¶` where one comes to the second socket, `W 1500` where so many ms pass, `!` anywhere where nothing can be done at the
 //! telephone. Transaction ids are 1 to 9, the call is 0, the lines are aaln/1 and aaln/2 at rgw.example.net, the sockets
 //! ca@[10.0.0.1]:2727 and ca@[10.0.0.1]:2728. The answer is `pass`, or `fail: `, `left open: ` or `not supported: ` with the step
-//! that isn't met. `report NAME` and `case NAME` are the same, with what is printed of the check, for people or as JUnit's XML;
-//! `entry NAME` is how it stands in the list of all, whatever the value is.
+//! that isn't met. `report NAME` and `case NAME` are the same, with what is printed of the check, for people or as JUnit's XML; so are
+//! `tally NAME` and `suite NAME`, with what is printed at the end of a report of this check alone. `entry NAME` is how it stands in the
+//! list of all, and `unplayed NAME` how it is reported where it isn't played, whatever the value is.
 use gateway_checks::{
-    Check, Names, Places, Player, Socket, Turn, Verdict, check_named, put_case, put_check,
-    put_entry,
+    Check, Names, Places, Player, Socket, Tally, Turn, Verdict, check_named, put_case, put_check,
+    put_entry, put_suite, put_tally,
 };
 use mg_bytes::{OutOfMemory, decimal};
 use scenario_files::Outcome;
@@ -75,6 +76,9 @@ enum Form {
     Report,
     Case,
     Entry,
+    Unplayed,
+    Tally,
+    Suite,
 }
 
 // The form that a call asks for, and the name of its check.
@@ -85,6 +89,9 @@ fn asked(call: &str) -> Option<(Form, &str)> {
         "report" => Some((Form::Report, name)),
         "case" => Some((Form::Case, name)),
         "entry" => Some((Form::Entry, name)),
+        "unplayed" => Some((Form::Unplayed, name)),
+        "tally" => Some((Form::Tally, name)),
+        "suite" => Some((Form::Suite, name)),
         _ => None,
     }
 }
@@ -100,8 +107,35 @@ fn put_verdict(out: &mut String, player: &Player<'_>) -> Result<(), OutOfMemory>
     out.push_str(player.due())
 }
 
+// How many of this one check have come to what.
+fn tally_of(verdict: Verdict) -> Tally {
+    let mut tally = Tally::NONE;
+    tally.count(Some(verdict));
+    tally
+}
+
+// Puts a report of this one check, as JUnit's XML.
+fn put_suite_of(
+    alloc: Global,
+    out: &mut String,
+    check: &Check<'_>,
+    player: &Player<'_>,
+) -> Result<(), OutOfMemory> {
+    let verdict = player.verdict();
+    let mut cases = String::new(alloc);
+    put_case(
+        &mut cases,
+        check,
+        Some(verdict),
+        player.due(),
+        player.said(),
+    )?;
+    put_suite(out, cases.as_str(), &tally_of(verdict))
+}
+
 // Puts what is told of a check that was played.
 fn put_form(
+    alloc: Global,
     out: &mut String,
     form: Form,
     check: &Check<'_>,
@@ -113,6 +147,9 @@ fn put_form(
         Form::Report => put_check(out, check, verdict, player.said()),
         Form::Case => put_case(out, check, verdict, player.due(), player.said()),
         Form::Entry => put_entry(out, check),
+        Form::Unplayed => put_check(out, check, None, ""),
+        Form::Tally => put_tally(out, &tally_of(player.verdict())),
+        Form::Suite => put_suite_of(alloc, out, check, player),
     }
 }
 
@@ -126,7 +163,7 @@ fn told_by(
 ) -> Result<String, OutOfMemory> {
     play(player, came)?;
     let mut out = String::new(alloc);
-    put_form(&mut out, form, check, player)?;
+    put_form(alloc, &mut out, form, check, player)?;
     Ok(out)
 }
 
