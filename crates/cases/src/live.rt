@@ -12,13 +12,14 @@
 //! - `fault send` the next datagram can't be sent; `fault receive` none can be received.
 //! - `dropped 12` so many lines of the log are said not to be kept; `failed calls.pcap` a record is said not to be written.
 //! - `room 300` so many bytes of the trace find room, and no more, since nobody takes any.
+//! - `read 1048385` the log is read from here on; before, nobody does, and so many bytes wait for that from the start, which aren't told.
 //! - `answer done` a line of an answer to who usually types, `answer 10.0.0.9:5000 done` to somebody else; `page ..` one of what a visitor gets; `log ..`, `trace ..`, `capture ..` what is
 //!   recorded; `count ..` what is counted at the end, and `replay ..` what a replay of the trace finds.
 mod browsers;
 
 use crate::live::browsers::Browsers;
 use crate::stories::{
-    Place, Program, Records, Story, Transcript, Words, put_given, told, words_in,
+    LateLog, Place, Program, Records, Story, Transcript, Words, put_given, told, words_in,
 };
 use gateway_core::Gateway;
 use live_gateway::{Admission, Desk, DeskSettings, Recorder, boxed, open_desk, speakers_of};
@@ -45,6 +46,9 @@ impl Recorder<Trace> for Records {
     ghost writes = { λ was is. ⊤ };
 
     fn write(&mut self, journal: &mut Journal, trace: &mut Trace, time: u64) {
+        if self.keep_late(journal, trace, time) {
+            return;
+        }
         self.keep_trace(time, trace);
         self.keep(time, b"log ", &mut journal.log.record);
         self.keep_capture(time, &mut journal.capture.record);
@@ -52,7 +56,10 @@ impl Recorder<Trace> for Records {
     }
 
     fn is_offering(&self) -> bool {
-        false
+        match &self.late_log {
+            Some(late_log) => late_log.is_offering(),
+            None => false,
+        }
     }
 }
 
@@ -178,6 +185,14 @@ fn end(
     Ok(())
 }
 
+// The outlets of a program whose log is read late, where a story says so.
+fn late_log_of(alloc: Global, story: &Story) -> Result<Option<Box<LateLog>>, AllocError> {
+    match story.reading {
+        Some(reading) => Ok(Some(boxed(alloc, LateLog::new(alloc, reading)?)?)),
+        None => Ok(None),
+    }
+}
+
 // Runs a gateway by a story, whose end is told or isn't, and puts what it gives.
 fn run(
     alloc: Global,
@@ -190,6 +205,7 @@ fn run(
     let opened = desk.exchange.around.time();
     let mut records = Records::new(alloc, opened, story.written);
     records.room = story.room;
+    records.late_log = late_log_of(alloc, story)?;
     desk.run(visitors, &mut records);
     if is_ended || story.is_counted {
         end(alloc, desk, &mut records, story.is_counted)?;

@@ -2,12 +2,14 @@
 //!
 //! Its loop is the program's own. Its sockets and its clock are those of `surroundings`, by a script, so it runs just so each time.
 mod given;
+mod late_log;
 mod records;
 mod story;
 mod transcript;
 mod words;
 
 pub use crate::stories::given::put_given;
+pub use crate::stories::late_log::{LateLog, Reading};
 pub use crate::stories::records::Records;
 use crate::stories::story::read_story;
 pub use crate::stories::story::{Place, Story, Visit};

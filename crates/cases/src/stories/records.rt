@@ -1,7 +1,8 @@
 //! What a program records, kept as it is written.
 use crate::stories::Transcript;
+use crate::stories::late_log::LateLog;
 use live_ends::{Record, TEXT_ROOM, Written};
-use live_journal::Trace;
+use live_journal::{Journal, Trace};
 use std::alloc::Global;
 use traces::broken_off_line;
 
@@ -20,6 +21,8 @@ pub struct Records {
     pub room: usize,
     /// What is said to become of it.
     pub written: Written,
+    /// A log that is read late.
+    pub late_log: Option<Box<LateLog>>,
 }
 
 impl Records {
@@ -32,6 +35,7 @@ impl Records {
             trace: Vec::new(alloc),
             room: TEXT_ROOM,
             written,
+            late_log: None,
         }
     }
 
@@ -64,6 +68,17 @@ impl Records {
             self.tell_trace(time, broken_off_line());
         }
         trace.give_room(self.room.saturating_sub(self.trace.len()));
+    }
+
+    /// Keeps what was recorded at this time as the program does, and tells what is read then, where the log is read late: whether it is.
+    pub fn keep_late(&mut self, journal: &mut Journal, trace: &mut Trace, time: u64) -> bool {
+        let moment = self.moment_of(time);
+        let Some(late_log) = &mut self.late_log else {
+            return false;
+        };
+        let read = late_log.write(journal, trace, moment, time);
+        self.given.tell(moment, b"log ", read.as_slice());
+        true
     }
 
     /// Keeps what was put together of a capture at this time, in hexadecimal digits.

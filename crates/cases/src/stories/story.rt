@@ -1,5 +1,6 @@
 //! A story as it is written: what a program is called with, what comes, and what it gives.
 use crate::stories::given::typist;
+use crate::stories::late_log::Reading;
 use crate::stories::transcript::Transcript;
 use live_ends::{TEXT_ROOM, Written};
 use live_gateway::boxed;
@@ -45,6 +46,8 @@ pub struct Story {
     pub written: Written,
     /// So many bytes of a trace find room.
     pub room: usize,
+    /// When its log is read first, where that is said.
+    pub reading: Option<Reading>,
     pub wanted: Transcript,
     /// Whether it is said what was counted at the end.
     pub is_counted: bool,
@@ -83,12 +86,13 @@ enum Says {
     Dropped,
     Failed,
     Room,
+    Read,
     Nothing,
     // This is to be given.
     Given,
 }
 
-const FIRST_WORDS: [(&str, Says); 16] = [
+const FIRST_WORDS: [(&str, Says); 17] = [
     ("<", Says::Heard),
     (">", Says::Sent),
     ("at", Says::At),
@@ -103,6 +107,7 @@ const FIRST_WORDS: [(&str, Says); 16] = [
     ("dropped", Says::Dropped),
     ("failed", Says::Failed),
     ("room", Says::Room),
+    ("read", Says::Read),
     ("#", Says::Nothing),
     ("", Says::Nothing),
 ];
@@ -141,6 +146,7 @@ impl Story {
             visits: VecDeque::new(alloc),
             written: Written::ALL,
             room: TEXT_ROOM,
+            reading: None,
             wanted: Transcript::new(alloc),
             is_counted: false,
             moment: 0,
@@ -223,6 +229,14 @@ impl Story {
         }
     }
 
+    // The log is read from now on, and so many bytes waited for that.
+    fn read_from_now(&mut self, waiting: usize) {
+        self.reading = Some(Reading {
+            moment: self.moment,
+            waiting,
+        });
+    }
+
     // A datagram's lines follow, of that address or of the usual one.
     fn begin(&mut self, place: LinePlace, peer: &str) {
         self.peer = self.peer_in(peer);
@@ -252,6 +266,7 @@ impl Story {
             Says::Dropped => self.written.dropped = number_in(rest),
             Says::Failed => self.put_failed(rest),
             Says::Room => self.room = number_in(rest) as usize,
+            Says::Read => self.read_from_now(number_in(rest) as usize),
             Says::Nothing => {}
             Says::Given => self.want(word, line),
         }
