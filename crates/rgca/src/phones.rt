@@ -36,13 +36,13 @@ fn play_with<'w, R: Net + Clock>(
     settings: &PhoneSettings<'w>,
     player: &mut Player,
 ) -> Result<Ending<'w>, OutOfMemory> {
-    match play_phones(alloc, live, player, settings.addresses.as_slice())? {
-        Played::Done => Ok(Ending::Played),
-        Played::Failed { failure } => {
-            failure_ending(alloc, player.files(), settings.names.as_slice(), &failure)
-        }
-        Played::Clock => Ok(Ending::Common(CommonEnding::Clock)),
-    }
+    let played = play_phones(alloc, live, player, settings.addresses.as_slice())?;
+    let failure = match &played {
+        Played::Done => return Ok(Ending::Played),
+        Played::Clock => return Ok(Ending::Common(CommonEnding::Clock)),
+        Played::Failed { failure } => failure,
+    };
+    failure_ending(alloc, player.files(), settings.names.as_slice(), failure)
 }
 
 // Plays a script over these sockets.
