@@ -1,0 +1,5 @@
+pub mod Lives
+pub mod Apart
+pub mod Standing
+pub mod Example
+pub mod Opened
