@@ -13,7 +13,7 @@ from typing import Any
 from following import Address
 
 # It is asked so often, in seconds; and how long an answer may take.
-PAUSE, LONGEST = 0.05, 1.0
+PAUSE, LONGEST = 0.1, 1.0
 KEY = re.compile(r"\s*phone\s+(\d+)\s+([0-9A-D*#])\s*", re.IGNORECASE)
 
 

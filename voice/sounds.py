@@ -57,6 +57,9 @@ class Sound:
 
     def piece(self, start: int, count: int) -> Samples:
         """So many samples from this one on."""
+        first = start % len(self.samples)
+        if self.times is None and first + count <= len(self.samples):
+            return self.samples[first:first + count]
         places = np.arange(start, start + count)
         heard = self.samples[places % len(self.samples)]
         if self.times is not None:
@@ -108,6 +111,7 @@ KEY_SOUNDS = {key: sound_of_key(key) for key in KEYS}
 
 # Tones are told by so many samples.
 WINDOW = RATE // 20
+SHAPE = np.hanning(WINDOW)
 # A frequency is heard that is so loud, of 1, and has this share of the loudest one beside it.
 HEARD, SHARE = 0.01, 0.3
 # A frequency that goes on is the same within so many Hz, and it is told if it lasted for so many windows.
@@ -126,18 +130,16 @@ class Tone:
 
 def peaks(window: Samples) -> list[tuple[float, float]]:
     """The frequencies in Hz that are heard in a window, each with how loud it is, of 1."""
-    shape = np.hanning(len(window))
-    size = 2 * len(window)
-    strength = np.abs(np.fft.rfft(window * shape, size)) / (shape.sum() / 2) / LOUDEST
-    enough = max(HEARD, SHARE * float(strength[2:].max()))
+    size = 2 * WINDOW
+    strength = np.abs(np.fft.rfft(window * SHAPE, size)) / (SHAPE.sum() / 2) / LOUDEST
+    low, here, high = strength[:-2], strength[1:-1], strength[2:]
+    enough = max(HEARD, SHARE * float(here.max()))
     found = []
-    for place in range(2, len(strength) - 1):
-        low, here, high = strength[place - 1:place + 2]
-        if here >= enough and low < here >= high:
-            # The top of a parabola through the three logarithms.
-            one, two, three = np.log(np.maximum([low, here, high], 1e-9))
-            shift = 0.5 * (one - three) / (one - 2 * two + three)
-            found.append(((place + shift) * RATE / size, float(here)))
+    for place in np.flatnonzero((here >= enough) & (low < here) & (here >= high)):
+        # The top of a parabola through the three logarithms.
+        one, two, three = np.log(np.maximum(strength[place:place + 3], 1e-9))
+        shift = 0.5 * (one - three) / (one - 2 * two + three)
+        found.append(((place + 1 + shift) * RATE / size, float(here[place])))
     return found
 
 

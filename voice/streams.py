@@ -231,7 +231,7 @@ class Sender:
             self.next += self.length * SAMPLE
 
     def push(self, moment: int, samples: Samples) -> None:
-        buffer = Gst.Buffer.new_wrapped(np.clip(samples, -32768, 32767).astype("<i2").tobytes())
+        buffer = Gst.Buffer.new_wrapped(samples.astype("<i2").tobytes())
         buffer.pts, buffer.duration = moment, len(samples) * SAMPLE
         if self.is_new:
             buffer.set_flags(Gst.BufferFlags.DISCONT)

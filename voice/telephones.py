@@ -294,7 +294,7 @@ class Telephone:
         for moment, count in stream.due(now):
             samples = self.said(moment, count)
             if is_conference:
-                samples = samples + stream.guests.take(count)
+                samples = np.clip(samples + stream.guests.take(count), -32768, 32767)
             stream.sender.push(moment, samples)
 
     def said(self, moment: int, count: int) -> Samples:
