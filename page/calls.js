@@ -10,6 +10,8 @@ class Calls {
     this.calls = new Map();
     // By the line and the connection's identifier.
     this.connections = new Map();
+    // The same, also of those that are no more: of which call each is, and where its media come in.
+    this.ends = new Map();
     // By the id of their command: what connection commands ask for.
     this.asked = new Map();
   }
@@ -81,6 +83,8 @@ class Calls {
     held.call.lines.add(line);
     this.connections.set(key, held);
     forget(this.connections, 1000);
+    this.ends.set(key, { call: held.call, local: answer.description?.address || this.ends.get(key)?.local || "" });
+    forget(this.ends, 1000);
   }
 
   // Connections were deleted: one, those of a call on a line, or all of a line or of the gateway.

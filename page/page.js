@@ -150,6 +150,7 @@ async function openFile(file) {
   ladder.clear();
   const { happened } = new Recording(text);
   ladder.addAll(happened, (it) => ladder.add(it));
+  heard.show();
   ladder.isLeft = true;
   ladder.list.scrollTop = 0;
   stand("file", `${file.name}: ${happened.length} events`);
@@ -163,6 +164,7 @@ function backToGateway() {
   byId("live").hidden = true;
   byId("file").value = "";
   ladder.clear();
+  heard.show();
   start();
 }
 
@@ -178,6 +180,11 @@ byId("save").addEventListener("click", saveShown);
 byId("message-call").addEventListener("click", () => showCall(ladder.chosen.call));
 byId("message-close").addEventListener("click", hideMessage);
 byId("live").addEventListener("click", backToGateway);
+byId("report").addEventListener("change", (event) => {
+  if (event.target.files.length > 0) {
+    openReport(event.target.files[0]);
+  }
+});
 byId("file").addEventListener("change", (event) => {
   if (event.target.files.length > 0) {
     openFile(event.target.files[0]);

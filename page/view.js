@@ -38,6 +38,7 @@ function showCall(call) {
   view.call = call;
   byId("shown-call").value = call?.key ?? "";
   ladder.settleAll();
+  heard.show();
 }
 
 // Shows the telephones and the rows of the lines that are searched for.

@@ -27,6 +27,7 @@ pub const PAGE: &str = r##"<!doctype html>
     <label><input type="checkbox" id="following" checked> Follow</label>
     <button type="button" id="save" title="Saves what the ladder shows as a trace">Save as a trace</button>
     <label class="file">Open a trace .. <input type="file" id="file"></label>
+    <label class="file" title="What voice/voice heard: its --report">Open a report .. <input type="file" id="report"></label>
     <button type="button" id="live" hidden>Back to the gateway</button>
   </div>
 </header>
@@ -46,6 +47,7 @@ pub const PAGE: &str = r##"<!doctype html>
   </section>
   <section id="conversation" aria-labelledby="conversation-title">
     <h2 id="conversation-title">Conversation</h2>
+    <div id="heard" hidden></div>
     <div id="lanes" aria-hidden="true"></div>
     <ol id="ladder" tabindex="-1" aria-label="What happened, oldest first"></ol>
     <div id="message" hidden>

@@ -1,4 +1,4 @@
-//! What it does: page/text.js and 8 files behind it, written by `tools/page_files`.
+//! What it does: page/text.js and 9 files behind it, written by `tools/page_files`.
 
 /// What it does.
 pub const SCRIPT: &str = r##"// What the page of rgwd does.
@@ -266,6 +266,8 @@ class Calls {
     this.calls = new Map();
     // By the line and the connection's identifier.
     this.connections = new Map();
+    // The same, also of those that are no more: of which call each is, and where its media come in.
+    this.ends = new Map();
     // By the id of their command: what connection commands ask for.
     this.asked = new Map();
   }
@@ -337,6 +339,8 @@ class Calls {
     held.call.lines.add(line);
     this.connections.set(key, held);
     forget(this.connections, 1000);
+    this.ends.set(key, { call: held.call, local: answer.description?.address || this.ends.get(key)?.local || "" });
+    forget(this.ends, 1000);
   }
 
   // Connections were deleted: one, those of a call on a line, or all of a line or of the gateway.
@@ -411,6 +415,7 @@ function showCall(call) {
   view.call = call;
   byId("shown-call").value = call?.key ?? "";
   ladder.settleAll();
+  heard.show();
 }
 
 // Shows the telephones and the rows of the lines that are searched for.
@@ -433,6 +438,94 @@ function showMessage(row) {
 
 function hideMessage() {
   byId("message").hidden = true;
+}
+
+// ---- What was heard
+
+// So many ends of a call have a bar of their own beside the ladder.
+const MOST_BARS = 2;
+
+// What a report of voice/voice tells of connections: from when to when something was heard there.
+const heard = {
+  name: "",
+  connections: [],
+
+  // Takes a report, or none where the text isn't one.
+  take(name, text) {
+    this.name = name;
+    try {
+      this.connections = JSON.parse(text).connections.filter((it) => Array.isArray(it.heard) && Array.isArray(it.stood));
+    } catch {
+      this.connections = [];
+    }
+    this.show();
+  },
+
+  // The connections of a call here, by its messages: a line's, whose media come in where the gateway said.
+  ofCall(call) {
+    return this.connections.filter((it) => {
+      const end = ladder.calls.ends.get(`${it.line} ${it.connection}`);
+      return end?.call === call && end.local === it.local;
+    });
+  },
+
+  // The connection to which this one's media go and from which its own come, at the same time.
+  otherOf(one) {
+    return this.connections.find((it) => it !== one && isAtOnce(it, one)
+      && it.stood.some((stood) => stood.remote === one.local) && one.stood.some((stood) => stood.remote === it.local));
+  },
+
+  // The ends of a call: what each is called, and what it heard, by the clock of this gateway.
+  endsOf(call) {
+    const own = this.ofCall(call);
+    const ends = [];
+    for (const one of own) {
+      const other = this.otherOf(one);
+      const names = [`line ${one.line}`, other ? `${own.includes(other) ? "line " : `${other.gateway}:`}${other.line}` : "anybody"];
+      ends.push({ text: `${names[0]} heard ${names[1]}`, spans: one.heard });
+      if (other && !own.includes(other)) {
+        const shift = other.zero - one.zero;
+        const spans = other.heard.map((it) => ({ from: it.from + shift, to: it.to + shift }));
+        ends.push({ text: `${names[1]} heard ${names[0]}`, spans });
+      }
+    }
+    return ends;
+  },
+
+  // Shows what the ends of the chosen call heard, above the ladder with its moments, and beside it.
+  show() {
+    const box = byId("heard");
+    const ends = view.call ? this.endsOf(view.call) : [];
+    box.hidden = this.name === "";
+    const told = `${this.name}: ${this.connections.length} connections`;
+    const hint = view.call ? `${this.name} tells nothing of this call` : `${told}; choose a call`;
+    box.replaceChildren(...(ends.length > 0 ? ends.map(drawEnd) : [make("p", { class: "hint" }, hint)]));
+    ladder.rows.forEach((row) => markRow(row, ends));
+  },
+};
+
+// Whether two connections of a report were there at one time.
+function isAtOnce(one, other) {
+  const end = (it) => (it.ended === null ? Infinity : it.zero + it.ended);
+  return one.zero + one.begun <= end(other) && other.zero + other.begun <= end(one);
+}
+
+// A line of what an end heard, from when to when.
+function drawEnd(end, place) {
+  const times = end.spans.map((it) => `${clockText(it.from)} to ${clockText(it.to)}`).join(", ");
+  return make("p", { class: `end bar-${place + 1}` }, make("span", { class: "bar" }), `${end.text}: ${times || "nothing"}`);
+}
+
+// A row has a bar beside it for each end that heard something then.
+function markRow(row, ends) {
+  for (let place = 0; place < MOST_BARS; place += 1) {
+    const spans = Number.isFinite(row.at) ? ends[place]?.spans ?? [] : [];
+    row.button?.classList.toggle(`heard-${place + 1}`, spans.some((it) => it.from <= row.at && row.at <= it.to));
+  }
+}
+
+async function openReport(file) {
+  heard.take(file.name, await file.text());
 }
 
 // ---- The ladder
@@ -1371,6 +1464,7 @@ async function openFile(file) {
   ladder.clear();
   const { happened } = new Recording(text);
   ladder.addAll(happened, (it) => ladder.add(it));
+  heard.show();
   ladder.isLeft = true;
   ladder.list.scrollTop = 0;
   stand("file", `${file.name}: ${happened.length} events`);
@@ -1384,6 +1478,7 @@ function backToGateway() {
   byId("live").hidden = true;
   byId("file").value = "";
   ladder.clear();
+  heard.show();
   start();
 }
 
@@ -1399,6 +1494,11 @@ byId("save").addEventListener("click", saveShown);
 byId("message-call").addEventListener("click", () => showCall(ladder.chosen.call));
 byId("message-close").addEventListener("click", hideMessage);
 byId("live").addEventListener("click", backToGateway);
+byId("report").addEventListener("change", (event) => {
+  if (event.target.files.length > 0) {
+    openReport(event.target.files[0]);
+  }
+});
 byId("file").addEventListener("change", (event) => {
   if (event.target.files.length > 0) {
     openFile(event.target.files[0]);

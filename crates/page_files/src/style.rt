@@ -177,6 +177,15 @@ section { display: flex; flex-direction: column; min-width: 0; min-height: 0; pa
   text-align: right;
 }
 .row .wall { font-size: .7rem; }
+/* What the ends of a call heard: a line each, and its bar beside the rows of that time. */
+#heard { font-size: .85rem; font-variant-numeric: tabular-nums; }
+#heard .end { display: flex; align-items: center; gap: .5rem; }
+#heard .bar { flex: none; width: 4px; height: 1.1em; }
+#heard .bar-1 .bar { background: var(--mark); }
+#heard .bar-2 .bar { background: var(--ring); }
+.row.heard-1 .at { box-shadow: inset -3px 0 0 var(--mark); }
+.row.heard-2 .at { box-shadow: inset -3px 0 0 var(--ring); }
+.row.heard-1.heard-2 .at { box-shadow: inset -3px 0 0 var(--mark), inset -6px 0 0 var(--ring); }
 .row .track {
   display: grid;
   min-height: 2.6rem;
