@@ -137,11 +137,15 @@ class Line:
         self.connections = {connection.name: connection for connection in held}
 
 
+# Takes a line of a gateway, by its number, that may be another since this time.
+Settle = Callable[["Gateway", int, int], None]
+
+
 class Gateway:
     """A gateway that is watched."""
 
-    def __init__(self, name: str, phones: Address, ask_page: Callable[[], list[dict[str, Any]] | None] | None):
-        self.name, self.phones, self.ask_page = name, phones, ask_page
+    def __init__(self, name: str, phones: Address, ask_page: Callable[[], list[dict[str, Any]] | None] | None, settle: Settle):
+        self.name, self.phones, self.ask_page, self.settle = name, phones, ask_page, settle
         self.lines: dict[int, Line] = {}
         # The latest change's number.
         self.number: int | None = None
@@ -186,20 +190,25 @@ class Gateway:
         self.lines = {number: Line(self.clock.moment_of(now), now) for number in self.lines}
         self.number, self.clock = None, Clock()
 
-    def receive(self) -> set[int]:
-        """Takes what came. The lines that may be others now."""
-        changed: set[int] = set()
+    def receive(self) -> None:
+        """Takes what came, one datagram after the other: so what is over soon is seen, too."""
         while True:
+            now = time.monotonic_ns()
             try:
                 told = self.socket.recv(65536).decode("utf-8", "replace")
             except BlockingIOError:
-                return changed | self.find_ends(time.monotonic_ns()) if self.lacks_ends else changed
+                break
             except OSError as error:
                 self.is_away(error)
-                return changed | set(self.lines)
-            now = time.monotonic_ns()
-            for line in told.splitlines():
-                changed |= self.hear(line, now)
+                self.hand_on(set(self.lines), now)
+                break
+            self.hand_on({number for line in told.splitlines() for number in self.hear(line, now)}, now)
+        if self.lacks_ends:
+            self.hand_on(self.find_ends(now), now)
+
+    def hand_on(self, changed: set[int], now: int) -> None:
+        for number in sorted(changed):
+            self.settle(self, number, now)
 
     def hear(self, text: str, now: int) -> set[int]:
         """Takes a line. The lines of the gateway that may be others now."""

@@ -83,7 +83,8 @@ class Service:
         self.sources = Sources(asked.source)
         self.pages = {name: Page(address) for name, address in pages.items()}
         self.gateways = [
-            Gateway(name, address, self.pages[name].states if name in self.pages else None) for name, address in phones.items()
+            Gateway(name, address, self.pages[name].states if name in self.pages else None, self.settle)
+            for name, address in phones.items()
         ]
         self.telephones: dict[tuple[str, int], Telephone] = {}
         # How much later than due a turn began at most, in ms.
@@ -108,7 +109,8 @@ class Service:
         due, check = time.monotonic(), 0.0
         while not self.is_over and (until is None or time.monotonic() < until):
             ready, _, _ = select.select(self.gateways, [], [], max(0.0, due - time.monotonic()))
-            self.receive(ready)
+            for gateway in ready:
+                gateway.receive()
             now = time.monotonic()
             if now >= due:
                 self.latest = max(self.latest, 1000 * (now - due))
@@ -118,14 +120,9 @@ class Service:
                 check = now
                 self.look_after()
 
-    def receive(self, ready: list[Gateway]) -> None:
-        """What changed at gateways takes place, first what happened first."""
-        changed = []
-        for gateway in ready:
-            now = time.monotonic_ns()
-            changed += [(gateway.lines[number].time, now, gateway, number) for number in gateway.receive()]
-        for _, now, gateway, number in sorted(changed, key=lambda it: it[0]):
-            self.telephone(gateway, number).settle(gateway.lines[number], now)
+    def settle(self, gateway: Gateway, number: int, now: int) -> None:
+        """What changed at a line takes place. Nothing is said before the next turn: by then all that changed with it has its sockets."""
+        self.telephone(gateway, number).settle(gateway.lines[number], now)
 
     def turn(self) -> None:
         for page_name, page in self.pages.items():
