@@ -14,7 +14,7 @@ use bad_network::{Fate, Packet, Way};
 use exchange_log::Note;
 use gateway_core::Gateway;
 use live_ends::{NEXT_OFFER, Now};
-use live_journal::{Faults, Journal, count};
+use live_journal::{Faults, Journal, Taken, count};
 use std::net::SocketAddrV4;
 use surroundings::{Fault, Lines, Surroundings};
 use traces::Mark;
@@ -472,7 +472,13 @@ impl<S: Surroundings + Drop> Outlet for Exchange<S> {
     ghost came = { λ e. came_by S.traffic e };
 
     fn turned(&mut self, gateway: &Gateway) {
-        self.journal.turned(self.now, gateway);
+        let taken = Taken {
+            outcomes: gateway.outcomes(),
+            sent: gateway.sent(),
+            given_up: gateway.given_up(),
+            route: &gateway.setup().agent.route,
+        };
+        self.journal.turned(self.now, &taken);
     }
 
     fn hand(&mut self, to: SocketAddrV4, bytes: &[u8]) -> Option<Mark> {
