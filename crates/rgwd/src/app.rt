@@ -97,7 +97,7 @@ fn serve_to_end<'w, R: Files + Net + Clock + RandomSource>(
         return Ending::Common(CommonEnding::OutOfMemory);
     };
     let exchange = &opened.desk.exchange;
-    let outlets = &mut recording.outlets;
+    let outlets = &mut *recording.outlets;
     outlets.finish(rt, counts.as_slice(), exchange.now.time);
     served_ending(&exchange.journal, &opened.desk.play.teller, outlets)
 }
@@ -200,7 +200,7 @@ fn open_files<'w, R: Files + Alloc + Clone + Drop>(
     settings: &Settings<'w>,
     recording: &mut Recording<R>,
 ) -> Result<(), Ending<'w>> {
-    let outlets = &mut recording.outlets;
+    let outlets = &mut *recording.outlets;
     if let (Some(name), Some(parting)) = (settings.capture, settings.parting) {
         recording.files = Some(open_parted(rt, alloc, settings, name, parting, outlets)?);
         return Ok(());
@@ -363,22 +363,20 @@ fn run_with<R: AllocGlobal + Env + Files + Net + Clock + RandomSource + Clone + 
     tell(rt, &mut recording.outlets, ending)
 }
 
-// The outlets of the program, whose gateway captures nothing yet; none for want of memory. In a box: a check pays for all that a value
-// holds inline at each step of a function that has it.
-fn recording_of<R: AllocGlobal + Files + Clone + Drop>(rt: &R) -> Option<Box<Recording<R>>>
+// The outlets of the program, whose gateway captures nothing yet; none for want of memory.
+fn recording_of<R: AllocGlobal + Files + Clone + Drop>(rt: &R) -> Option<Recording<R>>
 where
     R::File: AsRawFd,
 {
-    let outlets = open_outlets(rt)?;
-    let Ok(own) = rt.clone() else {
-        return None;
-    };
-    let recording = Recording {
-        rt: own,
-        outlets,
-        files: None,
-    };
-    boxed(rt.alloc(), recording).ok()
+    let outlets = boxed(rt.alloc(), open_outlets(rt)?).ok()?;
+    match rt.clone() {
+        Ok(rt) => Some(Recording {
+            rt,
+            outlets,
+            files: None,
+        }),
+        Err(_) => None,
+    }
 }
 
 /// Runs the program, and gives its exit status.
