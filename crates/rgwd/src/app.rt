@@ -97,7 +97,7 @@ fn serve_to_end<'w, R: Files + Net + Clock + RandomSource>(
         return Ending::Common(CommonEnding::OutOfMemory);
     };
     let exchange = &opened.desk.exchange;
-    let outlets = &mut *recording.outlets;
+    let outlets = &mut recording.outlets;
     outlets.finish(rt, counts.as_slice(), exchange.now.time);
     served_ending(&exchange.journal, &opened.desk.play.teller, outlets)
 }
@@ -200,7 +200,7 @@ fn open_files<'w, R: Files + Alloc + Clone + Drop>(
     settings: &Settings<'w>,
     recording: &mut Recording<R>,
 ) -> Result<(), Ending<'w>> {
-    let outlets = &mut *recording.outlets;
+    let outlets = &mut recording.outlets;
     if let (Some(name), Some(parting)) = (settings.capture, settings.parting) {
         recording.files = Some(open_parted(rt, alloc, settings, name, parting, outlets)?);
         return Ok(());
@@ -368,7 +368,7 @@ fn recording_of<R: AllocGlobal + Files + Clone + Drop>(rt: &R) -> Option<Recordi
 where
     R::File: AsRawFd,
 {
-    let outlets = boxed(rt.alloc(), open_outlets(rt)?).ok()?;
+    let outlets = open_outlets(rt)?;
     match rt.clone() {
         Ok(rt) => Some(Recording {
             rt,

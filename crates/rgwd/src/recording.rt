@@ -9,8 +9,7 @@ use std::rt::Files;
 #[derive(Drop)]
 pub struct Recording<R: Files> {
     pub rt: R,
-    /// In a box: a check pays for all that a value holds inline at each step of a function that is lent it.
-    pub outlets: Box<Outlets<R::File>>,
+    pub outlets: Outlets<R::File>,
     pub files: Option<CaptureFiles>,
 }
 
