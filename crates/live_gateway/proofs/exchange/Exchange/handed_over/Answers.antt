@@ -13,28 +13,28 @@ returns-then-is_heard-clause-came g c =
 pub loop-preserved : goal.loop-preserved
 loop-preserved g c = elim c.match-packet.branch [
   | in-Out w ↦ record {
-      length = search rules;
-      handed = search rules;
-      faults = search rules;
-      read = search rules;
-      turn = search rules;
-      spoilt = search rules;
-      came = rw w.self-is
-          (heard_still c.args.admission.now _ _ _ _
-          (outgoing c.args.admission.now _ _ _ c.in_ok-packet.packet.way c.in_ok-packet.packet.peer _ c.loop.invariant.came c.in_ok-packet.ensures.came w.in-Out.is)
-          (rw (w.send.ensures.received) refl));
-    }
+    length = search rules;
+    handed = search rules;
+    faults = search rules;
+    read = search rules;
+    turn = search rules;
+    spoilt = search rules;
+    came = rw w.self-is
+        (heard_still c.args.admission.now _ _ _ _
+        (outgoing c.args.admission.now _ _ _ c.in_ok-packet.packet.way c.in_ok-packet.packet.peer _ c.loop.invariant.came c.in_ok-packet.ensures.came w.in-Out.is)
+        (rw (w.send.ensures.received) refl));
+  }
   | in-In+else-is_heard w ↦ record {
-      length = search rules;
-      handed = search rules;
-      faults = search rules;
-      read = search rules;
-      turn = search rules;
-      spoilt = search rules;
-      came = rw w.self-is
-          (heard_still c.args.admission.now _ _ _ _
-          (strange c.args.admission.now _ _ _ c.in_ok-packet.packet.way c.in_ok-packet.packet.peer _ c.loop.invariant.came c.in_ok-packet.ensures.came w.in-In.is
-          (sym w.is_heard.ensures.heard ∙ w.if-is_heard.false))
-          (rw (w.is_heard.ensures.network, w.is_heard.ensures.around) refl));
-    }
+    length = search rules;
+    handed = search rules;
+    faults = search rules;
+    read = search rules;
+    turn = search rules;
+    spoilt = search rules;
+    came = rw w.self-is
+        (heard_still c.args.admission.now _ _ _ _
+        (strange c.args.admission.now _ _ _ c.in_ok-packet.packet.way c.in_ok-packet.packet.peer _ c.loop.invariant.came c.in_ok-packet.ensures.came w.in-In.is
+        (sym w.is_heard.ensures.heard ∙ w.if-is_heard.false))
+        (rw (w.is_heard.ensures.network, w.is_heard.ensures.around) refl));
+  }
 ]
