@@ -53,6 +53,21 @@ impl<S: Drop> Drop for Exchange<S> {
     }
 }
 
+// What a gateway tells of the event that it took last.
+fn taken_of(gateway: &Gateway) -> Taken<'_>
+    ensures outcomes { result.outcomes.now ≡ gateway.now.outcomes }
+    ensures sent { result.sent.now ≡ gateway.now.account.sent }
+    ensures given_up { result.given_up.now ≡ gateway.now.account.given_up }
+    ensures route { result.route.now ≡ gateway.now.setup.agent.route }
+{
+    Taken {
+        outcomes: gateway.outcomes(),
+        sent: gateway.sent(),
+        given_up: gateway.given_up(),
+        route: &gateway.setup().agent.route,
+    }
+}
+
 impl<S: Surroundings + Drop> Exchange<S> {
     /// The way over these surroundings, over which nothing went.
     pub fn new(
@@ -479,13 +494,7 @@ impl<S: Surroundings + Drop> Outlet for Exchange<S> {
     ghost came = { λ e. came_by S.traffic e };
 
     fn turned(&mut self, gateway: &Gateway) {
-        let taken = Taken {
-            outcomes: gateway.outcomes(),
-            sent: gateway.sent(),
-            given_up: gateway.given_up(),
-            route: &gateway.setup().agent.route,
-        };
-        self.journal.turned(self.now, &taken);
+        self.journal.turned(self.now, &taken_of(gateway));
     }
 
     fn hand(&mut self, to: SocketAddrV4, bytes: &[u8]) -> Option<Mark> {
