@@ -67,9 +67,9 @@ owed_again (Some Route) care = care
 abbrev pub lost : Care → Care
 lost care = owed_again care.flight (landed care)
 
--- the gateway has started again: what is in flight was issued to what it was before
+-- the gateway has started again: what is in flight was issued to what it was before, and what an audit has found is of that, too
 abbrev pub outlived : Care → Care
-outlived care = record care { is_outlived = is_some care.flight }
+outlived care = record care { is_outlived = is_some care.flight; is_found_off = false }
 
 -- the line is announced: it has started again, or lost its agent; its handset may have been moved, so its hook is asked for
 abbrev pub announced : Bool → Care → Care

@@ -136,6 +136,7 @@ impl Care {
         ensures { self.new ≡ outlived self.old }
     {
         self.is_outlived = self.flight.is_some();
+        self.is_found_off = false;
     }
 
     /// It is announced: it has started again, or lost its agent.

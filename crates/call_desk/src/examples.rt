@@ -72,6 +72,7 @@ pub fn a_restart_outlives_what_is_in_flight()
     ensures in_flight { (outlived (begun new_care)).is_outlived ≡ true }
     ensures none { (outlived new_care).is_outlived ≡ false }
     ensures next_one { (begun (landed (outlived (begun new_care)))).is_outlived ≡ false }
+    ensures found { (outlived (found true new_care)).is_found_off ≡ false }
 {}
 
 /// A line that is announced is asked for its hook; what is in flight to one that has started again isn't believed.
@@ -80,6 +81,8 @@ pub fn a_line_that_is_announced_is_audited()
     ensures uncleared { (announced true new_care).next ≡ Clear }
     ensures restart { (announced true (begun audited)).is_outlived ≡ true }
     ensures disconnected { (announced false (begun audited)).is_outlived ≡ false }
+    ensures found_before { (announced true (found true audited)).is_found_off ≡ false }
+    ensures found_still { (announced false (found true audited)).is_found_off ≡ true }
     ensures found { (found true audited).is_found_off ≡ true }
     ensures shown { (told_of Standing.Busy audited).shown ≡ Standing.Busy }
 {}

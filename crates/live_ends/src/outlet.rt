@@ -8,6 +8,7 @@ ghost use Rattle.live_ends.specs.Backlog.{nothing_waits, is_kept, room_left, off
 ghost use Rattle.live_ends.specs.Recording.{is_refused, is_open, faults_of, said, Says, Notes, KeepsLog, given_up, state_given_up};
 
 use crate::backlog::Backlog;
+use crate::boxing::boxed;
 use crate::reasons::reason_of;
 use crate::record::Record;
 use crate::stream::Stream;
@@ -92,21 +93,22 @@ fn note_dropped(alloc: Global, backlog: &mut Backlog, moment: u64)
 
 impl<F: Write + Drop> Outlet<F> {
     /// The outlet of this name, over this stream. Its only error is want of memory.
-    pub fn new(alloc: Global, name: &str, stream: Stream<F>) -> Result<Outlet<F>, AllocError>
-        ensures backlog { IfOk result (λ outlet. outlet.backlog ≡ nothing_waits) }
-        ensures state { IfOk result (λ outlet. outlet.state ≡ Open) }
-        ensures told { IfOk result (λ outlet. outlet.is_told ≡ false) }
-        ensures name { IfOk result (λ outlet. string_bytes outlet.name ≡ name.now) }
-        ensures stream { IfOk result (λ outlet. outlet.stream ≡ stream) }
+    pub fn new(alloc: Global, name: &str, stream: Stream<F>) -> Result<Box<Outlet<F>>, AllocError>
+        ensures backlog { IfOk result (λ outlet. outlet.value.backlog ≡ nothing_waits) }
+        ensures state { IfOk result (λ outlet. outlet.value.state ≡ Open) }
+        ensures told { IfOk result (λ outlet. outlet.value.is_told ≡ false) }
+        ensures name { IfOk result (λ outlet. string_bytes outlet.value.name ≡ name.now) }
+        ensures stream { IfOk result (λ outlet. outlet.value.stream ≡ stream) }
     {
-        Ok(Outlet {
+        let outlet = Outlet {
             alloc,
             name: String::from_str(alloc, name)?,
             stream,
             backlog: Backlog::new(alloc)?,
             state: OutletState::Open,
             is_told: false,
-        })
+        };
+        boxed(alloc, outlet)
     }
 
     /// How it stands.

@@ -19,13 +19,14 @@ const LONGEST_OFFER: u64 = 1000;
 /// What waits is offered again after so long, in ms, where nothing else comes.
 pub const NEXT_OFFER: u64 = 20;
 
-/// The outlets of a program.
+/// The outlets of a program. Each stands in a box: a check pays for all that a value holds inline at each step of a function that is lent
+/// it.
 #[derive(Drop)]
 pub struct Outlets<F> {
-    pub output: Outlet<F>,
-    pub error: Outlet<F>,
+    pub output: Box<Outlet<F>>,
+    pub error: Box<Outlet<F>>,
     /// Where one is asked for, once it is made.
-    pub capture: Option<Outlet<F>>,
+    pub capture: Option<Box<Outlet<F>>>,
 }
 
 // How long it is still offered after so long, in ms.
@@ -72,10 +73,10 @@ impl<F: Write + Drop> Outlets<F> {
 
     /// What became of what was recorded so far.
     pub fn written(&self) -> Written
-        ensures dropped { result.dropped ≡ sum_within self.now.output.backlog.dropped self.now.error.backlog.dropped }
-        ensures output { result.output ≡ faults_of self.now.output.state }
-        ensures error { result.error ≡ faults_of self.now.error.state }
-        ensures capture { IfSome self.now.capture (λ capture. result.capture ≡ faults_of capture.state) }
+        ensures dropped { result.dropped ≡ sum_within self.now.output.value.backlog.dropped self.now.error.value.backlog.dropped }
+        ensures output { result.output ≡ faults_of self.now.output.value.state }
+        ensures error { result.error ≡ faults_of self.now.error.value.state }
+        ensures capture { IfSome self.now.capture (λ capture. result.capture ≡ faults_of capture.value.state) }
         ensures no_capture { IfNone self.now.capture (result.capture ≡ 0) }
     {
         Written {
@@ -91,7 +92,7 @@ impl<F: Write + Drop> Outlets<F> {
 
     /// Whether nothing waits to be taken.
     pub fn are_taken(&self) -> bool
-        ensures { result ≡ (is_empty self.now.output.backlog.waiting && is_empty self.now.error.backlog.waiting) }
+        ensures { result ≡ (is_empty self.now.output.value.backlog.waiting && is_empty self.now.error.value.backlog.waiting) }
     {
         self.output.is_taken() && self.error.is_taken()
     }

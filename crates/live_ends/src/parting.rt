@@ -164,7 +164,7 @@ impl CaptureFiles {
 
     /// The outlet of the next file, which is made for its owner alone; the oldest goes. After an error, of the system's kind, the next file
     /// has the next number none the less.
-    pub fn next<R: Files>(&mut self, rt: &R) -> Result<Outlet<R::File>, ErrorKind> {
+    pub fn next<R: Files>(&mut self, rt: &R) -> Result<Box<Outlet<R::File>>, ErrorKind> {
         self.number = self.number.saturating_add(1);
         self.written = 0;
         let Ok(name) = self.file() else {

@@ -75,7 +75,7 @@ pub fn open_capture<R: Files>(
     rt: &R,
     alloc: Global,
     file: Option<&str>,
-) -> Result<Option<Outlet<R::File>>, SystemFault> {
+) -> Result<Option<Box<Outlet<R::File>>>, SystemFault> {
     let Some(file) = file else {
         return Ok(None);
     };

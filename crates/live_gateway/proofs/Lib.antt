@@ -5,6 +5,8 @@ pub mod ReadingLaws
 pub mod PieceLaws
 pub mod ReplayLaws
 pub mod LiveLaws
+pub mod LostLemmas
+pub mod SeeingLemmas
 pub mod Computing
 pub mod HearingLemmas
 pub mod CountingLemmas

@@ -10,17 +10,17 @@ use Rattle.surroundings.specs.Sending.{Sent, Received, Traffic}
 use Rattle.surroundings.specs.declared.surroundings.Fault.{Fault}
 use Rattle.live_gateway.specs.declared.exchange.Exchange.{Exchange}
 use Rattle.live_gateway.specs.declared.spoilt_way.SpoiltWay.{SpoiltWay}
-use Rattle.live_gateway.specs.Offering.{offered_by}
+use Rattle.live_gateway.specs.Offering.{offered_by, came_over}
 
 -- where who takes it tells that: sockets in memory do, and a network that keeps what it is offered
 abbrev pub handed_by : Option (Box SpoiltWay) → Option (List Sent) → Option (List Sent)
 handed_by None sent = sent
 handed_by (Some way) sent = offered_by way.value
 
--- what the socket received; what a bad network before it hands over isn't told
+-- what the socket received; where a bad network is before it, what that handed over, if it keeps that
 abbrev pub received_by : Option (Box SpoiltWay) → Option (List Received) → Option (List Received)
 received_by None received = received
-received_by (Some way) received = None
+received_by (Some way) received = came_over way.value
 
 -- what came to it, and how many inputs were refused
 abbrev pub came_by : {S : Type 0} → (S → Traffic) → Exchange S → Came

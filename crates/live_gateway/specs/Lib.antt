@@ -3,6 +3,8 @@ pub mod Running
 pub mod Keeping
 pub mod Readable
 pub mod Replay
+pub mod Seeing
+pub mod Losses
 pub mod Offering
 pub mod Exchanging
 pub mod Asking

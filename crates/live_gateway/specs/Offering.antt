@@ -1,20 +1,39 @@
--- What was offered to the bad network before the sockets.
-use Rattle.std.specs.Prelude.{ℕ, List, Option, option_map}
+-- What was offered to the bad network before the sockets, and what it handed over.
+use Rattle.std.specs.Prelude.{ℕ, List, [], ◌∷◌, map, take, Option, None, Some, option_map}
 use Rattle.std.specs.declared.net.socket_addr.SocketAddrV4.{SocketAddrV4}
 use Rattle.bad_network.specs.declared.fate.Fate.{Fate}
 use Rattle.bad_network.specs.declared.network.BadNetwork.{BadNetwork}
 use Rattle.bad_network.specs.declared.packet.Packet.{Packet}
 use Rattle.bad_network.specs.declared.packet.Way.{Way}
+use Rattle.bad_network.specs.declared.packet.Way.TheVariants.{In, Out}
 use Rattle.bad_network.specs.Drawing.{draws_of}
 use Rattle.bad_network.specs.Fates.{fate_of}
 use Rattle.bad_network.specs.Waiting.{copies_of as packets_of}
 use Rattle.surroundings.specs.Keeping.{copies_of}
-use Rattle.surroundings.specs.Sending.{Sent}
+use Rattle.surroundings.specs.Sending.{Sent, Received}
 use Rattle.live_gateway.specs.declared.spoilt_way.SpoiltWay.{SpoiltWay}
 
 -- all that was offered on the way out, where that is kept
 abbrev pub offered_by : SpoiltWay → Option (List Sent)
 offered_by way = option_map (λ kept. copies_of kept.items) way.offered
+
+-- a copy of what came has the address that it came from
+abbrev pub came_from : Sent → Received
+came_from copy = record { source = copy.to; bytes = copy.bytes }
+
+-- all that was handed over on the way in, where that is kept
+abbrev pub came_over : SpoiltWay → Option (List Received)
+came_over way = option_map (λ kept. map came_from (copies_of kept.items)) way.came
+
+-- a packet that comes in brings a datagram; one that goes out brings none
+abbrev pub brings : Way → SocketAddrV4 → List ℕ → List Received
+brings In peer bytes = record { source = peer; bytes = bytes } ∷ []
+brings Out peer bytes = []
+
+-- what a packet brings that is so long at the front of the room, if there is one
+abbrev pub brought : Option (Packet × ℕ) → List ℕ → List Received
+brought None room = []
+brought (Some found) room = brings found.0.way found.0.peer (take found.1 room)
 
 -- what becomes of the packet that is offered next, as the network draws
 abbrev pub next_fate : BadNetwork → Fate

@@ -3,10 +3,11 @@ ghost use Rattle.std.specs.Prelude.{◌≡◌, ◌≢◌, ◌≤◌, ◌++◌, �
 ghost use Rattle.live_gateway.specs.Running.{IsAnswer};
 ghost use Rattle.live_gateway.specs.Watching.{full_text};
 
+use crate::picture::picture_of;
 use gateway_core::{Gateway, Refusal};
 use line_changes::MOST_WATCHERS;
 use live_ends::put_around;
-use live_journal::{Faults, Journal, picture_of};
+use live_journal::{Faults, Journal};
 use mg_bytes::OutOfMemory;
 use rgw_scenes::status_of;
 use rgw_scripts::put_line;

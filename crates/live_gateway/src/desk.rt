@@ -7,7 +7,7 @@ ghost use Rattle.plain_machine.specs.Event.{GatewayEvent, tick};
 ghost use Rattle.plain_machine.specs.Lists.{plain};
 ghost use Rattle.gateway_core.specs.Stands.{Stands};
 ghost use Rattle.line_changes.specs.Watching.{longest_watch};
-ghost use Rattle.live_journal.specs.Reporting.{counts_text};
+ghost use Rattle.live_gateway.specs.Losses.{counts_text};
 ghost use Rattle.live_gateway.specs.Admitting.{typist_of};
 ghost use Rattle.surroundings.specs.Hearing.{AnswersTo};
 ghost use Rattle.surroundings.specs.Requests.{requests_from};
@@ -23,6 +23,7 @@ use crate::answering::{
     take_act,
 };
 use crate::exchange::Exchange;
+use crate::losses::report;
 use crate::play::LivePlay;
 use crate::recorder::Recorder;
 use crate::telephones::{TelephoneRequest, Typist, request_in, typist_of};
@@ -31,7 +32,6 @@ use crate::watch::Watch;
 use exchange_log::Note;
 use gateway_core::{DATAGRAM_ROOM, Refusal};
 use live_ends::STOP_FROM_AFAR;
-use live_journal::report;
 use std::alloc::{AllocError, Global};
 use std::net::SocketAddrV4;
 use surroundings::{Lines, Surroundings, Teller};
@@ -192,7 +192,7 @@ impl<S: Surroundings + Drop, T: Teller + Drop> Desk<S, T> {
     {
         let now = self.exchange.now;
         let log = &mut self.exchange.journal.log;
-        log.unheard(now, &self.play.gateway, &self.admission.speakers);
+        log.unheard(now, self.play.gateway.sent(), &self.admission.speakers);
     }
 
     // The gateway took an input, or refused it.
@@ -225,7 +225,7 @@ impl<S: Surroundings + Drop, T: Teller + Drop> Desk<S, T> {
         let now = self.exchange.now;
         let journal = &mut self.exchange.journal;
         if is_taken {
-            journal.log.explain(&self.play.gateway);
+            journal.log.explain(self.play.gateway.outcomes());
         } else {
             journal.untaken(now, source, bytes, Note::OutOfMemory);
         }

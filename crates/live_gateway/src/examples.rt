@@ -3,6 +3,8 @@
 
 ghost use Rattle.std.specs.Prelude.{◌≡◌, ℕ, List, Option, None, Some, codes, true, false, [], ◌∷◌};
 ghost use Rattle.std.specs.Global.{Box};
+ghost use Rattle.bad_network.specs.declared.packet.Packet.{Packet};
+ghost use Rattle.bad_network.specs.declared.packet.Way.TheVariants.{In, Out};
 ghost use Rattle.endpoint_names.specs.declared.route.Route.TheVariants.{One, Two};
 ghost use Rattle.mg_line.specs.declared.phone.Act.TheVariants.{OffHook};
 ghost use Rattle.live_journal.specs.declared.reporting.Faults.{Faults};
@@ -22,6 +24,7 @@ ghost use Rattle.live_gateway.specs.Watching.{full_text};
 ghost use Rattle.live_gateway.specs.Example.{host, at_port, looped, anywhere, sockets};
 ghost use Rattle.live_gateway.specs.declared.exchange.Exchange.{Exchange};
 ghost use Rattle.live_gateway.specs.declared.spoilt_way.SpoiltWay.{SpoiltWay};
+ghost use Rattle.live_gateway.specs.Offering.{came_from, came_over, brought};
 ghost use Rattle.live_gateway.specs.Exchanging.{faultless, received_by, refusals, with_refused, with_unreceived, IsSameTurn};
 
 /// A line has one of six words, or asks for nothing that can be done: other steps of a script can't be asked for.
@@ -112,10 +115,20 @@ pub fn datagrams_come_in_at_their_entries()
     ensures became { (mark : Mark) → arrived_in (became mark 1 ∷ []) ≡ [] }
 {}
 
-/// What came is what the socket received; what a bad network hands over isn't told.
+/// What came is what the socket received, or where a bad network is before it, what that hands over.
 pub fn what_a_socket_receives_has_come()
     ensures direct { (received : Option (List Received)) → received_by None received ≡ received }
-    ensures spoilt { (way : Box SpoiltWay) (received : Option (List Received)) → received_by (Some way) received ≡ None }
+    ensures spoilt { (way : Box SpoiltWay) (received : Option (List Received)) → received_by (Some way) received ≡ came_over way.value }
+    ensures unkept { (way : SpoiltWay) → came_over (record way { came = None }) ≡ None }
+    ensures source { came_from (record { to = at_port 7 2727; bytes = 1 ∷ [] }) ≡ record { source = at_port 7 2727; bytes = 1 ∷ [] } }
+{}
+
+/// A packet that comes in brings so much of its bytes as was put for it; one that goes out brings nothing.
+pub fn packets_that_come_in_bring_datagrams()
+    ensures incoming { (p : Packet) → brought (Some (record p { way = In; peer = at_port 7 2727 }, 2)) (1 ∷ 2 ∷ 3 ∷ [])
+        ≡ record { source = at_port 7 2727; bytes = 1 ∷ 2 ∷ [] } ∷ [] }
+    ensures outgoing { (p : Packet) → brought (Some (record p { way = Out }, 2)) (1 ∷ 2 ∷ 3 ∷ []) ≡ [] }
+    ensures none { brought None (1 ∷ []) ≡ [] }
 {}
 
 /// A socket at each address of a machine has sent what has its port and an address that no other machine has; who has another address

@@ -4,6 +4,7 @@ ghost use Rattle.gateway_core.specs.Wire.{counted};
 ghost use Rattle.surroundings.specs.Hearing.{Hears};
 ghost use Rattle.surroundings.specs.Sending.{Sent, Grows, found_by};
 ghost use Rattle.live_gateway.specs.Admitting.{is_heard, HeardSince};
+ghost use Rattle.live_gateway.specs.Offering.{brought};
 ghost use Rattle.live_gateway.specs.Exchanging.{handed_by, received_by, next_due, faultless, refusals, with_refused, with_unreceived, with_read, IsSameTurn, LooksOnce, CountsReceived};
 
 use crate::admission::Admission;
@@ -14,7 +15,7 @@ use bad_network::{Fate, Packet, Way};
 use exchange_log::Note;
 use gateway_core::Gateway;
 use live_ends::{NEXT_OFFER, Now};
-use live_journal::{Faults, Journal, count};
+use live_journal::{Faults, Journal, Taken, count};
 use std::net::SocketAddrV4;
 use surroundings::{Fault, Lines, Surroundings};
 use traces::Mark;
@@ -52,14 +53,19 @@ impl<S: Drop> Drop for Exchange<S> {
     }
 }
 
-// Puts as much as there is room for at the front of the room: how much that is.
-fn put_into(room: &mut [u8], bytes: &[u8]) -> usize
-    ensures length { length room.new ≡ length room.old }
-    ensures within { result ≤ length room.new }
+// What a gateway tells of the event that it took last.
+fn taken_of(gateway: &Gateway) -> Taken<'_>
+    ensures outcomes { result.outcomes.now ≡ gateway.now.outcomes }
+    ensures sent { result.sent.now ≡ gateway.now.account.sent }
+    ensures given_up { result.given_up.now ≡ gateway.now.account.given_up }
+    ensures route { result.route.now ≡ gateway.now.setup.agent.route }
 {
-    let len = bytes.len().min(room.len());
-    room[..len].copy_from_slice(&bytes[..len]);
-    len
+    Taken {
+        outcomes: gateway.outcomes(),
+        sent: gateway.sent(),
+        given_up: gateway.given_up(),
+        route: &gateway.setup().agent.route,
+    }
 }
 
 impl<S: Surroundings + Drop> Exchange<S> {
@@ -202,8 +208,12 @@ impl<S: Surroundings + Drop> Exchange<S> {
         }
     }
 
-    // The next packet that the network hands out now, if there is one.
-    fn take_due(&mut self) -> Option<Packet>
+    // The next packet that the network hands out now, if there is one. Of one that comes in as much as there is room for is put at the
+    // front of the room: how much that is.
+    #[tactic(auto, using(crate::proofs::HearingLemmas::nothing_kept))]
+    fn take_due(&mut self, room: &mut [u8]) -> Option<(Packet, usize)>
+        ensures length { length room.new ≡ length room.old }
+        ensures within { IfSome result (λ found. found.1 ≤ length room.new) }
         ensures around { self.new.around ≡ self.old.around }
         ensures faults { self.new.faults ≡ self.old.faults }
         ensures read { self.new.read ≡ self.old.read }
@@ -212,17 +222,17 @@ impl<S: Surroundings + Drop> Exchange<S> {
         ensures handed { handed_by self.new.network (S.traffic self.new.around).sent ≡ handed_by self.old.network (S.traffic self.old.around).sent }
         ensures behind { IfSome result (λ _. (sent : Option (List Sent)) →
             handed_by self.new.network sent ≡ handed_by self.old.network (S.traffic self.old.around).sent) }
+        ensures came { Grows (received_by self.old.network (S.traffic self.old.around).received) (brought result room.new)
+            (received_by self.new.network (S.traffic self.new.around).received) }
     {
         match &mut self.network {
-            Some(network) => network.take_due(self.now.clock),
+            Some(network) => network.take_due(self.now.clock, room),
             None => None,
         }
     }
 
-    // A packet comes to the gateway out of the network: how long it is.
-    fn hand_in(&mut self, packet: &Packet, room: &mut [u8]) -> usize
-        ensures length { length room.new ≡ length room.old }
-        ensures within { result ≤ length room.new }
+    // A packet of who is heard comes to the gateway out of the network, with these bytes.
+    fn hand_in(&mut self, packet: &Packet, bytes: &[u8])
         ensures network { self.new.network ≡ self.old.network }
         ensures around { self.new.around ≡ self.old.around }
         ensures faults { self.new.faults ≡ self.old.faults }
@@ -230,9 +240,7 @@ impl<S: Surroundings + Drop> Exchange<S> {
         ensures turn { IsSameTurn self.old self.new }
     {
         let late = packet.due.saturating_sub(packet.offered);
-        let len = put_into(room, packet.bytes.as_bytes());
-        self.journal.came(self.now, packet.peer, &room[..len], late);
-        len
+        self.journal.came(self.now, packet.peer, bytes, late);
     }
 
     // Whether a datagram that has come is heard; another one is a stranger's, which is counted, and told of now and then. One without a
@@ -254,7 +262,7 @@ impl<S: Surroundings + Drop> Exchange<S> {
 
     // A datagram that the network hands to the gateway now, if there is one, from who is heard. Those that go out now are sent; one that
     // can't be is lost.
-    #[tactic(auto, using(crate::proofs::CountingLemmas::same_turn))]
+    #[tactic(auto, using(crate::proofs::HearingLemmas::hears_none, crate::proofs::HearingLemmas::outgoing, crate::proofs::HearingLemmas::strange, crate::proofs::HearingLemmas::incoming, crate::proofs::HearingLemmas::hears_further, crate::proofs::CountingLemmas::same_turn))]
     fn handed_over(
         &mut self,
         admission: &Admission,
@@ -268,13 +276,21 @@ impl<S: Surroundings + Drop> Exchange<S> {
         ensures read { self.new.read ≡ self.old.read }
         ensures turn { IsSameTurn self.old self.new }
         ensures spoilt { is_some self.new.network ≡ is_some self.old.network }
+        ensures came { HeardSince admission.now (received_by self.old.network (S.traffic self.old.around).received) (found_by result room.new)
+            (received_by self.new.network (S.traffic self.new.around).received) }
     {
         for _ in 0..u16::MAX {
-            let packet = self.take_due()?;
-            if packet.way == Way::Out {
-                let _ = self.around.send(packet.peer, packet.bytes.as_bytes());
-            } else if self.is_heard(admission, packet.peer) {
-                return Some((packet.peer, self.hand_in(&packet, room)));
+            let (packet, len) = self.take_due(room)?;
+            match packet.way {
+                Way::Out => {
+                    let _ = self.around.send(packet.peer, packet.bytes.as_bytes());
+                }
+                Way::In => {
+                    if self.is_heard(admission, packet.peer) {
+                        self.hand_in(&packet, &room[..len]);
+                        return Some((packet.peer, len));
+                    }
+                }
             }
         }
         None
@@ -298,6 +314,8 @@ impl<S: Surroundings + Drop> Exchange<S> {
 
     // A datagram that has come goes over the network: whether that loses it.
     fn is_lost(&mut self, source: SocketAddrV4, bytes: &[u8]) -> bool
+        ensures received { received_by self.new.network (S.traffic self.new.around).received
+            ≡ received_by self.old.network (S.traffic self.old.around).received }
         ensures handed { handed_by self.new.network (S.traffic self.new.around).sent ≡ handed_by self.old.network (S.traffic self.old.around).sent }
         ensures faults { self.new.faults ≡ self.old.faults }
         ensures read { self.new.read ≡ self.old.read }
@@ -316,7 +334,7 @@ impl<S: Surroundings + Drop> Exchange<S> {
 
     // A datagram that has come goes over the network, which may lose it, or hand over another one. So does a stranger's: it is dropped
     // where it comes out.
-    #[tactic(auto, using(crate::proofs::CountingLemmas::same_turn))]
+    #[tactic(auto, using(crate::proofs::HearingLemmas::hears_none, crate::proofs::HearingLemmas::hears_after, crate::proofs::CountingLemmas::same_turn))]
     fn pass(
         &mut self,
         admission: &Admission,
@@ -333,6 +351,8 @@ impl<S: Surroundings + Drop> Exchange<S> {
         ensures read { self.new.read ≡ self.old.read }
         ensures turn { IsSameTurn self.old self.new }
         ensures spoilt { is_some self.new.network ≡ is_some self.old.network }
+        ensures came { HeardSince admission.now (received_by self.old.network (S.traffic self.old.around).received) (found_by result room.new)
+            (received_by self.new.network (S.traffic self.new.around).received) }
     {
         if self.is_lost(source, &room[..len]) {
             if admission.hears(source) {
@@ -395,12 +415,13 @@ impl<S: Surroundings + Drop> Exchange<S> {
 
     // A datagram that the network before the socket hands over from who is heard, if one is due. What comes of the socket goes over that
     // network, but what has no port.
-    #[tactic(auto, using(crate::proofs::CountingLemmas::nothing_read, crate::proofs::CountingLemmas::read_behind_others, crate::proofs::CountingLemmas::same_turn))]
+    #[tactic(auto, using(crate::proofs::HearingLemmas::still_over, crate::proofs::HearingLemmas::heard_still, crate::proofs::HearingLemmas::hears_past_a_look, crate::proofs::CountingLemmas::nothing_read, crate::proofs::CountingLemmas::read_behind_others, crate::proofs::CountingLemmas::same_turn))]
     fn receive_spoilt(
         &mut self,
         admission: &Admission,
         room: &mut [u8],
     ) -> Option<(SocketAddrV4, usize)>
+        requires { is_some self.old.network ≡ true }
         ensures length { length room.new ≡ length room.old }
         ensures within { IfSome result (λ p. p.1 ≤ length room.new) }
         ensures admitted { IfSome result (λ p. is_heard admission.now p.0 ≡ true) }
@@ -408,7 +429,8 @@ impl<S: Surroundings + Drop> Exchange<S> {
         ensures refused { self.new.faults.refused ≡ self.old.faults.refused }
         ensures counts { CountsReceived S.receives self.old result self.new }
         ensures turn { IsSameTurn self.old self.new }
-        ensures spoilt { is_some self.new.network ≡ is_some self.old.network }
+        ensures came { HeardSince admission.now (received_by self.old.network (S.traffic self.old.around).received) (found_by result room.new)
+            (received_by self.new.network (S.traffic self.new.around).received) }
     {
         if let Some(found) = self.handed_over(admission, room) {
             return Some(found);
@@ -422,7 +444,7 @@ impl<S: Surroundings + Drop> Exchange<S> {
 
     /// A datagram for the gateway, put at the start of the room, if one has come from one of those who are heard: from where, and how
     /// long it is. What comes from others, or from the gateway's own sockets, is counted, and told of once a second; it does nothing else.
-    #[tactic(auto, using(crate::proofs::HearingLemmas::hears_spoilt, crate::proofs::CountingLemmas::was_read))]
+    #[tactic(auto, using(crate::proofs::CountingLemmas::was_read))]
     pub fn receive(
         &mut self,
         admission: &Admission,
@@ -472,7 +494,7 @@ impl<S: Surroundings + Drop> Outlet for Exchange<S> {
     ghost came = { λ e. came_by S.traffic e };
 
     fn turned(&mut self, gateway: &Gateway) {
-        self.journal.turned(self.now, gateway);
+        self.journal.turned(self.now, &taken_of(gateway));
     }
 
     fn hand(&mut self, to: SocketAddrV4, bytes: &[u8]) -> Option<Mark> {

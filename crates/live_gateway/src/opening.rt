@@ -40,7 +40,8 @@ fn tally_of(alloc: Global) -> Result<Box<MessageTally>, AllocError> {
 }
 
 fn log_of(alloc: Global, has_log: bool, gateway: &Gateway) -> Result<Box<Log>, AllocError> {
-    boxed(alloc, Log::new(alloc, has_log, gateway)?)
+    let domain = gateway.setup().names.domain.as_bytes();
+    boxed(alloc, Log::new(alloc, has_log, domain)?)
 }
 
 fn capture_of(alloc: Global, settings: &DeskSettings<'_>) -> Result<Box<Capture>, AllocError> {

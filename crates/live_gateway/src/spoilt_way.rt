@@ -1,10 +1,10 @@
 //! A bad network before the sockets.
-ghost use Rattle.std.specs.Prelude.{◌≡◌, ◌∷◌, [], None, Some, IfOk, OnOk, OnErr};
+ghost use Rattle.std.specs.Prelude.{◌≡◌, ◌≤◌, ◌∷◌, [], length, take, None, Some, IfOk, IfSome, OnOk, OnErr, option_map};
 ghost use Rattle.bad_network.specs.declared.packet.Way.TheVariants.{In, Out};
 ghost use Rattle.bad_network.specs.Drawing.{after_draws};
 ghost use Rattle.bad_network.specs.Waiting.{first_due, put_all, taken, IsPutInPart};
 ghost use Rattle.surroundings.specs.Sending.{Grows};
-ghost use Rattle.live_gateway.specs.Offering.{offered_by, next_fate, next_copies};
+ghost use Rattle.live_gateway.specs.Offering.{offered_by, came_over, brings, brought, next_fate, next_copies};
 
 use bad_network::{BadNetwork, Fate, Packet, Way};
 use mg_bytes::OutOfMemory;
@@ -12,12 +12,15 @@ use std::alloc::Global;
 use std::net::SocketAddrV4;
 use surroundings::{SentDatagram, keep};
 
-/// A bad network before the sockets, and what was offered to it on the way out, where that is kept.
+/// A bad network before the sockets; and what was offered to it on the way out, and what it handed over on the way in, where that is
+/// kept.
 pub struct SpoiltWay {
     alloc: Global,
     network: BadNetwork,
     // Copies of all that was offered on the way out; nothing where none are kept, or memory was refused for one.
     offered: Option<Vec<SentDatagram>>,
+    // Likewise of all that it handed over on the way in, each with the address that it came from.
+    came: Option<Vec<SentDatagram>>,
 }
 
 // Written out: a derived drop, and those of all its parts, are proved anew by each crate that lets one go.
@@ -27,34 +30,51 @@ impl Drop for SpoiltWay {
             alloc: _,
             network,
             offered,
+            came,
         } = self;
         drop(network);
         drop(offered);
+        drop(came);
     }
 }
 
+// Puts as much as there is room for at the front of the room: how much that is.
+fn put_into(room: &mut [u8], bytes: &[u8]) -> usize
+    ensures length { length room.new ≡ length room.old }
+    ensures within { result ≤ length room.new }
+    ensures put { take result room.new ≡ take (length room.old) bytes.now }
+{
+    let len = bytes.len().min(room.len());
+    room[..len].copy_from_slice(&bytes[..len]);
+    len
+}
+
 impl SpoiltWay {
-    /// The way over this network, over which nothing went. What is offered isn't kept.
+    /// The way over this network, over which nothing went. What goes over it isn't kept.
     pub fn new(alloc: Global, network: BadNetwork) -> SpoiltWay
         ensures offered { offered_by result ≡ None }
+        ensures came { came_over result ≡ None }
         ensures network { result.network ≡ network }
     {
         SpoiltWay {
             alloc,
             network,
             offered: None,
+            came: None,
         }
     }
 
-    /// The same, which keeps what is offered on the way out, until memory is refused for that.
+    /// The same, which keeps what is offered on the way out and what it hands over on the way in, each until memory is refused for that.
     pub fn keeping(alloc: Global, network: BadNetwork) -> SpoiltWay
         ensures offered { offered_by result ≡ Some [] }
+        ensures came { came_over result ≡ Some [] }
         ensures network { result.network ≡ network }
     {
         SpoiltWay {
             alloc,
             network,
             offered: Some(Vec::new(alloc)),
+            came: Some(Vec::new(alloc)),
         }
     }
 
@@ -65,12 +85,62 @@ impl SpoiltWay {
         self.network.next_due()
     }
 
-    /// The next packet that the network hands out by this moment, in ms, if there is one.
-    pub fn take_due(&mut self, now: u64) -> Option<Packet>
+    // A datagram from there came over it, at this moment in ms.
+    #[tactic(auto, using(crate::proofs::HearingLemmas::kept_one))]
+    fn note_came(&mut self, source: SocketAddrV4, bytes: &[u8], now: u64)
+        ensures came { Grows (came_over self.old) (record { source = source; bytes = bytes.now } ∷ []) (came_over self.new) }
         ensures offered { offered_by self.new ≡ offered_by self.old }
-        ensures taken { (result, self.new.network.waiting.items) ≡ taken now self.old.network.waiting.items }
+        ensures network { self.new.network ≡ self.old.network }
     {
-        self.network.take_due(now)
+        let alloc = self.alloc;
+        let Some(came) = &mut self.came else {
+            return;
+        };
+        match keep(alloc, came, now, source, bytes) {
+            Ok(()) => {}
+            Err(_) => self.came = None,
+        }
+    }
+
+    // A packet is handed over: of one that comes in as much as there is room for is put at the front of the room. How much that is.
+    #[tactic(auto, using(crate::proofs::HearingLemmas::nothing_kept))]
+    fn hand_over(&mut self, packet: &Packet, room: &mut [u8]) -> usize
+        ensures length { length room.new ≡ length room.old }
+        ensures within { result ≤ length room.new }
+        ensures put { packet.now.way ≡ In → take result room.new ≡ take (length room.old) packet.now.bytes }
+        ensures came { Grows (came_over self.old) (brings packet.now.way packet.now.peer (take result room.new)) (came_over self.new) }
+        ensures offered { offered_by self.new ≡ offered_by self.old }
+        ensures network { self.new.network ≡ self.old.network }
+    {
+        match packet.way {
+            Way::Out => 0,
+            Way::In => {
+                let len = put_into(room, packet.bytes.as_bytes());
+                self.note_came(packet.peer, &room[..len], packet.due);
+                len
+            }
+        }
+    }
+
+    /// The next packet that the network hands out by this moment, in ms, if there is one. Of one that comes in as much as there is room for
+    /// is put at the front of the room: how much that is.
+    #[tactic(auto, using(crate::proofs::HearingLemmas::nothing_kept))]
+    pub fn take_due(&mut self, now: u64, room: &mut [u8]) -> Option<(Packet, usize)>
+        ensures length { length room.new ≡ length room.old }
+        ensures within { IfSome result (λ found. found.1 ≤ length room.new) }
+        ensures taken { (option_map (λ found. found.0) result, self.new.network.waiting.items)
+            ≡ taken now self.old.network.waiting.items }
+        ensures put { IfSome result (λ found. found.0.way ≡ In → take found.1 room.new ≡ take (length room.old) found.0.bytes) }
+        ensures came { Grows (came_over self.old) (brought result room.new) (came_over self.new) }
+        ensures offered { offered_by self.new ≡ offered_by self.old }
+    {
+        match self.network.take_due(now) {
+            Some(packet) => {
+                let len = self.hand_over(&packet, room);
+                Some((packet, len))
+            }
+            None => None,
+        }
     }
 
     /// Offers a datagram that came from this source, at this moment in ms: what becomes of it.
@@ -81,6 +151,7 @@ impl SpoiltWay {
         now: u64,
     ) -> Result<Fate, OutOfMemory>
         ensures offered { offered_by self.new ≡ offered_by self.old }
+        ensures came { came_over self.new ≡ came_over self.old }
         ensures fate { IfOk result (λ fate. fate ≡ next_fate self.old.network) }
         ensures ok { OnOk result (self.new.network.waiting.items
             ≡ put_all (next_copies self.old.network In source bytes.now now) self.old.network.waiting.items) }
@@ -95,6 +166,7 @@ impl SpoiltWay {
     // A datagram is offered on the way out.
     fn note(&mut self, to: SocketAddrV4, bytes: &[u8], now: u64)
         ensures offered { Grows (offered_by self.old) (record { to = to; bytes = bytes.now } ∷ []) (offered_by self.new) }
+        ensures came { came_over self.new ≡ came_over self.old }
         ensures network { self.new.network ≡ self.old.network }
     {
         let alloc = self.alloc;
@@ -115,6 +187,7 @@ impl SpoiltWay {
         now: u64,
     ) -> Result<Fate, OutOfMemory>
         ensures offered { Grows (offered_by self.old) (record { to = to; bytes = bytes.now } ∷ []) (offered_by self.new) }
+        ensures came { came_over self.new ≡ came_over self.old }
         ensures fate { IfOk result (λ fate. fate ≡ next_fate self.old.network) }
         ensures ok { OnOk result (self.new.network.waiting.items
             ≡ put_all (next_copies self.old.network Out to bytes.now now) self.old.network.waiting.items) }

@@ -9,11 +9,11 @@ ghost use Rattle.surroundings.specs.Hearing.{AnswersTo};
 ghost use Rattle.live_gateway.specs.Watching.{changes_behind, sender_at, TellsEach, WatchesOn};
 
 use crate::answering::{OUT_OF_MEMORY, UNKNOWN, full_answer};
+use crate::seeing::seen_line;
 use gateway_core::Gateway;
 use line_changes::{
     Change, ChangeText, SeenLine, Watcher, Watchers, put_changes, put_watching, told_at,
 };
-use live_journal::seen_line;
 use mg_bytes::OutOfMemory;
 use std::alloc::Global;
 use std::net::{SocketAddr, SocketAddrV4};

@@ -1,5 +1,3 @@
 pub mod Computing
 pub mod CountLemmas
 pub mod RecordLemmas
-pub mod LostLemmas
-pub mod SeeingLemmas

@@ -1,13 +1,8 @@
 -- Counts as they are told, a kind a line.
-use Rattle.std.specs.Prelude.{ℕ, zero, suc, ◌+◌, ◌==◌, if◌then◌else◌, codes, decimal, slice_index, List, [], ◌∷◌, ◌++◌}
+use Rattle.std.specs.Prelude.{ℕ, ◌+◌, ◌==◌, if◌then◌else◌, codes, decimal, slice_index, List, [], ◌∷◌, ◌++◌}
 use Rattle.std.specs.List.{flat_map}
 use Rattle.std.specs.Borrow.{Bor}
-use Rattle.std.specs.Option.{unwrap_or}
 use Rattle.mgcp_text.specs.declared.message.Verb.TheVariants.{Ntfy, Rsip}
-use Rattle.plain_machine.specs.Lists.{lost_of}
-use Rattle.plain_machine.specs.Machine.{Machine}
-use Rattle.plain_machine.specs.declared.setup.Setup.{Setup}
-use Rattle.live_ends.specs.Backlog.{sum_within}
 use Rattle.live_ends.specs.Written.{written_line}
 use Rattle.page_answers.specs.Metrics.{code_text}
 use Rattle.sent_counts.specs.Counting.{place_of, tally_in, all_given_up}
@@ -68,11 +63,6 @@ others_with tally given_up lost faults =
 abbrev pub others_text : MessageTally → ℕ → Faults → List ℕ
 others_text tally lost faults = others_with tally (all_given_up (tally_in tally.sent)) lost faults
 
--- how many events of so many lines, from the first on, were lost
-unfoldable pub lost_of_lines : Machine → ℕ → ℕ
-lost_of_lines m zero = 0
-lost_of_lines m (suc lines) = sum_within (lost_of_lines m lines) (unwrap_or (lost_of m (suc lines)) 0)
-
 -- what came, and how it was answered
 unfoldable pub traffic_text : MessageTally → List ℕ
 traffic_text tally =
@@ -83,8 +73,6 @@ traffic_text tally =
 abbrev pub report_text : MessageTally → ℕ → Faults → List ℕ
 report_text tally lost faults = traffic_text tally ++ others_text tally lost faults ++ codes "\n"
 
--- all that is told of a gateway that is this machine
-abbrev pub counts_text : Journal → Faults → Setup → Machine → List ℕ
-counts_text journal faults setup m =
-    report_text journal.tally.value (lost_of_lines m setup.names.lines) faults
-    ++ written_line journal.written journal.capture.value.name
+-- all that is told, where so many events of all lines were lost
+abbrev pub counts_with : Journal → ℕ → Faults → List ℕ
+counts_with journal lost faults = report_text journal.tally.value lost faults ++ written_line journal.written journal.capture.value.name

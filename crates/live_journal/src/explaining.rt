@@ -6,7 +6,7 @@ ghost use Rattle.live_journal.specs.Explaining.{refused_text, reason_text};
 use crate::log::Log;
 use command_forms::{FaultyPart, Refused, explain};
 use exchange_log::{Note, Stamp, put_note, put_refused};
-use gateway_core::{Gateway, Reply, TextOutcome};
+use gateway_core::{Reply, TextOutcome};
 use history::MOST_FIRSTS;
 use mg_bytes::OutOfMemory;
 use mgcp_text::TransactionId;
@@ -82,9 +82,9 @@ fn put_reasons(
 }
 
 impl Log {
-    /// The gateway took the datagram that came last, and what it sent at it was handed out: why commands of it were refused or lost is
-    /// told, if any was, and which repeats aren't answered.
-    pub fn explain(&mut self, gateway: &Gateway) {
+    /// The gateway took the datagram that came last, of whose texts these came, and what it sent at it was handed out: why commands of it
+    /// were refused or lost is told, if any was, and which repeats aren't answered.
+    pub fn explain(&mut self, outcomes: &[TextOutcome]) {
         if !self.record.is_on() {
             return;
         }
@@ -94,7 +94,7 @@ impl Log {
             peer: self.came.peer,
         };
         let out = &mut self.record.out;
-        if put_reasons(self.alloc, out, stamp, gateway.outcomes()).is_err() {
+        if put_reasons(self.alloc, out, stamp, outcomes).is_err() {
             self.record.refuse();
         }
     }

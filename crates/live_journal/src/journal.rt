@@ -8,9 +8,9 @@ use crate::capture::Capture;
 use crate::log::Log;
 use crate::message_tally::MessageTally;
 use crate::spoiling::note_of;
+use crate::taken::Taken;
 use bad_network::Fate;
 use exchange_log::{Note, Way};
-use gateway_core::Gateway;
 use live_ends::{Now, Written};
 use page_answers::{Board, Kind};
 use std::net::{Ipv4Addr, SocketAddrV4};
@@ -81,11 +81,10 @@ impl Journal {
         self.log.stranger(now, source);
     }
 
-    /// The gateway took an event, of which `outcomes`, `sent` and `given_up` of it tell: all that is counted. What it sends is handed out
-    /// next.
-    pub fn turned(&mut self, now: Now, gateway: &Gateway) {
-        self.tally.turned(gateway);
-        self.log.turned(now, gateway);
+    /// The gateway took an event, of which it tells this: all that is counted. What it sends is handed out next.
+    pub fn turned(&mut self, now: Now, taken: &Taken<'_>) {
+        self.tally.turned(taken);
+        self.log.turned(now, taken);
     }
 
     /// A datagram that was sent to the gateway isn't taken, for this reason: a bad network lost it, or memory was refused.

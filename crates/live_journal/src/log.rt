@@ -1,7 +1,8 @@
 //! The log, for people, on standard error: a line a message, and a line for what is to be noted beside it.
 use crate::strangers::Quiet;
+use crate::taken::Taken;
 use exchange_log::{Note, Stamp, Way, put_given_up, put_message, put_note};
-use gateway_core::{Gateway, GivenUpCommand, Label, SentMessage, TextOutcome, What, Whose};
+use gateway_core::{GivenUpCommand, Label, SentMessage, TextOutcome, What, Whose};
 use live_ends::{Now, Record};
 use mg_bytes::{OutOfMemory, Text};
 use mgcp_text::{Message, TransactionId, read_message};
@@ -84,9 +85,8 @@ fn id_of_response(alloc: Global, text: &[u8]) -> Option<TransactionId> {
 }
 
 impl Log {
-    /// The log of this gateway, of which nothing is told yet.
-    pub fn new(alloc: Global, is_on: bool, gateway: &Gateway) -> Result<Log, OutOfMemory> {
-        let domain = gateway.setup().names.domain.as_bytes();
+    /// The log of a gateway with this domain, of which nothing is told yet.
+    pub fn new(alloc: Global, is_on: bool, domain: &[u8]) -> Result<Log, OutOfMemory> {
         Ok(Log {
             alloc,
             record: Record::new(alloc, is_on),
@@ -200,21 +200,21 @@ impl Log {
         )
     }
 
-    fn take_turn(&mut self, now: Now, gateway: &Gateway) -> Result<(), OutOfMemory> {
-        self.put_arrival(gateway.outcomes())?;
+    fn take_turn(&mut self, now: Now, taken: &Taken<'_>) -> Result<(), OutOfMemory> {
+        self.put_arrival(taken.outcomes)?;
         self.messages.clear();
-        for message in gateway.sent() {
+        for message in taken.sent {
             self.messages.push_back(*message)?;
         }
-        for given_up in gateway.given_up() {
+        for given_up in taken.given_up {
             self.give_up(now, *given_up)?;
         }
         Ok(())
     }
 
     /// The gateway took an event: what came is told, and what it gave up is noted; what it sends is told by its labels, in its order.
-    pub(crate) fn turned(&mut self, now: Now, gateway: &Gateway) {
-        if self.record.is_on() && self.take_turn(now, gateway).is_err() {
+    pub(crate) fn turned(&mut self, now: Now, taken: &Taken<'_>) {
+        if self.record.is_on() && self.take_turn(now, taken).is_err() {
             self.record.refuse();
         }
     }

@@ -6,8 +6,8 @@ ghost use Rattle.live_journal.specs.Places.{with_sends};
 ghost use Rattle.sent_counts.specs.Counting.{tally_in, no_tally, with_sent, with_given_up};
 
 use crate::place_counts::PlaceCounts;
+use crate::taken::Taken;
 use crate::text_counts::{TextCounts, count};
-use gateway_core::Gateway;
 use sent_counts::SentCounts;
 use std::alloc::{AllocError, Global};
 
@@ -84,21 +84,19 @@ impl MessageTally {
     }
 
     /// The gateway took an event: what its texts were, and what it sent and gave up at it.
-    pub fn turned(&mut self, gateway: &Gateway)
-        ensures texts { counts_in self.new.texts ≡ with_texts (counts_in self.old.texts) gateway.now.outcomes }
+    pub fn turned(&mut self, taken: &Taken<'_>)
+        ensures texts { counts_in self.new.texts ≡ with_texts (counts_in self.old.texts) taken.now.outcomes.now }
         ensures sent { tally_in self.new.sent
-            ≡ with_given_up (with_sent (tally_in self.old.sent) gateway.now.account.sent) gateway.now.account.given_up }
-        ensures places { self.new.places.sends
-            ≡ with_sends gateway.now.setup.agent.route self.old.places.sends gateway.now.account.sent }
+            ≡ with_given_up (with_sent (tally_in self.old.sent) taken.now.sent.now) taken.now.given_up.now }
+        ensures places { self.new.places.sends ≡ with_sends taken.now.route.now self.old.places.sends taken.now.sent.now }
         ensures received { self.new.datagrams_in ≡ self.old.datagrams_in }
         ensures handed_out { self.new.datagrams_out ≡ self.old.datagrams_out }
         ensures strangers { self.new.strangers ≡ self.old.strangers }
     {
-        self.texts.add(gateway.outcomes());
-        self.sent.add(gateway.sent());
-        self.sent.give_up(gateway.given_up());
-        self.places
-            .add(&gateway.setup().agent.route, gateway.sent());
+        self.texts.add(taken.outcomes);
+        self.sent.add(taken.sent);
+        self.sent.give_up(taken.given_up);
+        self.places.add(taken.route, taken.sent);
     }
 
     /// A datagram is sent. The messages in it were counted with the event.

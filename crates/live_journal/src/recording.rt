@@ -11,7 +11,7 @@ impl Journal {
     /// Keeps what was recorded since this was called last, at this moment, in microseconds since 1970, and writes what is taken at once. To
     /// be called when a turn is over: what the trace was told at it had its place already, and gets room for the next.
     pub fn write<F: Write + Drop>(&mut self, trace: &mut Trace, outlets: &mut Outlets<F>, time: u64)
-        ensures room { trace.new.room ≡ room_left TEXT_ROOM outlets.new.output.backlog }
+        ensures room { trace.new.room ≡ room_left TEXT_ROOM outlets.new.output.value.backlog }
     {
         trace.keep(&mut outlets.output);
         outlets.error.keep_log(&mut self.log.record, time);

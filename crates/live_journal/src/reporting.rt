@@ -1,15 +1,11 @@
 //! What is told at the end: counts, one kind a line.
-ghost use Rattle.std.specs.Prelude.{◌≡◌, ◌++◌, List, OnOk, IfOk};
+ghost use Rattle.std.specs.Prelude.{◌≡◌, ◌++◌, OnOk, IfOk};
 ghost use Rattle.std.specs.List.{flat_map};
-ghost use Rattle.plain_machine.specs.Event.{GatewayEvent};
-ghost use Rattle.plain_machine.specs.Lists.{plain};
-ghost use Rattle.gateway_core.specs.Stands.{Stands};
 ghost use Rattle.page_answers.specs.Metrics.{code_text};
-ghost use Rattle.live_journal.specs.Reporting.{told, entry_text, datagrams_text, verbs_text, commands_text, texts_text, answer_text, answers_from, lost_of_lines, traffic_text, others_with, others_text, report_text, counts_text};
+ghost use Rattle.live_journal.specs.Reporting.{told, entry_text, datagrams_text, verbs_text, commands_text, texts_text, answer_text, answers_from, traffic_text, others_with, others_text, report_text, counts_with};
 
 use crate::journal::Journal;
 use crate::message_tally::MessageTally;
-use gateway_core::Gateway;
 use mg_bytes::put_decimal;
 use mgcp_text::Verb;
 use sent_counts::place_of;
@@ -33,18 +29,6 @@ impl Faults {
         receive: 0,
         send: 0,
     };
-}
-
-// How many events of all lines were lost.
-fn lost_of(gateway: &Gateway) -> u64
-    ensures { (events : List GatewayEvent) → Stands gateway.now events →
-        result ≡ lost_of_lines (plain gateway.now.setup events) gateway.now.setup.names.lines }
-{
-    let mut lost: u64 = 0;
-    for before in 0..gateway.lines() {
-        lost = lost.saturating_add(gateway.lost(before + 1));
-    }
-    lost
 }
 
 // A number, with what stands before it.
@@ -222,18 +206,17 @@ fn put_report(
     text.extend_from_slice(b"\n")
 }
 
-/// The counts as text.
-pub fn report(
+/// The counts as text, where so many events of all lines were lost. Its only error is want of memory.
+pub fn report_with(
     alloc: Global,
-    gateway: &Gateway,
     journal: &Journal,
+    lost: u64,
     faults: Faults,
 ) -> Result<Vec<u8>, AllocError>
-    ensures { (events : List GatewayEvent) → Stands gateway.now events → IfOk result (λ text. text.items
-        ≡ counts_text journal.now faults gateway.now.setup (plain gateway.now.setup events)) }
+    ensures { IfOk result (λ text. text.items ≡ counts_with journal.now lost faults) }
 {
     let mut text = Vec::new(alloc);
-    put_report(alloc, &mut text, &journal.tally, lost_of(gateway), faults)?;
+    put_report(alloc, &mut text, &journal.tally, lost, faults)?;
     let capture = journal.capture.name.as_bytes();
     journal.written.put_line(alloc, &mut text, capture)?;
     Ok(text)

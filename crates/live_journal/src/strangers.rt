@@ -8,7 +8,7 @@ ghost use Rattle.live_journal.specs.Strangers.{told_at, quiet_after, is_own, unh
 use crate::log::Log;
 use crate::text_counts::count;
 use exchange_log::{Note, Stamp, put_note};
-use gateway_core::{Gateway, SentMessage, What};
+use gateway_core::{SentMessage, What};
 use live_ends::Now;
 use mg_bytes::OutOfMemory;
 use std::alloc::Global;
@@ -134,17 +134,16 @@ impl Log {
         self.put_stranger(now, source, untold);
     }
 
-    /// The gateway took an event, and what it sent at it was handed out: of each command of its own that went to who may not speak it is
-    /// noted that no answer to it is heard, and by which word one would be.
+    /// The gateway took an event, and what it sent at it, which this was, was handed out: of each command of its own that went to who may
+    /// not speak it is noted that no answer to it is heard, and by which word one would be.
     #[tactic(auto, using(crate::proofs::RecordLemmas::puts_text, crate::proofs::RecordLemmas::puts_nothing, crate::proofs::RecordLemmas::refuses))]
-    pub fn unheard(&mut self, now: Now, gateway: &Gateway, speakers: &Speakers)
+    pub fn unheard(&mut self, now: Now, sent: &[SentMessage], speakers: &Speakers)
         ensures { Records self.old.record
-            (flat_map (unheard_text (admitted_by speakers.now) now.time) gateway.now.account.sent) self.new.record }
+            (flat_map (unheard_text (admitted_by speakers.now) now.time) sent.now) self.new.record }
     {
         if !self.record.is_on() {
             return;
         }
-        let sent = gateway.sent();
         match put_all_unheard(self.alloc, &mut self.record.out, now.time, speakers, sent) {
             Ok(()) => {}
             Err(_) => self.record.refuse(),

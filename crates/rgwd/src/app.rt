@@ -113,14 +113,20 @@ fn wait_first<R: Net + Clock>(rt: &R, live: &mut Live<'_, R>, begun: Begun) -> i
     }
 }
 
-// Says on standard error where the sockets are, serves until the end, and answers who asked for that once all is written.
-fn serve_opened<'w, R: Files + Net + Clock + RandomSource>(
+// Opens the file for a capture, if one is asked for, says on standard error where the sockets are, serves until the end, and answers who
+// asked for that once all is written.
+fn serve_opened<'w, R: Files + Net + Clock + RandomSource + Alloc + Clone + Drop>(
     rt: &R,
     alloc: Global,
+    settings: &Settings<'w>,
     begun: Begun,
     opened: &mut Opened<'_, R>,
     recording: &mut Recording<R>,
 ) -> Ending<'w> {
+    match open_files(rt, alloc, settings, recording) {
+        Ok(()) => {}
+        Err(ending) => return ending,
+    }
     tell_start(alloc, &mut recording.outlets, opened, begun);
     if wait_first(rt, &mut opened.desk.exchange.around, begun).is_err() {
         return Ending::Common(CommonEnding::Clock);
@@ -217,11 +223,13 @@ fn serve_with<'w, R: Files + Net + Clock + RandomSource + Alloc + Clone + Drop>(
     config: &[u8],
     gateway: Box<Gateway>,
     recording: &mut Recording<R>,
-) -> Result<Ending<'w>, Ending<'w>> {
+) -> Ending<'w> {
     let begun = start.begun(gateway.setup().names.domain.as_bytes());
-    let mut opened = open(rt, alloc, settings, config, gateway)?;
-    open_files(rt, alloc, settings, recording)?;
-    Ok(serve_opened(rt, alloc, begun, &mut opened, recording))
+    let mut opened = match open(rt, alloc, settings, config, gateway) {
+        Ok(opened) => opened,
+        Err(ending) => return ending,
+    };
+    serve_opened(rt, alloc, settings, begun, &mut opened, recording)
 }
 
 // Serves with a gateway of the configuration in this text, which has no flaw; or says what it will be.
@@ -231,14 +239,19 @@ fn serve_config<'w, R: Files + Net + Clock + RandomSource + Alloc + Clone + Drop
     settings: &Settings<'w>,
     text: &[u8],
     recording: &mut Recording<R>,
-) -> Result<Ending<'w>, Ending<'w>> {
+) -> Ending<'w> {
     let Some(start) = Start::now(rt, settings) else {
-        return Err(Ending::NoTimeOfDay);
+        return Ending::NoTimeOfDay;
     };
-    let gateway = gateway_of(alloc, text, &start)?;
+    let gateway = match gateway_of(alloc, text, &start) {
+        Ok(gateway) => gateway,
+        Err(refused) => return Ending::from(refused),
+    };
     if settings.check {
-        check_gateway(alloc, settings, &gateway, &mut recording.outlets)?;
-        return Ok(Ending::Checked);
+        if check_gateway(alloc, settings, &gateway, &mut recording.outlets).is_err() {
+            return Ending::Common(CommonEnding::OutOfMemory);
+        }
+        return Ending::Checked;
     }
     serve_with(rt, alloc, settings, start, text, gateway, recording)
 }
@@ -267,11 +280,18 @@ fn perform<'w, R: Files + Net + Clock + RandomSource + Alloc + Clone + Drop>(
     alloc: Global,
     settings: &Settings<'w>,
     recording: &mut Recording<R>,
-) -> Result<Ending<'w>, Ending<'w>> {
+) -> Ending<'w> {
     let file = settings.config;
-    let text = read_file(rt, alloc, file, LIMIT as u64)?;
-    if tell_flaw(alloc, file, text.as_slice(), &mut recording.outlets)? {
-        return Ok(Ending::Common(CommonEnding::Told));
+    let text = match read_file(rt, alloc, file, LIMIT as u64) {
+        Ok(text) => text,
+        Err(ending) => return Ending::Common(ending),
+    };
+    let has_flaw = match tell_flaw(alloc, file, text.as_slice(), &mut recording.outlets) {
+        Ok(has_flaw) => has_flaw,
+        Err(refused) => return Ending::from(refused),
+    };
+    if has_flaw {
+        return Ending::Common(CommonEnding::Told);
     }
     serve_config(rt, alloc, settings, text.as_slice(), recording)
 }
@@ -284,22 +304,30 @@ fn words_behind<'w>(first: &str, words: &'w [String]) -> Option<&'w [String]> {
     }
 }
 
+// How it ends, whether what was asked is done or not.
+fn either<'w>(ending: Result<Ending<'w>, Ending<'w>>) -> Ending<'w> {
+    match ending {
+        Ok(ending) | Err(ending) => ending,
+    }
+}
+
 // How the program with these words ends.
 fn ending_by<'w, R: AllocGlobal + Files + Net + Clock + RandomSource + Clone + Drop>(
     rt: &R,
     words: &'w [String],
     recording: &mut Recording<R>,
-) -> Result<Ending<'w>, Ending<'w>> {
+) -> Ending<'w> {
     if let Some(asked) = words_behind(TELL, words) {
-        return tell_line(rt, asked, &mut recording.outlets.output);
+        return either(tell_line(rt, asked, &mut recording.outlets.output));
     }
     if let Some(asked) = words_behind(REPLAY, words) {
-        return replay_trace(rt, asked, &mut recording.outlets);
+        return either(replay_trace(rt, asked, &mut recording.outlets));
     }
-    match read_words(rt.alloc(), words, &mut recording.outlets.error) {
-        Ok(settings) => perform(rt, rt.alloc(), &settings, recording),
-        Err(ending) => Err(ending),
-    }
+    let settings = match read_words(rt.alloc(), words, &mut recording.outlets.error) {
+        Ok(settings) => settings,
+        Err(ending) => return ending,
+    };
+    perform(rt, rt.alloc(), &settings, recording)
 }
 
 // What the program says at its end.
@@ -331,9 +359,8 @@ fn run_with<R: AllocGlobal + Env + Files + Net + Clock + RandomSource + Clone + 
             return tell(rt, &mut recording.outlets, ending);
         }
     };
-    match ending_by(rt, words.as_slice(), recording) {
-        Ok(ending) | Err(ending) => tell(rt, &mut recording.outlets, ending),
-    }
+    let ending = ending_by(rt, words.as_slice(), recording);
+    tell(rt, &mut recording.outlets, ending)
 }
 
 // The outlets of the program, whose gateway captures nothing yet; none for want of memory.

@@ -48,7 +48,7 @@ fn outlet_of(
     alloc: Global,
     name: &str,
     read: &Rc<Cell<Option<Vec<u8>>>>,
-) -> Result<Outlet<Pipe>, AllocError> {
+) -> Result<Box<Outlet<Pipe>>, AllocError> {
     let pipe = Pipe {
         read: read.clone()?,
     };

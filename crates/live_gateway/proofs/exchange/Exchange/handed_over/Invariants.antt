@@ -1,6 +1,7 @@
-use Rattle.std.proofs.Common.{◌≡◌, length}
+use Rattle.std.proofs.Common.{◌≡◌, length, []}
 use Rattle.std.specs.Prelude.{is_some}
-use Rattle.live_gateway.specs.Exchanging.{handed_by, IsSameTurn}
+use Rattle.live_gateway.specs.Admitting.{HeardSince}
+use Rattle.live_gateway.specs.Exchanging.{handed_by, received_by, IsSameTurn}
 use Rattle.live_gateway.proofs.exchange.Exchange.handed_over.Given as goal
 
 abbrev pub invariant-loop : goal.invariant-loop
@@ -12,4 +13,6 @@ invariant-loop g l = record {
   read : l.self.read ≡ l.fn.self.read;
   turn : IsSameTurn l.fn.self l.self;
   spoilt : is_some l.self.network ≡ is_some l.fn.self.network;
+  came : HeardSince l.fn.admission (received_by l.fn.self.network (g.S.Surroundings.traffic l.fn.self.around).received) []
+      (received_by l.self.network (g.S.Surroundings.traffic l.self.around).received);
 }

@@ -2,8 +2,8 @@ use Rattle.std.proofs.Common.{◌≡◌, ◌≤◌, List}
 use Rattle.plain_machine.specs.Event.{GatewayEvent}
 use Rattle.plain_machine.specs.Lists.{plain}
 use Rattle.gateway_core.specs.Stands.{Stands}
-use Rattle.live_journal.specs.Reporting.{lost_of_lines}
-use Rattle.live_journal.proofs.reporting.lost_of.Given as goal
+use Rattle.live_gateway.specs.Losses.{lost_of_lines}
+use Rattle.live_gateway.proofs.losses.lost_of.Given as goal
 
 abbrev pub invariant-loop-before : goal.invariant-loop-before
 invariant-loop-before l = record {

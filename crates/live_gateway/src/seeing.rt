@@ -4,7 +4,7 @@ ghost use Rattle.plain_machine.specs.Event.{GatewayEvent};
 ghost use Rattle.plain_machine.specs.Lists.{plain};
 ghost use Rattle.plain_machine.specs.Machine.{port_of};
 ghost use Rattle.gateway_core.specs.Stands.{Stands};
-ghost use Rattle.live_journal.specs.Seeing.{highest_port, seen_of};
+ghost use Rattle.live_gateway.specs.Seeing.{highest_port, seen_of};
 
 use gateway_core::Gateway;
 use line_changes::{SeenLine, seen_connections};

@@ -1,13 +1,11 @@
 //! What the page is shown of the gateway.
 ghost use Rattle.std.specs.Prelude.{◌≤◌};
 
-use crate::journal::Journal;
-use crate::message_tally::MessageTally;
-use crate::reporting::Faults;
 use crate::seeing::seen_line;
 use connections::mode_text;
 use gateway_core::Gateway;
 use line_changes::{SeenConnection, SeenLine, codec_text};
+use live_journal::{Faults, Journal, MessageTally};
 use mg_packages::{Hook, signal_name};
 use mgcp_text::Verb;
 use page_answers::{

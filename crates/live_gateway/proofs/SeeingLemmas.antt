@@ -3,7 +3,7 @@ use Rattle.std.proofs.Common.{◌≤◌, ℕ, arith}
 use Rattle.plain_machine.specs.declared.setup.Setup.{Setup}
 use Rattle.plain_machine.specs.Machine.{port_of}
 use Rattle.plain_machine.specs.Setup.{IsSetUp}
-use Rattle.live_journal.specs.Seeing.{highest_port}
+use Rattle.live_gateway.specs.Seeing.{highest_port}
 
 -- a line of a gateway that a configuration sets up has a port
 pub port_fits : (setup : Setup) (line : ℕ) → IsSetUp setup → line ≤ setup.names.lines → port_of setup line ≤ highest_port

@@ -1,6 +1,6 @@
 use Rattle.std.proofs.Common.{arith}
-use Rattle.live_journal.proofs.LostLemmas.{none_lost, more_lost}
-use Rattle.live_journal.proofs.reporting.lost_of.Goals as goal
+use Rattle.live_gateway.proofs.LostLemmas.{none_lost, more_lost}
+use Rattle.live_gateway.proofs.losses.lost_of.Goals as goal
 
 pub loop-before-init : goal.loop-before-init
 loop-before-init c = record { value = λ events s. none_lost _; few = omega arith }
