@@ -1,5 +1,5 @@
 //! The bytes of a text: its lines, the words of a line, numbers as digits, comparison without case, owned text,
-//! lists that own their values, and return codes.
+//! texts that are put together, lists that own their values, and return codes.
 //!
 //! Nothing here knows what a message is. What only reads takes no memory and gives slices of what it read.
 #![tactic(auto)]
@@ -7,6 +7,7 @@
 mod address;
 mod blank;
 mod code_fault;
+mod draft;
 pub mod examples;
 mod few;
 mod identifier;
@@ -20,11 +21,13 @@ mod owned;
 mod return_code;
 mod sequence;
 mod split;
+mod told;
 mod word;
 
 pub use crate::address::{ipv4_address, port_number};
 pub use crate::blank::trimmed;
 pub use crate::code_fault::CodeFault;
+pub use crate::draft::Draft;
 pub use crate::few::Few;
 pub use crate::identifier::Identifier;
 pub use crate::item::ListItems;
