@@ -5,4 +5,3 @@ pub mod EscapingLaws
 pub mod LineLaws
 pub mod CalendarLemmas
 pub mod Computing
-mod PauseLemmas

@@ -2,7 +2,7 @@
 ghost use Rattle.std.specs.Prelude.{◌≡◌, ◌<◌, ◌++◌, length, take, OnOk};
 ghost use Rattle.exchange_log.specs.Escaping.{is_plain, hex_digit, shown_byte, escaped, shown};
 
-use mg_bytes::OutOfMemory;
+use mg_bytes::{Draft, OutOfMemory};
 
 // So many bytes of a value are shown.
 const LONGEST_VALUE: usize = 64;
@@ -20,27 +20,23 @@ fn hex_digit(value: u8) -> u8
     if value < 10 { b'0' + value } else { 87 + value }
 }
 
-fn put_byte(out: &mut Vec<u8>, byte: u8) -> Result<(), OutOfMemory>
-    ensures { OnOk result (out.new.items ≡ out.old.items ++ shown_byte byte) }
+fn put_byte(out: &mut Draft, byte: u8)
+    ensures { out.new ≡ out.old ++ shown_byte byte }
 {
     if is_plain(byte) {
-        out.push(byte)?;
+        out.put_byte(byte);
     } else {
-        let digits = [hex_digit(byte / 16 % 16), hex_digit(byte % 16)];
-        out.extend_from_slice(b"\\x")?;
-        out.extend_from_slice(&digits)?;
+        out.put(&[b'\\', b'x', hex_digit(byte / 16 % 16), hex_digit(byte % 16)]);
     }
-    Ok(())
 }
 
 /// Puts bytes as printable ASCII: each that is none, and the backslash, as `\x` and two hexadecimal digits.
-pub(crate) fn put_escaped(out: &mut Vec<u8>, bytes: &[u8]) -> Result<(), OutOfMemory>
-    ensures { OnOk result (out.new.items ≡ out.old.items ++ escaped bytes.now) }
+pub(crate) fn put_escaped(out: &mut Draft, bytes: &[u8])
+    ensures { out.new ≡ out.old ++ escaped bytes.now }
 {
     for byte in bytes {
-        put_byte(out, *byte)?;
+        put_byte(out, *byte);
     }
-    Ok(())
 }
 
 // What is shown of a longer value.
@@ -52,14 +48,24 @@ fn front_of(value: &[u8]) -> &[u8]
 }
 
 /// Puts a value as printable ASCII: each byte that is none, and the backslash, as `\x` and two hexadecimal digits; of a longer
-/// value the first 64 bytes, and `..`. Its only error is want of memory.
+/// value the first 64 bytes, and `..`.
 #[tactic(auto, unfolding(crate::specs::Escaping::shown))]
+pub fn write_shown(out: &mut Draft, value: &[u8])
+    ensures { out.new ≡ out.old ++ shown value.now }
+{
+    if value.len() <= LONGEST_VALUE {
+        put_escaped(out, value);
+    } else {
+        put_escaped(out, front_of(value));
+        out.put(b"..");
+    }
+}
+
+/// Puts a value as `write_shown` does. Its only error is want of memory.
 pub fn put_shown(out: &mut Vec<u8>, value: &[u8]) -> Result<(), OutOfMemory>
     ensures { OnOk result (out.new.items ≡ out.old.items ++ shown value.now) }
 {
-    if value.len() <= LONGEST_VALUE {
-        return put_escaped(out, value);
-    }
-    put_escaped(out, front_of(value))?;
-    out.extend_from_slice(b"..")
+    let mut draft = Draft::new(*out.allocator());
+    write_shown(&mut draft, value);
+    draft.append_to(out)
 }

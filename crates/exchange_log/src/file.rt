@@ -1,12 +1,12 @@
 //! The file: its head, and the packets that follow.
-ghost use Rattle.std.specs.Prelude.{◌≡◌, ◌≤◌, ◌++◌, length, IfOk, OnOk, OnErr};
+ghost use Rattle.std.specs.Prelude.{◌≡◌, ◌≤◌, ◌++◌, length, OnOk, OnErr};
 ghost use Rattle.exchange_log.specs.Packet.{carried, ipv4_packet};
 ghost use Rattle.exchange_log.specs.File.{file_head, record_head, record_of};
 
 use crate::header::{put_ipv4_header, put_udp_header};
 use crate::octets::put_number;
 use crate::packet::Packet;
-use mg_bytes::OutOfMemory;
+use mg_bytes::{Draft, OutOfMemory};
 use std::alloc::Global;
 
 // What a file begins with: the number of the format, its version, 0 twice, the greatest length of a packet, and that its
@@ -48,38 +48,30 @@ fn carried(bytes: &[u8]) -> &[u8]
 
 // What stands before a packet of this length.
 #[tactic(auto, unfolding(crate::specs::File::record_head))]
-fn put_record_head(out: &mut Vec<u8>, moment: u64, total: u16) -> Result<(), OutOfMemory>
-    ensures { OnOk result (out.new.items ≡ out.old.items ++ record_head moment total) }
+fn put_record_head(out: &mut Draft, moment: u64, total: u16)
+    ensures { out.new ≡ out.old ++ record_head moment total }
 {
-    put_number(out, moment / MICROSECONDS)?;
-    put_number(out, moment % MICROSECONDS)?;
-    put_number(out, u64::from(total))?;
-    put_number(out, u64::from(total))
+    put_number(out, moment / MICROSECONDS);
+    put_number(out, moment % MICROSECONDS);
+    put_number(out, u64::from(total));
+    put_number(out, u64::from(total));
 }
 
-// A packet with what stands before it.
+/// Puts a datagram as a packet, with its moment: what tshark, Wireshark and tcpdump show of it. Of one of more than 65,507
+/// bytes, which no network carries, the front alone. After an error `out` is as it was.
 #[tactic(auto, unfolding(crate::specs::File::record_of, crate::specs::Packet::ipv4_packet))]
-fn record_bytes(alloc: Global, packet: &Packet<'_>) -> Result<Vec<u8>, OutOfMemory>
-    ensures { IfOk result (λ bytes. bytes.items ≡ record_of packet.now) }
+pub fn put_packet(alloc: Global, out: &mut Vec<u8>, packet: &Packet<'_>) -> Result<(), OutOfMemory>
+    ensures ok { OnOk result (out.new.items ≡ out.old.items ++ record_of packet.now) }
+    ensures err { OnErr result (out.new.items ≡ out.old.items) }
 {
     let bytes = carried(packet.bytes);
     let udp_total = UDP_HEADER + bytes.len() as u16;
     let total = IPV4_HEADER + udp_total;
     let (from, to) = (packet.from, packet.to);
-    let mut out = Vec::new(alloc);
-    put_record_head(&mut out, packet.moment, total)?;
-    put_ipv4_header(&mut out, total, *from.ip(), *to.ip())?;
-    put_udp_header(&mut out, from.port(), to.port(), udp_total)?;
-    out.extend_from_slice(bytes)?;
-    Ok(out)
-}
-
-/// Puts a datagram as a packet, with its moment: what tshark, Wireshark and tcpdump show of it. Of one of more than 65,507
-/// bytes, which no network carries, the front alone. After an error `out` is as it was.
-pub fn put_packet(alloc: Global, out: &mut Vec<u8>, packet: &Packet<'_>) -> Result<(), OutOfMemory>
-    ensures ok { OnOk result (out.new.items ≡ out.old.items ++ record_of packet.now) }
-    ensures err { OnErr result (out.new.items ≡ out.old.items) }
-{
-    let record = record_bytes(alloc, packet)?;
-    out.extend_from_slice(&record)
+    let mut record = Draft::new(alloc);
+    put_record_head(&mut record, packet.moment, total);
+    put_ipv4_header(&mut record, total, *from.ip(), *to.ip());
+    put_udp_header(&mut record, from.port(), to.port(), udp_total);
+    record.put(bytes);
+    record.append_to(out)
 }

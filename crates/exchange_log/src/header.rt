@@ -1,11 +1,11 @@
 //! The headers of a packet: IPv4 (RFC 791, 3.1) and UDP (RFC 768).
-ghost use Rattle.std.specs.Prelude.{◌≡◌, ◌+◌, ◌*◌, [], ◌∷◌, ◌++◌, OnOk};
+ghost use Rattle.std.specs.Prelude.{◌≡◌, ◌+◌, ◌*◌, [], ◌∷◌, ◌++◌};
 ghost use Rattle.std.specs.Net.Addr.{segments_of};
 ghost use Rattle.exchange_log.specs.Packet.{header_words, ipv4_header, udp_header};
 
 use crate::checksum::checksum_of;
 use crate::octets::put_words;
-use mg_bytes::OutOfMemory;
+use mg_bytes::Draft;
 use std::net::Ipv4Addr;
 
 // Version 4, a header of five words of 32 bits, and the usual service.
@@ -55,28 +55,18 @@ fn header_words(total: u16, source: Ipv4Addr, destination: Ipv4Addr, checksum: u
 
 /// Puts the IPv4 header of a packet of this length, in bytes.
 #[tactic(auto, unfolding(crate::specs::Packet::ipv4_header))]
-pub(crate) fn put_ipv4_header(
-    out: &mut Vec<u8>,
-    total: u16,
-    source: Ipv4Addr,
-    destination: Ipv4Addr,
-) -> Result<(), OutOfMemory>
-    ensures { OnOk result (out.new.items ≡ out.old.items ++ ipv4_header total source.octets destination.octets) }
+pub(crate) fn put_ipv4_header(out: &mut Draft, total: u16, source: Ipv4Addr, destination: Ipv4Addr)
+    ensures { out.new ≡ out.old ++ ipv4_header total source.octets destination.octets }
 {
     let unchecked = header_words(total, source, destination, 0);
     let words = header_words(total, source, destination, checksum_of(&unchecked));
-    put_words(out, &words)
+    put_words(out, &words);
 }
 
 /// Puts the UDP header of a datagram of this length, in bytes, the header's own among them.
 #[tactic(auto, unfolding(crate::specs::Packet::udp_header))]
-pub(crate) fn put_udp_header(
-    out: &mut Vec<u8>,
-    source: u16,
-    destination: u16,
-    total: u16,
-) -> Result<(), OutOfMemory>
-    ensures { OnOk result (out.new.items ≡ out.old.items ++ udp_header source destination total) }
+pub(crate) fn put_udp_header(out: &mut Draft, source: u16, destination: u16, total: u16)
+    ensures { out.new ≡ out.old ++ udp_header source destination total }
 {
-    put_words(out, &[source, destination, total, 0])
+    put_words(out, &[source, destination, total, 0]);
 }

@@ -4,11 +4,12 @@ ghost use Rattle.std.specs.Net.Text.{socket_v4_text};
 ghost use Rattle.exchange_log.specs.Lines.{stamp_text, mark_of, waited_text, message_line, note_line, notice_line, given_up_line, refused_line};
 
 use crate::escaping::put_escaped;
+use crate::host::put_peer;
 use crate::messages::{put_header, put_text};
 use crate::note::{Note, Notice, put_note_text, put_notice_text};
 use crate::stamp::{Stamp, Way};
 use crate::time::put_date_and_time;
-use mg_bytes::{OutOfMemory, put_decimal};
+use mg_bytes::{Draft, OutOfMemory};
 use mgcp_text::TransactionId;
 use std::alloc::Global;
 use std::net::SocketAddrV4;
@@ -24,15 +25,14 @@ pub fn peer_text(alloc: Global, peer: SocketAddrV4) -> Result<String, OutOfMemor
 
 // A line that has begun.
 #[tactic(auto, unfolding(crate::specs::Lines::stamp_text))]
-fn begun(alloc: Global, stamp: Stamp) -> Result<Vec<u8>, OutOfMemory>
-    ensures { IfOk result (λ line. line.items ≡ stamp_text stamp) }
+fn begun(alloc: Global, stamp: Stamp) -> Draft
+    ensures { result ≡ stamp_text stamp }
 {
-    let peer = peer_text(alloc, stamp.peer)?;
-    let mut line = Vec::new(alloc);
-    put_date_and_time(&mut line, stamp.moment)?;
-    line.push(b' ')?;
-    line.extend_from_slice(peer.as_bytes())?;
-    Ok(line)
+    let mut line = Draft::new(alloc);
+    put_date_and_time(&mut line, stamp.moment);
+    line.put_byte(b' ');
+    put_peer(&mut line, stamp.peer);
+    line
 }
 
 fn mark_of(way: Way) -> &'static [u8]
@@ -44,34 +44,14 @@ fn mark_of(way: Way) -> &'static [u8]
     }
 }
 
-fn put_waited(alloc: Global, out: &mut Vec<u8>, waited: Option<u64>) -> Result<(), OutOfMemory>
-    ensures { OnOk result (out.new.items ≡ out.old.items ++ waited_text waited) }
+fn put_waited(out: &mut Draft, waited: Option<u64>)
+    ensures { out.new ≡ out.old ++ waited_text waited }
 {
     if let Some(ms) = waited {
-        out.extend_from_slice(b" +")?;
-        put_decimal(alloc, out, ms)?;
-        out.extend_from_slice(b" ms")?;
+        out.put(b" +");
+        out.put_decimal(ms);
+        out.put(b" ms");
     }
-    Ok(())
-}
-
-#[tactic(auto, unfolding(crate::specs::Lines::message_line))]
-fn message_line(
-    alloc: Global,
-    own: &[u8],
-    stamp: Stamp,
-    way: Way,
-    text: &[u8],
-    waited: Option<u64>,
-) -> Result<Vec<u8>, OutOfMemory>
-    ensures { IfOk result (λ line. line.items ≡ message_line own.now stamp way text.now waited) }
-{
-    let mut line = begun(alloc, stamp)?;
-    line.extend_from_slice(mark_of(way))?;
-    put_text(&mut line, own, text)?;
-    put_waited(alloc, &mut line, waited)?;
-    line.push(b'\n')?;
-    Ok(line)
 }
 
 /// Puts a message that came or is sent, in one line, as `2026-11-27T12:03:07.123Z 10.0.0.7:2727 > RQNT 1207 aaln/1 S: L/rg`:
@@ -80,6 +60,7 @@ fn message_line(
 /// other is whole; where `own` is empty all are. `waited` is how long the command had been waiting for this answer, in ms, and
 /// is shown behind it, as ` +12 ms`. Of a value of more than 64 bytes the front is shown, and `..`; each byte that isn't
 /// printable ASCII, and the backslash, as `\x1b`. After an error, which is for want of memory only, `out` is as it was.
+#[tactic(auto, unfolding(crate::specs::Lines::message_line))]
 pub fn put_message(
     alloc: Global,
     out: &mut Vec<u8>,
@@ -92,23 +73,17 @@ pub fn put_message(
     ensures ok { OnOk result (out.new.items ≡ out.old.items ++ message_line own.now stamp way text.now waited) }
     ensures err { OnErr result (out.new.items ≡ out.old.items) }
 {
-    let line = message_line(alloc, own, stamp, way, text, waited)?;
-    out.extend_from_slice(&line)
-}
-
-#[tactic(auto, unfolding(crate::specs::Lines::note_line))]
-fn note_line(alloc: Global, stamp: Stamp, note: Note) -> Result<Vec<u8>, OutOfMemory>
-    ensures { IfOk result (λ line. line.items ≡ note_line stamp note) }
-{
-    let mut line = begun(alloc, stamp)?;
-    line.extend_from_slice(b" ! ")?;
-    put_note_text(alloc, &mut line, note)?;
-    line.push(b'\n')?;
-    Ok(line)
+    let mut line = begun(alloc, stamp);
+    line.put(mark_of(way));
+    put_text(&mut line, own, text);
+    put_waited(&mut line, waited);
+    line.put_byte(b'\n');
+    line.append_to(out)
 }
 
 /// Puts a note in one line, as `2026-11-27T12:03:07.123Z 10.0.0.7:2727 ! repeat of 1205, answered again`. After an error, which
 /// is for want of memory only, `out` is as it was.
+#[tactic(auto, unfolding(crate::specs::Lines::note_line))]
 pub fn put_note(
     alloc: Global,
     out: &mut Vec<u8>,
@@ -118,25 +93,17 @@ pub fn put_note(
     ensures ok { OnOk result (out.new.items ≡ out.old.items ++ note_line stamp note) }
     ensures err { OnErr result (out.new.items ≡ out.old.items) }
 {
-    let line = note_line(alloc, stamp, note)?;
-    out.extend_from_slice(&line)
-}
-
-#[tactic(auto, unfolding(crate::specs::Lines::notice_line))]
-fn notice_line(alloc: Global, moment: u64, notice: Notice) -> Result<Vec<u8>, OutOfMemory>
-    ensures { IfOk result (λ line. line.items ≡ notice_line moment notice) }
-{
-    let mut line = Vec::new(alloc);
-    put_date_and_time(&mut line, moment)?;
-    line.extend_from_slice(b" ! ")?;
-    put_notice_text(alloc, &mut line, notice)?;
-    line.push(b'\n')?;
-    Ok(line)
+    let mut line = begun(alloc, stamp);
+    line.put(b" ! ");
+    put_note_text(&mut line, note);
+    line.put_byte(b'\n');
+    line.append_to(out)
 }
 
 /// Puts what is noted of the program itself at this moment, in microseconds since 1970 began, in one line, as
 /// `2026-11-27T12:03:07.123Z ! dropped 1234 lines, which nobody took`. After an error, which is for want of memory only, `out` is as it
 /// was.
+#[tactic(auto, unfolding(crate::specs::Lines::notice_line))]
 pub fn put_notice(
     alloc: Global,
     out: &mut Vec<u8>,
@@ -146,29 +113,18 @@ pub fn put_notice(
     ensures ok { OnOk result (out.new.items ≡ out.old.items ++ notice_line moment notice) }
     ensures err { OnErr result (out.new.items ≡ out.old.items) }
 {
-    let line = notice_line(alloc, moment, notice)?;
-    out.extend_from_slice(&line)
-}
-
-#[tactic(auto, unfolding(crate::specs::Lines::given_up_line))]
-fn given_up_line(
-    alloc: Global,
-    own: &[u8],
-    stamp: Stamp,
-    text: &[u8],
-) -> Result<Vec<u8>, OutOfMemory>
-    ensures { IfOk result (λ line. line.items ≡ given_up_line own.now stamp text.now) }
-{
-    let mut line = begun(alloc, stamp)?;
-    line.extend_from_slice(b" ! given up:")?;
-    put_header(&mut line, own, text)?;
-    line.push(b'\n')?;
-    Ok(line)
+    let mut line = Draft::new(alloc);
+    put_date_and_time(&mut line, moment);
+    line.put(b" ! ");
+    put_notice_text(&mut line, notice);
+    line.put_byte(b'\n');
+    line.append_to(out)
 }
 
 /// Puts that the gateway's own command of this text is given up (RFC 3435, 4.3), as `2026-11-27T12:03:27.123Z 10.0.0.7:2727 !
 /// given up: NTFY 10000003 aaln/1`, the name as `put_message` puts it. After an error, which is for want of memory only, `out` is as it
 /// was.
+#[tactic(auto, unfolding(crate::specs::Lines::given_up_line))]
 pub fn put_given_up(
     alloc: Global,
     out: &mut Vec<u8>,
@@ -179,31 +135,17 @@ pub fn put_given_up(
     ensures ok { OnOk result (out.new.items ≡ out.old.items ++ given_up_line own.now stamp text.now) }
     ensures err { OnErr result (out.new.items ≡ out.old.items) }
 {
-    let line = given_up_line(alloc, own, stamp, text)?;
-    out.extend_from_slice(&line)
-}
-
-#[tactic(auto, unfolding(crate::specs::Lines::refused_line))]
-fn refused_line(
-    alloc: Global,
-    stamp: Stamp,
-    id: TransactionId,
-    why: &[u8],
-) -> Result<Vec<u8>, OutOfMemory>
-    ensures { IfOk result (λ line. line.items ≡ refused_line stamp id why.now) }
-{
-    let mut line = begun(alloc, stamp)?;
-    line.extend_from_slice(b" ! refused ")?;
-    put_decimal(alloc, &mut line, u64::from(id.number()))?;
-    line.extend_from_slice(b": ")?;
-    put_escaped(&mut line, why)?;
-    line.push(b'\n')?;
-    Ok(line)
+    let mut line = begun(alloc, stamp);
+    line.put(b" ! given up:");
+    put_header(&mut line, own, text);
+    line.put_byte(b'\n');
+    line.append_to(out)
 }
 
 /// Puts that the command with this id is refused, and what is at fault, as `explain` of `command_forms` says it:
 /// `2026-11-27T12:03:07.123Z 10.0.0.7:2727 ! refused 1207: 518 unsupported or unknown package: value of parameter R`. Where nothing is
 /// known but the code, `Note::Refused` says it. After an error, which is for want of memory only, `out` is as it was.
+#[tactic(auto, unfolding(crate::specs::Lines::refused_line))]
 pub fn put_refused(
     alloc: Global,
     out: &mut Vec<u8>,
@@ -214,6 +156,11 @@ pub fn put_refused(
     ensures ok { OnOk result (out.new.items ≡ out.old.items ++ refused_line stamp id why.now) }
     ensures err { OnErr result (out.new.items ≡ out.old.items) }
 {
-    let line = refused_line(alloc, stamp, id, why)?;
-    out.extend_from_slice(&line)
+    let mut line = begun(alloc, stamp);
+    line.put(b" ! refused ");
+    line.put_decimal(u64::from(id.number()));
+    line.put(b": ");
+    put_escaped(&mut line, why);
+    line.put_byte(b'\n');
+    line.append_to(out)
 }

@@ -1,19 +1,19 @@
 //! How a message is shown in one line.
-ghost use Rattle.std.specs.Prelude.{◌≡◌, ◌++◌, OnOk};
+ghost use Rattle.std.specs.Prelude.{◌≡◌, ◌++◌};
 ghost use Rattle.std.specs.List.{flat_map};
 ghost use Rattle.mg_bytes.specs.Lines.{lines_of};
 ghost use Rattle.mg_bytes.specs.Words.{words as words_of};
 ghost use Rattle.exchange_log.specs.Messages.{set_off, name_shown, header_shown, line_shown, message_shown, header_of};
 
-use crate::escaping::put_shown;
-use mg_bytes::{OutOfMemory, lines, same_no_case, split_once, words};
+use crate::escaping::write_shown;
+use mg_bytes::{Draft, lines, same_no_case, split_once, words};
 
 // A value, behind a blank.
-fn put_set_off(out: &mut Vec<u8>, value: &[u8]) -> Result<(), OutOfMemory>
-    ensures { OnOk result (out.new.items ≡ out.old.items ++ set_off value.now) }
+fn put_set_off(out: &mut Draft, value: &[u8])
+    ensures { out.new ≡ out.old ++ set_off value.now }
 {
-    out.push(b' ')?;
-    put_shown(out, value)
+    out.put_byte(b' ');
+    write_shown(out, value);
 }
 
 // An endpoint's name, without its domain where that is the gateway's own.
@@ -29,59 +29,58 @@ fn name_shown<'n>(own: &[u8], name: &'n [u8]) -> &'n [u8]
 
 // The first words of a header.
 #[tactic(auto, unfolding(crate::specs::Messages::header_shown))]
-fn put_words(out: &mut Vec<u8>, own: &[u8], header: &[u8]) -> Result<(), OutOfMemory>
-    ensures { OnOk result (out.new.items ≡ out.old.items ++ header_shown own.now (words_of header.now)) }
+fn put_words(out: &mut Draft, own: &[u8], header: &[u8])
+    ensures { out.new ≡ out.old ++ header_shown own.now (words_of header.now) }
 {
     let mut left = words(header);
     let Some(kind) = left.next() else {
-        return Ok(());
+        return;
     };
-    put_set_off(out, kind)?;
+    put_set_off(out, kind);
     let Some(id) = left.next() else {
-        return Ok(());
+        return;
     };
-    put_set_off(out, id)?;
+    put_set_off(out, id);
     let Some(name) = left.next() else {
-        return Ok(());
+        return;
     };
-    put_set_off(out, name_shown(own, name))
+    put_set_off(out, name_shown(own, name));
 }
 
 // The lines of a text that aren't empty, each behind a blank.
-fn put_lines(out: &mut Vec<u8>, text: &[u8]) -> Result<(), OutOfMemory>
-    ensures { OnOk result (out.new.items ≡ out.old.items ++ flat_map line_shown (lines_of text.now)) }
+fn put_lines(out: &mut Draft, text: &[u8])
+    ensures { out.new ≡ out.old ++ flat_map line_shown (lines_of text.now) }
 {
     for line in lines(text) {
         if !line.is_empty() {
-            put_set_off(out, line)?;
+            put_set_off(out, line);
         }
     }
-    Ok(())
 }
 
 /// Puts a message: the verb or return code, the transaction id, and the endpoint's name or the comment, and then its further
 /// lines, the parameters in their order and the description, each behind a blank. Of a name of the gateway's own domain the
 /// local name is put; where `own` is empty it has none.
 #[tactic(auto, unfolding(crate::specs::Messages::message_shown))]
-pub(crate) fn put_text(out: &mut Vec<u8>, own: &[u8], text: &[u8]) -> Result<(), OutOfMemory>
-    ensures { OnOk result (out.new.items ≡ out.old.items ++ message_shown own.now text.now) }
+pub(crate) fn put_text(out: &mut Draft, own: &[u8], text: &[u8])
+    ensures { out.new ≡ out.old ++ message_shown own.now text.now }
 {
     let mut left = lines(text);
     let Some(header) = left.next() else {
-        return Ok(());
+        return;
     };
-    put_words(out, own, header)?;
-    put_lines(out, left.rest())
+    put_words(out, own, header);
+    put_lines(out, left.rest());
 }
 
 /// Puts what is first of a message alone: the verb, the transaction id and the endpoint's name, as `put_text` does.
 #[tactic(auto, unfolding(crate::specs::Messages::header_of))]
-pub(crate) fn put_header(out: &mut Vec<u8>, own: &[u8], text: &[u8]) -> Result<(), OutOfMemory>
-    ensures { OnOk result (out.new.items ≡ out.old.items ++ header_of own.now text.now) }
+pub(crate) fn put_header(out: &mut Draft, own: &[u8], text: &[u8])
+    ensures { out.new ≡ out.old ++ header_of own.now text.now }
 {
     let mut left = lines(text);
     let Some(header) = left.next() else {
-        return Ok(());
+        return;
     };
-    put_words(out, own, header)
+    put_words(out, own, header);
 }

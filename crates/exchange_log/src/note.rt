@@ -1,15 +1,15 @@
 //! What is noted beside messages.
-ghost use Rattle.std.specs.Prelude.{◌≡◌, ◌++◌, codes, decimal, string_bytes, IfOk, OnOk};
+ghost use Rattle.std.specs.Prelude.{◌≡◌, ◌++◌, codes, decimal};
 ghost use Rattle.std.specs.Net.Addr.{ipv4_octets};
 ghost use Rattle.std.specs.Net.Text.{ipv4_text};
 ghost use Rattle.mg_bytes.specs.ReturnCode.{code_with};
 ghost use Rattle.exchange_log.specs.Grouping.{number_shown};
 ghost use Rattle.exchange_log.specs.Notes.{words_from, untold_text, note_text, notice_text};
 
-use crate::grouping::put_number;
-use mg_bytes::{OutOfMemory, ReturnCode, put_decimal};
+use crate::grouping::write_number;
+use crate::host::put_host;
+use mg_bytes::{Draft, ReturnCode};
 use mgcp_text::TransactionId;
-use std::alloc::Global;
 use std::net::Ipv4Addr;
 
 /// What is noted of what came or went.
@@ -53,117 +53,75 @@ pub enum Notice {
 }
 
 // Pieces around a number.
-fn put_around(
-    alloc: Global,
-    out: &mut Vec<u8>,
-    before: &[u8],
-    number: u64,
-    after: &[u8],
-) -> Result<(), OutOfMemory>
-    ensures { OnOk result (out.new.items ≡ out.old.items ++ (before.now ++ decimal number ++ after.now)) }
+fn put_around(out: &mut Draft, before: &[u8], number: u64, after: &[u8])
+    ensures { out.new ≡ out.old ++ (before.now ++ decimal number ++ after.now) }
 {
-    out.extend_from_slice(before)?;
-    put_decimal(alloc, out, number)?;
-    out.extend_from_slice(after)
+    out.put(before);
+    out.put_decimal(number);
+    out.put(after);
 }
 
 // What the standard says of a return code, behind a blank, where it is one of this gateway's.
-fn put_words(out: &mut Vec<u8>, code: u16) -> Result<(), OutOfMemory>
-    ensures { OnOk result (out.new.items ≡ out.old.items ++ words_from (code_with code)) }
+fn put_words(out: &mut Draft, code: u16)
+    ensures { out.new ≡ out.old ++ words_from (code_with code) }
 {
     if let Some(code) = ReturnCode::with_number(code) {
-        out.push(b' ')?;
-        out.extend_from_slice(code.words().as_bytes())?;
+        out.put_byte(b' ');
+        out.put(code.words().as_bytes());
     }
-    Ok(())
 }
 
 // Why a command is refused, by the code alone.
-fn put_refusal(
-    alloc: Global,
-    out: &mut Vec<u8>,
-    id: TransactionId,
-    code: u16,
-) -> Result<(), OutOfMemory>
-    ensures { OnOk result (out.new.items ≡ out.old.items
-        ++ (codes "refused " ++ decimal id ++ codes ": " ++ decimal code ++ words_from (code_with code))) }
+fn put_refusal(out: &mut Draft, id: TransactionId, code: u16)
+    ensures { out.new ≡ out.old
+        ++ (codes "refused " ++ decimal id ++ codes ": " ++ decimal code ++ words_from (code_with code)) }
 {
-    put_around(alloc, out, b"refused ", number_of(id), b": ")?;
-    put_decimal(alloc, out, u64::from(code))?;
-    put_words(out, code)
+    put_around(out, b"refused ", number_of(id), b": ");
+    out.put_decimal(u64::from(code));
+    put_words(out, code);
 }
 
 // Pieces around two numbers.
-fn put_both(
-    alloc: Global,
-    out: &mut Vec<u8>,
-    before: &[u8],
-    first: u64,
-    between: &[u8],
-    second: u64,
-    after: &[u8],
-) -> Result<(), OutOfMemory>
-    ensures { OnOk result (out.new.items
-        ≡ out.old.items ++ (before.now ++ decimal first ++ between.now ++ decimal second ++ after.now)) }
+fn put_both(out: &mut Draft, before: &[u8], first: u64, between: &[u8], second: u64, after: &[u8])
+    ensures { out.new ≡ out.old ++ (before.now ++ decimal first ++ between.now ++ decimal second ++ after.now) }
 {
-    put_around(alloc, out, before, first, between)?;
-    put_decimal(alloc, out, second)?;
-    out.extend_from_slice(after)
+    put_around(out, before, first, between);
+    out.put_decimal(second);
+    out.put(after);
 }
 
 // How many strangers aren't told of, where there are any.
-fn put_untold(alloc: Global, out: &mut Vec<u8>, untold: u64) -> Result<(), OutOfMemory>
-    ensures { OnOk result (out.new.items ≡ out.old.items ++ untold_text untold) }
+fn put_untold(out: &mut Draft, untold: u64)
+    ensures { out.new ≡ out.old ++ untold_text untold }
 {
-    if untold == 0 {
-        return Ok(());
+    if untold != 0 {
+        put_around(out, b", as ", untold, b" before it");
     }
-    put_around(alloc, out, b", as ", untold, b" before it")
 }
 
 // A piece, and how many strangers aren't told of.
-fn put_before_untold(
-    alloc: Global,
-    out: &mut Vec<u8>,
-    before: &[u8],
-    untold: u64,
-) -> Result<(), OutOfMemory>
-    ensures { OnOk result (out.new.items ≡ out.old.items ++ (before.now ++ untold_text untold)) }
+fn put_before_untold(out: &mut Draft, before: &[u8], untold: u64)
+    ensures { out.new ≡ out.old ++ (before.now ++ untold_text untold) }
 {
-    out.extend_from_slice(before)?;
-    put_untold(alloc, out, untold)
-}
-
-// An address as text.
-fn host_text(alloc: Global, host: Ipv4Addr) -> Result<String, OutOfMemory>
-    ensures { IfOk result (λ text. string_bytes text ≡ ipv4_text (ipv4_octets host)) }
-{
-    let mut text = String::new(alloc);
-    write!(text, "{host}")?;
-    Ok(text)
+    out.put(before);
+    put_untold(out, untold);
 }
 
 // A piece, and an address.
-fn put_before_host(
-    alloc: Global,
-    out: &mut Vec<u8>,
-    before: &[u8],
-    host: Ipv4Addr,
-) -> Result<(), OutOfMemory>
-    ensures { OnOk result (out.new.items ≡ out.old.items ++ (before.now ++ ipv4_text (ipv4_octets host))) }
+fn put_before_host(out: &mut Draft, before: &[u8], host: Ipv4Addr)
+    ensures { out.new ≡ out.old ++ (before.now ++ ipv4_text (ipv4_octets host)) }
 {
-    let host = host_text(alloc, host)?;
-    out.extend_from_slice(before)?;
-    out.extend_from_slice(host.as_bytes())
+    out.put(before);
+    put_host(out, host);
 }
 
 // A command is lost, since so many are remembered.
-fn put_no_room(alloc: Global, out: &mut Vec<u8>, young: u64) -> Result<(), OutOfMemory>
-    ensures { OnOk result (out.new.items ≡ out.old.items ++ (codes "lost: " ++ number_shown young ++ codes " commands are young")) }
+fn put_no_room(out: &mut Draft, young: u64)
+    ensures { out.new ≡ out.old ++ (codes "lost: " ++ number_shown young ++ codes " commands are young") }
 {
-    out.extend_from_slice(b"lost: ")?;
-    put_number(alloc, out, young)?;
-    out.extend_from_slice(b" commands are young")
+    out.put(b"lost: ");
+    write_number(out, young);
+    out.put(b" commands are young");
 }
 
 // The number that an id is.
@@ -175,78 +133,57 @@ fn number_of(id: TransactionId) -> u64
 
 /// Puts what a note says.
 #[tactic(auto, unfolding(crate::specs::Notes::note_text))]
-pub(crate) fn put_note_text(alloc: Global, out: &mut Vec<u8>, note: Note) -> Result<(), OutOfMemory>
-    ensures { OnOk result (out.new.items ≡ out.old.items ++ note_text note) }
+pub(crate) fn put_note_text(out: &mut Draft, note: Note)
+    ensures { out.new ≡ out.old ++ note_text note }
 {
     match note {
-        Note::AnsweredAgain(id) => {
-            put_around(
-                alloc,
-                out,
-                b"repeat of ",
-                number_of(id),
-                b", answered again",
-            )
-        }
+        Note::AnsweredAgain(id) => put_around(
+            out,
+            b"repeat of ",
+            number_of(id),
+            b", answered again",
+        ),
         Note::Unanswered(id) => {
             put_around(
-                alloc,
                 out,
                 b"repeat of ",
                 number_of(id),
                 b", confirmed, not answered",
             )
         }
-        Note::SentAgain(id) => {
-            put_around(alloc, out, b"repeat of ", number_of(id), b", no answer yet")
-        }
-        Note::Refused { id, code } => put_refusal(alloc, out, id, code),
-        Note::Unreadable => out.extend_from_slice(b"no message"),
+        Note::SentAgain(id) => put_around(out, b"repeat of ", number_of(id), b", no answer yet"),
+        Note::Refused { id, code } => put_refusal(out, id, code),
+        Note::Unreadable => out.put(b"no message"),
         Note::TooLong { length } => {
-            put_around(alloc, out, b"too long: ", length as u64, b" bytes or more")
+            put_around(out, b"too long: ", length as u64, b" bytes or more")
         }
-        Note::Unsent => out.extend_from_slice(b"not sent"),
-        Note::Lost => out.extend_from_slice(b"lost on its way"),
-        Note::Late { ms } => put_around(alloc, out, b"late by ", ms, b" ms"),
+        Note::Unsent => out.put(b"not sent"),
+        Note::Lost => out.put(b"lost on its way"),
+        Note::Late { ms } => put_around(out, b"late by ", ms, b" ms"),
         Note::Copied { first, second } => {
-            put_both(
-                alloc,
-                out,
-                b"copied, late by ",
-                first,
-                b" and ",
-                second,
-                b" ms",
-            )
+            put_both(out, b"copied, late by ", first, b" and ", second, b" ms")
         }
-        Note::OutOfMemory => out.extend_from_slice(b"out of memory, nothing was done"),
-        Note::Stranger { untold } => {
-            put_before_untold(alloc, out, b"a stranger's, not heard", untold)
-        }
+        Note::OutOfMemory => out.put(b"out of memory, nothing was done"),
+        Note::Stranger { untold } => { put_before_untold(out, b"a stranger's, not heard", untold) }
         Note::Unheard { host } => {
             put_before_host(
-                alloc,
                 out,
                 b"no answer is heard from there, but with --agents ",
                 host,
             )
         }
-        Note::NoRoom { young } => put_no_room(alloc, out, young),
+        Note::NoRoom { young } => put_no_room(out, young),
     }
 }
 
 /// Puts what a notice says.
 #[tactic(auto, unfolding(crate::specs::Notes::notice_text))]
-pub(crate) fn put_notice_text(
-    alloc: Global,
-    out: &mut Vec<u8>,
-    notice: Notice,
-) -> Result<(), OutOfMemory>
-    ensures { OnOk result (out.new.items ≡ out.old.items ++ notice_text notice) }
+pub(crate) fn put_notice_text(out: &mut Draft, notice: Notice)
+    ensures { out.new ≡ out.old ++ notice_text notice }
 {
     match notice {
         Notice::Dropped { lines } => {
-            put_around(alloc, out, b"dropped ", lines, b" lines, which nobody took")
+            put_around(out, b"dropped ", lines, b" lines, which nobody took")
         }
     }
 }

@@ -1,9 +1,9 @@
 //! A pause of the program, as the log notes it.
-ghost use Rattle.std.specs.Prelude.{◌≡◌, ◌++◌, OnOk, Some};
+ghost use Rattle.std.specs.Prelude.{◌≡◌, ◌++◌, OnOk};
 ghost use Rattle.exchange_log.specs.Pausing.{seconds, waiting_words, waiting_text, pause_line};
 
 use crate::time::put_date_and_time;
-use mg_bytes::{OutOfMemory, put_decimal};
+use mg_bytes::{Draft, OutOfMemory};
 use std::alloc::Global;
 
 const SECOND: u64 = 1000;
@@ -33,27 +33,20 @@ fn waiting_words(number: u64) -> &'static [u8]
 
 // How many datagrams had come.
 #[tactic(auto, unfolding(crate::specs::Pausing::waiting_text))]
-fn put_counted(alloc: Global, out: &mut Vec<u8>, number: u64) -> Result<(), OutOfMemory>
-    ensures { OnOk result (out.new.items ≡ out.old.items ++ waiting_text (Some number)) }
+fn put_waiting(out: &mut Draft, waiting: Option<u64>)
+    ensures { out.new ≡ out.old ++ waiting_text waiting }
 {
-    out.extend_from_slice(b", ")?;
-    put_decimal(alloc, out, number)?;
-    out.extend_from_slice(waiting_words(number))
-}
-
-#[tactic(auto, unfolding(crate::specs::Pausing::waiting_text))]
-fn put_waiting(alloc: Global, out: &mut Vec<u8>, waiting: Option<u64>) -> Result<(), OutOfMemory>
-    ensures { OnOk result (out.new.items ≡ out.old.items ++ waiting_text waiting) }
-{
-    match waiting {
-        Some(number) => put_counted(alloc, out, number),
-        None => Ok(()),
+    if let Some(number) = waiting {
+        out.put(b", ");
+        out.put_decimal(number);
+        out.put(waiting_words(number));
     }
 }
 
 /// Puts that the program was stopped, as `2026-11-27T12:03:07.123Z ! paused for 31 s, 12 datagrams were waiting`: when it went on, in
 /// microseconds since 1970, how much later than it was to, in ms, and how many datagrams had come meanwhile, where that was counted.
-/// After an error, which is for want of memory only, part of it may stand there.
+/// Its only error is want of memory.
+#[tactic(auto, unfolding(crate::specs::Pausing::pause_line))]
 pub fn put_pause(
     alloc: Global,
     out: &mut Vec<u8>,
@@ -63,11 +56,12 @@ pub fn put_pause(
 ) -> Result<(), OutOfMemory>
     ensures { OnOk result (out.new.items ≡ out.old.items ++ pause_line moment lateness waiting) }
 {
-    put_date_and_time(out, moment)?;
-    out.extend_from_slice(b" ! paused for ")?;
-    put_decimal(alloc, out, seconds(lateness))?;
-    out.extend_from_slice(b" s")?;
-    put_waiting(alloc, out, waiting)?;
-    out.extend_from_slice(b"\n")?;
-    Ok(())
+    let mut line = Draft::new(alloc);
+    put_date_and_time(&mut line, moment);
+    line.put(b" ! paused for ");
+    line.put_decimal(seconds(lateness));
+    line.put(b" s");
+    put_waiting(&mut line, waiting);
+    line.put(b"\n");
+    line.append_to(out)
 }

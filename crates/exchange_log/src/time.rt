@@ -1,9 +1,9 @@
 //! The date and the time of day.
-ghost use Rattle.std.specs.Prelude.{◌≡◌, ◌<◌, ◌^◌, ◌++◌, OnOk};
+ghost use Rattle.std.specs.Prelude.{◌≡◌, ◌<◌, ◌^◌, ◌++◌};
 ghost use Rattle.exchange_log.specs.TimeOfDay.{two_digits, three_digits, date_of, time_of_day, date_and_time};
 
 use crate::calendar::{month_in, year_in};
-use mg_bytes::OutOfMemory;
+use mg_bytes::Draft;
 
 const DAY: u64 = 86_400_000_000;
 
@@ -35,42 +35,41 @@ fn three_digits(number: u64) -> [u8; 3]
 
 // Puts the date of a day, which is counted from 1 January 1970 on, as `2026-11-27`.
 #[tactic(auto, unfolding(crate::specs::TimeOfDay::date_of))]
-fn put_date(out: &mut Vec<u8>, day: u64) -> Result<(), OutOfMemory>
+fn put_date(out: &mut Draft, day: u64)
     requires { day < 2 ^ 32 }
-    ensures { OnOk result (out.new.items ≡ out.old.items ++ date_of day) }
+    ensures { out.new ≡ out.old ++ date_of day }
 {
     let (year, day) = year_in(day);
     let (month, day) = month_in(year, day);
-    out.extend_from_slice(&two_digits(year / 100))?;
-    out.extend_from_slice(&two_digits(year))?;
-    out.push(b'-')?;
-    out.extend_from_slice(&two_digits(month))?;
-    out.push(b'-')?;
-    out.extend_from_slice(&two_digits(day + 1))
+    out.put(&two_digits(year / 100));
+    out.put(&two_digits(year));
+    out.put_byte(b'-');
+    out.put(&two_digits(month));
+    out.put_byte(b'-');
+    out.put(&two_digits(day + 1));
 }
 
 // Puts the time of day of a moment in microseconds since 1970 began, as `12:03:07.123`.
 #[tactic(auto, unfolding(crate::specs::TimeOfDay::time_of_day))]
-fn put_time(out: &mut Vec<u8>, moment: u64) -> Result<(), OutOfMemory>
-    ensures { OnOk result (out.new.items ≡ out.old.items ++ time_of_day moment) }
+fn put_time(out: &mut Draft, moment: u64)
+    ensures { out.new ≡ out.old ++ time_of_day moment }
 {
-    out.extend_from_slice(&two_digits(moment / HOUR % 24))?;
-    out.push(b':')?;
-    out.extend_from_slice(&two_digits(moment / MINUTE % 60))?;
-    out.push(b':')?;
-    out.extend_from_slice(&two_digits(moment / SECOND % 60))?;
-    out.push(b'.')?;
-    out.extend_from_slice(&three_digits(moment / MILLISECOND % 1_000))
+    out.put(&two_digits(moment / HOUR % 24));
+    out.put_byte(b':');
+    out.put(&two_digits(moment / MINUTE % 60));
+    out.put_byte(b':');
+    out.put(&two_digits(moment / SECOND % 60));
+    out.put_byte(b'.');
+    out.put(&three_digits(moment / MILLISECOND % 1_000));
 }
 
 /// Puts the date and the time of day of a moment in microseconds since 1970 began, in UTC, as `2026-11-27T12:03:07.123Z` (RFC 3339, 5.6).
 #[tactic(auto, unfolding(crate::specs::TimeOfDay::date_and_time))]
-pub(crate) fn put_date_and_time(out: &mut Vec<u8>, moment: u64) -> Result<(), OutOfMemory>
-    ensures { OnOk result (out.new.items ≡ out.old.items ++ date_and_time moment) }
+pub(crate) fn put_date_and_time(out: &mut Draft, moment: u64)
+    ensures { out.new ≡ out.old ++ date_and_time moment }
 {
-    put_date(out, moment / DAY)?;
-    out.push(b'T')?;
-    put_time(out, moment)?;
-    out.push(b'Z')?;
-    Ok(())
+    put_date(out, moment / DAY);
+    out.put_byte(b'T');
+    put_time(out, moment);
+    out.put_byte(b'Z');
 }

@@ -3,4 +3,4 @@ use Rattle.exchange_log.specs.Escaping.{escaped}
 use Rattle.exchange_log.proofs.escaping.put_escaped.Given as goal
 
 abbrev pub invariant-loop-byte : goal.invariant-loop-byte
-invariant-loop-byte l = l.out.items ++ escaped (drop l.byte-index l.bytes) ≡ l.fn.out.items ++ escaped l.bytes
+invariant-loop-byte l = l.out ++ escaped (drop l.byte-index l.bytes) ≡ l.fn.out ++ escaped l.bytes

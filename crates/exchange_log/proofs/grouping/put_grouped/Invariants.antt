@@ -3,7 +3,7 @@ use Rattle.exchange_log.specs.Grouping.{grouped}
 use Rattle.exchange_log.proofs.grouping.put_grouped.Given as goal
 
 abbrev pub invariant-loop-rest : goal.invariant-loop-rest
-invariant-loop-rest l = l.out.items ++ grouped l.rest ≡ l.fn.out.items ++ grouped l.digits
+invariant-loop-rest l = l.out ++ grouped l.rest ≡ l.fn.out ++ grouped l.digits
 
 abbrev pub decreases-loop-rest : goal.decreases-loop-rest
 decreases-loop-rest l = length l.rest

@@ -7,4 +7,4 @@ use Rattle.exchange_log.proofs.messages.put_lines.Given as goal
 
 abbrev pub invariant-loop-line : goal.invariant-loop-line
 invariant-loop-line l =
-    l.out.items ++ flat_map line_shown (map line_of l.line-iterator) ≡ l.fn.out.items ++ flat_map line_shown (lines_of l.text)
+    l.out ++ flat_map line_shown (map line_of l.line-iterator) ≡ l.fn.out ++ flat_map line_shown (lines_of l.text)

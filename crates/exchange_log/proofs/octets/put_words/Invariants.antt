@@ -3,4 +3,4 @@ use Rattle.std.specs.Net.Addr.{octets_of}
 use Rattle.exchange_log.proofs.octets.put_words.Given as goal
 
 abbrev pub invariant-loop-word : goal.invariant-loop-word
-invariant-loop-word l = l.out.items ++ octets_of (drop l.word-index l.words) ≡ l.fn.out.items ++ octets_of l.words
+invariant-loop-word l = l.out ++ octets_of (drop l.word-index l.words) ≡ l.fn.out ++ octets_of l.words
