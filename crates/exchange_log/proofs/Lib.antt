@@ -5,3 +5,4 @@ pub mod EscapingLaws
 pub mod LineLaws
 pub mod CalendarLemmas
 pub mod Computing
+mod FileLemmas

@@ -47,14 +47,13 @@ fn carried(bytes: &[u8]) -> &[u8]
 }
 
 // What stands before a packet of this length.
-#[tactic(auto, unfolding(crate::specs::File::record_head))]
-fn put_record_head(out: &mut Draft, moment: u64, total: u16)
+fn put_record_head(out: &mut Draft, moment: u64, total: u64)
     ensures { out.new ≡ out.old ++ record_head moment total }
 {
     put_number(out, moment / MICROSECONDS);
     put_number(out, moment % MICROSECONDS);
-    put_number(out, u64::from(total));
-    put_number(out, u64::from(total));
+    put_number(out, total);
+    put_number(out, total);
 }
 
 /// Puts a datagram as a packet, with its moment: what tshark, Wireshark and tcpdump show of it. Of one of more than 65,507
@@ -69,7 +68,7 @@ pub fn put_packet(alloc: Global, out: &mut Vec<u8>, packet: &Packet<'_>) -> Resu
     let total = IPV4_HEADER + udp_total;
     let (from, to) = (packet.from, packet.to);
     let mut record = Draft::new(alloc);
-    put_record_head(&mut record, packet.moment, total);
+    put_record_head(&mut record, packet.moment, u64::from(total));
     put_ipv4_header(&mut record, total, *from.ip(), *to.ip());
     put_udp_header(&mut record, from.port(), to.port(), udp_total);
     record.put(bytes);
