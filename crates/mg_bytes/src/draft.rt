@@ -1,7 +1,7 @@
 //! A text that is put together of pieces.
 ghost use Rattle.std.specs.Prelude.{◌≡◌, ◌++◌, ◌∷◌, [], decimal, IfOk, OnOk, OnErr};
 
-use crate::owned::OutOfMemory;
+use crate::owned::{OutOfMemory, Text};
 use crate::told::Told;
 use itoa::Buffer;
 use std::alloc::{AllocError, Global};
@@ -89,6 +89,14 @@ impl Draft {
             return Err(AllocError);
         }
         Ok(bytes)
+    }
+
+    /// All that was put, as a text. Its only error is want of memory, also for what was put.
+    pub fn into_text(self) -> Result<Text, OutOfMemory>
+        ensures { IfOk result (λ text. text ≡ self) }
+    {
+        let bytes = self.end()?;
+        Ok(Text::of(bytes))
     }
 
     /// Appends all that was put to a text. After an error, which is for want of memory only, also for what was put, `out` is as
