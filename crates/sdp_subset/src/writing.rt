@@ -1,5 +1,5 @@
 //! How a session is written (RFC 2327, 6; RFC 3435, 3.4).
-ghost use Rattle.std.specs.Prelude.{◌≡◌, ◌≤◌, ◌++◌, IfOk, OnOk, IfSome, Some, false, codes, decimal, length, slice_get};
+ghost use Rattle.std.specs.Prelude.{◌≡◌, ◌≤◌, ◌++◌, IfOk, IfSome, Some, false, codes, decimal, length, slice_get};
 ghost use Rattle.std.specs.List.{AllByRecursion, flat_map, list_any};
 ghost use Rattle.mg_bytes.specs.Lines.{cut, lines_of, is_dot_line, ended};
 ghost use Rattle.sdp_subset.specs.declared.session.Session.{Session};
@@ -9,15 +9,9 @@ ghost use Rattle.sdp_subset.specs.Writing.{session_text, as_read, IsSession};
 ghost use Rattle.sdp_subset.specs.Spelling.{Reads};
 
 use crate::session::{Origin, Session};
-use mg_bytes::{OutOfMemory, Text, put_decimal};
+use mg_bytes::{Draft, OutOfMemory, Text};
 use std::alloc::Global;
 use std::net::Ipv4Addr;
-
-fn put_octet(alloc: Global, out: &mut Vec<u8>, octet: u8) -> Result<(), OutOfMemory>
-    ensures { OnOk result (out.new.items ≡ out.old.items ++ decimal octet) }
-{
-    put_decimal(alloc, out, u64::from(octet))
-}
 
 // The four octets of an address, each of which has eight bits.
 fn octets_of(address: Ipv4Addr) -> [u8; 4]
@@ -29,120 +23,101 @@ fn octets_of(address: Ipv4Addr) -> [u8; 4]
     [a, b, c, d]
 }
 
-fn put_address(alloc: Global, out: &mut Vec<u8>, address: Ipv4Addr) -> Result<(), OutOfMemory>
-    ensures { OnOk result (out.new.items ≡ out.old.items ++ address_text address) }
+fn put_address(out: &mut Draft, address: Ipv4Addr)
+    ensures { out.new ≡ out.old ++ address_text address }
 {
     let [a, b, c, d] = octets_of(address);
-    put_octet(alloc, out, a)?;
-    out.push(b'.')?;
-    put_octet(alloc, out, b)?;
-    out.push(b'.')?;
-    put_octet(alloc, out, c)?;
-    out.push(b'.')?;
-    put_octet(alloc, out, d)
+    out.put_decimal(u64::from(a));
+    out.put_byte(b'.');
+    out.put_decimal(u64::from(b));
+    out.put_byte(b'.');
+    out.put_decimal(u64::from(c));
+    out.put_byte(b'.');
+    out.put_decimal(u64::from(d));
 }
 
 #[tactic(auto, unfolding(crate::specs::Writing::origin_line))]
-fn put_origin(
-    alloc: Global,
-    out: &mut Vec<u8>,
-    origin: Origin,
-    address: Ipv4Addr,
-) -> Result<(), OutOfMemory>
-    ensures { OnOk result (out.new.items ≡ out.old.items ++ ended (origin_line origin address)) }
+fn put_origin(out: &mut Draft, origin: Origin, address: Ipv4Addr)
+    ensures { out.new ≡ out.old ++ ended (origin_line origin address) }
 {
-    out.extend_from_slice(b"o=- ")?;
-    put_decimal(alloc, out, u64::from(origin.number))?;
-    out.push(b' ')?;
-    put_decimal(alloc, out, u64::from(origin.version))?;
-    out.extend_from_slice(b" IN IP4 ")?;
-    put_address(alloc, out, address)?;
-    out.extend_from_slice(b"\r\n")
+    out.put(b"o=- ");
+    out.put_decimal(u64::from(origin.number));
+    out.put_byte(b' ');
+    out.put_decimal(u64::from(origin.version));
+    out.put(b" IN IP4 ");
+    put_address(out, address);
+    out.put(b"\r\n");
 }
 
-fn put_origin_lines(
-    alloc: Global,
-    out: &mut Vec<u8>,
-    origin: Option<Origin>,
-    address: Ipv4Addr,
-) -> Result<(), OutOfMemory>
-    ensures { OnOk result (out.new.items ≡ out.old.items ++ flat_map ended (origin_lines origin address)) }
+fn put_origin_lines(out: &mut Draft, origin: Option<Origin>, address: Ipv4Addr)
+    ensures { out.new ≡ out.old ++ flat_map ended (origin_lines origin address) }
 {
     if let Some(origin) = origin {
-        put_origin(alloc, out, origin, address)?;
-        out.extend_from_slice(b"s=-\r\n")?;
+        put_origin(out, origin, address);
+        out.put(b"s=-\r\n");
     }
-    Ok(())
 }
 
 #[tactic(auto, unfolding(crate::specs::Writing::connection_line))]
-fn put_connection(alloc: Global, out: &mut Vec<u8>, address: Ipv4Addr) -> Result<(), OutOfMemory>
-    ensures { OnOk result (out.new.items ≡ out.old.items ++ ended (connection_line address)) }
+fn put_connection(out: &mut Draft, address: Ipv4Addr)
+    ensures { out.new ≡ out.old ++ ended (connection_line address) }
 {
-    out.extend_from_slice(b"c=IN IP4 ")?;
-    put_address(alloc, out, address)?;
-    out.extend_from_slice(b"\r\n")
+    out.put(b"c=IN IP4 ");
+    put_address(out, address);
+    out.put(b"\r\n");
 }
 
-fn put_time_lines(out: &mut Vec<u8>, origin: Option<Origin>) -> Result<(), OutOfMemory>
-    ensures { OnOk result (out.new.items ≡ out.old.items ++ flat_map ended (time_lines origin)) }
+fn put_time_lines(out: &mut Draft, origin: Option<Origin>)
+    ensures { out.new ≡ out.old ++ flat_map ended (time_lines origin) }
 {
     if origin.is_some() {
-        out.extend_from_slice(b"t=0 0\r\n")?;
+        out.put(b"t=0 0\r\n");
     }
-    Ok(())
 }
 
-fn put_payloads(alloc: Global, out: &mut Vec<u8>, payloads: &[u8]) -> Result<(), OutOfMemory>
-    ensures { OnOk result (out.new.items ≡ out.old.items ++ payloads_text payloads.now) }
+fn put_payloads(out: &mut Draft, payloads: &[u8])
+    ensures { out.new ≡ out.old ++ payloads_text payloads.now }
 {
     for payload in payloads {
-        out.push(b' ')?;
-        put_decimal(alloc, out, u64::from(*payload))?;
+        out.put_byte(b' ');
+        out.put_decimal(u64::from(*payload));
     }
-    Ok(())
 }
 
 #[tactic(auto, unfolding(crate::specs::Writing::audio_line))]
-fn put_audio(
-    alloc: Global,
-    out: &mut Vec<u8>,
-    port: u16,
-    payloads: &[u8],
-) -> Result<(), OutOfMemory>
-    ensures { OnOk result (out.new.items ≡ out.old.items ++ ended (audio_line port payloads.now)) }
+fn put_audio(out: &mut Draft, port: u16, payloads: &[u8])
+    ensures { out.new ≡ out.old ++ ended (audio_line port payloads.now) }
 {
-    out.extend_from_slice(b"m=audio ")?;
-    put_decimal(alloc, out, u64::from(port))?;
-    out.extend_from_slice(b" RTP/AVP")?;
-    put_payloads(alloc, out, payloads)?;
-    out.extend_from_slice(b"\r\n")
+    out.put(b"m=audio ");
+    out.put_decimal(u64::from(port));
+    out.put(b" RTP/AVP");
+    put_payloads(out, payloads);
+    out.put(b"\r\n");
 }
 
 #[tactic(auto, unfolding(crate::specs::Writing::ptime_line))]
-fn put_ptime_lines(alloc: Global, out: &mut Vec<u8>, ptime: Option<u16>) -> Result<(), OutOfMemory>
-    ensures { OnOk result (out.new.items ≡ out.old.items ++ flat_map ended (ptime_lines ptime)) }
+fn put_ptime_lines(out: &mut Draft, ptime: Option<u16>)
+    ensures { out.new ≡ out.old ++ flat_map ended (ptime_lines ptime) }
 {
     if let Some(ms) = ptime {
-        out.extend_from_slice(b"a=ptime:")?;
-        put_decimal(alloc, out, u64::from(ms))?;
-        out.extend_from_slice(b"\r\n")?;
+        out.put(b"a=ptime:");
+        out.put_decimal(u64::from(ms));
+        out.put(b"\r\n");
     }
-    Ok(())
 }
 
 #[tactic(auto, unfolding(crate::specs::Writing::session_text, crate::specs::Writing::session_lines))]
 fn session_text(alloc: Global, session: &Session) -> Result<Text, OutOfMemory>
     ensures { IfOk result (λ text. text ≡ session_text session.now) }
 {
-    let mut out = Vec::new(alloc);
-    out.extend_from_slice(b"v=0\r\n")?;
-    put_origin_lines(alloc, &mut out, session.origin, session.address)?;
-    put_connection(alloc, &mut out, session.address)?;
-    put_time_lines(&mut out, session.origin)?;
-    put_audio(alloc, &mut out, session.port, session.payloads.as_slice())?;
-    put_ptime_lines(alloc, &mut out, session.ptime)?;
-    Ok(Text::of(out))
+    let mut out = Draft::new(alloc);
+    out.put(b"v=0\r\n");
+    put_origin_lines(&mut out, session.origin, session.address);
+    put_connection(&mut out, session.address);
+    put_time_lines(&mut out, session.origin);
+    put_audio(&mut out, session.port, session.payloads.as_slice());
+    put_ptime_lines(&mut out, session.ptime);
+    out.into_text()
 }
 
 // The port, which has 16 bits.
