@@ -5,4 +5,4 @@ use Rattle.phone_scripts.proofs.wording.put_connections.Given as goal
 
 abbrev pub invariant-loop-connection : goal.invariant-loop-connection
 invariant-loop-connection l =
-    l.out.items ++ flat_map connection_part (drop l.connection-index l.connections) ≡ l.fn.out.items ++ flat_map connection_part l.connections
+    l.out ++ flat_map connection_part (drop l.connection-index l.connections) ≡ l.fn.out ++ flat_map connection_part l.connections

@@ -5,4 +5,4 @@ use Rattle.phone_scripts.proofs.wording.put_signals.Given as goal
 
 abbrev pub invariant-loop-signal : goal.invariant-loop-signal
 invariant-loop-signal l =
-    l.out.items ++ flat_map signal_part (drop l.signal-index l.signals) ≡ l.fn.out.items ++ flat_map signal_part l.signals
+    l.out ++ flat_map signal_part (drop l.signal-index l.signals) ≡ l.fn.out ++ flat_map signal_part l.signals
