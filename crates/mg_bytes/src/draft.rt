@@ -51,6 +51,21 @@ impl Draft {
         }
     }
 
+    /// Nothing yet, with room for so many bytes. That memory was refused for them is kept, too.
+    pub fn with_room(alloc: Global, room: usize) -> Self
+        ensures { result ≡ [] }
+    {
+        let (bytes, is_refused) = match Vec::with_capacity(alloc, room) {
+            Ok(bytes) => (bytes, false),
+            Err(_) => (Vec::new(alloc), true),
+        };
+        Draft {
+            bytes,
+            is_refused,
+            told: Told::new(),
+        }
+    }
+
     /// Puts a piece behind what there is already.
     pub fn put(&mut self, piece: &[u8])
         ensures { self.new ≡ self.old ++ piece.now }
