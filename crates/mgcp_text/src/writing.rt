@@ -1,5 +1,5 @@
 //! How a message is written (RFC 3435, 3.2 and 3.3).
-ghost use Rattle.std.specs.Prelude.{◌≡◌, ◌++◌, ◌-◌, ◌≤◌, true, false, List, length, slice_index, ℕ, ◌≢◌, IsTrue, IfOk, OnOk, MatchOption};
+ghost use Rattle.std.specs.Prelude.{◌≡◌, ◌++◌, ◌-◌, ◌≤◌, true, false, List, length, slice_index, ℕ, ◌≢◌, IsTrue, IfOk, MatchOption};
 ghost use Rattle.std.specs.Str.{bytes_eq};
 ghost use Rattle.std.specs.List.{list_all, list_any, flat_map};
 ghost use Rattle.mg_bytes.specs.Blanks.{is_blank};
@@ -18,7 +18,7 @@ use crate::id::TransactionId;
 use crate::message::{Message, Param, Verb};
 use crate::parameter::is_code;
 use crate::reading::has_only_empty_lines;
-use mg_bytes::{OutOfMemory, ReturnCode, Text, has_dot_line, lines, put_decimal, trimmed};
+use mg_bytes::{Draft, OutOfMemory, ReturnCode, Text, has_dot_line, lines, trimmed};
 use std::alloc::Global;
 
 // The room, in bytes, that the text of a message begins with: most are shorter.
@@ -42,33 +42,27 @@ fn verb_text(verb: Verb) -> &'static [u8]
 }
 
 #[tactic(auto, unfolding(crate::specs::Writing::command_line))]
-fn put_command_line(
-    alloc: Global,
-    out: &mut Vec<u8>,
-    verb: Verb,
-    id: TransactionId,
-    name: &[u8],
-) -> Result<(), OutOfMemory>
-    ensures { OnOk result (out.new.items ≡ out.old.items ++ ended (command_line verb id name.now)) }
+fn put_command_line(out: &mut Draft, verb: Verb, id: TransactionId, name: &[u8])
+    ensures { out.new ≡ out.old ++ ended (command_line verb id name.now) }
 {
-    out.extend_from_slice(verb_text(verb))?;
-    out.push(b' ')?;
-    put_decimal(alloc, out, u64::from(id.number()))?;
-    out.push(b' ')?;
-    out.extend_from_slice(name)?;
-    out.extend_from_slice(b" MGCP 1.0\r\n")
+    out.put(verb_text(verb));
+    out.put_byte(b' ');
+    out.put_decimal(u64::from(id.number()));
+    out.put_byte(b' ');
+    out.put(name);
+    out.put(b" MGCP 1.0\r\n");
 }
 
-fn put_code(out: &mut Vec<u8>, code: u16) -> Result<(), OutOfMemory>
+fn put_code(out: &mut Draft, code: u16)
     requires { code ≤ 999 }
-    ensures { OnOk result (out.new.items ≡ out.old.items ++ code_text code) }
+    ensures { out.new ≡ out.old ++ code_text code }
 {
     let digits = [
         b'0' + (code / 100) as u8,
         b'0' + (code / 10 % 10) as u8,
         b'0' + (code % 10) as u8,
     ];
-    out.extend_from_slice(&digits)
+    out.put(&digits);
 }
 
 fn comment(code: u16) -> &'static [u8]
@@ -82,64 +76,56 @@ fn comment(code: u16) -> &'static [u8]
 }
 
 #[tactic(auto, unfolding(crate::specs::Writing::response_line))]
-fn put_response_line(
-    alloc: Global,
-    out: &mut Vec<u8>,
-    code: u16,
-    id: TransactionId,
-) -> Result<(), OutOfMemory>
+fn put_response_line(out: &mut Draft, code: u16, id: TransactionId)
     requires { code ≤ 999 }
-    ensures { OnOk result (out.new.items ≡ out.old.items ++ ended (response_line code id)) }
+    ensures { out.new ≡ out.old ++ ended (response_line code id) }
 {
-    put_code(out, code)?;
-    out.push(b' ')?;
-    put_decimal(alloc, out, u64::from(id.number()))?;
-    out.extend_from_slice(comment(code))?;
-    out.extend_from_slice(b"\r\n")
+    put_code(out, code);
+    out.put_byte(b' ');
+    out.put_decimal(u64::from(id.number()));
+    out.put(comment(code));
+    out.put(b"\r\n");
 }
 
 #[tactic(auto, unfolding(crate::specs::Writing::param_line))]
-fn put_param_line(out: &mut Vec<u8>, param: &Param<'_>) -> Result<(), OutOfMemory>
-    ensures { OnOk result (out.new.items ≡ out.old.items ++ ended (param_line param.now)) }
+fn put_param_line(out: &mut Draft, param: &Param<'_>)
+    ensures { out.new ≡ out.old ++ ended (param_line param.now) }
 {
-    out.extend_from_slice(param.code.as_slice())?;
-    out.push(b':')?;
+    out.put(param.code.as_slice());
+    out.put_byte(b':');
     let value = param.value.as_slice();
     if !value.is_empty() {
-        out.push(b' ')?;
-        out.extend_from_slice(value)?;
+        out.put_byte(b' ');
+        out.put(value);
     }
-    out.extend_from_slice(b"\r\n")
+    out.put(b"\r\n");
 }
 
-fn put_params(out: &mut Vec<u8>, params: &[Param<'_>]) -> Result<(), OutOfMemory>
-    ensures { OnOk result (out.new.items
-        ≡ out.old.items ++ flat_map (λ param. ended (param_line param)) params.now) }
+fn put_params(out: &mut Draft, params: &[Param<'_>])
+    ensures { out.new ≡ out.old ++ flat_map (λ param. ended (param_line param)) params.now }
 {
     for param in params {
-        put_param_line(out, param)?;
+        put_param_line(out, param);
     }
-    Ok(())
 }
 
-fn put_body(out: &mut Vec<u8>, body: &[u8]) -> Result<(), OutOfMemory>
-    ensures { OnOk result (out.new.items ≡ out.old.items ++ body_text body.now) }
+fn put_body(out: &mut Draft, body: &[u8])
+    ensures { out.new ≡ out.old ++ body_text body.now }
 {
     if !body.is_empty() {
-        out.extend_from_slice(b"\r\n")?;
-        out.extend_from_slice(body)?;
+        out.put(b"\r\n");
+        out.put(body);
     }
-    Ok(())
 }
 
 // The text of a message whose header line is out already.
-fn with_lines(mut out: Vec<u8>, params: &[Param<'_>], body: &[u8]) -> Result<Text, OutOfMemory>
+fn with_lines(mut out: Draft, params: &[Param<'_>], body: &[u8]) -> Result<Text, OutOfMemory>
     ensures { IfOk result (λ text. text
-        ≡ out.items ++ flat_map (λ param. ended (param_line param)) params.now ++ body_text body.now) }
+        ≡ out ++ flat_map (λ param. ended (param_line param)) params.now ++ body_text body.now) }
 {
-    put_params(&mut out, params)?;
-    put_body(&mut out, body)?;
-    Ok(Text::of(out))
+    put_params(&mut out, params);
+    put_body(&mut out, body);
+    out.into_text()
 }
 
 // The text of a command.
@@ -154,8 +140,8 @@ fn command_text(
 ) -> Result<Text, OutOfMemory>
     ensures { IfOk result (λ text. text ≡ written (messages.Command verb id name.now params.now body.now)) }
 {
-    let mut out = Vec::with_capacity(alloc, ROOM)?;
-    put_command_line(alloc, &mut out, verb, id, name)?;
+    let mut out = Draft::with_room(alloc, ROOM);
+    put_command_line(&mut out, verb, id, name);
     with_lines(out, params, body)
 }
 
@@ -171,8 +157,8 @@ pub(crate) fn response_text(
     requires { code ≤ 999 }
     ensures { IfOk result (λ text. text ≡ written (messages.Response code id params.now body.now)) }
 {
-    let mut out = Vec::with_capacity(alloc, ROOM)?;
-    put_response_line(alloc, &mut out, code, id)?;
+    let mut out = Draft::with_room(alloc, ROOM);
+    put_response_line(&mut out, code, id);
     with_lines(out, params, body.as_slice())
 }
 

@@ -6,5 +6,5 @@ use Rattle.mgcp_text.proofs.writing.put_params.Given as goal
 
 abbrev pub invariant-loop-param : goal.invariant-loop-param
 invariant-loop-param l =
-    l.out.items ++ flat_map (λ param. ended (param_line param)) (drop l.param-index l.params)
-    ≡ l.fn.out.items ++ flat_map (λ param. ended (param_line param)) l.params
+    l.out ++ flat_map (λ param. ended (param_line param)) (drop l.param-index l.params)
+    ≡ l.fn.out ++ flat_map (λ param. ended (param_line param)) l.params
