@@ -1,11 +1,11 @@
 //! Commands as they are written (RFC 3435, 3.2.1 and 3.2.2).
-ghost use Rattle.std.specs.Prelude.{◌≡◌, ◌++◌, IfOk, OnOk};
+ghost use Rattle.std.specs.Prelude.{◌≡◌, ◌++◌, IfOk};
 ghost use Rattle.call_routing.specs.Parameters.{named_line, asked_text, map_line, request_lines, call_line, connection_line, towards, mode_lines, creation_lines, deletion_lines, change_lines, command_lines, flight_lines, description_in};
 
 use crate::asked::Asked;
 use crate::command::Command;
 use crate::line::{Leg, Line};
-use mg_bytes::{OutOfMemory, Text, put_decimal};
+use mg_bytes::{Draft, OutOfMemory, Text};
 use std::alloc::Global;
 
 /// The description of a connection; nothing where none is known to stand.
@@ -33,17 +33,17 @@ fn asked_text(asked: Asked) -> &'static [u8]
     }
 }
 
-fn put_line(out: &mut Vec<u8>, name: &[u8], value: &[u8]) -> Result<(), OutOfMemory>
-    ensures { OnOk result (out.new.items ≡ out.old.items ++ named_line name.now value.now) }
+fn put_line(out: &mut Draft, name: &[u8], value: &[u8])
+    ensures { out.new ≡ out.old ++ named_line name.now value.now }
 {
-    out.extend_from_slice(name)?;
-    out.extend_from_slice(value)?;
-    out.extend_from_slice(b"\r\n")
+    out.put(name);
+    out.put(value);
+    out.put(b"\r\n");
 }
 
 // The digit map, where digits are asked for.
-fn put_map(out: &mut Vec<u8>, asked: Asked, map: &[u8]) -> Result<(), OutOfMemory>
-    ensures { OnOk result (out.new.items ≡ out.old.items ++ map_line asked map.now) }
+fn put_map(out: &mut Draft, asked: Asked, map: &[u8])
+    ensures { out.new ≡ out.old ++ map_line asked map.now }
 {
     match asked {
         Asked::Digits => put_line(out, b"D: ", map),
@@ -52,108 +52,88 @@ fn put_map(out: &mut Vec<u8>, asked: Asked, map: &[u8]) -> Result<(), OutOfMemor
         | Asked::Ringback
         | Asked::BusyTone
         | Asked::ReorderTone
-        | Asked::Talk => Ok(()),
+        | Asked::Talk => {}
     }
 }
 
-fn put_request(out: &mut Vec<u8>, asked: Asked, map: &[u8]) -> Result<(), OutOfMemory>
-    ensures { OnOk result (out.new.items ≡ out.old.items ++ request_lines asked map.now) }
+fn put_request(out: &mut Draft, asked: Asked, map: &[u8])
+    ensures { out.new ≡ out.old ++ request_lines asked map.now }
 {
-    out.extend_from_slice(asked_text(asked))?;
-    put_map(out, asked, map)
+    out.put(asked_text(asked));
+    put_map(out, asked, map);
 }
 
-fn put_call(alloc: Global, out: &mut Vec<u8>, call: u64) -> Result<(), OutOfMemory>
-    ensures { OnOk result (out.new.items ≡ out.old.items ++ call_line call) }
+fn put_call(out: &mut Draft, call: u64)
+    ensures { out.new ≡ out.old ++ call_line call }
 {
-    out.extend_from_slice(b"C: ")?;
-    put_decimal(alloc, out, call)?;
-    out.extend_from_slice(b"\r\n")
+    out.put(b"C: ");
+    out.put_decimal(call);
+    out.put(b"\r\n");
 }
 
 // The connection, where one is known to stand.
-fn put_connection(out: &mut Vec<u8>, leg: &Leg) -> Result<(), OutOfMemory>
-    ensures { OnOk result (out.new.items ≡ out.old.items ++ connection_line leg.now) }
+fn put_connection(out: &mut Draft, leg: &Leg)
+    ensures { out.new ≡ out.old ++ connection_line leg.now }
 {
     match leg {
         Leg::Standing { connection, .. } => put_line(out, b"I: ", connection.as_slice()),
-        Leg::Absent | Leg::Unknown { .. } => Ok(()),
+        Leg::Absent | Leg::Unknown { .. } => {}
     }
 }
 
-fn put_pair(out: &mut Vec<u8>, first: &[u8], second: &[u8]) -> Result<(), OutOfMemory>
-    ensures { OnOk result (out.new.items ≡ out.old.items ++ (first.now ++ second.now)) }
+fn put_pair(out: &mut Draft, first: &[u8], second: &[u8])
+    ensures { out.new ≡ out.old ++ (first.now ++ second.now) }
 {
-    out.extend_from_slice(first)?;
-    out.extend_from_slice(second)
+    out.put(first);
+    out.put(second);
 }
 
 // In both directions, towards the other end.
-fn put_towards(out: &mut Vec<u8>, description: &[u8]) -> Result<(), OutOfMemory>
-    ensures { OnOk result (out.new.items ≡ out.old.items ++ towards description.now) }
+fn put_towards(out: &mut Draft, description: &[u8])
+    ensures { out.new ≡ out.old ++ towards description.now }
 {
-    put_pair(out, b"M: sendrecv\r\n\r\n", description)
+    put_pair(out, b"M: sendrecv\r\n\r\n", description);
 }
 
-fn put_mode(out: &mut Vec<u8>, joined: bool, description: &[u8]) -> Result<(), OutOfMemory>
-    ensures { OnOk result (out.new.items ≡ out.old.items ++ mode_lines joined description.now) }
+fn put_mode(out: &mut Draft, joined: bool, description: &[u8])
+    ensures { out.new ≡ out.old ++ mode_lines joined description.now }
 {
     if joined {
-        put_towards(out, description)?;
+        put_towards(out, description);
     } else {
-        out.extend_from_slice(b"M: recvonly\r\n")?;
+        out.put(b"M: recvonly\r\n");
     }
-    Ok(())
 }
 
-fn put_creation(
-    alloc: Global,
-    out: &mut Vec<u8>,
-    call: u64,
-    joined: bool,
-    description: &[u8],
-) -> Result<(), OutOfMemory>
-    ensures { OnOk result (out.new.items ≡ out.old.items ++ creation_lines call joined description.now) }
+fn put_creation(out: &mut Draft, call: u64, joined: bool, description: &[u8])
+    ensures { out.new ≡ out.old ++ creation_lines call joined description.now }
 {
-    put_call(alloc, out, call)?;
-    put_mode(out, joined, description)
+    put_call(out, call);
+    put_mode(out, joined, description);
 }
 
-fn put_deletion(alloc: Global, out: &mut Vec<u8>, call: u64, leg: &Leg) -> Result<(), OutOfMemory>
-    ensures { OnOk result (out.new.items ≡ out.old.items ++ deletion_lines call leg.now) }
+fn put_deletion(out: &mut Draft, call: u64, leg: &Leg)
+    ensures { out.new ≡ out.old ++ deletion_lines call leg.now }
 {
-    put_call(alloc, out, call)?;
-    put_connection(out, leg)
+    put_call(out, call);
+    put_connection(out, leg);
 }
 
-fn put_change(
-    alloc: Global,
-    out: &mut Vec<u8>,
-    call: u64,
-    leg: &Leg,
-    description: &[u8],
-) -> Result<(), OutOfMemory>
-    ensures { OnOk result (out.new.items ≡ out.old.items ++ change_lines call leg.now description.now) }
+fn put_change(out: &mut Draft, call: u64, leg: &Leg, description: &[u8])
+    ensures { out.new ≡ out.old ++ change_lines call leg.now description.now }
 {
-    put_deletion(alloc, out, call, leg)?;
-    put_towards(out, description)
+    put_deletion(out, call, leg);
+    put_towards(out, description);
 }
 
-fn put_command(
-    alloc: Global,
-    out: &mut Vec<u8>,
-    command: Command,
-    leg: &Leg,
-    description: &[u8],
-    map: &[u8],
-) -> Result<(), OutOfMemory>
-    ensures { OnOk result (out.new.items ≡ out.old.items ++ command_lines command leg.now description.now map.now) }
+fn put_command(out: &mut Draft, command: Command, leg: &Leg, description: &[u8], map: &[u8])
+    ensures { out.new ≡ out.old ++ command_lines command leg.now description.now map.now }
 {
     match command {
         Command::Ask(asked) => put_request(out, asked, map),
-        Command::Create { call, joined } => put_creation(alloc, out, call, joined, description),
-        Command::Modify { call } => put_change(alloc, out, call, leg, description),
-        Command::Delete { call } => put_deletion(alloc, out, call, leg),
+        Command::Create { call, joined } => put_creation(out, call, joined, description),
+        Command::Modify { call } => put_change(out, call, leg, description),
+        Command::Delete { call } => put_deletion(out, call, leg),
     }
 }
 
@@ -166,10 +146,10 @@ pub(crate) fn flight_lines(
 ) -> Result<Text, OutOfMemory>
     ensures { IfOk result (λ text. text ≡ flight_lines line.now.flight line.now.leg description.now map.now) }
 {
-    let mut out = Vec::new(alloc);
+    let mut out = Draft::new(alloc);
     match line.flight {
-        Some(command) => put_command(alloc, &mut out, command, &line.leg, description, map)?,
+        Some(command) => put_command(&mut out, command, &line.leg, description, map),
         None => {}
     }
-    Ok(Text::of(out))
+    out.into_text()
 }
