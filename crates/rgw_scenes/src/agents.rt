@@ -1,5 +1,5 @@
 //! What is wrong with the call agent of a configuration (RFC 3435, 2.1.4 and 3.2.1.3).
-ghost use Rattle.std.specs.Prelude.{◌≡◌, ◌++◌, OnOk, option_map};
+ghost use Rattle.std.specs.Prelude.{◌≡◌, ◌++◌, option_map};
 ghost use Rattle.std.specs.List.{list_any};
 ghost use Rattle.toml.specs.View.{view};
 ghost use Rattle.mg_bytes.specs.Blanks.{is_blank};
@@ -11,9 +11,8 @@ ghost use Rattle.rgw_scenes.specs.AgentWording.{local_wanted, word_by, text_want
 
 use crate::pieces::{put, put_value};
 use endpoint_names::{LONGEST_ENTITY, LONGEST_LOCAL};
-use exchange_log::put_number;
-use mg_bytes::{OutOfMemory, in_brackets, ipv4_address, port_number, split_once};
-use std::alloc::Global;
+use exchange_log::write_number;
+use mg_bytes::{Draft, in_brackets, ipv4_address, port_number, split_once};
 use toml::Value;
 
 // What a call agent is written as.
@@ -61,21 +60,20 @@ fn host_wanted(host: &[u8]) -> Option<&'static str>
 }
 
 // Puts that a port is wanted, from 1 on.
-fn put_port_up_to(alloc: Global, out: &mut Vec<u8>, greatest: u64) -> Result<(), OutOfMemory>
-    ensures { OnOk result (out.new.items ≡ out.old.items ++ port_up_to greatest) }
+fn put_port_up_to(out: &mut Draft, greatest: u64)
+    ensures { out.new ≡ out.old ++ port_up_to greatest }
 {
-    put(out, ", wanted a port from 1 to ")?;
-    put_number(alloc, out, greatest)?;
-    Ok(())
+    put(out, ", wanted a port from 1 to ");
+    write_number(out, greatest);
 }
 
 // Puts what is wrong with a port, or with a host that has a right one.
-fn put_port_flaw(alloc: Global, out: &mut Vec<u8>, port: &[u8]) -> Result<(), OutOfMemory>
-    ensures { OnOk result (out.new.items ≡ out.old.items ++ port_wanted port.now) }
+fn put_port_flaw(out: &mut Draft, port: &[u8])
+    ensures { out.new ≡ out.old ++ port_wanted port.now }
 {
     match port_number(port) {
         Some(_) => put(out, ", no such host in [names]"),
-        None => put_port_up_to(alloc, out, u64::from(u16::MAX)),
+        None => put_port_up_to(out, u64::from(u16::MAX)),
     }
 }
 
@@ -91,78 +89,72 @@ fn sides_of(place: &[u8]) -> (&[u8], &[u8])
 }
 
 // Puts what is wrong with what stands behind the local name.
-fn put_place_flaw(alloc: Global, out: &mut Vec<u8>, place: &[u8]) -> Result<(), OutOfMemory>
-    ensures { OnOk result (out.new.items ≡ out.old.items ++ place_wanted place.now) }
+fn put_place_flaw(out: &mut Draft, place: &[u8])
+    ensures { out.new ≡ out.old ++ place_wanted place.now }
 {
     let (host, port) = sides_of(place);
     match host_wanted(host) {
         Some(wanted) => put(out, wanted),
-        None => put_port_flaw(alloc, out, port),
+        None => put_port_flaw(out, port),
     }
 }
 
 // Puts how long something may be.
-fn put_longest(
-    alloc: Global,
-    out: &mut Vec<u8>,
-    longest: usize,
-    words: &str,
-) -> Result<(), OutOfMemory>
-    ensures { OnOk result (out.new.items ≡ out.old.items ++ longest_wanted longest words.now) }
+fn put_longest(out: &mut Draft, longest: usize, words: &str)
+    ensures { out.new ≡ out.old ++ longest_wanted longest words.now }
 {
-    put(out, ", wanted at most ")?;
-    put_number(alloc, out, longest as u64)?;
-    put(out, words)
+    put(out, ", wanted at most ");
+    write_number(out, longest as u64);
+    put(out, words);
 }
 
 // Puts what is wrong with a local name, or with what stands behind one that is right.
-fn put_local_flaw(
-    alloc: Global,
-    out: &mut Vec<u8>,
-    local: &[u8],
-    place: &[u8],
-) -> Result<(), OutOfMemory>
-    ensures { OnOk result (out.new.items ≡ out.old.items ++ local_wanted local.now place.now) }
+fn put_local_flaw(out: &mut Draft, local: &[u8], place: &[u8])
+    ensures { out.new ≡ out.old ++ local_wanted local.now place.now }
 {
     if local.is_empty() {
-        return put(out, form());
+        put(out, form());
+        return;
     }
     if local.len() > LONGEST_LOCAL {
-        return put_longest(alloc, out, LONGEST_LOCAL, " bytes before the @");
+        put_longest(out, LONGEST_LOCAL, " bytes before the @");
+        return;
     }
-    put_place_flaw(alloc, out, place)
+    put_place_flaw(out, place);
 }
 
 // Puts what is wrong with a text of one word.
-fn put_word_flaw(alloc: Global, out: &mut Vec<u8>, agent: &[u8]) -> Result<(), OutOfMemory>
-    ensures { OnOk result (out.new.items ≡ out.old.items ++ word_by agent.now (split_once at_sign agent.now)) }
+fn put_word_flaw(out: &mut Draft, agent: &[u8])
+    ensures { out.new ≡ out.old ++ word_by agent.now (split_once at_sign agent.now) }
 {
     match split_once(agent, b'@') {
-        Some((local, place)) => put_local_flaw(alloc, out, local, place),
-        None => put_place_flaw(alloc, out, agent),
+        Some((local, place)) => put_local_flaw(out, local, place),
+        None => put_place_flaw(out, agent),
     }
 }
 
 // Puts what is wrong with a text.
-fn put_text_flaw(alloc: Global, out: &mut Vec<u8>, agent: &[u8]) -> Result<(), OutOfMemory>
-    ensures { OnOk result (out.new.items ≡ out.old.items ++ text_wanted agent.now) }
+fn put_text_flaw(out: &mut Draft, agent: &[u8])
+    ensures { out.new ≡ out.old ++ text_wanted agent.now }
 {
     if agent.len() > LONGEST_ENTITY {
-        return put_longest(alloc, out, LONGEST_ENTITY, " bytes");
+        put_longest(out, LONGEST_ENTITY, " bytes");
+        return;
     }
     if any_blank(agent) || any_line_feed(agent) {
-        return put(out, ", wanted no blank in it");
+        put(out, ", wanted no blank in it");
+        return;
     }
-    put_word_flaw(alloc, out, agent)
+    put_word_flaw(out, agent);
 }
 
 /// Puts what stands in the place of a call agent, which is none that the names know, and what may.
-pub fn put_agent_flaw(alloc: Global, out: &mut Vec<u8>, value: &Value) -> Result<(), OutOfMemory>
-    ensures { OnOk result (out.new.items ≡ out.old.items ++ agent_told (view value.now)) }
+pub fn put_agent_flaw(out: &mut Draft, value: &Value)
+    ensures { out.new ≡ out.old ++ agent_told (view value.now) }
 {
-    put_value(alloc, out, value, false)?;
+    put_value(out, value, false);
     match value.as_str() {
-        Some(agent) => put_text_flaw(alloc, out, agent.as_bytes()),
+        Some(agent) => put_text_flaw(out, agent.as_bytes()),
         None => put(out, form()),
     }
 }

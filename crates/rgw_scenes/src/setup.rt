@@ -2,7 +2,6 @@
 ghost use Rattle.std.specs.Prelude.{◌≡◌, ◌≤◌};
 ghost use Rattle.rgw_scenes.specs.Ports.{ports_of};
 
-use crate::pieces::put;
 use endpoint_names::{Pattern, Route, write_name};
 use exchange_log::{put_number, put_shown};
 use mg_bytes::{OutOfMemory, put_decimal};
@@ -19,6 +18,11 @@ fn ports_of(setup: &Setup, line: u16) -> [u64; 4]
 {
     let first = u64::from(setup.media_base) + 8 * (u64::from(line) - 1);
     [first, first + 2, first + 4, first + 6]
+}
+
+// Puts words.
+fn put(out: &mut Vec<u8>, words: &str) -> Result<(), OutOfMemory> {
+    out.extend_from_slice(words.as_bytes())
 }
 
 fn put_address<T: Display + Copy>(out: &mut Vec<u8>, address: T) -> Result<(), OutOfMemory> {

@@ -1,5 +1,5 @@
 //! The words of a flaw: the key, what stands there, and what may.
-ghost use Rattle.std.specs.Prelude.{◌≡◌, ◌++◌, IfOk, OnOk, IsUtf8};
+ghost use Rattle.std.specs.Prelude.{◌≡◌, ◌++◌, IfOk, IsUtf8};
 ghost use Rattle.toml.specs.Data.{get_member};
 ghost use Rattle.toml.specs.Parse.{parse_document};
 ghost use Rattle.toml.specs.View.{table_view, view};
@@ -17,37 +17,27 @@ use crate::hosts::put_names_flaw;
 use crate::pieces::{put, put_text, put_value};
 use crate::settings::value_at;
 use endpoint_names::LONGEST_DOMAIN;
-use exchange_log::put_number;
-use mg_bytes::OutOfMemory;
+use exchange_log::write_number;
+use mg_bytes::{Draft, OutOfMemory};
 use plain_machine::ConfigKey;
 use rgw_scripts::LIMIT;
 use std::alloc::{AllocError, Global};
 use toml::{Table, Value};
 
 // Puts that so many are wanted, from one on.
-fn put_up_to(
-    alloc: Global,
-    out: &mut Vec<u8>,
-    longest: usize,
-    words: &str,
-) -> Result<(), OutOfMemory>
-    ensures { OnOk result (out.new.items ≡ out.old.items ++ up_to longest words.now) }
+fn put_up_to(out: &mut Draft, longest: usize, words: &str)
+    ensures { out.new ≡ out.old ++ up_to longest words.now }
 {
-    put(out, "1 to ")?;
-    put_number(alloc, out, longest as u64)?;
-    put(out, words)
+    put(out, "1 to ");
+    write_number(out, longest as u64);
+    put(out, words);
 }
 
 /// Puts what a domain may be.
-pub fn put_domain_wanted(alloc: Global, out: &mut Vec<u8>) -> Result<(), OutOfMemory>
-    ensures { OnOk result (out.new.items ≡ out.old.items ++ domain_wanted) }
+pub fn put_domain_wanted(out: &mut Draft)
+    ensures { out.new ≡ out.old ++ domain_wanted }
 {
-    put_up_to(
-        alloc,
-        out,
-        LONGEST_DOMAIN,
-        " letters, digits, \"-\" and \".\"",
-    )
+    put_up_to(out, LONGEST_DOMAIN, " letters, digits, \"-\" and \".\"");
 }
 
 // What stands before the bounds of a key's number.
@@ -82,29 +72,24 @@ fn behind_bounds(key: ConfigKey) -> &'static str
 }
 
 // Puts the bounds of a key's number.
-fn put_bounds(
-    alloc: Global,
-    out: &mut Vec<u8>,
-    key: ConfigKey,
-    bounds: Bounds,
-) -> Result<(), OutOfMemory>
-    ensures { OnOk result (out.new.items ≡ out.old.items ++ bounds_wanted key bounds) }
+fn put_bounds(out: &mut Draft, key: ConfigKey, bounds: Bounds)
+    ensures { out.new ≡ out.old ++ bounds_wanted key bounds }
 {
-    put(out, before_bounds(key))?;
-    put_number(alloc, out, u64::from(bounds.least))?;
-    put(out, " to ")?;
-    put_number(alloc, out, u64::from(bounds.most))?;
-    put(out, behind_bounds(key))
+    put(out, before_bounds(key));
+    write_number(out, u64::from(bounds.least));
+    put(out, " to ");
+    write_number(out, u64::from(bounds.most));
+    put(out, behind_bounds(key));
 }
 
 // Puts what may stand at a key that is about no host and no number.
-fn put_text_wanted(alloc: Global, out: &mut Vec<u8>, key: ConfigKey) -> Result<(), OutOfMemory>
-    ensures { OnOk result (out.new.items ≡ out.old.items ++ text_wanted key) }
+fn put_text_wanted(out: &mut Draft, key: ConfigKey)
+    ensures { out.new ≡ out.old ++ text_wanted key }
 {
     match key {
         ConfigKey::Domain => {
-            put(out, "a text of ")?;
-            put_domain_wanted(alloc, out)
+            put(out, "a text of ");
+            put_domain_wanted(out);
         }
         ConfigKey::Lines
         | ConfigKey::Names
@@ -117,66 +102,51 @@ fn put_text_wanted(alloc: Global, out: &mut Vec<u8>, key: ConfigKey) -> Result<(
 }
 
 // Puts what may stand at a key that is about no host.
-fn put_wanted(alloc: Global, out: &mut Vec<u8>, key: ConfigKey) -> Result<(), OutOfMemory>
-    ensures { OnOk result (out.new.items ≡ out.old.items ++ wanted_by (bounds_of key) key) }
+fn put_wanted(out: &mut Draft, key: ConfigKey)
+    ensures { out.new ≡ out.old ++ wanted_by (bounds_of key) key }
 {
     match bounds_of(key) {
-        Some(bounds) => put_bounds(alloc, out, key, bounds),
-        None => put_text_wanted(alloc, out, key),
+        Some(bounds) => put_bounds(out, key, bounds),
+        None => put_text_wanted(out, key),
     }
 }
 
 // Puts what stands at a key that is about no host, and what may.
-fn put_plain_flaw(
-    alloc: Global,
-    out: &mut Vec<u8>,
-    key: ConfigKey,
-    value: &Value,
-) -> Result<(), OutOfMemory>
-    ensures { OnOk result (out.new.items ≡ out.old.items ++ plain_told key (view value.now)) }
+fn put_plain_flaw(out: &mut Draft, key: ConfigKey, value: &Value)
+    ensures { out.new ≡ out.old ++ plain_told key (view value.now) }
 {
-    put_value(alloc, out, value, bounds_of(key).is_some())?;
-    put(out, ", wanted ")?;
-    put_wanted(alloc, out, key)
+    put_value(out, value, bounds_of(key).is_some());
+    put(out, ", wanted ");
+    put_wanted(out, key);
 }
 
 // Puts what stands at a key, and what may.
-fn put_value_flaw(
-    alloc: Global,
-    out: &mut Vec<u8>,
-    key: ConfigKey,
-    value: &Value,
-) -> Result<(), OutOfMemory>
-    ensures { OnOk result (out.new.items ≡ out.old.items ++ value_told key (view value.now)) }
+fn put_value_flaw(out: &mut Draft, key: ConfigKey, value: &Value)
+    ensures { out.new ≡ out.old ++ value_told key (view value.now) }
 {
     match key {
-        ConfigKey::Names => put_names_flaw(alloc, out, value),
-        ConfigKey::Agent => put_agent_flaw(alloc, out, value),
+        ConfigKey::Names => put_names_flaw(out, value),
+        ConfigKey::Agent => put_agent_flaw(out, value),
         ConfigKey::Domain
         | ConfigKey::Lines
         | ConfigKey::RestartWait
         | ConfigKey::DisconnectedWait
         | ConfigKey::MediaAddress
-        | ConfigKey::MediaBase => put_plain_flaw(alloc, out, key, value),
+        | ConfigKey::MediaBase => put_plain_flaw(out, key, value),
     }
 }
 
 // Puts what is wrong at a key of a document.
-fn put_key_flaw(
-    alloc: Global,
-    out: &mut Vec<u8>,
-    table: &Table,
-    key: ConfigKey,
-) -> Result<(), OutOfMemory>
-    ensures { OnOk result (out.new.items ≡ out.old.items
-        ++ key_told key (get_member (config_key_name key) (table_view table.now))) }
+fn put_key_flaw(out: &mut Draft, table: &Table, key: ConfigKey)
+    ensures { out.new ≡ out.old
+        ++ key_told key (get_member (config_key_name key) (table_view table.now)) }
 {
     let Some(value) = value_at(table, key.name()) else {
-        return Ok(());
+        return;
     };
-    put(out, key.name())?;
-    put(out, ": ")?;
-    put_value_flaw(alloc, out, key, value)
+    put(out, key.name());
+    put(out, ": ");
+    put_value_flaw(out, key, value);
 }
 
 // The first key of a document that no configuration has, if it has one.
@@ -190,38 +160,32 @@ fn name_found(table: &Table) -> &str
 }
 
 // Puts a key that no configuration has.
-fn put_unknown(out: &mut Vec<u8>, name: &str, is_quoted: bool) -> Result<(), OutOfMemory>
-    ensures { OnOk result (out.new.items ≡ out.old.items ++ unknown_told is_quoted name.now) }
+fn put_unknown(out: &mut Draft, name: &str, is_quoted: bool)
+    ensures { out.new ≡ out.old ++ unknown_told is_quoted name.now }
 {
-    put(out, "unknown key ")?;
-    put_text(out, name, is_quoted)?;
-    Ok(())
+    put(out, "unknown key ");
+    put_text(out, name, is_quoted);
 }
 
 // Puts a flaw of a document.
-fn put_document_flaw(
-    alloc: Global,
-    out: &mut Vec<u8>,
-    table: &Table,
-    flaw: Flaw,
-) -> Result<(), OutOfMemory>
-    ensures { OnOk result (out.new.items ≡ out.old.items ++ document_told (table_view table.now) flaw) }
+fn put_document_flaw(out: &mut Draft, table: &Table, flaw: Flaw)
+    ensures { out.new ≡ out.old ++ document_told (table_view table.now) flaw }
 {
     match flaw {
         Flaw::Missing(key) => {
-            put(out, "missing: ")?;
-            put(out, key.name())
+            put(out, "missing: ");
+            put(out, key.name());
         }
-        Flaw::BadValue(key) => put_key_flaw(alloc, out, table, key),
+        Flaw::BadValue(key) => put_key_flaw(out, table, key),
         Flaw::AnyAddress => {
-            put(out, ConfigKey::MediaAddress.name())?;
+            put(out, ConfigKey::MediaAddress.name());
             put(
                 out,
                 ": 0.0.0.0, wanted an address of this machine that others reach",
-            )
+            );
         }
         Flaw::UnknownKey | Flaw::NoToml | Flaw::NoUtf8 | Flaw::TooLong => {
-            put_unknown(out, name_found(table), true)
+            put_unknown(out, name_found(table), true);
         }
     }
 }
@@ -230,9 +194,9 @@ fn put_document_flaw(
 fn document_told(alloc: Global, table: &Table, flaw: Flaw) -> Result<Vec<u8>, OutOfMemory>
     ensures { IfOk result (λ line. line.items ≡ document_told (table_view table.now) flaw) }
 {
-    let mut line = Vec::new(alloc);
-    put_document_flaw(alloc, &mut line, table, flaw)?;
-    Ok(line)
+    let mut line = Draft::new(alloc);
+    put_document_flaw(&mut line, table, flaw);
+    line.end()
 }
 
 // The number of the line that a place in a text is in, from 1.
@@ -258,12 +222,12 @@ fn start_of(fault: &toml::de::Error) -> usize {
 fn line_told(alloc: Global, number: u64, why: &str) -> Result<Vec<u8>, OutOfMemory>
     ensures { IfOk result (λ line. line.items ≡ line_told number why.now) }
 {
-    let mut line = Vec::new(alloc);
-    put(&mut line, "line ")?;
-    put_number(alloc, &mut line, number)?;
-    put(&mut line, ": ")?;
-    put(&mut line, why)?;
-    Ok(line)
+    let mut line = Draft::new(alloc);
+    put(&mut line, "line ");
+    write_number(&mut line, number);
+    put(&mut line, ": ");
+    put(&mut line, why);
+    line.end()
 }
 
 // Says a flaw of a text in UTF-8.
@@ -300,20 +264,20 @@ fn read_told(alloc: Global, text: &[u8], flaw: Flaw) -> Result<Vec<u8>, OutOfMem
 fn limit_told(alloc: Global) -> Result<Vec<u8>, OutOfMemory>
     ensures { IfOk result (λ line. line.items ≡ limit_told) }
 {
-    let mut line = Vec::new(alloc);
-    put(&mut line, "over ")?;
-    put_number(alloc, &mut line, LIMIT as u64)?;
-    put(&mut line, " bytes")?;
-    Ok(line)
+    let mut line = Draft::new(alloc);
+    put(&mut line, "over ");
+    write_number(&mut line, LIMIT as u64);
+    put(&mut line, " bytes");
+    line.end()
 }
 
 // Says words.
 fn said(alloc: Global, words: &str) -> Result<Vec<u8>, OutOfMemory>
     ensures { IfOk result (λ line. line.items ≡ words.now) }
 {
-    let mut line = Vec::new(alloc);
-    put(&mut line, words)?;
-    Ok(line)
+    let mut line = Draft::new(alloc);
+    put(&mut line, words);
+    line.end()
 }
 
 /// Says what is wrong with the configuration in a text, which has this flaw, in a line without its end: printable ASCII. Its only
