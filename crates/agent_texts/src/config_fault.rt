@@ -1,11 +1,12 @@
 //! Why a configuration is refused, in words: the key, what stands there, and what may.
-ghost use Rattle.std.specs.Prelude.{◌≡◌, ◌++◌, IfOk, OnOk};
+ghost use Rattle.std.specs.Prelude.{◌≡◌, ◌++◌, IfOk};
 ghost use Rattle.toml.specs.View.{view};
 ghost use Rattle.exchange_log.specs.Grouping.{number_shown};
 ghost use Rattle.agent_texts.specs.ConfigFaults.{key_behind, place_text, value_text, up_to, fault_text, missing_line, unknown_line, value_line, refused_line, count_line, name_line, limit_line, IsTold};
 
 use endpoint_names::LONGEST_DOMAIN;
-use exchange_log::{put_number, put_shown};
+use exchange_log::{write_number, write_shown};
+use mg_bytes::Draft;
 use std::alloc::{AllocError, Global};
 use toml::Value;
 
@@ -53,58 +54,60 @@ pub enum ValueFault {
     Twice,
 }
 
-fn put(out: &mut Vec<u8>, words: &str) -> Result<(), AllocError>
-    ensures { OnOk result (out.new.items ≡ out.old.items ++ words.now) }
+fn put(out: &mut Draft, words: &str)
+    ensures { out.new ≡ out.old ++ words.now }
 {
-    out.extend_from_slice(words.as_bytes())
+    out.put(words.as_bytes());
 }
 
-fn put_key(out: &mut Vec<u8>, key: &str) -> Result<(), AllocError>
-    ensures { OnOk result (out.new.items ≡ out.old.items ++ key_behind key.now) }
+fn put_key(out: &mut Draft, key: &str)
+    ensures { out.new ≡ out.old ++ key_behind key.now }
 {
     if key.is_empty() {
-        return Ok(());
+        return;
     }
-    put(out, ".")?;
-    put_shown(out, key.as_bytes())
+    put(out, ".");
+    write_shown(out, key.as_bytes());
 }
 
-fn put_place(out: &mut Vec<u8>, place: Place<'_>) -> Result<(), AllocError>
-    ensures { OnOk result (out.new.items ≡ out.old.items ++ place_text place.entry) }
+fn put_place(out: &mut Draft, place: Place<'_>)
+    ensures { out.new ≡ out.old ++ place_text place.entry }
 {
     let Some(domain) = place.gateway else {
-        return put_shown(out, place.key.as_bytes());
+        write_shown(out, place.key.as_bytes());
+        return;
     };
-    put(out, "gateways.\"")?;
-    put_shown(out, domain.as_bytes())?;
-    put(out, "\"")?;
-    put_key(out, place.key)
+    put(out, "gateways.\"");
+    write_shown(out, domain.as_bytes());
+    put(out, "\"");
+    put_key(out, place.key);
 }
 
 // Puts a text that stands there, or of what kind it is.
-fn put_value(out: &mut Vec<u8>, value: &Value) -> Result<(), AllocError>
-    ensures { OnOk result (out.new.items ≡ out.old.items ++ value_text (view value.now)) }
+fn put_value(out: &mut Draft, value: &Value)
+    ensures { out.new ≡ out.old ++ value_text (view value.now) }
 {
     let Some(text) = value.as_str() else {
-        return put(out, value.type_str());
+        put(out, value.type_str());
+        return;
     };
-    put(out, "\"")?;
-    put_shown(out, text.as_bytes())?;
-    put(out, "\"")
+    put(out, "\"");
+    write_shown(out, text.as_bytes());
+    put(out, "\"");
 }
 
 // Puts that at least one is wanted, and so many at most.
-fn put_up_to(alloc: Global, out: &mut Vec<u8>, most: usize, of: &str) -> Result<(), AllocError>
-    ensures { OnOk result (out.new.items ≡ out.old.items ++ up_to most of.now) }
+fn put_up_to(out: &mut Draft, most: usize, of: &str)
+    ensures { out.new ≡ out.old ++ up_to most of.now }
 {
-    put(out, ", wanted 1 to ")?;
-    put_number(alloc, out, most as u64)?;
-    put(out, of)
+    put(out, ", wanted 1 to ");
+    write_number(out, most as u64);
+    put(out, of);
 }
 
 // Puts what may stand there.
-fn put_fault(alloc: Global, out: &mut Vec<u8>, fault: ValueFault) -> Result<(), AllocError>
-    ensures { OnOk result (out.new.items ≡ out.old.items ++ fault_text fault) }
+fn put_fault(out: &mut Draft, fault: ValueFault)
+    ensures { out.new ≡ out.old ++ fault_text fault }
 {
     match fault {
         ValueFault::NoAddress => put(
@@ -113,68 +116,60 @@ fn put_fault(alloc: Global, out: &mut Vec<u8>, fault: ValueFault) -> Result<(), 
         ),
         ValueFault::NoDigitMap => put(out, ", wanted a digit map, as \"(2xx|0)\""),
         ValueFault::NoDomain => {
-            put_up_to(
-                alloc,
-                out,
-                LONGEST_DOMAIN,
-                " letters, digits, \"-\" and \".\"",
-            )
+            put_up_to(out, LONGEST_DOMAIN, " letters, digits, \"-\" and \".\"");
         }
         ValueFault::NoGateway => put(out, ", wanted a table with address and numbers"),
-        ValueFault::NoGateways => put_up_to(alloc, out, MOST_GATEWAYS, " tables"),
+        ValueFault::NoGateways => put_up_to(out, MOST_GATEWAYS, " tables"),
         ValueFault::NoNumber => {
             put_up_to(
-                alloc,
                 out,
                 LONGEST_NUMBER,
                 " of 0 to 9, A to D, * and #, in quotes",
-            )
+            );
         }
-        ValueFault::NoNumbers => put_up_to(alloc, out, MOST_NUMBERS, " numbers in a list"),
+        ValueFault::NoNumbers => put_up_to(out, MOST_NUMBERS, " numbers in a list"),
         ValueFault::Twice => put(out, " stands twice"),
     }
 }
 
 // A line about a key.
-fn place_line(alloc: Global, before: &str, place: Place<'_>) -> Result<Vec<u8>, AllocError>
-    ensures { IfOk result (λ line. line.items ≡ before.now ++ place_text place.entry) }
+fn place_line(alloc: Global, before: &str, place: Place<'_>) -> Draft
+    ensures { result ≡ before.now ++ place_text place.entry }
 {
-    let mut line = Vec::new(alloc);
-    put(&mut line, before)?;
-    put_place(&mut line, place)?;
-    Ok(line)
+    let mut line = Draft::new(alloc);
+    put(&mut line, before);
+    put_place(&mut line, place);
+    line
 }
 
 // A line about what stands at a key.
-fn value_line(
-    alloc: Global,
-    place: Place<'_>,
-    value: &Value,
-    fault: ValueFault,
-) -> Result<Vec<u8>, AllocError>
-    ensures { IfOk result (λ line. line.items ≡ value_line (place_text place.entry) (view value.now) fault) }
+fn value_line(alloc: Global, place: Place<'_>, value: &Value, fault: ValueFault) -> Draft
+    ensures { result ≡ value_line (place_text place.entry) (view value.now) fault }
 {
-    let mut line = place_line(alloc, "", place)?;
-    put(&mut line, ": ")?;
-    put_value(&mut line, value)?;
-    put_fault(alloc, &mut line, fault)?;
-    Ok(line)
+    let mut line = place_line(alloc, "", place);
+    put(&mut line, ": ");
+    put_value(&mut line, value);
+    put_fault(&mut line, fault);
+    line
 }
 
 // A line about how many stand at a key.
-fn count_line(
-    alloc: Global,
-    place: Place<'_>,
-    count: usize,
-    fault: ValueFault,
-) -> Result<Vec<u8>, AllocError>
-    ensures { IfOk result (λ line. line.items ≡ count_line (place_text place.entry) count fault) }
+fn count_line(alloc: Global, place: Place<'_>, count: usize, fault: ValueFault) -> Draft
+    ensures { result ≡ count_line (place_text place.entry) count fault }
 {
-    let mut line = place_line(alloc, "", place)?;
-    put(&mut line, ": ")?;
-    put_number(alloc, &mut line, count as u64)?;
-    put_fault(alloc, &mut line, fault)?;
-    Ok(line)
+    let mut line = place_line(alloc, "", place);
+    put(&mut line, ": ");
+    write_number(&mut line, count as u64);
+    put_fault(&mut line, fault);
+    line
+}
+
+// It has a fault that this line tells.
+fn told(line: Draft) -> Result<ConfigRefusal, AllocError>
+    ensures { IfOk result (λ refusal. IsTold line refusal) }
+{
+    let line = line.end()?;
+    Ok(ConfigRefusal::Told { line })
 }
 
 /// What stands at a key may not; or the key is missing. As with all of these, an error is for want of memory only.
@@ -189,27 +184,21 @@ pub(crate) fn refused(
     let Some(value) = value else {
         return missing(alloc, place);
     };
-    Ok(ConfigRefusal::Told {
-        line: value_line(alloc, place, value, fault)?,
-    })
+    told(value_line(alloc, place, value, fault))
 }
 
 /// A key is missing.
 pub fn missing(alloc: Global, place: Place<'_>) -> Result<ConfigRefusal, AllocError>
     ensures { IfOk result (λ refusal. IsTold (missing_line (place_text place.entry)) refusal) }
 {
-    Ok(ConfigRefusal::Told {
-        line: place_line(alloc, "missing: ", place)?,
-    })
+    told(place_line(alloc, "missing: ", place))
 }
 
 /// There is no such key.
 pub(crate) fn unknown(alloc: Global, place: Place<'_>) -> Result<ConfigRefusal, AllocError>
     ensures { IfOk result (λ refusal. IsTold (unknown_line (place_text place.entry)) refusal) }
 {
-    Ok(ConfigRefusal::Told {
-        line: place_line(alloc, "unknown key ", place)?,
-    })
+    told(place_line(alloc, "unknown key ", place))
 }
 
 /// So many may not stand at a key.
@@ -221,9 +210,7 @@ pub(crate) fn miscounted(
 ) -> Result<ConfigRefusal, AllocError>
     ensures { IfOk result (λ refusal. IsTold (count_line (place_text place.entry) count fault) refusal) }
 {
-    Ok(ConfigRefusal::Told {
-        line: count_line(alloc, place, count, fault)?,
-    })
+    told(count_line(alloc, place, count, fault))
 }
 
 /// A key may not be so.
@@ -234,9 +221,9 @@ pub(crate) fn misnamed(
 ) -> Result<ConfigRefusal, AllocError>
     ensures { IfOk result (λ refusal. IsTold (name_line (place_text place.entry) fault) refusal) }
 {
-    let mut line = place_line(alloc, "", place)?;
-    put_fault(alloc, &mut line, fault)?;
-    Ok(ConfigRefusal::Told { line })
+    let mut line = place_line(alloc, "", place);
+    put_fault(&mut line, fault);
+    told(line)
 }
 
 /// It has a fault that these words tell.
@@ -252,9 +239,9 @@ pub(crate) fn said(alloc: Global, words: &str) -> Result<ConfigRefusal, AllocErr
 pub fn too_long(alloc: Global, limit: usize) -> Result<ConfigRefusal, AllocError>
     ensures { IfOk result (λ refusal. IsTold (limit_line limit) refusal) }
 {
-    let mut line = Vec::new(alloc);
-    put(&mut line, "over ")?;
-    put_number(alloc, &mut line, limit as u64)?;
-    put(&mut line, " bytes")?;
-    Ok(ConfigRefusal::Told { line })
+    let mut line = Draft::new(alloc);
+    put(&mut line, "over ");
+    write_number(&mut line, limit as u64);
+    put(&mut line, " bytes");
+    told(line)
 }
