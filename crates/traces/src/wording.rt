@@ -1,71 +1,72 @@
 //! What a replay finds, in words.
 use crate::verdict::Verdict;
-use exchange_log::put_number;
-use mg_bytes::OutOfMemory;
+use exchange_log::write_number;
+use mg_bytes::{Draft, OutOfMemory};
 use std::alloc::Global;
 
 const HEX_DIGITS: [u8; 16] = *b"0123456789abcdef";
 
 // Puts a byte of a line, as `\x` and two hexadecimal digits where no terminal shows it.
-fn put_byte(out: &mut Vec<u8>, byte: u8) -> Result<(), OutOfMemory> {
+fn put_byte(out: &mut Draft, byte: u8) {
     if byte >= b' ' && byte <= b'~' {
-        out.push(byte)?;
-        return Ok(());
+        out.put_byte(byte);
+        return;
     }
     let high = HEX_DIGITS[usize::from(byte / 16)];
     let low = HEX_DIGITS[usize::from(byte % 16)];
-    out.extend_from_slice(&[b'\\', b'x', high, low])
+    out.put(&[b'\\', b'x', high, low]);
 }
 
 // Puts a line behind these words; `nothing` where there is none.
-fn put_line(out: &mut Vec<u8>, words: &[u8], line: &[u8]) -> Result<(), OutOfMemory> {
-    out.extend_from_slice(words)?;
+fn put_line(out: &mut Draft, words: &[u8], line: &[u8]) {
+    out.put(words);
     if line.is_empty() {
-        out.extend_from_slice(b"nothing")?;
+        out.put(b"nothing");
     }
     for byte in line {
-        put_byte(out, *byte)?;
+        put_byte(out, *byte);
     }
-    out.push(b'\n')?;
-    Ok(())
+    out.put_byte(b'\n');
 }
 
 // Puts that all lines are as told, of which there are so many.
-fn put_all(alloc: Global, out: &mut Vec<u8>, lines: u64) -> Result<(), OutOfMemory> {
-    put_number(alloc, out, lines)?;
+fn put_all(out: &mut Draft, lines: u64) {
+    write_number(out, lines);
     let noun = if lines == 1 {
         b" line".as_slice()
     } else {
         b" lines".as_slice()
     };
-    out.extend_from_slice(noun)?;
-    out.extend_from_slice(b", all as told\n")
+    out.put(noun);
+    out.put(b", all as told\n");
 }
 
 // Puts which line it is, and this behind it.
-fn put_place(alloc: Global, out: &mut Vec<u8>, line: u64, after: &[u8]) -> Result<(), OutOfMemory> {
-    out.extend_from_slice(b"line ")?;
-    put_number(alloc, out, line)?;
-    out.extend_from_slice(after)
+fn put_place(out: &mut Draft, line: u64, after: &[u8]) {
+    out.put(b"line ");
+    write_number(out, line);
+    out.put(after);
 }
 
 /// Puts what a replay finds: that all lines are as told; or the first that isn't, and how the trace and the gateway have it; or the
-/// line that no trace has there. Its only error is want of memory.
-pub fn put_verdict(alloc: Global, out: &mut Vec<u8>, verdict: &Verdict) -> Result<(), OutOfMemory> {
+/// line that no trace has there.
+pub(crate) fn write_verdict(out: &mut Draft, verdict: &Verdict) {
     match verdict {
-        Verdict::AsTold { lines } => put_all(alloc, out, *lines),
+        Verdict::AsTold { lines } => put_all(out, *lines),
         Verdict::Differs { line, told, sent } => {
-            put_place(alloc, out, *line, b" differs\n")?;
-            put_line(out, b"told: ", told.as_slice())?;
-            put_line(out, b"sent: ", sent.as_slice())
+            put_place(out, *line, b" differs\n");
+            put_line(out, b"told: ", told.as_slice());
+            put_line(out, b"sent: ", sent.as_slice());
         }
         Verdict::Broken { line } => {
-            put_place(
-                alloc,
-                out,
-                *line,
-                b": no trace has that there, or it breaks off\n",
-            )
+            put_place(out, *line, b": no trace has that there, or it breaks off\n");
         }
     }
+}
+
+/// Puts what a replay finds as `write_verdict` does. Its only error is want of memory.
+pub fn put_verdict(alloc: Global, out: &mut Vec<u8>, verdict: &Verdict) -> Result<(), OutOfMemory> {
+    let mut draft = Draft::new(alloc);
+    write_verdict(&mut draft, verdict);
+    draft.append_to(out)
 }
