@@ -1,7 +1,7 @@
 //! What falls due happens, the first first, each thing at its own moment (RFC 3435, 2.1.5, 2.1.7, 3.5.3 and 4.4.6).
 ghost use Rattle.std.specs.Prelude.{◌≡◌, ◌++◌, OnOk, OnErr};
 ghost use Rattle.plain_machine.specs.Machine.{on_line, on_own};
-ghost use Rattle.plain_machine.specs.Falling.{due_by, is_due, happened_on, happened_under, happened, pass};
+ghost use Rattle.plain_machine.specs.Falling.{is_due, happened_on, happened_under, happened, pass};
 ghost use Rattle.plain_machine.specs.GivingUp.{given_up_until};
 ghost use Rattle.endpoint_rules.specs.Telling.{MayTell};
 ghost use Rattle.posts.specs.Undoing.{IsUndoneByItsOwner};
@@ -14,24 +14,11 @@ use mg_bytes::OutOfMemory;
 use plain_machine::{GivenUpCommand, OutMessage, PostOwner, owner_of};
 use timers::{DueItem, DueKind};
 
-// What falls due first of all, where it is due up to a moment.
-#[tactic(auto, unfolding(plain_machine::specs::Falling::due_by))]
-fn due_by(store: &Store, moment: u64) -> Option<DueItem>
-    ensures { result ≡ due_by store.now.endpoints moment }
-{
-    let item = store.first_due()?;
-    if item.moment <= moment {
-        Some(item)
-    } else {
-        None
-    }
-}
-
 /// Whether something is due up to a moment (in ms). It takes no memory.
 pub fn is_due(store: &Store, moment: u64) -> bool
     ensures { result ≡ is_due store.now.endpoints moment }
 {
-    due_by(store, moment).is_some()
+    store.due_by(moment).is_some()
 }
 
 // What falls due on this line happens.
@@ -115,7 +102,7 @@ fn happen_all(
     ensures given_up { OnOk result (given_up.new.items
         ≡ given_up.old.items ++ given_up_until context.entry.setup.now store.old.endpoints moment) }
 {
-    while let Some(item) = due_by(store, moment) {
+    while let Some(item) = store.due_by(moment) {
         let found = given_up_at(store, item);
         note(given_up, found)?;
         happen(context, store, item, out)?;

@@ -1,17 +1,18 @@
 //! What a configuration sets up, and what there is at the opening: the endpoints, and the post of the gateway itself.
 ghost use Rattle.std.specs.Prelude.{◌≡◌, ◌≤◌, ◌<◌, ◌+◌, ◌^◌, [], length, map, IfOk};
 ghost use Rattle.std.specs.List.{AllByRecursion, range_with_len};
-ghost use Rattle.plain_machine.specs.Setup.{table_from, are_lines, is_wait, is_media_base, is_address, parts_of, setup_from, key_at_fault, IsSetUp, most_lines, highest_media_base};
+ghost use Rattle.plain_machine.specs.Setup.{table_from, is_wait, is_media_base, is_address, parts_of, setup_from, key_at_fault, IsSetUp, most_lines, highest_media_base};
 ghost use Rattle.plain_machine.specs.Machine.{port_of, opening_post, opening_endpoint, opening_own};
 ghost use Rattle.posts.specs.Ids.{HasId};
 
 use connections::{Connections, Encoding};
 use endpoint_names::{Entity, Names, Table, is_domain, read_entity};
+use gateway_rules::{are_lines, first_number, first_own_number};
 use mg_bytes::OutOfMemory;
 use mg_line::Line;
 use plain_machine::{
     CommandNumber, Config, ConfigFault, ConfigKey, Endpoint, HIGHEST_MEDIA_BASE, LONGEST_WAIT,
-    LOWEST_MEDIA_BASE, MOST_LINES, NamedRoute, Post, SHORTEST_WAIT, Setup,
+    LOWEST_MEDIA_BASE, NamedRoute, Post, SHORTEST_WAIT, Setup,
 };
 use restart::Restart;
 use std::alloc::Global;
@@ -30,12 +31,6 @@ fn table_of(names: &[NamedRoute]) -> Option<Table>
         }
     }
     Some(table)
-}
-
-fn are_lines(lines: u32) -> bool
-    ensures { result ≡ are_lines lines }
-{
-    lines >= 1 && lines <= MOST_LINES as u32
 }
 
 fn is_wait(wait: u32) -> bool
@@ -167,7 +162,7 @@ fn opening_endpoint(alloc: Global, setup: &Setup, line: u16) -> Result<Endpoint,
 {
     Ok(Endpoint {
         line: Line::new(alloc)?,
-        post: opening_post(setup, CommandNumber::first(setup.first), Restart::Serving),
+        post: opening_post(setup, first_number(setup), Restart::Serving),
         encoding: Encoding::Mu,
         connections: Connections::new(setup.media_address, port_of(setup, line)),
     })
@@ -193,5 +188,5 @@ pub fn opening_own(setup: &Setup) -> Post
     ensures id { HasId 0 result.number }
 {
     let restart = Restart::begin(0, setup.restart_wait);
-    opening_post(setup, CommandNumber::first_own(setup.first), restart)
+    opening_post(setup, first_own_number(setup), restart)
 }

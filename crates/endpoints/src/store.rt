@@ -6,7 +6,7 @@ ghost use Rattle.plain_machine.specs.declared.post.Post.{Post};
 ghost use Rattle.plain_machine.specs.declared.setup.Setup.{Setup};
 ghost use Rattle.plain_machine.specs.declared.endpoint.Endpoint.{Endpoint};
 ghost use Rattle.plain_machine.specs.Effect.{silently};
-ghost use Rattle.plain_machine.specs.Falling.{first_due};
+ghost use Rattle.plain_machine.specs.Falling.{first_due, due_by};
 ghost use Rattle.posts.specs.Ids.{HasId};
 ghost use Rattle.endpoints.specs.Saving.{endpoints_of, IsMarked, IsSavedToo, HasRoom};
 ghost use Rattle.plain_machine.specs.Setup.{most_lines};
@@ -142,6 +142,13 @@ impl Store {
         ensures { result ≡ first_due self.now.endpoints }
     {
         self.endpoints.first_due()
+    }
+
+    /// What falls due first of all, where it is due up to a moment (in ms).
+    pub(crate) fn due_by(&self, moment: u64) -> Option<DueItem>
+        ensures { result ≡ due_by self.now.endpoints moment }
+    {
+        self.endpoints.due_by(moment)
     }
 
     /// The post of the gateway itself.

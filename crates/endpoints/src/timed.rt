@@ -7,7 +7,7 @@ ghost use Rattle.plain_machine.specs.declared.setup.Setup.{Setup};
 ghost use Rattle.mg_line.specs.Acting.{is_heeded};
 ghost use Rattle.plain_machine.specs.Effect.{silently};
 ghost use Rattle.plain_machine.specs.Acting.{acted_on};
-ghost use Rattle.plain_machine.specs.Falling.{first_due};
+ghost use Rattle.plain_machine.specs.Falling.{first_due, due_by};
 ghost use Rattle.plain_machine.specs.Setup.{most_lines};
 ghost use Rattle.posts.specs.Ids.{HasId};
 ghost use Rattle.endpoints.specs.Changing.{EndpointChanges, OwnChanges, KeepsId};
@@ -16,6 +16,7 @@ ghost use Rattle.endpoints.specs.DueTable.{InStep};
 
 use crate::due_table::{enter, renew};
 use endpoint_rules::{due_on, post_due};
+use gateway_rules::due_by;
 use mg_bytes::OutOfMemory;
 use mg_line::Act;
 use plain_machine::{Endpoint, Post};
@@ -74,6 +75,14 @@ impl Timed {
         ensures { result ≡ first_due self.now }
     {
         self.due.least()
+    }
+
+    /// What falls due first of all, where it is due up to a moment (in ms).
+    #[tactic(auto, unfolding(plain_machine::specs::Falling::due_by))]
+    pub(crate) fn due_by(&self, moment: u64) -> Option<DueItem>
+        ensures { result ≡ due_by self.now moment }
+    {
+        due_by(&self.due, moment)
     }
 
     /// The post of the gateway itself.
