@@ -34,7 +34,7 @@ use Rattle.endpoint_rules.specs.Telling.{MayTell, IsLine}
 use Rattle.endpoints.specs.StoreState.{StoreState}
 use Rattle.endpoints.specs.Saving.{endpoints_of}
 use Rattle.endpoints.specs.Tells.{Goes}
-use Rattle.posts.specs.Effects.{HasEffect}
+use Rattle.endpoint_rules.specs.Effects.{HasEffect}
 
 -- ---- what comes to the store
 

@@ -4,7 +4,7 @@ ghost use Rattle.plain_machine.specs.Machine.{on_line, on_own};
 ghost use Rattle.plain_machine.specs.Falling.{is_due, happened_on, happened_under, happened, pass};
 ghost use Rattle.plain_machine.specs.GivingUp.{given_up_until};
 ghost use Rattle.endpoint_rules.specs.Telling.{MayTell};
-ghost use Rattle.posts.specs.Undoing.{IsUndoneByItsOwner};
+ghost use Rattle.endpoint_rules.specs.Undoing.{IsUndoneByItsOwner};
 ghost use Rattle.endpoints.specs.Tells.{Tells};
 
 use crate::giving_up::{given_up_at, note};

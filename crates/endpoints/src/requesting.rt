@@ -5,7 +5,7 @@ ghost use Rattle.plain_machine.specs.Requesting.{refusal_on, refused_by, deed_on
 ghost use Rattle.plain_machine.specs.Requesting.{deed_on_all, shown_on, shown_of, line_with_place};
 ghost use Rattle.endpoint_rules.specs.News.{shown_as};
 ghost use Rattle.endpoint_rules.specs.Telling.{MayTell};
-ghost use Rattle.posts.specs.Undoing.{IsUndoneByItsOwner};
+ghost use Rattle.endpoint_rules.specs.Undoing.{IsUndoneByItsOwner};
 ghost use Rattle.endpoints.specs.Tells.{Tells};
 
 use crate::store::Store;

@@ -6,7 +6,7 @@ ghost use Rattle.plain_machine.specs.Responding.{responded_on, redirected_on, op
 ghost use Rattle.plain_machine.specs.Announcing.{replied_on};
 ghost use Rattle.plain_machine.specs.Responding.{on_all, lines_told, own_heard, responded};
 ghost use Rattle.endpoint_rules.specs.Telling.{MayTell};
-ghost use Rattle.posts.specs.Undoing.{IsUndoneByItsOwner};
+ghost use Rattle.endpoint_rules.specs.Undoing.{IsUndoneByItsOwner};
 ghost use Rattle.endpoints.specs.Tells.{Tells};
 
 use crate::store::Store;

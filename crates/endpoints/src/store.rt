@@ -7,7 +7,7 @@ ghost use Rattle.plain_machine.specs.declared.setup.Setup.{Setup};
 ghost use Rattle.plain_machine.specs.declared.endpoint.Endpoint.{Endpoint};
 ghost use Rattle.plain_machine.specs.Effect.{silently};
 ghost use Rattle.plain_machine.specs.Falling.{first_due, due_by};
-ghost use Rattle.posts.specs.Ids.{HasId};
+ghost use Rattle.endpoint_rules.specs.Ids.{HasId};
 ghost use Rattle.endpoints.specs.Saving.{endpoints_of, IsMarked, IsSavedToo, HasRoom};
 ghost use Rattle.plain_machine.specs.Setup.{most_lines};
 
@@ -53,7 +53,7 @@ impl Drop for Store {
 
 impl Model for Store {
     ghost use Rattle.std.specs.Prelude.{◌≡◌, length, IfSome};
-    ghost use Rattle.posts.specs.Ids.{HasId};
+    ghost use Rattle.endpoint_rules.specs.Ids.{HasId};
     ghost use Rattle.endpoints.specs.StoreState.{StoreState};
     ghost use Rattle.endpoints.specs.Saving.{found_in, IsMarked, HasRoom};
 

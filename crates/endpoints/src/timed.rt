@@ -9,7 +9,7 @@ ghost use Rattle.plain_machine.specs.Effect.{silently};
 ghost use Rattle.plain_machine.specs.Acting.{acted_on};
 ghost use Rattle.plain_machine.specs.Falling.{first_due, due_by};
 ghost use Rattle.plain_machine.specs.Setup.{most_lines};
-ghost use Rattle.posts.specs.Ids.{HasId};
+ghost use Rattle.endpoint_rules.specs.Ids.{HasId};
 ghost use Rattle.endpoints.specs.Changing.{EndpointChanges, OwnChanges, KeepsId};
 ghost use Rattle.endpoints.specs.Saving.{endpoints_of};
 ghost use Rattle.endpoints.specs.DueTable.{InStep};
@@ -38,7 +38,7 @@ impl Model for Timed {
     ghost use Rattle.std.specs.Prelude.{◌≤◌, length};
     ghost use Rattle.plain_machine.specs.Machine.{Endpoints};
     ghost use Rattle.plain_machine.specs.Setup.{most_lines};
-    ghost use Rattle.posts.specs.Ids.{HasId};
+    ghost use Rattle.endpoint_rules.specs.Ids.{HasId};
     ghost use Rattle.endpoints.specs.Saving.{endpoints_of};
     ghost use Rattle.endpoints.specs.DueTable.{InStep};
 
