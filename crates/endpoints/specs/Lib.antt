@@ -3,3 +3,4 @@ pub mod DueTable
 pub mod Saving
 pub mod Changing
 pub mod Tells
+pub use Rattle.endpoint_rules.specs.Telling

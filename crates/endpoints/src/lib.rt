@@ -19,3 +19,6 @@ pub use crate::opening::{judged, key_at_fault, opening_list, opening_own};
 pub use crate::requesting::{deed_on_all, line_with_place, refused_by};
 pub use crate::responding::respond_to_its_id;
 pub use crate::store::Store;
+pub use endpoint_rules::{
+    Context, Occasion, acted_on, answer_with, same_endpoint, same_post, send,
+};

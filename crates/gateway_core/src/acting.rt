@@ -3,11 +3,11 @@ ghost use Rattle.plain_machine.specs.Machine.{told_in, endpoint_at};
 ghost use Rattle.plain_machine.specs.Acting.{acted};
 ghost use Rattle.std.specs.Result.{result_err};
 ghost use Rattle.plain_machine.specs.Refusing.{act_refusal, is_unheeded, ends};
-ghost use Rattle.endpoint_rules.specs.Telling.{MayTell};
+ghost use Rattle.endpoints.specs.Telling.{MayTell};
 ghost use Rattle.gateway_core.specs.State.{machine_in, Happens};
 
 use crate::state::State;
-use endpoint_rules::{Context, Occasion, acted_on};
+use endpoints::{Context, Occasion, acted_on};
 use mg_line::Act;
 use plain_machine::{OutMessage, Refusal};
 

@@ -11,14 +11,13 @@ ghost use Rattle.plain_machine.specs.Requesting.{deed_done, line_with_place, don
 ghost use Rattle.plain_machine.specs.Machine.{serves, endpoint_at};
 ghost use Rattle.plain_machine.specs.Reporting.{line_report, names_of};
 ghost use Rattle.plain_machine.specs.Commanding.{reported, audited, answer_by, done_by};
-ghost use Rattle.endpoint_rules.specs.Telling.{MayTell};
+ghost use Rattle.endpoints.specs.Telling.{MayTell};
 ghost use Rattle.endpoints.specs.Tells.{Tells};
 
 use crate::reporting::{name_alone, names_of};
 use audits::{AuditedEndpoint, connection_report, endpoint_report, fitting};
 use command_forms::{Asks, Audit, AuditTarget, Deed, FaultyPart, Stop, Target, judged_while};
-use endpoint_rules::{Context, answer_with};
-use endpoints::{Store, deed_on_all, line_with_place, refused_by};
+use endpoints::{Context, Store, answer_with, deed_on_all, line_with_place, refused_by};
 use mg_bytes::{CodeFault, OutOfMemory, ReturnCode};
 use mgcp_text::{AnswerContent, Bytes, KValue, Message, Params, TransactionId};
 use plain_machine::OutMessage;

@@ -2,12 +2,11 @@
 ghost use Rattle.std.specs.Prelude.{◌≡◌};
 ghost use Rattle.mgcp_text.specs.Message.{params_in};
 ghost use Rattle.plain_machine.specs.Responding.{entity_in, response_with, responded};
-ghost use Rattle.endpoint_rules.specs.Telling.{MayTell};
+ghost use Rattle.endpoints.specs.Telling.{MayTell};
 ghost use Rattle.endpoints.specs.Tells.{Tells};
 
 use endpoint_names::{Entity, read_entity};
-use endpoint_rules::Context;
-use endpoints::{Store, respond_to_its_id};
+use endpoints::{Context, Store, respond_to_its_id};
 use mg_bytes::OutOfMemory;
 use mgcp_text::{Message, TransactionId, param_at};
 use plain_machine::{OutMessage, Response};

@@ -5,12 +5,11 @@ ghost use Rattle.plain_machine.specs.GivingUp.{given_up_until};
 ghost use Rattle.plain_machine.specs.Happening.{ticked};
 ghost use Rattle.std.specs.Result.{result_err};
 ghost use Rattle.plain_machine.specs.Refusing.{tick_refusal, ends};
-ghost use Rattle.endpoint_rules.specs.Telling.{MayTell};
+ghost use Rattle.endpoints.specs.Telling.{MayTell};
 ghost use Rattle.gateway_core.specs.State.{machine_in, Happens};
 
 use crate::state::State;
-use endpoint_rules::Context;
-use endpoints::{is_due, pass};
+use endpoints::{Context, is_due, pass};
 use plain_machine::{GivenUpCommand, OutMessage, Refusal, tick_refusal};
 
 /// A tick to a moment: what is sent; and what is given up is noted behind what was given up before. One up to which nothing is

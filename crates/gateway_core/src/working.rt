@@ -20,7 +20,7 @@ use crate::outcomes::Outcomes;
 use crate::parting::part;
 use crate::state::State;
 use crate::ticking::tick;
-use endpoint_rules::Context;
+use endpoints::Context;
 use plain_machine::{Event, GivenUpCommand, OutMessage, Outputs, Refusal};
 use transmission::packed;
 
