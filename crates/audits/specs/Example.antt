@@ -7,7 +7,6 @@ use Rattle.mg_packages.specs.declared.hook.Hook.TheVariants.{OffHook}
 use Rattle.mg_packages.specs.declared.signal.Signal.TheVariants.{DialTone, MessageWaiting}
 use Rattle.event_values.specs.declared.handling.Notifying.TheVariants.{Loop}
 use Rattle.event_values.specs.declared.handling.Quarantined.TheVariants.{Discard}
-use Rattle.event_requests.specs.Example.{asked}
 use Rattle.signals.specs.Example.{until, endless}
 use Rattle.endpoint_names.specs.declared.route.Route.TheVariants.{One}
 use Rattle.endpoint_names.specs.declared.entity.Entity.{Entity}
@@ -16,7 +15,7 @@ use Rattle.connections.specs.declared.codec.Encoding.TheVariants.{Mu, A}
 use Rattle.connections.specs.declared.connection.Connection.{Connection}
 use Rattle.connections.specs.Example.{line, with_one, first_connection}
 use Rattle.mg_line.specs.Line.{opening_line}
-use Rattle.mg_line.specs.Example.{lifted as off_hook, one_pressed}
+use Rattle.mg_line.specs.Example.{lifted as off_hook, one_pressed, asked}
 use Rattle.audits.specs.Endpoint.{AuditedEndpoint}
 use Rattle.audits.specs.EndpointReport.{endpoint_report}
 use Rattle.audits.specs.ConnectionReport.{connection_report}

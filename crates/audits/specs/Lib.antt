@@ -8,3 +8,4 @@ pub mod Writing
 pub mod Laws
 pub mod Showing
 pub mod Example
+pub use Rattle.event_values.specs.Observed

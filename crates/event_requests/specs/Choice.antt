@@ -4,7 +4,7 @@ use Rattle.std.specs.List.{list_any}
 use Rattle.mg_packages.specs.declared.event.LineEvent.{LineEvent}
 use Rattle.mg_packages.specs.Looking.{is_persistent}
 use Rattle.event_syntax.specs.declared.events.Events.{Events}
-use Rattle.event_values.specs.declared.observed.Observed.{Observed}
+use Rattle.event_syntax.specs.Observed.{Observed}
 use Rattle.event_syntax.specs.declared.request.Action.TheVariants.{Notify, Ignore}
 use Rattle.event_syntax.specs.declared.request.RequestedEvent.{RequestedEvent}
 use Rattle.event_syntax.specs.declared.request.Reaction.{Reaction}

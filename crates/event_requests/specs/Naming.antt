@@ -10,8 +10,8 @@ use Rattle.mg_packages.specs.declared.package.Package.TheVariants.{Line}
 use Rattle.mg_packages.specs.Looking.{is_same_package, is_same_event, event_row_of, package_of, completion_of}
 use Rattle.event_syntax.specs.declared.events.Events.{Events}
 use Rattle.event_syntax.specs.declared.events.Events.TheVariants.{AllOfLine, One, Letters}
-use Rattle.event_values.specs.declared.observed.Observed.{Observed}
-use Rattle.event_values.specs.declared.observed.Observed.TheVariants.{Happened, Ended}
+use Rattle.event_syntax.specs.Observed.{Observed}
+use Rattle.event_syntax.specs.Observed.TheVariants.{Happened, Ended}
 use Rattle.event_syntax.specs.Ranges.{letters_of}
 
 abbrev pub is_same_letter : Letter → Letter → Bool

@@ -14,7 +14,7 @@ use Rattle.connections.specs.Standing.{Left, left_by}
 use Rattle.command_forms.specs.declared.forms.Target.{Target}
 use Rattle.command_forms.specs.declared.forms.Target.TheVariants.{One, All, Any}
 use Rattle.command_forms.specs.Meaning.{is_for}
-use Rattle.event_requests.specs.declared.request.Request.{Request}
+use Rattle.mg_line.specs.Request.{Request}
 use Rattle.mg_line.specs.Line.{LineState, LineDone}
 use Rattle.mg_line.specs.Requesting.{refusal_of, asked}
 use Rattle.plain_machine.specs.declared.setup.Setup.{Setup}
