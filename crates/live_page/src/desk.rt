@@ -24,7 +24,7 @@ use std::net::SocketAddrV4;
 
 /// The desk of the page at an address, and under further names, which answers by a board for a turn.
 #[derive(Drop)]
-pub struct Desk<'a> {
+pub(crate) struct Desk<'a> {
     site: SocketAddrV4,
     names: &'a HostNames,
     board: &'a mut Board,
@@ -168,7 +168,7 @@ fn put_refusal(response: &mut Response, asked: Asked) -> Result<(), AllocError>
 
 impl<'a> Desk<'a> {
     /// The desk of the page at this address, and under these names, over this board.
-    pub fn new(site: SocketAddrV4, names: &'a HostNames, board: &'a mut Board) -> Desk<'a>
+    pub(crate) fn new(site: SocketAddrV4, names: &'a HostNames, board: &'a mut Board) -> Desk<'a>
         ensures site { result.site ≡ site }
         ensures names { result.names.now ≡ names.now }
         ensures board { result.board.now ≡ board.old }

@@ -22,7 +22,6 @@ mod visitor;
 
 pub use crate::access::{is_known_host, is_same_origin};
 pub use crate::asked::Asked;
-pub use crate::desk::Desk;
 pub use crate::host_names::HostNames;
 pub use crate::places::MOST_OF_ONE_HOST;
 pub use crate::playing::answer_to;

@@ -1,10 +1,13 @@
 //! A visitor who is played: a request is answered over a connection of its own, where no socket is.
 use crate::desk::Desk;
+use crate::host_names::HostNames;
 use http_server::{Config, Connection};
 use live_ends::boxed;
+use page_answers::Board;
 use std::alloc::Global;
 use std::hash::RandomState;
 use std::io;
+use std::net::SocketAddrV4;
 
 // Puts what is answered to a request.
 fn put_answer(
@@ -25,15 +28,19 @@ fn put_answer(
     Ok(())
 }
 
-/// What a desk answers to a request, for who plays visitors in memory. `keys` needn't be secret there.
+/// What the page at this address, and under these further names, answers to a request by a board, for who plays visitors in memory.
+/// `keys` needn't be secret there.
 pub fn answer_to(
     alloc: Global,
     keys: RandomState,
-    desk: &mut Desk<'_>,
+    site: SocketAddrV4,
+    names: &HostNames,
+    board: &mut Board,
     request: &[u8],
 ) -> io::Result<Vec<u8>> {
+    let mut desk = Desk::new(site, names, board);
     let mut connection = boxed(alloc, Connection::new(alloc, keys, Config::default()))?;
     let mut answer = Vec::new(alloc);
-    put_answer(&mut connection, desk, request, &mut answer)?;
+    put_answer(&mut connection, &mut desk, request, &mut answer)?;
     Ok(answer)
 }

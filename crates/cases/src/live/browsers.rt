@@ -1,7 +1,7 @@
 //! Visitors of a page in memory: each asks once, and gets an answer.
 use crate::stories::{Transcript, Visit};
 use live_gateway::Visitors;
-use live_page::{Desk, HostNames, answer_to};
+use live_page::{HostNames, answer_to};
 use page_answers::Board;
 use std::alloc::Global;
 use std::collections::VecDeque;
@@ -70,9 +70,15 @@ impl Browsers {
         let Some(visit) = self.visits.pop_front() else {
             return Ok(());
         };
-        let mut desk = Desk::new(self.site, &self.names, board);
         let keys = RandomState::new(&KnownKeys)?;
-        let answer = answer_to(self.alloc, keys, &mut desk, visit.request.as_slice())?;
+        let answer = answer_to(
+            self.alloc,
+            keys,
+            self.site,
+            &self.names,
+            board,
+            visit.request.as_slice(),
+        )?;
         let told = if visit.is_brief {
             front_of(answer.as_slice())
         } else {
