@@ -9,7 +9,7 @@ mod access;
 mod asked;
 mod asking;
 mod desk;
-pub mod examples;
+mod examples;
 mod fields;
 mod health;
 mod host_names;
