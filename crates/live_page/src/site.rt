@@ -5,6 +5,7 @@ ghost use Rattle.live_page.specs.Waiting.{deadline_of, sooner, soonest_from, is_
 use crate::desk::Desk;
 use crate::host_names::HostNames;
 use crate::places::{Seat, place_for};
+use crate::reception::Reception;
 use crate::visitor::Visitor;
 use live_ends::{MOST_VISITORS, Readiness};
 use mio::net::{TcpListener, TcpStream};
@@ -160,13 +161,6 @@ impl Site {
         })
     }
 
-    /// The address of its socket, where that is known.
-    pub fn address(&self) -> Option<SocketAddrV4>
-        ensures { result ≡ self.now.address }
-    {
-        self.address
-    }
-
     // The next place behind the last whose visitor has more to do; behind all of them the first.
     fn next_place(&self) -> Option<usize>
         ensures { result ≡ next_turn self.now.last self.now.places.items }
@@ -183,20 +177,6 @@ impl Site {
         ensures { result ≡ is_some (next_turn self.now.last self.now.places.items) }
     {
         self.next_place().is_some()
-    }
-
-    /// Whether a visitor has, or somebody may have come.
-    pub fn is_busy(&self) -> bool
-        ensures { result ≡ (self.now.may_accept || is_some (next_turn self.now.last self.now.places.items)) }
-    {
-        self.may_accept || self.has_turn()
-    }
-
-    /// The moment at which somebody's time is over, in ms.
-    pub fn next_deadline(&self) -> Option<u64>
-        ensures { result ≡ soonest_from None self.now.places.items }
-    {
-        soonest(self.places.as_slice())
     }
 
     /// Those whose time is over go.
@@ -293,5 +273,48 @@ impl Site {
         if let Some(held) = self.places.get_mut(place) {
             *held = None;
         }
+    }
+}
+
+impl Reception for Site {
+    fn at<R: Net>(
+        rt: &R,
+        alloc: Global,
+        address: SocketAddrV4,
+        names: HostNames,
+        ready: &Readiness,
+    ) -> io::Result<Site> {
+        Site::open(rt, alloc, address, names, ready)
+    }
+
+    fn address(&self) -> Option<SocketAddrV4>
+        ensures { result ≡ self.now.address }
+    {
+        self.address
+    }
+
+    fn is_busy(&self) -> bool
+        ensures { result ≡ (self.now.may_accept || is_some (next_turn self.now.last self.now.places.items)) }
+    {
+        self.may_accept || self.has_turn()
+    }
+
+    fn next_deadline(&self) -> Option<u64>
+        ensures { result ≡ soonest_from None self.now.places.items }
+    {
+        soonest(self.places.as_slice())
+    }
+
+    fn serve<R: RandomSource>(
+        &mut self,
+        rt: &R,
+        ready: &mut Readiness,
+        board: &mut Board,
+        now: u64,
+    ) {
+        self.close_late(now);
+        self.look(ready);
+        self.accept(rt, ready, now);
+        self.turn(board, now);
     }
 }

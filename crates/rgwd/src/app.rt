@@ -15,6 +15,7 @@ use live_ends::{
 };
 use live_gateway::{agents_line, boxed};
 use live_journal::{Journal, Trace};
+use live_page::{PageProgram, Reception};
 use mg_bytes::OutOfMemory;
 use rgw_scenes::{flaw_of, gateway_from, told, told_setup};
 use rgw_scripts::LIMIT;
@@ -29,9 +30,9 @@ use std::thread::sleep;
 use std::time::Duration;
 
 // Where the sockets are, and how it starts, as a line; none where a socket doesn't tell where it is.
-fn start_line<R: Net + Clock>(
+fn start_line<R: Net + Clock, P: Reception>(
     alloc: Global,
-    opened: &Opened<'_, R>,
+    opened: &Opened<'_, R, P>,
     begun: Begun,
 ) -> Result<String, AllocError> {
     let Ok((listen, phones)) = opened.desk.exchange.around.addresses() else {
@@ -52,10 +53,10 @@ fn start_line<R: Net + Clock>(
 }
 
 // Says on standard error where the sockets are, and how it starts.
-fn tell_start<R: Net + Clock, F: Write + Drop>(
+fn tell_start<R: Net + Clock, P: Reception, F: Write + Drop>(
     alloc: Global,
     outlets: &mut Outlets<F>,
-    opened: &Opened<'_, R>,
+    opened: &Opened<'_, R, P>,
     begun: Begun,
 ) {
     // For want of memory that line alone isn't said.
@@ -85,9 +86,9 @@ fn served_ending<'w, F: Write + Drop>(
 }
 
 // Serves until the end, writes what was recorded, and says what was counted.
-fn serve_to_end<'w, R: Files + Net + Clock + RandomSource>(
+fn serve_to_end<'w, R: Files + Net + Clock + RandomSource, P: Reception>(
     rt: &R,
-    opened: &mut Opened<'_, R>,
+    opened: &mut Opened<'_, R, P>,
     recording: &mut Recording<R>,
 ) -> Ending<'w> {
     opened.desk.run(&mut opened.visitors, recording);
@@ -115,12 +116,12 @@ fn wait_first<R: Net + Clock>(rt: &R, live: &mut Live<'_, R>, begun: Begun) -> i
 
 // Opens the file for a capture, if one is asked for, says on standard error where the sockets are, serves until the end, and answers who
 // asked for that once all is written.
-fn serve_opened<'w, R: Files + Net + Clock + RandomSource + Alloc + Clone + Drop>(
+fn serve_opened<'w, R: Files + Net + Clock + RandomSource + Alloc + Clone + Drop, P: Reception>(
     rt: &R,
     alloc: Global,
     settings: &Settings<'w>,
     begun: Begun,
-    opened: &mut Opened<'_, R>,
+    opened: &mut Opened<'_, R, P>,
     recording: &mut Recording<R>,
 ) -> Ending<'w> {
     match open_files(rt, alloc, settings, recording) {
@@ -215,7 +216,7 @@ fn open_files<'w, R: Files + Alloc + Clone + Drop>(
 }
 
 // Opens what the settings ask for, the file for a capture once all sockets are had, and serves.
-fn serve_with<'w, R: Files + Net + Clock + RandomSource + Alloc + Clone + Drop>(
+fn serve_with<'w, R: Files + Net + Clock + RandomSource + Alloc + Clone + Drop, P: Reception>(
     rt: &R,
     alloc: Global,
     settings: &Settings<'w>,
@@ -225,7 +226,7 @@ fn serve_with<'w, R: Files + Net + Clock + RandomSource + Alloc + Clone + Drop>(
     recording: &mut Recording<R>,
 ) -> Ending<'w> {
     let begun = start.begun(gateway.setup().names.domain.as_bytes());
-    let mut opened = match open(rt, alloc, settings, config, gateway) {
+    let mut opened = match open::<R, P>(rt, alloc, settings, config, gateway) {
         Ok(opened) => opened,
         Err(ending) => return ending,
     };
@@ -233,7 +234,7 @@ fn serve_with<'w, R: Files + Net + Clock + RandomSource + Alloc + Clone + Drop>(
 }
 
 // Serves with a gateway of the configuration in this text, which has no flaw; or says what it will be.
-fn serve_config<'w, R: Files + Net + Clock + RandomSource + Alloc + Clone + Drop>(
+fn serve_config<'w, R: Files + Net + Clock + RandomSource + Alloc + Clone + Drop, P: Reception>(
     rt: &R,
     alloc: Global,
     settings: &Settings<'w>,
@@ -253,7 +254,7 @@ fn serve_config<'w, R: Files + Net + Clock + RandomSource + Alloc + Clone + Drop
         }
         return Ending::Checked;
     }
-    serve_with(rt, alloc, settings, start, text, gateway, recording)
+    serve_with::<R, P>(rt, alloc, settings, start, text, gateway, recording)
 }
 
 // Whether the configuration in this text has a flaw: which, is said on standard error.
@@ -275,7 +276,7 @@ fn tell_flaw<F: Write + Drop>(
 }
 
 // Does what the settings ask.
-fn perform<'w, R: Files + Net + Clock + RandomSource + Alloc + Clone + Drop>(
+fn perform<'w, R: Files + Net + Clock + RandomSource + Alloc + Clone + Drop, P: Reception>(
     rt: &R,
     alloc: Global,
     settings: &Settings<'w>,
@@ -293,7 +294,7 @@ fn perform<'w, R: Files + Net + Clock + RandomSource + Alloc + Clone + Drop>(
     if has_flaw {
         return Ending::Common(CommonEnding::Told);
     }
-    serve_config(rt, alloc, settings, text.as_slice(), recording)
+    serve_config::<R, P>(rt, alloc, settings, text.as_slice(), recording)
 }
 
 // The words behind this one, where that is the first.
@@ -312,7 +313,7 @@ fn either<'w>(ending: Result<Ending<'w>, Ending<'w>>) -> Ending<'w> {
 }
 
 // How the program with these words ends.
-fn ending_by<'w, R: AllocGlobal + Files + Net + Clock + RandomSource + Clone + Drop>(
+fn ending_by<'w, R: AllocGlobal + Files + Net + Clock + RandomSource + Clone + Drop, P: Reception>(
     rt: &R,
     words: &'w [String],
     recording: &mut Recording<R>,
@@ -327,7 +328,7 @@ fn ending_by<'w, R: AllocGlobal + Files + Net + Clock + RandomSource + Clone + D
         Ok(settings) => settings,
         Err(ending) => return ending,
     };
-    perform(rt, rt.alloc(), &settings, recording)
+    perform::<R, P>(rt, rt.alloc(), &settings, recording)
 }
 
 // What the program says at its end.
@@ -348,7 +349,7 @@ fn tell<R: AllocGlobal + Files + Clock>(
 }
 
 // Runs the program with these outlets, and gives its exit status.
-fn run_with<R: AllocGlobal + Env + Files + Net + Clock + RandomSource + Clone + Drop>(
+fn run_with<R: AllocGlobal + Env + Files + Net + Clock + RandomSource + Clone + Drop, P: Reception>(
     rt: &R,
     recording: &mut Recording<R>,
 ) -> u8 {
@@ -359,7 +360,7 @@ fn run_with<R: AllocGlobal + Env + Files + Net + Clock + RandomSource + Clone + 
             return tell(rt, &mut recording.outlets, ending);
         }
     };
-    let ending = ending_by(rt, words.as_slice(), recording);
+    let ending = ending_by::<R, P>(rt, words.as_slice(), recording);
     tell(rt, &mut recording.outlets, ending)
 }
 
@@ -379,14 +380,32 @@ where
     }
 }
 
-/// Runs the program, and gives its exit status.
-pub fn run<R: AllocGlobal + Env + Files + Net + Clock + RandomSource + Clone + Drop>(rt: &R) -> u8
+/// Runs the program, whose page's visitors are received so, and gives its exit status.
+pub fn run<R: AllocGlobal + Env + Files + Net + Clock + RandomSource + Clone + Drop, P: Reception>(
+    rt: &R,
+) -> u8
 where
     R::File: AsRawFd,
 {
     let _held = hold_standard(rt, rt.alloc());
     match recording_of(rt) {
-        Some(mut recording) => run_with(rt, &mut recording),
+        Some(mut recording) => run_with::<R, P>(rt, &mut recording),
         None => CommonEnding::OutOfMemory.status(),
+    }
+}
+
+/// The program, over what its machine gives it.
+#[derive(Drop)]
+pub struct Program<'r, R> {
+    pub rt: &'r R,
+}
+
+impl<R: AllocGlobal + Env + Files + Net + Clock + RandomSource + Clone + Drop> PageProgram
+    for Program<'_, R>
+where
+    R::File: AsRawFd,
+{
+    fn run<P: Reception>(&self) -> u8 {
+        run::<R, P>(self.rt)
     }
 }

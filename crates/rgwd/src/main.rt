@@ -16,8 +16,10 @@ mod starting;
 mod telling;
 mod words;
 
+use crate::app::Program;
+use live_page::run_with_site;
 use std::process::ExitCode;
 
 fn main(rt: HostRuntime) -> ExitCode {
-    ExitCode::from(app::run(&rt))
+    ExitCode::from(run_with_site(&Program { rt: &rt }))
 }

@@ -10,7 +10,7 @@ use gateway_core::Gateway;
 use live_ends::{Live, bind};
 use live_gateway::{Admission, Desk, DeskSettings, boxed, open_desk, speakers_of};
 use live_journal::Trace;
-use live_page::{HostNames, Site};
+use live_page::{HostNames, Reception};
 use mio::net::UdpSocket;
 use std::alloc::Global;
 use std::net::{Ipv4Addr, Net, SocketAddr, SocketAddrV4};
@@ -19,9 +19,9 @@ use surroundings::Surroundings;
 
 /// What serves: a gateway over the machine's sockets, and visitors of its page.
 #[derive(Drop)]
-pub struct Opened<'a, R> {
+pub struct Opened<'a, R, P> {
     pub desk: Box<Desk<Live<'a, R>, Trace>>,
-    pub visitors: Option<Box<PageReception>>,
+    pub visitors: Option<Box<PageReception<P>>>,
 }
 
 // The socket that a word asks for.
@@ -51,12 +51,12 @@ fn open_sockets<'a, 'w, R: Net + Clock>(
 }
 
 // The site, if one is asked for.
-fn open_site<'w, R: Net>(
+fn open_site<'w, R: Net, P: Reception>(
     rt: &R,
     alloc: Global,
     settings: &Settings<'w>,
     live: &Live<'_, R>,
-) -> Result<Option<Box<PageReception>>, Ending<'w>> {
+) -> Result<Option<Box<PageReception<P>>>, Ending<'w>> {
     let Some(address) = settings.sockets.http else {
         return Ok(None);
     };
@@ -64,7 +64,7 @@ fn open_site<'w, R: Net>(
         Some(text) => hosts_in(alloc, text)?,
         None => HostNames::none(alloc),
     };
-    match Site::open(rt, alloc, address, names, &live.ready) {
+    match P::at(rt, alloc, address, names, &live.ready) {
         Ok(site) => Ok(Some(boxed(alloc, PageReception { site })?)),
         Err(fault) => Err(Ending::unbound("--http", address, fault.kind())),
     }
@@ -124,13 +124,13 @@ fn desk_settings<'w, R: Net + Clock>(
 }
 
 /// A desk for this gateway over the sockets that are asked for, whose trace has begun with this configuration; and its visitors.
-pub fn open<'a, 'w, R: Net + Clock>(
+pub fn open<'a, 'w, R: Net + Clock, P: Reception>(
     rt: &'a R,
     alloc: Global,
     settings: &Settings<'w>,
     config: &[u8],
     gateway: Box<Gateway>,
-) -> Result<Opened<'a, R>, Ending<'w>> {
+) -> Result<Opened<'a, R, P>, Ending<'w>> {
     let live = open_sockets(rt, alloc, settings)?;
     let visitors = open_site(rt, alloc, settings, &live)?;
     let admission = admission_of(alloc, settings, &gateway, live.own())?;

@@ -1,7 +1,7 @@
-//! The page's site, as the gateway's loop serves it.
+//! The page's visitors, as the gateway's loop serves them.
 use live_ends::Live;
 use live_gateway::Visitors;
-use live_page::Site;
+use live_page::Reception;
 use page_answers::Board;
 use std::net::Net;
 use std::random::RandomSource;
@@ -9,11 +9,11 @@ use std::rt::Clock;
 
 /// The site at which the page is asked for.
 #[derive(Drop)]
-pub struct PageReception {
-    pub site: Site,
+pub struct PageReception<P> {
+    pub site: P,
 }
 
-impl<'a, R: Net + Clock + RandomSource> Visitors<Live<'a, R>> for PageReception {
+impl<'a, R: Net + Clock + RandomSource, P: Reception> Visitors<Live<'a, R>> for PageReception<P> {
     fn is_ready(&self, around: &Live<'a, R>, moment: u64) -> bool {
         self.site.is_busy()
             || around.ready.has_visits()
@@ -25,9 +25,6 @@ impl<'a, R: Net + Clock + RandomSource> Visitors<Live<'a, R>> for PageReception 
     }
 
     fn turn(&mut self, around: &mut Live<'a, R>, board: &mut Board, moment: u64) {
-        self.site.close_late(moment);
-        self.site.look(&mut around.ready);
-        self.site.accept(around.rt, &around.ready, moment);
-        self.site.turn(board, moment);
+        self.site.serve(around.rt, &mut around.ready, board, moment);
     }
 }
