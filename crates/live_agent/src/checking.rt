@@ -7,7 +7,7 @@ use gateway_checks::{
     ALL_CHECKS, Check, IN_USE, Names, Places, Player, SERVES, Tally, UNKNOWN, Verdict, check_named,
     check_of, put_case, put_check, put_entry, put_suite, put_tally,
 };
-use live_ends::Outlet;
+use live_ends::{Outlet, boxed};
 use mg_bytes::OutOfMemory;
 use std::alloc::Global;
 use std::io::Write;
@@ -49,11 +49,13 @@ pub struct CheckSettings<'a> {
     pub own: SocketAddrV4,
 }
 
-/// What is under way.
+/// What is under way. The player is held for all checks, and in a box: a check pays for all that a value holds inline at each step of a
+/// function that is lent it.
 #[derive(Drop)]
 struct Checking<'a> {
     alloc: Global,
-    settings: CheckSettings<'a>,
+    settings: &'a CheckSettings<'a>,
+    player: Box<Player<'a>>,
     // The number before the ids of the next check.
     base: u32,
     tally: Tally,
@@ -119,24 +121,33 @@ fn is_possible(settings: &CheckSettings<'_>, check: &Check<'_>) -> bool {
         && (has_hook || !check.needs_restart())
 }
 
-impl<'a> Checking<'a> {
-    // The player of a check at this line, with the next ids.
-    fn player(&self, check: &Check<'static>, line: &'a str) -> Player<'a> {
-        let places = Places {
-            domain: self.settings.domain,
-            local: line,
-            other: self.settings.other.unwrap_or(""),
-            here: self.here,
-            there: self.there,
-        };
-        let names = Names::new(self.alloc, &places, self.base);
-        Player::new(self.alloc, check, names)
-    }
+// The player of a check, of which the two sockets are these entities, with the ids from behind this number on.
+fn player_of<'a>(
+    alloc: Global,
+    settings: &CheckSettings<'a>,
+    line: &'a str,
+    sockets: (&'a str, &'a str),
+    base: u32,
+    check: &Check<'static>,
+) -> Player<'a> {
+    let (here, there) = sockets;
+    let places = Places {
+        domain: settings.domain,
+        local: line,
+        other: settings.other.unwrap_or(""),
+        here,
+        there,
+    };
+    let names = Names::new(alloc, &places, base);
+    Player::new(alloc, check, names)
+}
 
-    // The player has the next check from here on, at this line. One is held for all checks: each that is held by value makes dear what
-    // is called meanwhile.
-    fn begin(&mut self, player: &mut Player<'a>, check: &Check<'static>, line: &'a str) {
-        *player = self.player(check, line);
+impl<'a> Checking<'a> {
+    // The player has the next check from here on, at this line, with the next ids.
+    fn begin(&mut self, check: &Check<'static>, line: &'a str) {
+        let sockets = (self.here, self.there);
+        let player = &mut *self.player;
+        *player = player_of(self.alloc, self.settings, line, sockets, self.base, check);
         self.base = self.base.saturating_add(IDS);
     }
 
@@ -151,50 +162,49 @@ impl<'a> Checking<'a> {
     // Whether a check is played: one that takes long is asked for, by its name or with all that do.
     fn is_played(&self, check: &Check<'_>) -> bool {
         let is_asked = self.settings.only.is_some() || self.settings.is_slow || !check.is_slow();
-        is_asked && is_possible(&self.settings, check)
+        is_asked && is_possible(self.settings, check)
     }
 
-    // Keeps what came of a check, for a report as JUnit's XML.
-    fn keep_case(
+    // Puts the report of a check: with what its player has, if it was played. What came of it is kept, for a report as JUnit's XML.
+    fn put_report(
         &mut self,
+        text: &mut String,
         check: &Check<'_>,
-        verdict: Option<Verdict>,
-        due: &str,
-        said: &str,
+        is_played: bool,
     ) -> Result<(), OutOfMemory> {
-        if self.settings.is_junit {
-            put_case(&mut self.cases, check, verdict, due, said)
-        } else {
-            Ok(())
-        }
-    }
-
-    // Reports a check: with what its player has, if it was played.
-    fn report<F: Write + Drop>(
-        &mut self,
-        out: &mut Outlet<F>,
-        check: &Check<'_>,
-        player: Option<&Player<'_>>,
-    ) -> Result<(), CheckFault> {
         let nothing: Vec<Vec<u8>> = Vec::new(self.alloc);
-        let (verdict, said, due, came) = match player {
-            Some(player) => (
+        let player = &*self.player;
+        let (verdict, said, due, came) = if is_played {
+            (
                 Some(player.verdict()),
                 player.said(),
                 player.due(),
                 player.came(),
-            ),
-            None => (None, "", "", nothing.as_slice()),
+            )
+        } else {
+            (None, "", "", nothing.as_slice())
         };
         self.tally.count(verdict);
-        self.keep_case(check, verdict, due, said)?;
-        let mut text = String::new(self.alloc);
-        if self.settings.is_json {
-            text = check_text(self.alloc, check, verdict, said, due, came)?;
-            text.push('\n')?;
-        } else {
-            put_check(&mut text, check, verdict, said)?;
+        if self.settings.is_junit {
+            put_case(&mut self.cases, check, verdict, due, said)?;
         }
+        if !self.settings.is_json {
+            return put_check(text, check, verdict, said);
+        }
+        let object = check_text(self.alloc, check, verdict, said, due, came)?;
+        text.push_str(object.as_str())?;
+        text.push('\n')
+    }
+
+    // Reports a check, which was played or wasn't.
+    fn report<F: Write + Drop>(
+        &mut self,
+        out: &mut Outlet<F>,
+        check: &Check<'_>,
+        is_played: bool,
+    ) -> Result<(), CheckFault> {
+        let mut text = String::new(self.alloc);
+        self.put_report(&mut text, check, is_played)?;
         put_out(out, text.as_str())
     }
 
@@ -246,20 +256,16 @@ fn ask<R: Net + Clock>(
 }
 
 // Waits until the gateway serves; else tells why nothing can be checked.
-fn find<'a, R: Net + Clock>(
-    checking: &mut Checking<'a>,
+fn find<R: Net + Clock>(
+    checking: &mut Checking<'_>,
     ends: &mut Ends<'_, R>,
-    player: &mut Player<'a>,
 ) -> Result<(), CheckFault> {
-    let CheckSettings {
-        gateway: address,
-        line,
-        ..
-    } = checking.settings;
+    let address = checking.settings.gateway;
+    let line = checking.settings.line;
     let mut silent: u32 = 0;
     for _ in 0..MOST_TRIES {
-        checking.begin(player, &check_of(SERVES), line);
-        match ask(ends, player) {
+        checking.begin(&check_of(SERVES), line);
+        match ask(ends, &mut *checking.player) {
             Ok(Found::Serving) => return Ok(()),
             Ok(Found::NotServing) => {}
             Ok(Found::Silent) => silent = silent.saturating_add(1),
@@ -276,28 +282,26 @@ fn find<'a, R: Net + Clock>(
 fn holds<'a, R: Net + Clock>(
     checking: &mut Checking<'a>,
     ends: &mut Ends<'_, R>,
-    player: &mut Player<'a>,
     line: &'a str,
     block: &'static str,
 ) -> Result<bool, CheckFault> {
-    checking.begin(player, &check_of(block), line);
-    ends.play(player)?;
-    Ok(matches!(player.verdict(), Verdict::Passed))
+    checking.begin(&check_of(block), line);
+    ends.play(&mut *checking.player)?;
+    Ok(matches!(checking.player.verdict(), Verdict::Passed))
 }
 
 // A line that isn't there, has a connection, or whose telephone is off the hook isn't checked.
 fn find_idle<'a, R: Net + Clock>(
     checking: &mut Checking<'a>,
     ends: &mut Ends<'_, R>,
-    player: &mut Player<'a>,
     line: &'a str,
     is_other: bool,
 ) -> Result<(), CheckFault> {
-    if holds(checking, ends, player, line, UNKNOWN)? {
+    if holds(checking, ends, line, UNKNOWN)? {
         return Err(CheckFault::NoSuchLine { is_other });
     }
     for block in IN_USE.iter() {
-        if holds(checking, ends, player, line, *block)? {
+        if holds(checking, ends, line, *block)? {
             return Err(CheckFault::InUse { is_other });
         }
     }
@@ -305,27 +309,26 @@ fn find_idle<'a, R: Net + Clock>(
 }
 
 // The lines are there, and aren't in use; else tells why nothing can be checked.
-fn find_lines<'a, R: Net + Clock>(
-    checking: &mut Checking<'a>,
+fn find_lines<R: Net + Clock>(
+    checking: &mut Checking<'_>,
     ends: &mut Ends<'_, R>,
-    player: &mut Player<'a>,
 ) -> Result<(), CheckFault> {
-    let CheckSettings { line, other, .. } = checking.settings;
-    find_idle(checking, ends, player, line, false)?;
+    let line = checking.settings.line;
+    let other = checking.settings.other;
+    find_idle(checking, ends, line, false)?;
     match other {
-        Some(other) => find_idle(checking, ends, player, other, true),
+        Some(other) => find_idle(checking, ends, other, true),
         None => Ok(()),
     }
 }
 
 // Behind a check that has the gateway started anew it is waited for: what it announces is answered meanwhile, so that the checks
 // behind aren't refused with 405. One that doesn't serve then shows in these.
-fn await_serving<'a, R: Net + Clock>(
-    checking: &mut Checking<'a>,
+fn await_serving<R: Net + Clock>(
+    checking: &mut Checking<'_>,
     ends: &mut Ends<'_, R>,
-    player: &mut Player<'a>,
 ) -> Result<(), CheckFault> {
-    match find(checking, ends, player) {
+    match find(checking, ends) {
         Ok(()) => Ok(()),
         Err(CheckFault::NoAnswer { .. } | CheckFault::NotServing { .. }) => Ok(()),
         Err(fault) => Err(fault),
@@ -333,77 +336,63 @@ fn await_serving<'a, R: Net + Clock>(
 }
 
 // Plays a check to its end, and reports what came of it.
-fn play_one<'a, R: Net + Clock, F: Write + Drop>(
+fn play_one<R: Net + Clock, F: Write + Drop>(
     out: &mut Outlet<F>,
-    checking: &mut Checking<'a>,
+    checking: &mut Checking<'_>,
     ends: &mut Ends<'_, R>,
-    player: &mut Player<'a>,
     check: &Check<'static>,
 ) -> Result<(), CheckFault> {
-    ends.play(player)?;
-    checking.report(out, check, Some(player))?;
+    ends.play(&mut *checking.player)?;
+    checking.report(out, check, true)?;
     if check.needs_restart() {
-        return await_serving(checking, ends, player);
+        return await_serving(checking, ends);
     }
     Ok(())
 }
 
 // Plays a check, where it is asked for.
-fn check_one<'a, R: Net + Clock, F: Write + Drop>(
+fn check_one<R: Net + Clock, F: Write + Drop>(
     out: &mut Outlet<F>,
-    checking: &mut Checking<'a>,
+    checking: &mut Checking<'_>,
     ends: &mut Ends<'_, R>,
-    player: &mut Player<'a>,
     check: &Check<'static>,
 ) -> Result<(), CheckFault> {
     if !checking.is_named(check) {
         return Ok(());
     }
     if !checking.is_played(check) {
-        return checking.report(out, check, None);
+        return checking.report(out, check, false);
     }
     let line = checking.settings.line;
-    checking.begin(player, check, line);
-    play_one(out, checking, ends, player, check)
+    checking.begin(check, line);
+    play_one(out, checking, ends, check)
 }
 
 // Plays the checks of a text that are asked for.
-fn check_each<'a, R: Net + Clock, F: Write + Drop>(
+fn check_each<R: Net + Clock, F: Write + Drop>(
     out: &mut Outlet<F>,
-    checking: &mut Checking<'a>,
+    checking: &mut Checking<'_>,
     ends: &mut Ends<'_, R>,
-    player: &mut Player<'a>,
     text: &'static str,
 ) -> Result<(), CheckFault> {
     for block in text.split("\n= ").skip(1) {
-        check_one(out, checking, ends, player, &check_of(block))?;
+        check_one(out, checking, ends, &check_of(block))?;
     }
     Ok(())
 }
 
 // Plays all checks that are asked for, and tells how many have come to what.
-fn check_all<'a, R: Net + Clock, F: Write + Drop>(
-    out: &mut Outlet<F>,
-    checking: &mut Checking<'a>,
-    ends: &mut Ends<'_, R>,
-    player: &mut Player<'a>,
-) -> Result<(), CheckFault> {
-    find(checking, ends, player)?;
-    find_lines(checking, ends, player)?;
-    for text in ALL_CHECKS.iter() {
-        check_each(out, checking, ends, player, *text)?;
-    }
-    checking.report_all(out)
-}
-
-// Does that with a player.
-fn check_with<R: Net + Clock, F: Write + Drop>(
+fn check_all<R: Net + Clock, F: Write + Drop>(
     out: &mut Outlet<F>,
     checking: &mut Checking<'_>,
     ends: &mut Ends<'_, R>,
 ) -> Result<(), CheckFault> {
-    let mut player = checking.player(&check_of(SERVES), checking.settings.line);
-    check_all(out, checking, ends, &mut player)
+    find(checking, ends)?;
+    find_lines(checking, ends)?;
+    for text in ALL_CHECKS.iter() {
+        check_each(out, checking, ends, *text)?;
+    }
+    checking.report_all(out)
 }
 
 // Does that, and gives the exit status, and the report as JUnit's XML, where that is wanted.
@@ -412,7 +401,7 @@ fn outcome_of<R: Net + Clock, F: Write + Drop>(
     checking: &mut Checking<'_>,
     ends: &mut Ends<'_, R>,
 ) -> Result<Checked, CheckFault> {
-    check_with(out, checking, ends)?;
+    check_all(out, checking, ends)?;
     Ok(Checked {
         status: checking.tally.status(),
         junit: checking.junit()?,
@@ -430,9 +419,19 @@ fn check_by<R: AllocGlobal + Net + Clock, F: Write + Drop>(
     let own = settings.own;
     let here = format!(in alloc; "ca@[{}]:{}", own.ip(), own.port())?;
     let there = format!(in alloc; "ca@[{}]:{}", own.ip(), ends.second_port())?;
+    let sockets = (here.as_str(), there.as_str());
+    let player = player_of(
+        alloc,
+        &settings,
+        settings.line,
+        sockets,
+        0,
+        &check_of(SERVES),
+    );
     let mut checking = Checking {
         alloc,
-        settings,
+        settings: &settings,
+        player: boxed(alloc, player)?,
         base: first_base(rt),
         tally: Tally::NONE,
         here: here.as_str(),

@@ -2,7 +2,7 @@
 use crate::check_fault::CheckFault;
 use crate::telephone::Telephone;
 use gateway_checks::{Player, SOCKETS, Socket, Turn};
-use live_ends::SystemFault;
+use live_ends::{SystemFault, boxed};
 use mio::net::UdpSocket;
 use mio::{Events, Interest, Poll, Token};
 use std::alloc::Global;
@@ -34,7 +34,8 @@ pub(crate) struct Ends<'a, R> {
     rt: &'a R,
     alloc: Global,
     gateway: SocketAddrV4,
-    sockets: Sockets,
+    // In a box: a check pays for all that a value holds inline at each step of a function that is lent it.
+    sockets: Box<Sockets>,
     start: Instant,
     // Who works the line's telephone, if someone does.
     telephone: Option<Telephone<'a>>,
@@ -54,7 +55,7 @@ fn watched<R: Net>(
 }
 
 // The sockets: the second has the first one's host, the third any.
-fn opened<R: Net>(rt: &R, alloc: Global, own: SocketAddrV4) -> io::Result<Sockets> {
+fn opened<R: Net>(rt: &R, alloc: Global, own: SocketAddrV4) -> io::Result<Box<Sockets>> {
     let other = SocketAddrV4::new(*own.ip(), 0);
     let any = SocketAddrV4::new(Ipv4Addr::UNSPECIFIED, 0);
     let events = Events::with_capacity(alloc, 3)?;
@@ -62,13 +63,14 @@ fn opened<R: Net>(rt: &R, alloc: Global, own: SocketAddrV4) -> io::Result<Socket
     let first = watched(rt, &poll, own, Token(0))?;
     let second = watched(rt, &poll, other, Token(1))?;
     let third = watched(rt, &poll, any, Token(2))?;
-    Ok(Sockets {
+    let sockets = Sockets {
         first,
         second,
         third,
         poll,
         events,
-    })
+    };
+    Ok(boxed(alloc, sockets)?)
 }
 
 // What came from who works telephones.
