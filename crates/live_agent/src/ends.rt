@@ -173,7 +173,7 @@ impl<'a, R: Net + Clock> Ends<'a, R> {
     // Waits until something comes, or this moment.
     fn wait(&mut self, until: u64) -> Result<(), CheckFault> {
         let left = until.saturating_sub(self.now()?);
-        let sockets = &mut self.sockets;
+        let sockets = &mut *self.sockets;
         match sockets
             .poll
             .poll(&mut sockets.events, Some(Duration::from_millis(left)))
