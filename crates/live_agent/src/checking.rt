@@ -142,6 +142,21 @@ fn player_of<'a>(
     Player::new(alloc, check, names)
 }
 
+// Puts the report of a check as an object, in a line.
+fn put_object(
+    alloc: Global,
+    text: &mut String,
+    check: &Check<'_>,
+    verdict: Option<Verdict>,
+    said: &str,
+    due: &str,
+    came: &[Vec<u8>],
+) -> Result<(), OutOfMemory> {
+    let object = check_text(alloc, check, verdict, said, due, came)?;
+    text.push_str(object.as_str())?;
+    text.push('\n')
+}
+
 impl<'a> Checking<'a> {
     // The player has the next check from here on, at this line, with the next ids.
     fn begin(&mut self, check: &Check<'static>, line: &'a str) {
@@ -165,35 +180,32 @@ impl<'a> Checking<'a> {
         is_asked && is_possible(self.settings, check)
     }
 
-    // Puts the report of a check: with what its player has, if it was played. What came of it is kept, for a report as JUnit's XML.
-    fn put_report(
-        &mut self,
-        text: &mut String,
-        check: &Check<'_>,
-        is_played: bool,
-    ) -> Result<(), OutOfMemory> {
-        let nothing: Vec<Vec<u8>> = Vec::new(self.alloc);
+    // Puts the report of a check that was played, of which the player has what came.
+    fn put_played(&mut self, text: &mut String, check: &Check<'_>) -> Result<(), OutOfMemory> {
         let player = &*self.player;
-        let (verdict, said, due, came) = if is_played {
-            (
-                Some(player.verdict()),
-                player.said(),
-                player.due(),
-                player.came(),
-            )
-        } else {
-            (None, "", "", nothing.as_slice())
-        };
+        let verdict = Some(player.verdict());
         self.tally.count(verdict);
         if self.settings.is_junit {
-            put_case(&mut self.cases, check, verdict, due, said)?;
+            put_case(&mut self.cases, check, verdict, player.due(), player.said())?;
         }
         if !self.settings.is_json {
-            return put_check(text, check, verdict, said);
+            return put_check(text, check, verdict, player.said());
         }
-        let object = check_text(self.alloc, check, verdict, said, due, came)?;
-        text.push_str(object.as_str())?;
-        text.push('\n')
+        let (said, due) = (player.said(), player.due());
+        put_object(self.alloc, text, check, verdict, said, due, player.came())
+    }
+
+    // Puts the report of a check that wasn't played.
+    fn put_unplayed(&mut self, text: &mut String, check: &Check<'_>) -> Result<(), OutOfMemory> {
+        self.tally.count(None);
+        if self.settings.is_junit {
+            put_case(&mut self.cases, check, None, "", "")?;
+        }
+        if !self.settings.is_json {
+            return put_check(text, check, None, "");
+        }
+        let nothing: Vec<Vec<u8>> = Vec::new(self.alloc);
+        put_object(self.alloc, text, check, None, "", "", nothing.as_slice())
     }
 
     // Reports a check, which was played or wasn't.
@@ -204,7 +216,12 @@ impl<'a> Checking<'a> {
         is_played: bool,
     ) -> Result<(), CheckFault> {
         let mut text = String::new(self.alloc);
-        self.put_report(&mut text, check, is_played)?;
+        let put = if is_played {
+            self.put_played(&mut text, check)
+        } else {
+            self.put_unplayed(&mut text, check)
+        };
+        put?;
         put_out(out, text.as_str())
     }
 
@@ -408,10 +425,35 @@ fn outcome_of<R: Net + Clock, F: Write + Drop>(
     })
 }
 
+// Plays all, from these two sockets, with ids from behind this number on.
+fn check_from<'a, R: Net + Clock, F: Write + Drop>(
+    alloc: Global,
+    settings: &'a CheckSettings<'a>,
+    sockets: (&'a str, &'a str),
+    base: u32,
+    ends: &mut Ends<'_, R>,
+    out: &mut Outlet<F>,
+) -> Result<Checked, CheckFault> {
+    let (here, there) = sockets;
+    let first = check_of(SERVES);
+    let player = player_of(alloc, settings, settings.line, sockets, base, &first);
+    let mut checking = Checking {
+        alloc,
+        settings,
+        player: boxed(alloc, player)?,
+        base,
+        tally: Tally::NONE,
+        here,
+        there,
+        cases: String::new(alloc),
+    };
+    outcome_of(out, &mut checking, ends)
+}
+
 // Plays all, where the second socket has this port.
 fn check_by<R: AllocGlobal + Net + Clock, F: Write + Drop>(
     rt: &R,
-    settings: CheckSettings<'_>,
+    settings: &CheckSettings<'_>,
     ends: &mut Ends<'_, R>,
     out: &mut Outlet<F>,
 ) -> Result<Checked, CheckFault> {
@@ -420,25 +462,7 @@ fn check_by<R: AllocGlobal + Net + Clock, F: Write + Drop>(
     let here = format!(in alloc; "ca@[{}]:{}", own.ip(), own.port())?;
     let there = format!(in alloc; "ca@[{}]:{}", own.ip(), ends.second_port())?;
     let sockets = (here.as_str(), there.as_str());
-    let player = player_of(
-        alloc,
-        &settings,
-        settings.line,
-        sockets,
-        0,
-        &check_of(SERVES),
-    );
-    let mut checking = Checking {
-        alloc,
-        settings: &settings,
-        player: boxed(alloc, player)?,
-        base: first_base(rt),
-        tally: Tally::NONE,
-        here: here.as_str(),
-        there: there.as_str(),
-        cases: String::new(alloc),
-    };
-    outcome_of(out, &mut checking, ends)
+    check_from(alloc, settings, sockets, first_base(rt), ends, out)
 }
 
 /// Checks a gateway as the settings ask, and reports by this outlet, a check at a time: what came of it. An error says why nothing
@@ -450,7 +474,7 @@ pub fn check_gateway<R: AllocGlobal + Net + Clock, F: Write + Drop>(
 ) -> Result<Checked, CheckFault> {
     let telephone = settings.telephone;
     match Ends::open(rt, rt.alloc(), settings.gateway, settings.own, telephone) {
-        Ok(mut ends) => check_by(rt, settings, &mut ends, out),
+        Ok(mut ends) => check_by(rt, &settings, &mut ends, out),
         Err(fault) => Err(fault),
     }
 }
