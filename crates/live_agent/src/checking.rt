@@ -121,16 +121,16 @@ fn is_possible(settings: &CheckSettings<'_>, check: &Check<'_>) -> bool {
         && (has_hook || !check.needs_restart())
 }
 
-// The player of a check, of which the two sockets are these entities, with the ids from behind this number on.
+// The player of a check, whose two sockets are these entities, with the ids from behind this number on.
 fn player_of<'a>(
     alloc: Global,
     settings: &CheckSettings<'a>,
     line: &'a str,
-    sockets: (&'a str, &'a str),
+    here: &'a str,
+    there: &'a str,
     base: u32,
     check: &Check<'static>,
 ) -> Player<'a> {
-    let (here, there) = sockets;
     let places = Places {
         domain: settings.domain,
         local: line,
@@ -160,9 +160,17 @@ fn put_object(
 impl<'a> Checking<'a> {
     // The player has the next check from here on, at this line, with the next ids.
     fn begin(&mut self, check: &Check<'static>, line: &'a str) {
-        let sockets = (self.here, self.there);
-        let player = &mut *self.player;
-        *player = player_of(self.alloc, self.settings, line, sockets, self.base, check);
+        let (here, there) = (self.here, self.there);
+        let next = player_of(
+            self.alloc,
+            self.settings,
+            line,
+            here,
+            there,
+            self.base,
+            check,
+        );
+        *self.player = next;
         self.base = self.base.saturating_add(IDS);
     }
 
@@ -429,14 +437,14 @@ fn outcome_of<R: Net + Clock, F: Write + Drop>(
 fn check_from<'a, R: Net + Clock, F: Write + Drop>(
     alloc: Global,
     settings: &'a CheckSettings<'a>,
-    sockets: (&'a str, &'a str),
+    here: &'a str,
+    there: &'a str,
     base: u32,
     ends: &mut Ends<'_, R>,
     out: &mut Outlet<F>,
 ) -> Result<Checked, CheckFault> {
-    let (here, there) = sockets;
     let first = check_of(SERVES);
-    let player = player_of(alloc, settings, settings.line, sockets, base, &first);
+    let player = player_of(alloc, settings, settings.line, here, there, base, &first);
     let mut checking = Checking {
         alloc,
         settings,
@@ -461,8 +469,16 @@ fn check_by<R: AllocGlobal + Net + Clock, F: Write + Drop>(
     let own = settings.own;
     let here = format!(in alloc; "ca@[{}]:{}", own.ip(), own.port())?;
     let there = format!(in alloc; "ca@[{}]:{}", own.ip(), ends.second_port())?;
-    let sockets = (here.as_str(), there.as_str());
-    check_from(alloc, settings, sockets, first_base(rt), ends, out)
+    let base = first_base(rt);
+    check_from(
+        alloc,
+        settings,
+        here.as_str(),
+        there.as_str(),
+        base,
+        ends,
+        out,
+    )
 }
 
 /// Checks a gateway as the settings ask, and reports by this outlet, a check at a time: what came of it. An error says why nothing
