@@ -458,6 +458,11 @@ fn check_from<'a, R: Net + Clock, F: Write + Drop>(
     outcome_of(out, &mut checking, ends)
 }
 
+// The name under which a call agent speaks, at this address and at this port.
+fn socket_name(alloc: Global, own: SocketAddrV4, port: u16) -> Result<String, OutOfMemory> {
+    format!(in alloc; "ca@[{}]:{}", own.ip(), port)
+}
+
 // Plays all, where the second socket has this port.
 fn check_by<R: AllocGlobal + Net + Clock, F: Write + Drop>(
     rt: &R,
@@ -467,8 +472,8 @@ fn check_by<R: AllocGlobal + Net + Clock, F: Write + Drop>(
 ) -> Result<Checked, CheckFault> {
     let alloc = rt.alloc();
     let own = settings.own;
-    let here = format!(in alloc; "ca@[{}]:{}", own.ip(), own.port())?;
-    let there = format!(in alloc; "ca@[{}]:{}", own.ip(), ends.second_port())?;
+    let here = socket_name(alloc, own, own.port())?;
+    let there = socket_name(alloc, own, ends.second_port())?;
     let base = first_base(rt);
     check_from(
         alloc,
