@@ -15,3 +15,4 @@ pub mod Ending
 pub mod Turning
 pub mod Watching
 pub mod Example
+pub mod Picturing

@@ -7,7 +7,10 @@ ghost use Rattle.bad_network.specs.declared.packet.Packet.{Packet};
 ghost use Rattle.bad_network.specs.declared.packet.Way.TheVariants.{In, Out};
 ghost use Rattle.endpoint_names.specs.declared.route.Route.TheVariants.{One, Two};
 ghost use Rattle.mg_line.specs.declared.phone.Act.TheVariants.{OffHook};
+ghost use Rattle.live_journal.specs.declared.journal.Journal.{Journal};
+ghost use Rattle.live_journal.specs.declared.message_tally.MessageTally.{MessageTally};
 ghost use Rattle.live_journal.specs.declared.reporting.Faults.{Faults};
+ghost use Rattle.page_answers.specs.declared.counts.Counts.{Counts as Counted};
 ghost use Rattle.rgw_scripts.specs.Moves.{Move, Shown};
 ghost use Rattle.traces.specs.declared.telling.Mark.{Mark};
 ghost use Rattle.traces.specs.Writing.{arrived, typed, passed, showed, became};
@@ -20,6 +23,7 @@ ghost use Rattle.live_gateway.specs.declared.admission.Admission.{Admission};
 ghost use Rattle.live_gateway.specs.Admitting.{with_hosts, hosts_of, with_named, is_its_own, is_heard, heard_of, typist_of};
 ghost use Rattle.live_gateway.specs.Asking.{request_in};
 ghost use Rattle.live_gateway.specs.Naming.{no_word, listed, with_all, with_each};
+ghost use Rattle.live_gateway.specs.Picturing.{with_traffic, with_own, with_faults};
 ghost use Rattle.live_gateway.specs.Watching.{full_text};
 ghost use Rattle.live_gateway.specs.Example.{host, at_port, looped, anywhere, sockets};
 ghost use Rattle.live_gateway.specs.declared.exchange.Exchange.{Exchange};
@@ -157,4 +161,43 @@ pub fn a_word_names_each_address_once()
     ensures again { (with_all no_word (host 7 ∷ host 8 ∷ host 7 ∷ [])).text ≡ codes "10.0.0.7,10.0.0.8" }
     ensures route { (with_each no_word (record { name = []; route = Two (host 8) (host 9) })).text ≡ codes "10.0.0.8,10.0.0.9" }
     ensures none { (with_all no_word []).text ≡ [] }
+{}
+
+/// The page is shown each count as it is kept.
+pub fn the_page_is_shown_what_is_counted()
+    ensures traffic { (counts : Counted) (tally : MessageTally) → (with_traffic counts (record tally {
+      datagrams_in = 1;
+      datagrams_out = 2;
+      strangers = 3;
+      texts = record tally.texts { responses = 4; others = 5; lost = 6 };
+      sent = record tally.sent { again = 7 };
+    })) ≡ record counts {
+      datagrams_in = 1;
+      datagrams_out = 2;
+      responses = 4;
+      unreadable = 5;
+      answers_again = 7;
+      strangers = 3;
+      lost_commands = 6;
+    } }
+    ensures own { (counts : Counted) (tally : MessageTally) → (with_own counts (record tally {
+      sent = record tally.sent {
+        commands = 31 ∷ 32 ∷ 2 ∷ 33 ∷ 34 ∷ 35 ∷ 36 ∷ 37 ∷ 4 ∷ 38 ∷ [];
+        commands_again = 21 ∷ 22 ∷ 3 ∷ 23 ∷ 24 ∷ 25 ∷ 26 ∷ 27 ∷ 5 ∷ 28 ∷ [];
+        given_up_by_gateway = 8;
+        given_up_by_lines = 9;
+      };
+      places = record tally.places { sends = 1 ∷ 2 ∷ 3 ∷ 4 ∷ 5 ∷ [] };
+    })) ≡ record counts {
+      notifications = 2;
+      notifications_again = 3;
+      announcements = 4;
+      announcements_again = 5;
+      given_up_by_gateway = 8;
+      given_up_by_lines = 9;
+      sends = 1 ∷ 2 ∷ 3 ∷ 4 ∷ 5 ∷ [];
+    } }
+    ensures faults { (counts : Counted) (journal : Journal) →
+        with_faults counts (record { refused = 8; receive = 9; send = 10 }) (record journal { written = record journal.written { dropped = 11 } })
+        ≡ record counts { refused = 8; receive_faults = 9; send_faults = 10; dropped_lines = 11 } }
 {}

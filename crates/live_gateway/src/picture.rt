@@ -1,5 +1,11 @@
 //! What the page is shown of the gateway.
-ghost use Rattle.std.specs.Prelude.{◌≤◌};
+ghost use Rattle.std.specs.Prelude.{◌≡◌, ◌≤◌, List, IfOk};
+ghost use Rattle.plain_machine.specs.Event.{GatewayEvent};
+ghost use Rattle.plain_machine.specs.Lists.{plain};
+ghost use Rattle.plain_machine.specs.Machine.{serves};
+ghost use Rattle.gateway_core.specs.Remembering.{remembered};
+ghost use Rattle.gateway_core.specs.Stands.{Stands};
+ghost use Rattle.live_gateway.specs.Picturing.{with_traffic, with_own, with_faults, with_numbers};
 
 use crate::seeing::seen_line;
 use connections::mode_text;
@@ -9,7 +15,7 @@ use live_journal::{Faults, Journal, MessageTally};
 use mg_packages::{Hook, signal_name};
 use mgcp_text::Verb;
 use page_answers::{
-    CodeCount, ConnectionView, FileCount, LineView, Picture, SignalView, VerbCount,
+    CodeCount, ConnectionView, Counts, FileCount, LineView, Picture, SignalView, VerbCount,
 };
 use sent_counts::place_of;
 use signals::ActiveSignal;
@@ -114,34 +120,39 @@ fn put_file(
     Ok(())
 }
 
-// What became of what was recorded.
-fn put_written(alloc: Global, picture: &mut Picture, journal: &Journal) -> Result<(), AllocError> {
+// What couldn't be written, by its name.
+fn put_written(
+    alloc: Global,
+    views: &mut Vec<FileCount>,
+    journal: &Journal,
+) -> Result<(), AllocError> {
     let written = journal.written;
-    let views = &mut picture.counts.write_faults;
     put_file(alloc, views, b"standard output", written.output)?;
     put_file(alloc, views, b"standard error", written.error)?;
     let capture = journal.capture.name.as_bytes();
     if !capture.is_empty() {
         put_file(alloc, views, capture, written.capture)?;
     }
-    picture.counts.dropped_lines = written.dropped;
     Ok(())
 }
 
-// What was counted.
-fn put_counts(
-    picture: &mut Picture,
-    tally: &MessageTally,
-    faults: Faults,
-) -> Result<(), AllocError> {
-    let counts = &mut picture.counts;
-    put_commands(&mut counts.commands, tally)?;
-    put_answers(&mut counts.answers, tally)?;
+// What came, and what answers were sent before.
+fn put_traffic(counts: &mut Counts, tally: &MessageTally)
+    ensures { counts.new ≡ with_traffic counts.old tally.now }
+{
     counts.datagrams_in = tally.datagrams_in;
     counts.datagrams_out = tally.datagrams_out;
     counts.responses = tally.texts.responses;
     counts.unreadable = tally.texts.others;
     counts.answers_again = tally.sent.again;
+    counts.strangers = tally.strangers;
+    counts.lost_commands = tally.texts.lost;
+}
+
+// What the gateway sent of its own, where that went, and what of it was given up.
+fn put_own(counts: &mut Counts, tally: &MessageTally)
+    ensures { counts.new ≡ with_own counts.old tally.now }
+{
     counts.notifications = tally.sent.commands[place_of(Verb::Ntfy)];
     counts.notifications_again = tally.sent.commands_again[place_of(Verb::Ntfy)];
     counts.announcements = tally.sent.commands[place_of(Verb::Rsip)];
@@ -149,12 +160,25 @@ fn put_counts(
     counts.given_up_by_gateway = tally.sent.given_up_by_gateway;
     counts.given_up_by_lines = tally.sent.given_up_by_lines;
     counts.sends = tally.places.sends;
+}
+
+// What failed, and what wasn't kept.
+fn put_faults(counts: &mut Counts, faults: Faults, journal: &Journal)
+    ensures { counts.new ≡ with_faults counts.old faults journal.now }
+{
     counts.refused = faults.refused;
-    counts.strangers = tally.strangers;
-    counts.lost_commands = tally.texts.lost;
     counts.receive_faults = faults.receive;
     counts.send_faults = faults.send;
-    Ok(())
+    counts.dropped_lines = journal.written.dropped;
+}
+
+// All that a number tells.
+fn put_numbers(counts: &mut Counts, journal: &Journal, faults: Faults)
+    ensures { counts.new ≡ with_numbers counts.old journal.now faults }
+{
+    put_traffic(counts, &journal.tally);
+    put_own(counts, &journal.tally);
+    put_faults(counts, faults, journal);
 }
 
 fn put_lines(
@@ -174,23 +198,34 @@ fn put_lists(
     picture: &mut Picture,
     gateway: &Gateway,
     journal: &Journal,
-    faults: Faults,
 ) -> Result<(), AllocError> {
     put_lines(alloc, &mut picture.lines, gateway)?;
-    put_counts(picture, &journal.tally, faults)?;
-    put_written(alloc, picture, journal)
+    put_commands(&mut picture.counts.commands, &journal.tally)?;
+    put_answers(&mut picture.counts.answers, &journal.tally)?;
+    put_written(alloc, &mut picture.counts.write_faults, journal)
 }
 
-/// The gateway as it is now, where its clock is so far behind the machine's, in ms.
+/// The gateway as it is now, where its clock is so far behind the machine's, in ms. Its only error is want of memory.
 pub fn picture_of(
     alloc: Global,
     gateway: &Gateway,
     journal: &Journal,
     faults: Faults,
     behind: u64,
-) -> Result<Picture, AllocError> {
+) -> Result<Picture, AllocError>
+    ensures counted { IfOk result (λ picture. picture.counts ≡ with_numbers picture.counts journal.now faults) }
+    ensures clock { (events : List GatewayEvent) → Stands gateway.now events
+        → IfOk result (λ picture. picture.clock ≡ (plain gateway.now.setup events).now) }
+    ensures behind { IfOk result (λ picture. picture.behind ≡ behind) }
+    ensures serving { (events : List GatewayEvent) → Stands gateway.now events
+        → IfOk result (λ picture. picture.is_serving ≡ serves (plain gateway.now.setup events).endpoints) }
+    ensures first { IfOk result (λ picture. picture.first ≡ gateway.now.setup.first) }
+    ensures held { (events : List GatewayEvent) → Stands gateway.now events
+        → IfOk result (λ picture. picture.counts.transactions ≡ remembered (plain gateway.now.setup events)) }
+{
     let mut picture = Picture::new(alloc);
-    put_lists(alloc, &mut picture, gateway, journal, faults)?;
+    put_lists(alloc, &mut picture, gateway, journal)?;
+    put_numbers(&mut picture.counts, journal, faults);
     picture.clock = gateway.now();
     picture.behind = behind;
     picture.is_serving = gateway.serves();

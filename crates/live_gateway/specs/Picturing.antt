@@ -1,0 +1,46 @@
+-- What the page is shown of what was counted.
+use Rattle.std.specs.Prelude.{slice_index}
+use Rattle.mgcp_text.specs.declared.message.Verb.TheVariants.{Ntfy, Rsip}
+use Rattle.page_answers.specs.declared.counts.Counts.{Counts}
+use Rattle.sent_counts.specs.Counting.{place_of}
+use Rattle.live_journal.specs.declared.journal.Journal.{Journal}
+use Rattle.live_journal.specs.declared.message_tally.MessageTally.{MessageTally}
+use Rattle.live_journal.specs.declared.reporting.Faults.{Faults}
+
+-- what came, and what answers were sent before
+abbrev pub with_traffic : Counts → MessageTally → Counts
+with_traffic counts tally = record counts {
+  datagrams_in = tally.datagrams_in;
+  datagrams_out = tally.datagrams_out;
+  responses = tally.texts.responses;
+  unreadable = tally.texts.others;
+  answers_again = tally.sent.again;
+  strangers = tally.strangers;
+  lost_commands = tally.texts.lost;
+}
+
+-- what the gateway sent of its own, where that went, and what of it was given up
+abbrev pub with_own : Counts → MessageTally → Counts
+with_own counts tally = record counts {
+  notifications = slice_index tally.sent.commands (place_of Ntfy);
+  notifications_again = slice_index tally.sent.commands_again (place_of Ntfy);
+  announcements = slice_index tally.sent.commands (place_of Rsip);
+  announcements_again = slice_index tally.sent.commands_again (place_of Rsip);
+  given_up_by_gateway = tally.sent.given_up_by_gateway;
+  given_up_by_lines = tally.sent.given_up_by_lines;
+  sends = tally.places.sends;
+}
+
+-- what failed, and what wasn't kept
+abbrev pub with_faults : Counts → Faults → Journal → Counts
+with_faults counts faults journal = record counts {
+  refused = faults.refused;
+  receive_faults = faults.receive;
+  send_faults = faults.send;
+  dropped_lines = journal.written.dropped;
+}
+
+-- all that a number tells
+abbrev pub with_numbers : Counts → Journal → Faults → Counts
+with_numbers counts journal faults =
+    with_faults (with_own (with_traffic counts journal.tally.value) journal.tally.value) faults journal
