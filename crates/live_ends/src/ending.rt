@@ -11,6 +11,9 @@ use mg_bytes::OutOfMemory;
 use std::alloc::Global;
 use std::net::SocketAddrV4;
 
+/// The version of the programs.
+pub const VERSION: &str = "1.0";
+
 /// What a program says of itself.
 #[derive(Clone, Copy)]
 pub struct About {

@@ -31,7 +31,7 @@ pub use crate::asking::{AskFault, ask};
 pub use crate::backlog::{Backlog, MOST_KEPT, NOTE_ROOM, TEXT_ROOM, lines_ended};
 pub use crate::boxing::boxed;
 pub use crate::clock::{LiveClock, time_of_day};
-pub use crate::ending::{About, CommonEnding, address_in};
+pub use crate::ending::{About, CommonEnding, VERSION, address_in};
 pub use crate::files::read_file;
 pub use crate::live::{Live, STOP_FROM_AFAR, bind};
 pub use crate::now::Now;

@@ -1,9 +1,6 @@
 //! What the program says of itself: how it is used, and its version.
 use crate::ending::Abouts;
-use live_ends::About;
-
-/// The version of the program.
-pub const VERSION: &str = "1.0";
+use live_ends::{About, VERSION};
 
 /// The address of the socket for commands where no word says another. No other machine reaches it.
 pub const CONTROL: &str = "127.0.0.1:4280";

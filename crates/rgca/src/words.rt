@@ -5,11 +5,11 @@ ghost use Rattle.clap.specs.Matches.{found_of, first_value};
 ghost use Rattle.clap.specs.Values.{kind_of};
 ghost use Rattle.clap.specs.declared.error.kind.ErrorKind.TheVariants as kinds;
 
-use crate::help::{CONTROL, USAGE, VERSION};
+use crate::help::{CONTROL, USAGE};
 use bad_network::Spoiling;
 use clap::error::ErrorKind;
 use clap::{Arg, ArgAction, ArgMatches, Command, Error};
-use live_ends::{CommonEnding, Outlet, address_in};
+use live_ends::{CommonEnding, Outlet, VERSION, address_in};
 use std::alloc::{AllocError, Global};
 use std::io::Write;
 use std::net::SocketAddrV4;

@@ -1,8 +1,5 @@
 //! What the program says of itself: how it is used, and its version.
-use live_ends::About;
-
-/// The version of the program.
-pub const VERSION: &str = "1.0";
+use live_ends::{About, VERSION};
 
 /// The address of the gateway's socket where no word says another. Its port is that of gateways
 /// (RFC 3435, 3.5). No other machine reaches it: the protocol has no passwords.

@@ -4,12 +4,12 @@ ghost use Rattle.live_page.specs.Naming.{names_in, names_of};
 ghost use Rattle.surroundings.specs.Speaking.{admitted_by, admitted_in};
 
 use crate::ending::Ending;
-use crate::help::{LISTEN, PHONES, USAGE, VERSION};
+use crate::help::{LISTEN, PHONES, USAGE};
 use crate::parted::parting_of;
 use bad_network::Spoiling;
 use clap::error::ErrorKind;
 use clap::{Arg, ArgAction, ArgMatches, Command, Error};
-use live_ends::{CommonEnding, Outlet, Parting, address_in};
+use live_ends::{CommonEnding, Outlet, Parting, VERSION, address_in};
 use live_page::HostNames;
 use new_start::{FirstNumber, spread_in};
 use std::alloc::{AllocError, Global};
