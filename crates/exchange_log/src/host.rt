@@ -7,7 +7,7 @@ use mg_bytes::Draft;
 use std::net::{Ipv4Addr, SocketAddrV4};
 
 /// Puts an address, as `10.0.0.7`.
-pub(crate) fn put_host(out: &mut Draft, host: Ipv4Addr)
+pub fn put_host(out: &mut Draft, host: Ipv4Addr)
     ensures { out.new ≡ out.old ++ ipv4_text (ipv4_octets host) }
 {
     let [a, b, c, d] = host.octets();
@@ -21,7 +21,7 @@ pub(crate) fn put_host(out: &mut Draft, host: Ipv4Addr)
 }
 
 /// Puts an address and a port, as `10.0.0.7:2727`.
-pub(crate) fn put_peer(out: &mut Draft, peer: SocketAddrV4)
+pub fn put_peer(out: &mut Draft, peer: SocketAddrV4)
     ensures { out.new ≡ out.old ++ socket_v4_text peer }
 {
     put_host(out, *peer.ip());
