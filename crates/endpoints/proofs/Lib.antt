@@ -5,3 +5,4 @@ pub mod SavingLemmas
 pub mod ChangeLemmas
 pub mod OneLemmas
 pub mod PassingLemmas
+pub mod ReportLemmas

@@ -8,6 +8,7 @@ mod due_table;
 mod falling;
 mod giving_up;
 mod opening;
+mod reporting;
 mod requesting;
 mod responding;
 mod saves;
@@ -16,8 +17,9 @@ mod timed;
 
 pub use crate::falling::{is_due, pass};
 pub use crate::opening::{judged, key_at_fault, opening_list, opening_own};
+pub use crate::reporting::{answer_to_audit, name_alone};
 pub use crate::requesting::{deed_on_all, line_with_place, refused_by};
-pub use crate::responding::respond_to_its_id;
+pub use crate::responding::respond;
 pub use crate::store::Store;
 pub use endpoint_rules::{
     Context, Occasion, acted_on, answer_with, same_endpoint, same_post, send,

@@ -1,20 +1,22 @@
 //! What a response does to the line of its id, or to the gateway itself and then to all lines (RFC 3435, 3.5, 4.4.1, 4.4.6
 //! and 4.4.7).
-ghost use Rattle.std.specs.Prelude.{[], OnErr};
+ghost use Rattle.std.specs.Prelude.{◌≡◌, [], OnErr};
+ghost use Rattle.mgcp_text.specs.Message.{params_in};
 ghost use Rattle.plain_machine.specs.Machine.{on_line, on_own};
 ghost use Rattle.plain_machine.specs.Responding.{responded_on, redirected_on, opened_on};
 ghost use Rattle.plain_machine.specs.Announcing.{replied_on};
-ghost use Rattle.plain_machine.specs.Responding.{on_all, lines_told, own_heard, responded};
+ghost use Rattle.plain_machine.specs.Responding.{on_all, lines_told, own_heard, responded, entity_in, response_with};
 ghost use Rattle.endpoint_rules.specs.Telling.{MayTell};
 ghost use Rattle.endpoint_rules.specs.Undoing.{IsUndoneByItsOwner};
 ghost use Rattle.endpoints.specs.Tells.{Tells};
 
 use crate::store::Store;
-use endpoint_names::Entity;
+use endpoint_names::{Entity, read_entity};
 use endpoint_rules::{
     Context, Occasion, heard_on, opened_on, redirected_on, replied_on, responded_on,
 };
 use mg_bytes::OutOfMemory;
+use mgcp_text::{Message, TransactionId, param_at};
 use plain_machine::{OutMessage, PostOwner, Response, line_of_id, owner_of};
 use restart::Heard;
 
@@ -190,9 +192,9 @@ fn respond_whole(
     Ok(())
 }
 
-/// What a response does at this moment (in ms) to the line of its id, or to the gateway itself and then to all lines.
-/// After an error, which is for want of memory, nothing goes out, and what the event found can still be had.
-pub fn respond_to_its_id(
+// What a response does to whom its id names. After an error, which is for want of memory, nothing goes out, and what the event
+// found can still be had.
+fn respond_to_its_id(
     context: Context<'_>,
     store: &mut Store,
     moment: u64,
@@ -210,4 +212,35 @@ pub fn respond_to_its_id(
             respond_on_line(context, store, Occasion { line, moment }, response, out)
         }
     }
+}
+
+// Whom the first N of a response names, where that can be read (RFC 3435, 3.2.2: NotifiedEntity).
+fn entity_in(context: Context<'_>, said: &Message<'_>) -> Option<Entity>
+    ensures { result ≡ entity_in context.entry.setup.now (params_in said.now) }
+{
+    let param = param_at(b"N", said.params())?;
+    read_entity(param.value.as_slice(), &context.setup.names.table)
+}
+
+/// What a response does at this moment (in ms) to the line of its id, or to the gateway itself and then to all lines.
+pub fn respond(
+    context: Context<'_>,
+    store: &mut Store,
+    moment: u64,
+    id: TransactionId,
+    code: u16,
+    said: &Message<'_>,
+    out: &mut Vec<OutMessage>,
+) -> Result<(), OutOfMemory>
+    requires { MayTell context.setup.now moment }
+    ensures { Tells result (responded context.entry.setup.now store.old.endpoints moment
+        (response_with context.entry.setup.now id code (params_in said.now)))
+        store.old store.new out.old.items out.new.items }
+{
+    let response = Response {
+        id,
+        code,
+        entity: entity_in(context, said),
+    };
+    respond_to_its_id(context, store, moment, &response, out)
 }

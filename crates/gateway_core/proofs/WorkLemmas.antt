@@ -1,8 +1,7 @@
 -- What is done at an event, piece by piece.
-use Rattle.std.proofs.Common.{◌≡◌, ℕ, ◌≤◌, ◌+◌, Bool, true, false, not, List, [], ◌∷◌, ◌++◌, length, map, drop, Option, Some, None, refl, sym, ap, ◌∙◌, append-nil, arith, ◌<◌, ◌^◌}
+use Rattle.std.proofs.Common.{◌≡◌, ℕ, ◌≤◌, ◌+◌, Bool, true, false, not, List, [], ◌∷◌, ◌++◌, length, map, Option, Some, None, refl, sym, ap, ◌∙◌, append-nil, arith}
 use Rattle.std.specs.Prelude.{is_some, ◌==◌}
-use Rattle.std.specs.List.{enumerate_from, range_with_len, list_all}
-use Rattle.std.proofs.lemmas.List.{drop_all}
+use Rattle.std.specs.List.{range_with_len}
 use Rattle.std.proofs.lemmas.List.FromFn.{length-map-range_with_len}
 use Rattle.history.specs.Kept.{HistoryState, settled_at as history_at, from_young}
 use Rattle.mg_line.specs.declared.phone.Act.{Act}
@@ -34,16 +33,11 @@ use Rattle.transmission.specs.Packing.{packed}
 use Rattle.plain_machine.specs.Happening.{ticked, effect}
 use Rattle.plain_machine.specs.Refusing.{refusal_of, is_unheeded, takes_none, ends, Ends}
 use Rattle.plain_machine.proofs.FallingLaws.{pass_none}
-use Rattle.plain_machine.proofs.NameLemmas.{line_writable}
 use Rattle.gateway_core.specs.declared.state.State.{State}
 use Rattle.endpoints.specs.StoreState.{StoreState, committed}
 use Rattle.gateway_core.specs.Sound.{IsSound}
 use Rattle.endpoints.specs.Tells.{Goes}
 use Rattle.gateway_core.specs.State.{Found, machine_in, found_in, CanGoBack, Happened, purged_in, Went, PutsOut}
-use Rattle.mgcp_text.specs.declared.message.Param.{Param}
-use Rattle.mgcp_text.specs.Writing.{is_writable_param}
-use Rattle.endpoint_names.specs.Table.{is_domain}
-use Rattle.plain_machine.specs.Reporting.{name_of_line}
 
 -- What happened
 
@@ -195,12 +189,6 @@ opening_sound setup m set_up is = record {
 pub opening_few : (setup : Setup) (list : List Endpoint) → IsSetUp setup → list ≡ map (opening_endpoint setup) (range_with_len 1 setup.names.lines) → length list ≤ most_lines
 opening_few setup list set_up same = rw (ap length same ∙ length-map-range_with_len (opening_endpoint setup) 1 setup.names.lines) set_up.lines
 
--- A list of names is whole at its end
-pub names_end : {B : Type 0} (f : ℕ × Endpoint → B) (report : List B) (place : ℕ) (list : List Endpoint) → length list ≤ place
-    → report ++ map f (enumerate_from (place + 1) (drop place list)) ≡ map f (enumerate_from 1 list) → report ≡ map f (enumerate_from 1 list)
-names_end f report place list past whole =
-    sym (append-nil report) ∙ ap (λ (rest : List Endpoint). report ++ map f (enumerate_from (place + 1) rest)) (sym (drop_all place list past)) ∙ whole
-
 -- what an event did, with nothing saved any more
 pub puts_settled : (effect : Effect Machine) (mid is : State) (were are : List OutDatagram) → is.clock ≡ mid.clock → is.history ≡ mid.history → is.store ≡ committed mid.store.endpoints
     → PutsOut effect mid were are → PutsOut effect is were are
@@ -213,10 +201,3 @@ pub as_found : (was : State) (store : StoreState) (history : HistoryState) (betw
     → ◌≡◌ {A = Machine} (record { now = was.clock; endpoints = store.endpoints; history = history.kept }) (purged_in (machine_in was))
 as_found was store history between found store_back history_back =
     rw (store_back, history_back) (ap (λ (f : Found). let m : Machine = record { now = was.clock; endpoints = f.endpoints; history = f.history } in m) found)
-
--- a name by itself can be written
-pub name_is_fine : (setup : Setup) (line : ℕ) (params : List Param) → is_domain setup.names.domain ≡ true → line < 2 ^ 64 → params ≡ name_of_line setup line ∷ []
-    → list_all is_writable_param params ≡ true
-name_is_fine setup line params domain small is =
-    let fine : is_writable_param (name_of_line setup line) ≡ true = line_writable setup line domain small in
-    ap (list_all is_writable_param) is ∙ (rw fine refl)

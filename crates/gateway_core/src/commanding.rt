@@ -2,104 +2,23 @@
 ghost use Rattle.std.specs.Prelude.{◌≡◌, true, IfOk};
 ghost use Rattle.std.specs.List.{list_all};
 ghost use Rattle.mgcp_text.specs.Writing.{is_writable_param};
-ghost use Rattle.endpoint_names.specs.Table.{is_domain};
-ghost use Rattle.mg_bytes.specs.CodeFault.{AnswersAs};
-ghost use Rattle.audits.specs.Fitting.{fitting};
 ghost use Rattle.command_forms.specs.Order.{form_while_in, judged_while_in};
 ghost use Rattle.command_forms.specs.Explaining.{fault_by};
 ghost use Rattle.plain_machine.specs.Requesting.{deed_done, line_with_place, done_there, done_for};
-ghost use Rattle.plain_machine.specs.Machine.{serves, endpoint_at};
-ghost use Rattle.plain_machine.specs.Reporting.{line_report, names_of};
-ghost use Rattle.plain_machine.specs.Commanding.{reported, audited, answer_by, done_by};
+ghost use Rattle.plain_machine.specs.Machine.{serves};
+ghost use Rattle.plain_machine.specs.Commanding.{done_by};
 ghost use Rattle.endpoints.specs.Telling.{MayTell};
 ghost use Rattle.endpoints.specs.Tells.{Tells};
 
-use crate::reporting::{name_alone, names_of};
-use audits::{AuditedEndpoint, connection_report, endpoint_report, fitting};
-use command_forms::{Asks, Audit, AuditTarget, Deed, FaultyPart, Stop, Target, judged_while};
-use endpoints::{Context, Store, answer_with, deed_on_all, line_with_place, refused_by};
-use mg_bytes::{CodeFault, OutOfMemory, ReturnCode};
-use mgcp_text::{AnswerContent, Bytes, KValue, Message, Params, TransactionId};
+use command_forms::{Asks, Deed, FaultyPart, Stop, Target, judged_while};
+use endpoints::{
+    Context, Store, answer_to_audit, answer_with, deed_on_all, line_with_place, name_alone,
+    refused_by,
+};
+use mg_bytes::{OutOfMemory, ReturnCode};
+use mgcp_text::{AnswerContent, KValue, Message, Params, TransactionId};
 use plain_machine::OutMessage;
 use std::alloc::AllocError;
-
-// What is asked for of one line, or of one of its connections.
-fn line_report(
-    context: Context<'_>,
-    store: &Store,
-    line: u16,
-    id: TransactionId,
-    audit: &Audit<'_>,
-) -> Result<AnswerContent, CodeFault>
-    ensures { AnswersAs (line_report (endpoint_at store.now.endpoints line) id audit.now) result }
-{
-    let Some(endpoint) = store.endpoint(line) else {
-        return Err(CodeFault::Code(ReturnCode::UnknownEndpoint.number()));
-    };
-    let borrowed = AuditedEndpoint {
-        line: &endpoint.line,
-        entity: &endpoint.post.entity,
-        encoding: endpoint.encoding,
-        connections: &endpoint.connections,
-    };
-    let items = audit.items.as_slice();
-    match &audit.connection {
-        None => endpoint_report(context.alloc, id, borrowed, items),
-        Some(connection) => connection_report(context.alloc, id, borrowed, connection, items),
-    }
-}
-
-// The names of all lines.
-#[tactic(auto, unfolding(mgcp_text::specs::Writing::is_writable_body))]
-fn all_reported(
-    context: Context<'_>,
-    store: &Store,
-    id: TransactionId,
-) -> Result<AnswerContent, CodeFault>
-    requires { is_domain context.setup.now.names.domain ≡ true }
-    ensures { AnswersAs (fitting id (reported (names_of context.entry.setup.now store.now.endpoints))) result }
-{
-    let names = names_of(context, store)?;
-    let report = AnswerContent::with(ReturnCode::Executed.number(), names, Bytes::of(b""));
-    fitting(context.alloc, id, report)
-}
-
-// What an audit reports: the items that are asked for of one line, or the names of all lines.
-#[tactic(auto, unfolding(plain_machine::specs::Commanding::audited))]
-fn audited(
-    context: Context<'_>,
-    store: &Store,
-    id: TransactionId,
-    target: AuditTarget,
-    audit: &Audit<'_>,
-) -> Result<AnswerContent, CodeFault>
-    requires { is_domain context.setup.now.names.domain ≡ true }
-    ensures { AnswersAs (audited context.entry.setup.now store.now.endpoints id target audit.now) result }
-{
-    match target {
-        AuditTarget::One(line) => line_report(context, store, line, id, audit),
-        AuditTarget::All => all_reported(context, store, id),
-    }
-}
-
-// The answer to an audit: a report, or the code for which there is none.
-fn answer_to_audit(
-    context: Context<'_>,
-    store: &Store,
-    id: TransactionId,
-    target: AuditTarget,
-    audit: &Audit<'_>,
-) -> Result<AnswerContent, OutOfMemory>
-    requires { is_domain context.setup.now.names.domain ≡ true }
-    ensures { IfOk result (λ answer. answer
-        ≡ answer_by (audited context.entry.setup.now store.now.endpoints id target audit.now)) }
-{
-    match audited(context, store, id, target, audit) {
-        Err(CodeFault::OutOfMemory) => Err(AllocError),
-        Err(CodeFault::Code(code)) => Ok(AnswerContent::plain(context.alloc, code)),
-        Ok(report) => Ok(report),
-    }
-}
 
 // A deed on the lines that it is for: on all of them, or on none. Its answer has these further parameters.
 fn deed_done(

@@ -15,8 +15,6 @@ pub mod laws;
 mod outcome;
 mod outcomes;
 mod parting;
-mod reporting;
-mod responding;
 mod sending;
 mod served;
 mod serving;

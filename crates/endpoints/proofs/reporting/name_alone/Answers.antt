@@ -1,7 +1,7 @@
 use Rattle.std.proofs.Common.{◌≡◌, ◌∷◌, [], rules, arith}
 use Rattle.plain_machine.specs.Reporting.{name_of_line}
-use Rattle.gateway_core.proofs.WorkLemmas.{name_is_fine}
-use Rattle.gateway_core.proofs.reporting.name_alone.Goals as goal
+use Rattle.endpoints.proofs.ReportLemmas.{name_is_fine}
+use Rattle.endpoints.proofs.reporting.name_alone.Goals as goal
 
 pub returns-clause-writable : goal.returns-clause-writable
 returns-clause-writable c =
