@@ -11,9 +11,10 @@
 //!
 //! Where nothing is printed the answer is `ok`; more than a line is all that is printed, with `\n` for each line end.
 use crate::played::{simulated, words_of};
+use gateway_core::Gateway;
 use mg_bytes::{OutOfMemory, Sequence};
 use rgw_play::{Task, WordFault, asked};
-use rgw_scenes::{flaw_of, gateway_of, told, told_setup};
+use rgw_scenes::{flaw_of, read_config, told, told_setup};
 use scenario_files::{
     Outcome, Row, Scenario, WrittenScenario, input_of, number_in, put_line, read_scenario, value_of,
 };
@@ -77,7 +78,10 @@ fn put_flaw(given: &mut Outcome, changes: &str) -> Result<(), OutOfMemory> {
 
 // What is told of a gateway of this configuration.
 fn setup_told(alloc: Global, config: &[u8]) -> Result<Vec<u8>, OutOfMemory> {
-    match gateway_of(alloc, config) {
+    let Some(config) = read_config(alloc, config)? else {
+        return Err(AllocError);
+    };
+    match Gateway::new(alloc, config) {
         Ok(gateway) => told_setup(alloc, gateway.setup()),
         Err(_) => Err(AllocError),
     }

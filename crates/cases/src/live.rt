@@ -21,13 +21,12 @@ use crate::live::browsers::Browsers;
 use crate::stories::{
     LateLog, Place, Program, Records, Story, Transcript, Words, put_given, told, words_in,
 };
-use gateway_core::Gateway;
+use gateway_core::{ConfigFault, Gateway};
 use live_gateway::{Admission, Desk, DeskSettings, Recorder, boxed, open_desk, speakers_of};
 use live_journal::{Journal, Trace};
 use live_page::HostNames;
 use mg_bytes::OutOfMemory;
-use rgw_play::PlayFault;
-use rgw_scenes::gateway_from;
+use rgw_scenes::read_config;
 use scenario_files::{Count, Titled, input_of, read_scenario};
 use std::alloc::{AllocError, Global};
 use std::collections::VecDeque;
@@ -77,9 +76,12 @@ fn gateway_in(
     config: &str,
     words: &Words,
 ) -> Result<Option<Box<Gateway>>, OutOfMemory> {
-    match gateway_from(alloc, config.as_bytes(), words.first.number()) {
+    let Some(config) = read_config(alloc, config.as_bytes())? else {
+        return Ok(None);
+    };
+    match Gateway::starting_at(alloc, config, words.first.number()) {
         Ok(gateway) => Ok(Some(boxed(alloc, gateway)?)),
-        Err(PlayFault::OutOfMemory) => Err(AllocError),
+        Err(ConfigFault::OutOfMemory) => Err(AllocError),
         Err(_) => Ok(None),
     }
 }

@@ -1,5 +1,9 @@
 //! What lines for the telephones are answered.
-ghost use Rattle.std.specs.Prelude.{◌≡◌, ◌≢◌, ◌≤◌, ◌++◌, ℕ, List, codes, IfOk, IfErr, OnOk, Err};
+ghost use Rattle.std.specs.Prelude.{◌≡◌, ◌≢◌, ◌≤◌, ◌++◌, ℕ, List, codes, IfOk, IfErr, OnOk, Err, Some};
+ghost use Rattle.plain_machine.specs.Event.{GatewayEvent};
+ghost use Rattle.plain_machine.specs.Lists.{plain};
+ghost use Rattle.gateway_core.specs.Stands.{Stands};
+ghost use Rattle.rgw_scripts.specs.Status.{status_of};
 ghost use Rattle.live_gateway.specs.Running.{IsAnswer};
 ghost use Rattle.live_gateway.specs.Watching.{full_text};
 
@@ -9,8 +13,7 @@ use line_changes::MOST_WATCHERS;
 use live_ends::put_around;
 use live_journal::{Faults, Journal};
 use mg_bytes::OutOfMemory;
-use rgw_scenes::status_of;
-use rgw_scripts::put_line;
+use rgw_scripts::{LineStatus, put_line};
 use std::alloc::Global;
 use surroundings::Lines;
 
@@ -27,6 +30,22 @@ pub const PHONES_FROM_AFAR: &[u8] =
 
 /// The answer where memory is refused for any other, and what who watches is told then.
 pub const OUT_OF_MEMORY: &[u8] = b"! 1 OutOfMemory\n";
+
+/// What a line, from 1 to the number of lines, is.
+pub(crate) fn status_of(gateway: &Gateway, line: u16) -> LineStatus<'_>
+    requires low { 1 ≤ line }
+    requires high { line ≤ gateway.now.setup.names.lines }
+    ensures { (events : List GatewayEvent) → Stands gateway.now events →
+        status_of (plain gateway.now.setup events) line ≡ Some result }
+{
+    LineStatus {
+        line,
+        hook: gateway.hook(line),
+        signals: gateway.signals(line),
+        connections: gateway.connections(line),
+        lost: gateway.lost(line),
+    }
+}
 
 // Puts what a line is.
 fn put_shown(

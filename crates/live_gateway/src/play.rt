@@ -17,12 +17,12 @@ ghost use Rattle.traces.specs.Telling.{told_mark, told_text};
 ghost use Rattle.traces.specs.Writing.{Entry, arrived, typed, passed, tick_text, after_tick, input_text, at_clock, clock_text, opening_script};
 ghost use Rattle.live_gateway.specs.Running.{live, Ran, HeardFrom, HandsOut, Takes, Refuses, Asked, IsAnswer, TellsRefusal};
 
+use crate::answering::status_of;
 use crate::ends::Outlet;
 use crate::placed::{Placed, tell_trace, untold};
 use gateway_core::{Event, Gateway, OutDatagram, Outputs, Refusal};
 use mg_bytes::OutOfMemory;
 use mg_line::Act;
-use rgw_scenes::status_of;
 use rgw_scripts::{put_line, put_refusal};
 use std::alloc::Global;
 use std::net::SocketAddrV4;

@@ -1,6 +1,10 @@
 //! How a gateway is opened from the text of a configuration, what is wrong with one, and how it is closed.
-ghost use Rattle.std.specs.Prelude.{◌≡◌, ◌≢◌, ◌<◌, ◌≤◌, length, take, true, IfOk, IfErr, IfSome, IsSome, IsSomeAnd, MatchOption, None};
+ghost use Rattle.std.specs.Prelude.{◌≡◌, ◌≢◌, ◌<◌, ◌≤◌, ℕ, List, [], length, take, true, Result, IfOk, IfErr, IfSome, IsSome, IsSomeAnd, MatchOption, None};
 ghost use Rattle.plain_machine.specs.Setup.{firsts};
+ghost use Rattle.gateway_core.specs.Stands.{Stands};
+ghost use Rattle.rgw_scripts.specs.declared.step.ScriptStep.{ScriptStep};
+ghost use Rattle.rgw_scripts.specs.Configuration.{config_in};
+ghost use Rattle.rgw_scripts.specs.Play.{scene_of, configured_from, Explains};
 ghost use Rattle.rgw_scenes.specs.Flaws.{flaw_of};
 ghost use Rattle.rgw_scenes.specs.Wording.{Tells};
 ghost use Rattle.rgw_c.specs.Opening.{Opened, Explained, WantsRoom, unread_number};
@@ -14,10 +18,34 @@ use crate::numbers::{
     config_number,
 };
 use c_buffers::lacks_room;
-use gateway_core::{FIRSTS, Outputs};
-use rgw_scenes::{Flaw, flaw_of, gateway_from, told};
+use gateway_core::{ConfigFault, FIRSTS, Gateway, Outputs};
+use rgw_scenes::{BAD_TOML, Flaw, flaw_of, read_config, told};
 use rgw_scripts::{PlayFault, is_too_long};
 use std::alloc::Global;
+
+// The gateway of a configuration's text, whose ids begin with this number, below `FIRSTS`, and its own one higher (RFC 3435, 3.2.1.2).
+fn gateway_from(alloc: Global, text: &[u8], first: u32) -> Result<Gateway, PlayFault>
+    requires { first < firsts }
+    ensures ok { IfOk result
+        (λ gateway. (steps : Result (List ScriptStep) ℕ) →
+        configured_from first (config_in text.now) steps ≡ scene_of gateway.setup steps) }
+    ensures opened { IfOk result (λ gateway. Stands gateway []) }
+    ensures err { IfErr result
+        (λ fault. (steps : Result (List ScriptStep) ℕ) →
+        Explains fault (configured_from first (config_in text.now) steps)) }
+    ensures no_stream { IfErr result (λ fault. (fault ≢ PlayFault.Read) × (fault ≢ PlayFault.Write)) }
+{
+    let Some(config) = read_config(alloc, text)? else {
+        return Err(PlayFault::Config { number: BAD_TOML });
+    };
+    match Gateway::starting_at(alloc, config, first) {
+        Ok(gateway) => Ok(gateway),
+        Err(ConfigFault::OutOfMemory) => Err(PlayFault::OutOfMemory),
+        Err(fault) => Err(PlayFault::Config {
+            number: fault.number(),
+        }),
+    }
+}
 
 // An instance of a configuration's text, which has sent nothing; or the number of why there is none.
 fn instance_of(alloc: Global, config: &[u8], first: u32) -> Result<Box<Instance>, u32>

@@ -13,6 +13,7 @@ mod ending;
 pub mod examples;
 pub mod laws;
 mod player;
+mod scene;
 mod session;
 mod sockets;
 mod udp_wire;

@@ -4,9 +4,9 @@ ghost use Rattle.gateway_core.specs.Stands.{Stands};
 ghost use Rattle.rgw_scripts.specs.Play.{judged, Plays, PlaysInto, Explains, ExplainsLink};
 
 use crate::player::Player;
+use crate::scene::{Scene, judge};
 use crate::sockets::{BindFault, Sockets};
 use gateway_core::WireFault;
-use rgw_scenes::{Scene, judge};
 use rgw_scripts::{Direct, Link, LinkFault, PlayFault, Played, StepFault, read_limited};
 use std::alloc::Global;
 use std::io::{Read, Write};

@@ -6,5 +6,3 @@ pub mod Pieces
 pub mod AgentWording
 pub mod NamesWording
 pub mod Wording
-pub use Rattle.gateway_core.specs.GatewayState
-pub use Rattle.gateway_core.specs.Stands

@@ -6,7 +6,7 @@ ghost use Rattle.plain_machine.specs.ConfigFault.{config_key_name};
 ghost use Rattle.rgw_scenes.specs.Flaws.{is_key, other_key, missing_key, known_flaw, unread_flaw, address_flaw, value_flaw, flaw_in, text_flaw, flaw_of};
 
 use crate::settings::{config_of, unread_key, value_at};
-use gateway_core::key_at_fault;
+use endpoints::key_at_fault;
 use mg_bytes::OutOfMemory;
 use plain_machine::{Config, ConfigKey};
 use rgw_scripts::is_too_long;

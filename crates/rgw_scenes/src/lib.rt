@@ -1,9 +1,10 @@
-//! What configurations, scripts and traces have to do with a gateway: how one is made of a configuration's text, what a line of it
-//! is, and what is wrong with the text of a configuration, in words.
+//! What a configuration's text says, what is wrong with one, in words, and what a gateway of it will be.
 //!
-//! The gateway that a script is played through is made here, and so is the one that runs live; neither needs the player. `flaw_of`
-//! judges the text of a configuration: the first flaw in the order in which they are told, or none. `told` says in a line which key
-//! it is about, what stands there, and what may. `told_setup` says what a gateway will be. Nothing here opens a file or a socket.
+//! `read_config` reads the configuration that a gateway is opened with. `flaw_of` judges the text of one: the first flaw in the order
+//! in which they are told, or none. `told` says in a line which key it is about, what stands there, and what may. `told_setup` says
+//! what a gateway will be. Nothing here opens a file or a socket.
+//!
+//! Nothing that a crate above can name has a gateway in it: a check loads all of what it has.
 #![tactic(auto)]
 
 mod agents;
@@ -13,17 +14,12 @@ mod flaw;
 mod hosts;
 pub mod laws;
 mod pieces;
-mod scene;
 mod settings;
 mod setup;
-mod status;
 mod wording;
 
 pub use crate::bounds::{Bounds, bounds_of};
 pub use crate::flaw::{Flaw, flaw_of};
-pub use crate::scene::{Scene, gateway_from, gateway_of, judge};
-pub use crate::settings::read_config;
+pub use crate::settings::{BAD_TOML, read_config};
 pub use crate::setup::told_setup;
-pub use crate::status::status_of;
 pub use crate::wording::told;
-pub use gateway_core::{Event, Gateway, OutDatagram, Outputs, Refusal};

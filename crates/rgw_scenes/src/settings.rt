@@ -13,6 +13,9 @@ use std::alloc::{AllocError, Global};
 use std::net::Ipv4Addr;
 use toml::{Table, Value};
 
+/// The number of the fault that a configuration can't be read.
+pub const BAD_TOML: u8 = 7;
+
 /// How many keys a table has.
 pub fn key_count(table: &Table) -> usize
     ensures { result ≡ count_of (table_view table.now) }

@@ -17,7 +17,7 @@ use live_gateway::{agents_line, boxed};
 use live_journal::{Journal, Trace};
 use live_page::{PageProgram, Reception};
 use mg_bytes::OutOfMemory;
-use rgw_scenes::{flaw_of, gateway_from, told, told_setup};
+use rgw_scenes::{flaw_of, read_config, told, told_setup};
 use rgw_scripts::LIMIT;
 use std::alloc::{AllocError, Global};
 use std::io;
@@ -160,7 +160,10 @@ fn check_gateway<F: Write + Drop>(
 
 // A gateway of the configuration in this text, which has no flaw, at this start: without one memory alone is refused.
 fn gateway_of(alloc: Global, text: &[u8], start: &Start) -> Result<Box<Gateway>, AllocError> {
-    match gateway_from(alloc, text, start.first.number()) {
+    let Some(config) = read_config(alloc, text)? else {
+        return Err(AllocError);
+    };
+    match Gateway::starting_at(alloc, config, start.first.number()) {
         Ok(gateway) => boxed(alloc, gateway),
         Err(_) => Err(AllocError),
     }

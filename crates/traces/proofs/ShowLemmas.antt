@@ -12,8 +12,8 @@ use Rattle.plain_machine.specs.Event.{GatewayEvent}
 use Rattle.plain_machine.specs.Lists.{plain}
 use Rattle.plain_machine.specs.Refusing.{Ends}
 use Rattle.plain_machine.proofs.EndLaws.{ends_fine, ends_cause}
-use Rattle.rgw_scenes.specs.GatewayState.{GatewayState}
-use Rattle.rgw_scenes.specs.Stands.{Stands, Took}
+use Rattle.gateway_core.specs.GatewayState.{GatewayState}
+use Rattle.gateway_core.specs.Stands.{Stands, Took}
 use Rattle.rgw_scripts.specs.Status.{LineStatus, status_of}
 use Rattle.rgw_scripts.specs.Printing.{printed_line, refusal_line, shown_line}
 use Rattle.rgw_scripts.specs.Moves.{give, ask, move_went}

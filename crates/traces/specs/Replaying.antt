@@ -7,8 +7,8 @@ use Rattle.std.specs.declared.net.socket_addr.SocketAddrV4.{SocketAddrV4}
 use Rattle.mg_bytes.specs.Words.{words}
 use Rattle.plain_machine.specs.declared.setup.Setup.{Setup}
 use Rattle.plain_machine.specs.Event.{GatewayEvent, datagram, phone, tick}
-use Rattle.rgw_scenes.specs.GatewayState.{GatewayState}
-use Rattle.rgw_scenes.specs.Stands.{Stands}
+use Rattle.gateway_core.specs.GatewayState.{GatewayState}
+use Rattle.gateway_core.specs.Stands.{Stands}
 use Rattle.rgw_scripts.specs.declared.step.ScriptStep.{ScriptStep}
 use Rattle.rgw_scripts.specs.declared.step.ScriptStep.TheVariants.{Datagram, Phone, Tick, At, Wait, Show}
 use Rattle.rgw_scripts.specs.declared.step.ScriptLine.{ScriptLine}

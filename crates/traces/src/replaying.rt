@@ -1,15 +1,15 @@
 //! A trace that is replayed, a line at a time.
 ghost use Rattle.std.specs.Prelude.{◌≡◌, [], None, IfOk};
 ghost use Rattle.std.specs.Bool.{MatchBool};
-ghost use Rattle.rgw_scenes.specs.Stands.{Stands};
+ghost use Rattle.gateway_core.specs.Stands.{Stands};
 ghost use Rattle.rgw_scripts.specs.Script.{line_in};
 ghost use Rattle.mg_bytes.specs.Words.{words as words_of};
 ghost use Rattle.traces.specs.Replaying.{Replayed, Has, Follows, may_end, next, closed, compared, came, played, proceeded, move_in};
 
 use crate::steps::{event_text, shown_by};
 use crate::telling::{is_mark, is_told};
+use gateway_core::{Event, Gateway};
 use mg_bytes::OutOfMemory;
-use rgw_scenes::{Event, Gateway};
 use rgw_scripts::{ScriptLine, ScriptStep, line_in};
 use std::alloc::Global;
 use std::marker::Model;

@@ -2,10 +2,11 @@
 use crate::head::{first_in, is_head_end};
 use crate::replaying::{Progress, Replay};
 use crate::verdict::{ReplayFault, Verdict};
+use gateway_core::{ConfigFault, Gateway};
 use mg_bytes::split_once;
 use new_start::FirstNumber;
-use rgw_scenes::{Gateway, gateway_from};
-use rgw_scripts::{LIMIT, PlayFault};
+use rgw_scenes::read_config;
+use rgw_scripts::LIMIT;
 use std::alloc::Global;
 use std::io::{BufRead, ErrorKind, Read, Take};
 
@@ -73,12 +74,15 @@ fn opened(
     config: &[u8],
     first: FirstNumber,
 ) -> Result<Option<Box<Gateway>>, ReplayFault> {
-    match gateway_from(alloc, config, first.number()) {
+    let Some(config) = read_config(alloc, config)? else {
+        return Ok(None);
+    };
+    match Gateway::starting_at(alloc, config, first.number()) {
         Ok(gateway) => match Box::new(alloc, gateway) {
             Ok(gateway) => Ok(Some(gateway)),
             Err(_) => Err(ReplayFault::OutOfMemory),
         },
-        Err(PlayFault::OutOfMemory) => Err(ReplayFault::OutOfMemory),
+        Err(ConfigFault::OutOfMemory) => Err(ReplayFault::OutOfMemory),
         Err(_) => Ok(None),
     }
 }

@@ -4,10 +4,10 @@
 //! next, be that the same event or another.
 use crate::boxing::boxed;
 use connections::Connection;
-use gateway_core::{Event, Gateway, OutDatagram, Outputs, Refusal};
+use gateway_core::{ConfigFault, Event, Gateway, OutDatagram, Outputs, Refusal};
 use mg_bytes::OutOfMemory;
-use rgw_scenes::{Scene, judge};
-use rgw_scripts::{PlayFault, ScriptStep};
+use rgw_scenes::read_config;
+use rgw_scripts::{ScriptFault, ScriptStep, is_too_long, parts_of, read_script};
 use scenario_files::{again, item_at};
 use std::alloc::{AllocError, Global};
 use std::slice;
@@ -20,18 +20,31 @@ pub struct Played {
     pub steps: Vec<ScriptStep>,
 }
 
-fn in_box(alloc: Global, scene: Scene) -> Result<Played, OutOfMemory> {
-    let Scene { gateway, steps } = scene;
-    let gateway = boxed(alloc, gateway)?;
-    Ok(Played { gateway, steps })
+// The gateway of a configuration's text, in a box; nothing where that is refused.
+fn gateway_of(alloc: Global, text: &[u8]) -> Result<Option<Box<Gateway>>, OutOfMemory> {
+    let Some(config) = read_config(alloc, text)? else {
+        return Ok(None);
+    };
+    match Gateway::new(alloc, config) {
+        Ok(gateway) => Ok(Some(boxed(alloc, gateway)?)),
+        Err(ConfigFault::OutOfMemory) => Err(AllocError),
+        Err(_) => Ok(None),
+    }
 }
 
 /// What an input has to play; nothing where it is refused.
 pub fn scene_of(alloc: Global, input: &[u8]) -> Result<Option<Played>, OutOfMemory> {
-    match judge(alloc, input) {
-        Ok(scene) => Ok(Some(in_box(alloc, scene)?)),
-        Err(PlayFault::OutOfMemory) => Err(AllocError),
-        Err(_) => Ok(None),
+    if is_too_long(input) {
+        return Ok(None);
+    }
+    let parts = parts_of(input);
+    let Some(gateway) = gateway_of(alloc, parts.config)? else {
+        return Ok(None);
+    };
+    match read_script(alloc, parts.script) {
+        Ok(steps) => Ok(Some(Played { gateway, steps })),
+        Err(ScriptFault::OutOfMemory) => Err(AllocError),
+        Err(ScriptFault::BadLine { .. }) => Ok(None),
     }
 }
 

@@ -7,7 +7,7 @@ use Rattle.rgw_scripts.specs.Configuration.{config_in}
 use Rattle.rgw_scripts.specs.Script.{steps_of}
 use Rattle.rgw_scripts.specs.Play.{judged, configured, scene_of}
 use Rattle.rgw_scripts.proofs.JudgedLemmas.{too_long, not_too_long}
-use Rattle.rgw_scenes.proofs.scene.judge.Goals as goal
+use Rattle.rgw_play.proofs.scene.judge.Goals as goal
 
 pub returns-then-is_too_long-clause-err : goal.returns-then-is_too_long-clause-err
 returns-then-is_too_long-clause-err c = too_long c.args.input.now (sym c.is_too_long.ensures ∙ c.if-is_too_long.true)

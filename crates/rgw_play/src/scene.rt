@@ -1,18 +1,14 @@
 //! Judges an input: its gateway and its steps, or its first fault.
-ghost use Rattle.std.specs.Prelude.{◌≡◌, ◌≢◌, ◌<◌, List, [], Ok, ℕ, Result, IfOk, IfErr};
-ghost use Rattle.plain_machine.specs.Setup.{firsts};
+ghost use Rattle.std.specs.Prelude.{◌≡◌, ◌≢◌, List, [], Ok, ℕ, Result, IfOk, IfErr};
 ghost use Rattle.gateway_core.specs.Stands.{Stands};
 ghost use Rattle.rgw_scripts.specs.declared.step.ScriptStep.{ScriptStep};
 ghost use Rattle.rgw_scripts.specs.Configuration.{config_in};
-ghost use Rattle.rgw_scripts.specs.Play.{scene_of, configured, configured_from, judged, Explains};
+ghost use Rattle.rgw_scripts.specs.Play.{scene_of, configured, judged, Explains};
 
-use crate::settings::read_config;
 use gateway_core::{ConfigFault, Gateway};
+use rgw_scenes::{BAD_TOML, read_config};
 use rgw_scripts::{PlayFault, ScriptFault, ScriptStep, is_too_long, parts_of, read_script};
 use std::alloc::Global;
-
-// The number of the fault that a configuration can't be read.
-const BAD_TOML: u8 = 7;
 
 /// What there is to play: a gateway that nothing came to yet, and steps.
 #[derive(Drop)]
@@ -21,8 +17,8 @@ pub struct Scene {
     pub steps: Vec<ScriptStep>,
 }
 
-/// The gateway of a configuration's text.
-pub fn gateway_of(alloc: Global, text: &[u8]) -> Result<Gateway, PlayFault>
+// The gateway of a configuration's text.
+fn gateway_of(alloc: Global, text: &[u8]) -> Result<Gateway, PlayFault>
     ensures ok { IfOk result
         (λ gateway. (steps : Result (List ScriptStep) ℕ) →
         configured (config_in text.now) steps ≡ scene_of gateway.setup steps) }
@@ -32,25 +28,10 @@ pub fn gateway_of(alloc: Global, text: &[u8]) -> Result<Gateway, PlayFault>
         Explains fault (configured (config_in text.now) steps)) }
     ensures no_stream { IfErr result (λ fault. (fault ≢ PlayFault.Read) × (fault ≢ PlayFault.Write)) }
 {
-    gateway_from(alloc, text, 0)
-}
-
-/// The same, whose ids begin with this number, below `FIRSTS`, and its own one higher (RFC 3435, 3.2.1.2).
-pub fn gateway_from(alloc: Global, text: &[u8], first: u32) -> Result<Gateway, PlayFault>
-    requires { first < firsts }
-    ensures ok { IfOk result
-        (λ gateway. (steps : Result (List ScriptStep) ℕ) →
-        configured_from first (config_in text.now) steps ≡ scene_of gateway.setup steps) }
-    ensures opened { IfOk result (λ gateway. Stands gateway []) }
-    ensures err { IfErr result
-        (λ fault. (steps : Result (List ScriptStep) ℕ) →
-        Explains fault (configured_from first (config_in text.now) steps)) }
-    ensures no_stream { IfErr result (λ fault. (fault ≢ PlayFault.Read) × (fault ≢ PlayFault.Write)) }
-{
     let Some(config) = read_config(alloc, text)? else {
         return Err(PlayFault::Config { number: BAD_TOML });
     };
-    match Gateway::starting_at(alloc, config, first) {
+    match Gateway::new(alloc, config) {
         Ok(gateway) => Ok(gateway),
         Err(ConfigFault::OutOfMemory) => Err(PlayFault::OutOfMemory),
         Err(fault) => Err(PlayFault::Config {
