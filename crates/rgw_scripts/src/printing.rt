@@ -1,5 +1,5 @@
 //! The printed form of datagrams, refusals and lines.
-ghost use Rattle.std.specs.Prelude.{◌≡◌, ◌≤◌, ◌++◌, length, codes, IfOk, OnOk, OnErr, string_bytes};
+ghost use Rattle.std.specs.Prelude.{◌≡◌, ◌≤◌, ◌++◌, length, codes, OnOk, OnErr};
 ghost use Rattle.std.specs.List.{flat_map};
 ghost use Rattle.mg_bytes.specs.Lines.{lines_of};
 ghost use Rattle.rgw_scripts.specs.Printing.{printed_line, datagram_line, printed_datagram, refusal_line};
@@ -10,16 +10,15 @@ use crate::link::Link;
 use crate::played::StepFault;
 use crate::status::LineStatus;
 use connections::{Connection, mode_text, write_number};
-use mg_bytes::{OutOfMemory, lines, put_decimal};
+use exchange_log::put_peer;
+use mg_bytes::{Draft, OutOfMemory, lines};
 use mg_line::Hook;
 use mg_packages::signal_name;
 use plain_machine::{OutDatagram, Refusal};
 use signals::ActiveSignal;
 use std::alloc::Global;
 
-// The room, in bytes, that a line and the text of datagrams begin with: most are shorter.
-const LINE_ROOM: usize = 64;
-
+// The room, in bytes, that the text of datagrams begins with: most are shorter.
 const TEXT_ROOM: usize = 256;
 
 // The room that the text of these datagrams begins with.
@@ -27,59 +26,49 @@ fn room_for(datagrams: &[OutDatagram]) -> usize {
     if datagrams.is_empty() { 0 } else { TEXT_ROOM }
 }
 
-fn datagram_line(alloc: Global, datagram: &OutDatagram) -> Result<String, OutOfMemory>
-    ensures { IfOk result (λ line. string_bytes line ≡ printed_line (datagram_line datagram.now)) }
+// The line of a datagram's moment and address.
+fn put_datagram_line(out: &mut Draft, datagram: &OutDatagram)
+    ensures { out.new ≡ out.old ++ printed_line (datagram_line datagram.now) }
 {
-    let mut line = String::with_capacity(alloc, LINE_ROOM)?;
-    writeln!(line, "> {} {}", datagram.moment, datagram.to)?;
-    Ok(line)
+    out.put(b"> ");
+    out.put_decimal(datagram.moment);
+    out.put(b" ");
+    put_peer(out, datagram.to);
+    out.put(b"\n");
 }
 
-fn put_lines(out: &mut Vec<u8>, bytes: &[u8]) -> Result<(), OutOfMemory>
-    ensures ok { OnOk result (out.new.items ≡ out.old.items
-        ++ flat_map printed_line (lines_of bytes.now)) }
-    ensures grows { length out.old.items ≤ length out.new.items }
+fn put_lines(out: &mut Draft, bytes: &[u8])
+    ensures { out.new ≡ out.old ++ flat_map printed_line (lines_of bytes.now) }
 {
     for line in lines(bytes) {
-        out.extend_from_slice(line)?;
-        out.push(b'\n')?;
+        out.put(line);
+        out.put_byte(b'\n');
     }
-    Ok(())
 }
 
 // Prints a datagram that goes out, of which these bytes arrived.
 #[tactic(auto, unfolding(crate::specs::Printing::printed_datagram))]
-fn put_datagram(
-    alloc: Global,
-    out: &mut Vec<u8>,
-    datagram: &OutDatagram,
-    arrived: &[u8],
-) -> Result<(), OutOfMemory>
+fn put_datagram(out: &mut Draft, datagram: &OutDatagram, arrived: &[u8])
     requires { arrived.now ≡ datagram.now.bytes }
-    ensures ok { OnOk result (out.new.items ≡ out.old.items ++ printed_datagram datagram.now) }
-    ensures grows { length out.old.items ≤ length out.new.items }
+    ensures { out.new ≡ out.old ++ printed_datagram datagram.now }
 {
-    let line = datagram_line(alloc, datagram)?;
-    out.extend_from_slice(line.as_bytes())?;
-    put_lines(out, arrived)?;
-    out.extend_from_slice(b"--\n")
+    put_datagram_line(out, datagram);
+    put_lines(out, arrived);
+    out.put(b"--\n");
 }
 
 // Carries datagrams to the call agent in their order, and prints each as it arrives there.
 fn carry_datagrams<L: Link>(
-    alloc: Global,
     link: &mut L,
-    out: &mut Vec<u8>,
+    out: &mut Draft,
     datagrams: &[OutDatagram],
-) -> Result<(), StepFault<L::Fault>>
-    ensures ok { OnOk result (out.new.items ≡ out.old.items
-        ++ flat_map printed_datagram datagrams.now) }
-    ensures grows { length out.old.items ≤ length out.new.items }
+) -> Result<(), L::Fault>
+    ensures { OnOk result (out.new ≡ out.old ++ flat_map printed_datagram datagrams.now) }
 {
     for datagram in datagrams {
         match link.to_agent(datagram.bytes.as_bytes()) {
-            Ok(arrived) => put_datagram(alloc, out, datagram, arrived)?,
-            Err(fault) => return Err(StepFault::Link(fault)),
+            Ok(arrived) => put_datagram(out, datagram, arrived),
+            Err(fault) => return Err(fault),
         }
     }
     Ok(())
@@ -98,18 +87,13 @@ pub fn put_datagrams<L: Link>(
     ensures grows { length out.old.items ≤ length out.new.items }
     ensures err { OnErr result (out.new.items ≡ out.old.items) }
 {
-    let mut text = Vec::with_capacity(alloc, room_for(datagrams))?;
-    carry_datagrams(alloc, link, &mut text, datagrams)?;
-    out.extend_from_slice(&text)?;
+    let mut text = Draft::with_room(alloc, room_for(datagrams));
+    match carry_datagrams(link, &mut text, datagrams) {
+        Ok(()) => {}
+        Err(fault) => return Err(StepFault::Link(fault)),
+    }
+    text.append_to(out)?;
     Ok(())
-}
-
-fn refusal_line(alloc: Global, refusal: Refusal) -> Result<String, OutOfMemory>
-    ensures { IfOk result (λ line. string_bytes line ≡ printed_line (refusal_line refusal)) }
-{
-    let mut line = String::new(alloc);
-    writeln!(line, "! {} {}", refusal.number(), refusal.name())?;
-    Ok(line)
 }
 
 /// Prints why a step is refused. After an error what was printed is as it was.
@@ -118,8 +102,13 @@ pub fn put_refusal(alloc: Global, out: &mut Vec<u8>, refusal: Refusal) -> Result
     ensures grows { length out.old.items ≤ length out.new.items }
     ensures err { OnErr result (out.new.items ≡ out.old.items) }
 {
-    let line = refusal_line(alloc, refusal)?;
-    out.extend_from_slice(line.as_bytes())
+    let mut line = Draft::new(alloc);
+    line.put(b"! ");
+    line.put_decimal(u64::from(refusal.number()));
+    line.put(b" ");
+    line.put(refusal.name().as_bytes());
+    line.put(b"\n");
+    line.append_to(out)
 }
 
 fn hook_word(hook: Hook) -> &'static [u8]
@@ -131,93 +120,75 @@ fn hook_word(hook: Hook) -> &'static [u8]
     }
 }
 
-fn put_end(alloc: Global, out: &mut Vec<u8>, end: Option<u64>) -> Result<(), OutOfMemory>
-    ensures ok { OnOk result (out.new.items ≡ out.old.items ++ end_shown end) }
-    ensures grows { length out.old.items ≤ length out.new.items }
+fn put_end(out: &mut Draft, end: Option<u64>)
+    ensures { out.new ≡ out.old ++ end_shown end }
 {
     match end {
-        Some(end) => put_decimal(alloc, out, end),
-        None => {
-            out.push(b'-')?;
-            Ok(())
-        }
+        Some(end) => out.put_decimal(end),
+        None => out.put(b"-"),
     }
 }
 
-fn put_signal(alloc: Global, out: &mut Vec<u8>, active: ActiveSignal) -> Result<(), OutOfMemory>
-    ensures ok { OnOk result (out.new.items ≡ out.old.items ++ signal_shown active) }
-    ensures grows { length out.old.items ≤ length out.new.items }
+fn put_signal(out: &mut Draft, active: ActiveSignal)
+    ensures { out.new ≡ out.old ++ signal_shown active }
 {
-    out.extend_from_slice(signal_name(active.signal))?;
-    out.push(b':')?;
-    put_end(alloc, out, active.end)
+    out.put(signal_name(active.signal));
+    out.put(b":");
+    put_end(out, active.end);
 }
 
-fn put_more_signals(
-    alloc: Global,
-    out: &mut Vec<u8>,
-    more: &[ActiveSignal],
-) -> Result<(), OutOfMemory>
-    ensures ok { OnOk result (out.new.items ≡ out.old.items
-        ++ flat_map (λ next. codes "," ++ signal_shown next) more.now) }
-    ensures grows { length out.old.items ≤ length out.new.items }
+fn put_more_signals(out: &mut Draft, more: &[ActiveSignal])
+    ensures { out.new ≡ out.old ++ flat_map (λ next. codes "," ++ signal_shown next) more.now }
 {
     for active in more {
-        out.push(b',')?;
-        put_signal(alloc, out, *active)?;
+        out.put(b",");
+        put_signal(out, *active);
     }
-    Ok(())
 }
 
 #[tactic(auto, unfolding(crate::specs::Printing::listed, crate::specs::Printing::signals_shown))]
-fn put_signals(
-    alloc: Global,
-    out: &mut Vec<u8>,
-    signals: &[ActiveSignal],
-) -> Result<(), OutOfMemory>
-    ensures ok { OnOk result (out.new.items ≡ out.old.items ++ signals_shown signals.now) }
-    ensures grows { length out.old.items ≤ length out.new.items }
+fn put_signals(out: &mut Draft, signals: &[ActiveSignal])
+    ensures { out.new ≡ out.old ++ signals_shown signals.now }
 {
-    out.extend_from_slice(b" signals ")?;
+    out.put(b" signals ");
     match signals {
-        [] => {
-            out.push(b'-')?;
-            Ok(())
-        }
+        [] => out.put(b"-"),
         [first, more @ ..] => {
-            put_signal(alloc, out, *first)?;
-            put_more_signals(alloc, out, more)
+            put_signal(out, *first);
+            put_more_signals(out, more);
         }
     }
 }
 
+// The identifier is what can't be put without memory of its own.
 fn put_connection(
     alloc: Global,
-    out: &mut Vec<u8>,
+    out: &mut Draft,
     connection: &Connection,
 ) -> Result<(), OutOfMemory>
-    ensures ok { OnOk result (out.new.items ≡ out.old.items ++ connection_shown connection.now) }
-    ensures grows { length out.old.items ≤ length out.new.items }
+    ensures { OnOk result (out.new ≡ out.old ++ connection_shown connection.now) }
 {
-    write_number(alloc, out, connection.number)?;
-    out.push(b':')?;
-    out.extend_from_slice(mode_text(connection.mode))
+    let mut identifier = Vec::new(alloc);
+    write_number(alloc, &mut identifier, connection.number)?;
+    out.put(&identifier);
+    out.put(b":");
+    out.put(mode_text(connection.mode));
+    Ok(())
 }
 
 fn put_more_connections(
     alloc: Global,
-    out: &mut Vec<u8>,
+    out: &mut Draft,
     more: &[Option<Connection>],
 ) -> Result<(), OutOfMemory>
-    ensures ok { OnOk result (out.new.items ≡ out.old.items
+    ensures { OnOk result (out.new ≡ out.old
         ++ flat_map (λ next. codes "," ++ connection_shown next) (held_in more.now)) }
-    ensures grows { length out.old.items ≤ length out.new.items }
 {
     for held in more {
         let Some(connection) = held else {
             continue;
         };
-        out.push(b',')?;
+        out.put(b",");
         put_connection(alloc, out, connection)?;
     }
     Ok(())
@@ -226,15 +197,14 @@ fn put_more_connections(
 #[tactic(auto, unfolding(crate::specs::Printing::listed))]
 fn put_held(
     alloc: Global,
-    out: &mut Vec<u8>,
+    out: &mut Draft,
     places: &[Option<Connection>],
 ) -> Result<(), OutOfMemory>
-    ensures ok { OnOk result (out.new.items ≡ out.old.items ++ listed connection_shown (held_in places.now)) }
-    ensures grows { length out.old.items ≤ length out.new.items }
+    ensures { OnOk result (out.new ≡ out.old ++ listed connection_shown (held_in places.now)) }
 {
     match places {
         [] => {
-            out.push(b'-')?;
+            out.put(b"-");
             Ok(())
         }
         [None, more @ ..] => put_held(alloc, out, more),
@@ -248,47 +218,31 @@ fn put_held(
 #[tactic(auto, unfolding(crate::specs::Printing::connections_shown))]
 fn put_connections(
     alloc: Global,
-    out: &mut Vec<u8>,
+    out: &mut Draft,
     places: &[Option<Connection>],
 ) -> Result<(), OutOfMemory>
-    ensures ok { OnOk result (out.new.items ≡ out.old.items ++ connections_shown places.now) }
-    ensures grows { length out.old.items ≤ length out.new.items }
+    ensures { OnOk result (out.new ≡ out.old ++ connections_shown places.now) }
 {
-    out.extend_from_slice(b" connections ")?;
+    out.put(b" connections ");
     put_held(alloc, out, places)
 }
 
 #[tactic(auto, unfolding(crate::specs::Printing::line_head))]
-fn put_head(alloc: Global, out: &mut Vec<u8>, line: u16, hook: Hook) -> Result<(), OutOfMemory>
-    ensures ok { OnOk result (out.new.items ≡ out.old.items ++ line_head line hook) }
-    ensures grows { length out.old.items ≤ length out.new.items }
+fn put_head(out: &mut Draft, line: u16, hook: Hook)
+    ensures { out.new ≡ out.old ++ line_head line hook }
 {
-    out.extend_from_slice(b"line ")?;
-    put_decimal(alloc, out, u64::from(line))?;
-    out.push(b' ')?;
-    out.extend_from_slice(hook_word(hook))
+    out.put(b"line ");
+    out.put_decimal(u64::from(line));
+    out.put(b" ");
+    out.put(hook_word(hook));
 }
 
 #[tactic(auto, unfolding(crate::specs::Printing::lost_shown))]
-fn put_lost(alloc: Global, out: &mut Vec<u8>, lost: u64) -> Result<(), OutOfMemory>
-    ensures ok { OnOk result (out.new.items ≡ out.old.items ++ lost_shown lost) }
-    ensures grows { length out.old.items ≤ length out.new.items }
+fn put_lost(out: &mut Draft, lost: u64)
+    ensures { out.new ≡ out.old ++ lost_shown lost }
 {
-    out.extend_from_slice(b" lost ")?;
-    put_decimal(alloc, out, lost)
-}
-
-// What is printed of a line.
-fn line_text(alloc: Global, status: &LineStatus<'_>) -> Result<Vec<u8>, OutOfMemory>
-    ensures { IfOk result (λ text. text.items ≡ printed_line (shown_line status.now)) }
-{
-    let mut text = Vec::new(alloc);
-    put_head(alloc, &mut text, status.line, status.hook)?;
-    put_signals(alloc, &mut text, status.signals.as_slice())?;
-    put_connections(alloc, &mut text, status.connections)?;
-    put_lost(alloc, &mut text, status.lost)?;
-    text.push(b'\n')?;
-    Ok(text)
+    out.put(b" lost ");
+    out.put_decimal(lost);
 }
 
 /// Prints what a line is. After an error what was printed is as it was.
@@ -301,6 +255,11 @@ pub fn put_line(
     ensures grows { length out.old.items ≤ length out.new.items }
     ensures err { OnErr result (out.new.items ≡ out.old.items) }
 {
-    let text = line_text(alloc, status)?;
-    out.extend_from_slice(&text)
+    let mut line = Draft::new(alloc);
+    put_head(&mut line, status.line, status.hook);
+    put_signals(&mut line, status.signals.as_slice());
+    put_connections(alloc, &mut line, status.connections)?;
+    put_lost(&mut line, status.lost);
+    line.put(b"\n");
+    line.append_to(out)
 }
