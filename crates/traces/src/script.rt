@@ -3,14 +3,14 @@
 //! Ticks at which nothing was sent are told together, with what follows them.
 ghost use Rattle.std.specs.Prelude.{◌≡◌, ◌<◌, ◌++◌, codes, decimal, OnOk};
 ghost use Rattle.std.specs.Char.{digit_char};
-ghost use Rattle.std.specs.Net.Text.{socket_v4_text};
 ghost use Rattle.rgw_scripts.specs.Printing.{printed_line};
 ghost use Rattle.rgw_scripts.specs.Moves.{sends};
 ghost use Rattle.traces.specs.Telling.{told_text};
 ghost use Rattle.traces.specs.Writing.{hex_text, datagram_text, clock_text, at_clock, pass_text, caught_up, passed_to, tick_text, after_tick, input_text, arrived, typed, opening_script};
 
 use crate::telling::{put_outputs, put_shown};
-use mg_bytes::{OutOfMemory, put_decimal};
+use exchange_log::put_peer;
+use mg_bytes::{Draft, OutOfMemory};
 use plain_machine::OutDatagram;
 use std::alloc::Global;
 use std::net::SocketAddrV4;
@@ -29,58 +29,39 @@ fn hex_digit(value: u8) -> u8
     }
 }
 
-fn put_hex(out: &mut Vec<u8>, bytes: &[u8]) -> Result<(), OutOfMemory>
-    ensures { OnOk result (out.new.items ≡ out.old.items ++ hex_text bytes.now) }
+fn put_hex(out: &mut Draft, bytes: &[u8])
+    ensures { out.new ≡ out.old ++ hex_text bytes.now }
 {
     for byte in bytes {
-        out.push(hex_digit(*byte / 16))?;
-        out.push(hex_digit(*byte % 16))?;
+        out.put(&[hex_digit(*byte / 16), hex_digit(*byte % 16)]);
     }
-    Ok(())
-}
-
-// An address, with what stands before it.
-fn put_address(
-    alloc: Global,
-    out: &mut Vec<u8>,
-    before: &[u8],
-    address: SocketAddrV4,
-) -> Result<(), OutOfMemory>
-    ensures { OnOk result (out.new.items ≡ out.old.items ++ (before.now ++ socket_v4_text address)) }
-{
-    let text = format!(in alloc; "{address}")?;
-    out.extend_from_slice(before)?;
-    out.extend_from_slice(text.as_bytes())
 }
 
 // The lines of a datagram. A `raw` can't say the empty one.
 #[tactic(auto, unfolding(crate::specs::Writing::datagram_text))]
-fn put_datagram(
-    alloc: Global,
-    out: &mut Vec<u8>,
-    source: SocketAddrV4,
-    bytes: &[u8],
-) -> Result<(), OutOfMemory>
-    ensures { OnOk result (out.new.items ≡ out.old.items ++ datagram_text source bytes.now) }
+fn put_datagram(out: &mut Draft, source: SocketAddrV4, bytes: &[u8])
+    ensures { out.new ≡ out.old ++ datagram_text source bytes.now }
 {
     if bytes.is_empty() {
-        put_address(alloc, out, b"from ", source)?;
-        out.extend_from_slice(b"\n--\n")?;
-        return Ok(());
+        out.put(b"from ");
+        put_peer(out, source);
+        out.put(b"\n--\n");
+        return;
     }
-    put_address(alloc, out, b"raw ", source)?;
-    out.extend_from_slice(b" ")?;
-    put_hex(out, bytes)?;
-    out.extend_from_slice(b"\n")
+    out.put(b"raw ");
+    put_peer(out, source);
+    out.put(b" ");
+    put_hex(out, bytes);
+    out.put(b"\n");
 }
 
 // The line of a moment.
-fn put_moment(alloc: Global, out: &mut Vec<u8>, moment: u64) -> Result<(), OutOfMemory>
-    ensures { OnOk result (out.new.items ≡ out.old.items ++ (codes "at " ++ decimal moment ++ codes "\n")) }
+fn put_moment(out: &mut Draft, moment: u64)
+    ensures { out.new ≡ out.old ++ (codes "at " ++ decimal moment ++ codes "\n") }
 {
-    out.extend_from_slice(b"at ")?;
-    put_decimal(alloc, out, moment)?;
-    out.extend_from_slice(b"\n")
+    out.put(b"at ");
+    out.put_decimal(moment);
+    out.put(b"\n");
 }
 
 /// The clock of a trace: the moment that its script has come to, and the one that its gateway has, in ms. After an error of any call
@@ -99,37 +80,44 @@ impl Script {
         Script { told: 0, clock: 0 }
     }
 
+    // Puts the moment that the gateway has come to, where the script isn't there yet.
+    fn write_clock(&mut self, out: &mut Draft)
+        ensures text { out.new ≡ out.old ++ clock_text self.old }
+        ensures script { self.new ≡ at_clock self.old }
+    {
+        if self.told != self.clock {
+            put_moment(out, self.clock);
+        }
+        self.told = self.clock;
+    }
+
     /// Puts the moment that the gateway has come to, where the script isn't there yet: so a trace ends.
     pub fn put_clock(&mut self, alloc: Global, out: &mut Vec<u8>) -> Result<(), OutOfMemory>
         ensures text { OnOk result (out.new.items ≡ out.old.items ++ clock_text self.old) }
         ensures script { OnOk result (self.new ≡ at_clock self.old) }
     {
-        if self.told != self.clock {
-            put_moment(alloc, out, self.clock)?;
-        }
-        self.told = self.clock;
-        Ok(())
+        let mut text = Draft::new(alloc);
+        self.write_clock(&mut text);
+        text.append_to(out)
     }
 
     // Where a moment is too far for one tick of the script, its clock goes on before.
-    fn catch_up(&mut self, alloc: Global, out: &mut Vec<u8>, moment: u64) -> Result<(), OutOfMemory>
-        ensures text { OnOk result (out.new.items ≡ out.old.items ++ pass_text self.old moment) }
-        ensures script { OnOk result (self.new ≡ caught_up self.old moment) }
+    fn catch_up(&mut self, out: &mut Draft, moment: u64)
+        ensures text { out.new ≡ out.old ++ pass_text self.old moment }
+        ensures script { self.new ≡ caught_up self.old moment }
     {
         if moment.saturating_sub(self.told) > LONGEST_STEP {
-            self.put_clock(alloc, out)?;
+            self.write_clock(out);
         }
-        Ok(())
     }
 
     // The gateway's clock goes to a moment.
-    fn pass(&mut self, alloc: Global, out: &mut Vec<u8>, moment: u64) -> Result<(), OutOfMemory>
-        ensures text { OnOk result (out.new.items ≡ out.old.items ++ pass_text self.old moment) }
-        ensures script { OnOk result (self.new ≡ passed_to self.old moment) }
+    fn pass(&mut self, out: &mut Draft, moment: u64)
+        ensures text { out.new ≡ out.old ++ pass_text self.old moment }
+        ensures script { self.new ≡ passed_to self.old moment }
     {
-        self.catch_up(alloc, out, moment)?;
+        self.catch_up(out, moment);
         self.clock = moment;
-        Ok(())
     }
 
     /// Puts a tick to a moment, in ms, and what the gateway sent at it. One at which it sent nothing is put later.
@@ -143,12 +131,14 @@ impl Script {
         ensures text { OnOk result (out.new.items ≡ out.old.items ++ tick_text self.old moment sent.now) }
         ensures script { OnOk result (self.new ≡ after_tick self.old moment sent.now) }
     {
-        self.pass(alloc, out, moment)?;
+        let mut text = Draft::new(alloc);
+        self.pass(&mut text, moment);
         if sent.is_empty() {
-            return Ok(());
+            return text.append_to(out);
         }
-        self.put_clock(alloc, out)?;
-        put_outputs(alloc, out, sent)
+        self.write_clock(&mut text);
+        put_outputs(&mut text, sent);
+        text.append_to(out)
     }
 
     /// Puts a datagram that came, and what the gateway sent at it.
@@ -165,25 +155,21 @@ impl Script {
             ≡ out.old.items ++ input_text self.old (arrived source bytes.now) (sends sent.now)) }
         ensures script { OnOk result (self.new ≡ at_clock self.old) }
     {
-        self.put_clock(alloc, out)?;
-        put_datagram(alloc, out, source, bytes)?;
-        put_outputs(alloc, out, sent)
+        let mut text = Draft::new(alloc);
+        self.write_clock(&mut text);
+        put_datagram(&mut text, source, bytes);
+        put_outputs(&mut text, sent);
+        text.append_to(out)
     }
 
     // Puts a line for the telephones.
-    fn put_typed(
-        &mut self,
-        alloc: Global,
-        out: &mut Vec<u8>,
-        line: &[u8],
-    ) -> Result<(), OutOfMemory>
-        ensures text { OnOk result (out.new.items ≡ out.old.items ++ (clock_text self.old ++ printed_line line.now)) }
-        ensures script { OnOk result (self.new ≡ at_clock self.old) }
+    fn put_typed(&mut self, out: &mut Draft, line: &[u8])
+        ensures text { out.new ≡ out.old ++ (clock_text self.old ++ printed_line line.now) }
+        ensures script { self.new ≡ at_clock self.old }
     {
-        self.put_clock(alloc, out)?;
-        out.extend_from_slice(line)?;
-        out.push(b'\n')?;
-        Ok(())
+        self.write_clock(out);
+        out.put(line);
+        out.put_byte(b'\n');
     }
 
     /// Puts a line for the telephones by which something was done, and what the gateway sent at it.
@@ -198,8 +184,10 @@ impl Script {
         ensures text { OnOk result (out.new.items ≡ out.old.items ++ input_text self.old (typed line.now) (sends sent.now)) }
         ensures script { OnOk result (self.new ≡ at_clock self.old) }
     {
-        self.put_typed(alloc, out, line)?;
-        put_outputs(alloc, out, sent)
+        let mut text = Draft::new(alloc);
+        self.put_typed(&mut text, line);
+        put_outputs(&mut text, sent);
+        text.append_to(out)
     }
 
     /// Puts a line for the telephones and what was answered, as it is printed: why an act was refused, or what a line is.
@@ -213,7 +201,9 @@ impl Script {
         ensures text { OnOk result (out.new.items ≡ out.old.items ++ (clock_text self.old ++ printed_line line.now ++ told_text printed.now)) }
         ensures script { OnOk result (self.new ≡ at_clock self.old) }
     {
-        self.put_typed(alloc, out, line)?;
-        put_shown(out, printed)
+        let mut text = Draft::new(alloc);
+        self.put_typed(&mut text, line);
+        put_shown(&mut text, printed);
+        text.append_to(out)
     }
 }

@@ -12,7 +12,7 @@ ghost use Rattle.traces.specs.Replaying.{move_in, Showed, Plays};
 
 use crate::telling::{put_outputs, put_shown};
 use gateway_core::{Event, Gateway, OutDatagram, Outputs, Refusal};
-use mg_bytes::OutOfMemory;
+use mg_bytes::{Draft, OutOfMemory};
 use rgw_scripts::{LineStatus, ScriptStep, put_line, put_refusal};
 use std::alloc::{AllocError, Global};
 
@@ -20,18 +20,18 @@ use std::alloc::{AllocError, Global};
 fn sent_text(alloc: Global, datagrams: &[OutDatagram]) -> Result<Vec<u8>, OutOfMemory>
     ensures { IfOk result (λ text. text.items ≡ flat_map told_output datagrams.now) }
 {
-    let mut text = Vec::new(alloc);
-    put_outputs(alloc, &mut text, datagrams)?;
-    Ok(text)
+    let mut text = Draft::new(alloc);
+    put_outputs(&mut text, datagrams);
+    text.end()
 }
 
 // What it has of lines that are printed.
 fn shown_text(alloc: Global, printed: &[u8]) -> Result<Vec<u8>, OutOfMemory>
     ensures { IfOk result (λ text. text.items ≡ told_text printed.now) }
 {
-    let mut text = Vec::new(alloc);
-    put_shown(&mut text, printed)?;
-    Ok(text)
+    let mut text = Draft::new(alloc);
+    put_shown(&mut text, printed);
+    text.end()
 }
 
 // What it has of a refusal.

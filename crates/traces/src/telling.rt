@@ -1,12 +1,13 @@
 //! What a trace has of what a gateway sends and answers.
-ghost use Rattle.std.specs.Prelude.{◌≡◌, [], ◌∷◌, ◌++◌, decimal, IfOk, OnOk, string_bytes, codes};
+ghost use Rattle.std.specs.Prelude.{◌≡◌, [], ◌∷◌, ◌++◌, decimal, OnOk, codes};
 ghost use Rattle.std.specs.List.{flat_map};
 ghost use Rattle.std.specs.Net.Text.{socket_v4_text};
 ghost use Rattle.mg_bytes.specs.Lines.{lines_of};
 ghost use Rattle.rgw_scripts.specs.Printing.{printed_line};
 ghost use Rattle.traces.specs.Telling.{told_line, told_text, told_datagram, told_output, told_first, told_mark, broken_off, begins, mark, number_behind, is_mark};
 
-use mg_bytes::{OutOfMemory, decimal, lines, put_decimal};
+use exchange_log::put_peer;
+use mg_bytes::{Draft, OutOfMemory, decimal, lines};
 use plain_machine::OutDatagram;
 use std::alloc::Global;
 use std::net::SocketAddrV4;
@@ -32,93 +33,86 @@ pub enum Mark {
     Lost,
 }
 
-fn put_line(out: &mut Vec<u8>, line: &[u8]) -> Result<(), OutOfMemory>
-    ensures { OnOk result (out.new.items ≡ out.old.items ++ told_line line.now) }
+fn put_line(out: &mut Draft, line: &[u8])
+    ensures { out.new ≡ out.old ++ told_line line.now }
 {
-    out.extend_from_slice(MARK)?;
-    out.extend_from_slice(line)?;
-    out.push(b'\n')?;
-    Ok(())
+    out.put(MARK);
+    out.put(line);
+    out.put_byte(b'\n');
 }
 
 /// Puts the lines that are printed.
-pub fn put_shown(out: &mut Vec<u8>, text: &[u8]) -> Result<(), OutOfMemory>
-    ensures { OnOk result (out.new.items ≡ out.old.items ++ told_text text.now) }
+pub fn put_shown(out: &mut Draft, text: &[u8])
+    ensures { out.new ≡ out.old ++ told_text text.now }
 {
     for line in lines(text) {
-        put_line(out, line)?;
+        put_line(out, line);
     }
-    Ok(())
 }
 
 // The line of a datagram's address.
-fn address_line(alloc: Global, to: SocketAddrV4) -> Result<String, OutOfMemory>
-    ensures { IfOk result (λ line. string_bytes line ≡ codes "> " ++ socket_v4_text to) }
+fn put_address(out: &mut Draft, to: SocketAddrV4)
+    ensures { out.new ≡ out.old ++ told_line (codes "> " ++ socket_v4_text to) }
 {
-    let line = format!(in alloc; "> {to}")?;
-    Ok(line)
+    out.put(MARK);
+    out.put(b"> ");
+    put_peer(out, to);
+    out.put_byte(b'\n');
 }
 
 /// Puts a datagram that goes out.
 #[tactic(auto, unfolding(crate::specs::Telling::told_datagram))]
-pub fn put_sent(
-    alloc: Global,
-    out: &mut Vec<u8>,
-    to: SocketAddrV4,
-    bytes: &[u8],
-) -> Result<(), OutOfMemory>
-    ensures { OnOk result (out.new.items ≡ out.old.items ++ told_datagram to bytes.now) }
+pub fn put_sent(out: &mut Draft, to: SocketAddrV4, bytes: &[u8])
+    ensures { out.new ≡ out.old ++ told_datagram to bytes.now }
 {
-    let line = address_line(alloc, to)?;
-    put_line(out, line.as_bytes())?;
-    put_shown(out, bytes)?;
-    put_line(out, b"--")
+    put_address(out, to);
+    put_shown(out, bytes);
+    put_line(out, b"--");
 }
 
 /// Puts datagrams that go out.
-pub fn put_outputs(
-    alloc: Global,
-    out: &mut Vec<u8>,
-    datagrams: &[OutDatagram],
-) -> Result<(), OutOfMemory>
-    ensures { OnOk result (out.new.items ≡ out.old.items ++ flat_map told_output datagrams.now) }
+pub fn put_outputs(out: &mut Draft, datagrams: &[OutDatagram])
+    ensures { out.new ≡ out.old ++ flat_map told_output datagrams.now }
 {
     for datagram in datagrams {
-        put_sent(alloc, out, datagram.to, datagram.bytes.as_bytes())?;
+        put_sent(out, datagram.to, datagram.bytes.as_bytes());
     }
-    Ok(())
 }
 
 // Puts words, a number behind them, and the end of a line.
-fn put_numbered(
-    alloc: Global,
-    out: &mut Vec<u8>,
-    words: &[u8],
-    number: u64,
-) -> Result<(), OutOfMemory>
-    ensures { OnOk result (out.new.items ≡ out.old.items ++ (words.now ++ printed_line (decimal number))) }
+fn put_numbered(out: &mut Draft, words: &[u8], number: u64)
+    ensures { out.new ≡ out.old ++ (words.now ++ printed_line (decimal number)) }
 {
-    out.extend_from_slice(words)?;
-    put_decimal(alloc, out, number)?;
-    out.push(b'\n')?;
-    Ok(())
+    out.put(words);
+    out.put_decimal(number);
+    out.put_byte(b'\n');
 }
 
 /// Puts the number with which ids begin, behind the configuration's end.
 pub fn put_first(alloc: Global, out: &mut Vec<u8>, first: u32) -> Result<(), OutOfMemory>
     ensures { OnOk result (out.new.items ≡ out.old.items ++ told_first first) }
 {
-    put_numbered(alloc, out, FIRST, u64::from(first))
+    let mut line = Draft::new(alloc);
+    put_numbered(&mut line, FIRST, u64::from(first));
+    line.append_to(out)
+}
+
+fn write_mark(out: &mut Draft, mark: Mark, place: u64)
+    ensures { out.new ≡ out.old ++ told_mark mark place }
+{
+    match mark {
+        Mark::Unsent => put_numbered(out, UNSENT, place),
+        Mark::Lost => put_numbered(out, LOST, place),
+    }
 }
 
 /// Puts what became of the datagram at this place among those of the turn before, counted from 1.
 pub fn put_mark(alloc: Global, out: &mut Vec<u8>, mark: Mark, place: u64) -> Result<(), OutOfMemory>
     ensures { OnOk result (out.new.items ≡ out.old.items ++ told_mark mark place) }
 {
-    match mark {
-        Mark::Unsent => put_numbered(alloc, out, UNSENT, place),
-        Mark::Lost => put_numbered(alloc, out, LOST, place),
-    }
+    let mut line = Draft::new(alloc);
+    write_mark(&mut line, mark, place);
+    line.append_to(out)
 }
 
 /// The last line of a trace that is broken off, since what stands before it wasn't taken.
