@@ -2,13 +2,12 @@
 ghost use Rattle.std.specs.Prelude.{◌≡◌, ◌≤◌};
 ghost use Rattle.rgw_scenes.specs.Ports.{ports_of};
 
+use crate::pieces::put;
 use endpoint_names::{Pattern, Route, write_name};
-use exchange_log::{put_number, put_shown};
-use mg_bytes::{OutOfMemory, put_decimal};
+use exchange_log::{put_host, put_peer, write_number, write_shown};
+use mg_bytes::{Draft, OutOfMemory};
 use plain_machine::{ConfigKey, Setup};
-use std::alloc::{AllocError, Global};
-use std::fmt::Display;
-use std::io::Write;
+use std::alloc::Global;
 use std::net::SocketAddrV4;
 
 // The ports at which a line receives: that of each of its four places for connections.
@@ -20,30 +19,17 @@ fn ports_of(setup: &Setup, line: u16) -> [u64; 4]
     [first, first + 2, first + 4, first + 6]
 }
 
-// Puts words.
-fn put(out: &mut Vec<u8>, words: &str) -> Result<(), OutOfMemory> {
-    out.extend_from_slice(words.as_bytes())
-}
-
-fn put_address<T: Display + Copy>(out: &mut Vec<u8>, address: T) -> Result<(), OutOfMemory> {
-    match write!(out, "{address}") {
-        Ok(()) => Ok(()),
-        Err(_) => Err(AllocError),
-    }
-}
-
-fn put_addresses(out: &mut Vec<u8>, addresses: &[SocketAddrV4]) -> Result<(), OutOfMemory> {
+fn put_addresses(out: &mut Draft, addresses: &[SocketAddrV4]) {
     let mut before = ", at ";
     for address in addresses {
-        put(out, before)?;
-        put_address(out, *address)?;
+        put(out, before);
+        put_peer(out, *address);
         before = ", ";
     }
-    Ok(())
 }
 
 // Puts the addresses of a call agent, in the order in which they are tried.
-fn put_route(out: &mut Vec<u8>, route: &Route<SocketAddrV4>) -> Result<(), OutOfMemory> {
+fn put_route(out: &mut Draft, route: &Route<SocketAddrV4>) {
     match *route {
         Route::One(a) => put_addresses(out, &[a]),
         Route::Two(a, b) => put_addresses(out, &[a, b]),
@@ -52,66 +38,57 @@ fn put_route(out: &mut Vec<u8>, route: &Route<SocketAddrV4>) -> Result<(), OutOf
     }
 }
 
-fn put_wait(
-    alloc: Global,
-    out: &mut Vec<u8>,
-    key: ConfigKey,
-    wait: u32,
-) -> Result<(), OutOfMemory> {
-    put(out, key.name())?;
-    put(out, ": ")?;
-    put_number(alloc, out, u64::from(wait))?;
-    put(out, " ms\n")
+fn put_wait(out: &mut Draft, key: ConfigKey, wait: u32) {
+    put(out, key.name());
+    put(out, ": ");
+    write_number(out, u64::from(wait));
+    put(out, " ms\n");
 }
 
 // Puts the name and the ports of a line, from 1 on.
-fn put_line(alloc: Global, out: &mut Vec<u8>, setup: &Setup, line: u16) -> Result<(), OutOfMemory>
+fn put_line(alloc: Global, out: &mut Draft, setup: &Setup, line: u16) -> Result<(), OutOfMemory>
     requires { 1 ≤ line }
 {
     let name = write_name(alloc, Pattern::One(line), setup.names.domain.as_bytes())?;
-    put(out, "line ")?;
-    put_decimal(alloc, out, u64::from(line))?;
-    put(out, ": ")?;
-    out.extend_from_slice(name.as_bytes())?;
+    put(out, "line ");
+    out.put_decimal(u64::from(line));
+    put(out, ": ");
+    out.put(name.as_bytes());
     let mut before = ", ports ";
     let ports = ports_of(setup, line);
     for port in ports.iter() {
-        put(out, before)?;
-        put_decimal(alloc, out, *port)?;
+        put(out, before);
+        out.put_decimal(*port);
         before = ", ";
     }
-    put(out, "\n")
+    put(out, "\n");
+    Ok(())
 }
 
 // Puts what holds of all lines.
-fn put_whole(alloc: Global, out: &mut Vec<u8>, setup: &Setup) -> Result<(), OutOfMemory> {
-    put(out, "domain: ")?;
-    out.extend_from_slice(setup.names.domain.as_bytes())?;
-    put(out, "\nagent: ")?;
-    put_shown(out, setup.agent.text.as_bytes())?;
-    put_route(out, &setup.agent.route)?;
-    put(out, "\n")?;
-    put_wait(alloc, out, ConfigKey::RestartWait, setup.restart_wait)?;
-    put_wait(
-        alloc,
-        out,
-        ConfigKey::DisconnectedWait,
-        setup.disconnected_wait,
-    )?;
-    put(out, ConfigKey::MediaAddress.name())?;
-    put(out, ": ")?;
-    put_address(out, setup.media_address)?;
-    put(out, "\n")
+fn put_whole(out: &mut Draft, setup: &Setup) {
+    put(out, "domain: ");
+    out.put(setup.names.domain.as_bytes());
+    put(out, "\nagent: ");
+    write_shown(out, setup.agent.text.as_bytes());
+    put_route(out, &setup.agent.route);
+    put(out, "\n");
+    put_wait(out, ConfigKey::RestartWait, setup.restart_wait);
+    put_wait(out, ConfigKey::DisconnectedWait, setup.disconnected_wait);
+    put(out, ConfigKey::MediaAddress.name());
+    put(out, ": ");
+    put_host(out, setup.media_address);
+    put(out, "\n");
 }
 
 /// Says what a gateway of this setup will be, in lines: its domain, its call agent with the addresses, its waits, the address at
 /// which its connections receive, and of each line the name and the ports of its four connections. Its only error is want of
 /// memory.
 pub fn told_setup(alloc: Global, setup: &Setup) -> Result<Vec<u8>, OutOfMemory> {
-    let mut out = Vec::new(alloc);
-    put_whole(alloc, &mut out, setup)?;
+    let mut out = Draft::new(alloc);
+    put_whole(&mut out, setup);
     for place in 0..setup.names.lines {
         put_line(alloc, &mut out, setup, place + 1)?;
     }
-    Ok(out)
+    out.end()
 }
