@@ -1,11 +1,13 @@
 //! How a program ends, as far as programs have that in common: the status, and what is said then.
-ghost use Rattle.std.specs.Prelude.{◌≡◌, ◌++◌, ◌∷◌, [], codes, OnOk, IfOk, IfErr};
+ghost use Rattle.std.specs.Prelude.{◌≡◌, ◌++◌, ◌∷◌, [], codes, Ok, Err, Some, None, OnOk, IfOk, IfErr, IfSome};
 ghost use Rattle.std.specs.Net.Grammar.{IsSocketV4Text};
+ghost use Rattle.bad_network.specs.Parts.{spoiling_of};
 ghost use Rattle.live_ends.specs.Wording.{joined};
 ghost use Rattle.live_ends.specs.Ending.{status_of, is_asked, wordless, unreadable, unwritable, unbound, unbound_text, ending_text};
 
 use crate::program::SystemFault;
 use crate::wording::put_pieces;
+use bad_network::Spoiling;
 use exchange_log::peer_text;
 use mg_bytes::OutOfMemory;
 use std::alloc::Global;
@@ -199,6 +201,23 @@ pub fn address_in<'a>(word: &'static str, text: &str) -> Result<SocketAddrV4, Co
     match text.parse::<SocketAddrV4>() {
         Ok(address) => Ok(address),
         Err(_) => Err(CommonEnding::BadAddress { word }),
+    }
+}
+
+/// How a network spoils datagrams, where a text stands behind `--network`, which says that.
+pub fn network_in<'a>(text: Option<&str>) -> Result<Option<Spoiling>, CommonEnding<'a>>
+    ensures none { text.entry ≡ None → result ≡ Ok None }
+    ensures said { IfSome text.entry (λ text. IfOk (spoiling_of text.now) (λ spoiling. result ≡ Ok (Some spoiling))) }
+    ensures other { IfSome text.entry (λ text. IfErr (spoiling_of text.now) (λ fault. (wanted : _) × (result ≡ Err (CommonEnding.BadNetwork wanted)))) }
+{
+    let Some(text) = text else {
+        return Ok(None);
+    };
+    match Spoiling::read(text.as_bytes()) {
+        Ok(spoiling) => Ok(Some(spoiling)),
+        Err(fault) => Err(CommonEnding::BadNetwork {
+            wanted: fault.text(),
+        }),
     }
 }
 

@@ -31,20 +31,19 @@ pub use crate::asking::{AskFault, ask};
 pub use crate::backlog::{Backlog, MOST_KEPT, NOTE_ROOM, TEXT_ROOM, lines_ended};
 pub use crate::boxing::boxed;
 pub use crate::clock::{LiveClock, time_of_day};
-pub use crate::ending::{About, CommonEnding, VERSION, address_in};
+pub use crate::ending::{About, CommonEnding, VERSION, address_in, network_in};
 pub use crate::files::read_file;
-pub use crate::live::{Live, STOP_FROM_AFAR, bind};
+pub use crate::live::{Live, STOP_FROM_AFAR, SocketWanted, bind};
 pub use crate::now::Now;
 pub use crate::outlet::{Outlet, OutletState};
 pub use crate::outlets::{NEXT_OFFER, Outlets};
 pub use crate::parting::{CaptureFiles, Parting};
 pub use crate::program::{
-    OUT_OF_MEMORY, SystemFault, end, open_capture, open_outlets, say_last, words_of,
+    Begun, OUT_OF_MEMORY, SystemFault, begin, end, open_capture, say_last,
 };
 pub use crate::readiness::{MOST_VISITORS, Readiness, Visit};
 pub use crate::reasons::reason_of;
 pub use crate::record::{Record, RecordState};
-pub use crate::standing::hold_standard;
 pub use crate::stream::{Stream, make_for_owner};
 pub use crate::wording::{put_around, put_pieces};
 pub use crate::written::Written;

@@ -3,6 +3,8 @@ ghost use Rattle.std.specs.Prelude.{◌≡◌};
 
 use crate::boxing::boxed;
 use crate::clock::LiveClock;
+use crate::ending::CommonEnding;
+use crate::program::SystemFault;
 use crate::readiness::Readiness;
 use mio::net::UdpSocket;
 use std::alloc::Global;
@@ -42,6 +44,20 @@ impl<R> Drop for Live<'_, R> {
         drop(lines);
         drop(ready);
         drop(clock);
+    }
+}
+
+/// A socket that a word asks for, or a key of a configuration.
+#[derive(Clone, Copy)]
+pub struct SocketWanted {
+    pub word: &'static str,
+    pub address: SocketAddrV4,
+}
+
+impl SocketWanted {
+    // How a program ends that doesn't get it, for an error of this kind.
+    fn refused<'w>(self, kind: ErrorKind) -> CommonEnding<'w> {
+        CommonEnding::unbound(self.word, self.address, SystemFault::of(kind))
     }
 }
 
@@ -88,6 +104,32 @@ impl<'a, R: Net + Clock> Live<'a, R> {
             ready,
             clock: LiveClock::start(rt)?,
         })
+    }
+
+    /// The sockets that words ask for, for datagrams and for lines of who types, and the clock at moment 0. An error says how the program
+    /// ends then.
+    pub fn open<'w>(
+        rt: &'a R,
+        alloc: Global,
+        datagrams: SocketWanted,
+        lines: SocketWanted,
+    ) -> Result<Box<Live<'a, R>>, CommonEnding<'w>> {
+        let socket = match bind(rt, datagrams.address) {
+            Ok(socket) => socket,
+            Err(fault) => return Err(datagrams.refused(fault.kind())),
+        };
+        let commands = match bind(rt, lines.address) {
+            Ok(commands) => commands,
+            Err(fault) => return Err(lines.refused(fault.kind())),
+        };
+        let live = match Live::watch(rt, alloc, socket, commands) {
+            Ok(live) => live,
+            Err(fault) => return Err(datagrams.refused(fault.kind())),
+        };
+        match boxed(alloc, live) {
+            Ok(live) => Ok(live),
+            Err(_) => Err(CommonEnding::OutOfMemory),
+        }
     }
 
     /// The addresses of its sockets.

@@ -8,11 +8,12 @@ use crate::ending::CommonEnding;
 use crate::outlet::Outlet;
 use crate::outlets::Outlets;
 use crate::reasons::reason_of;
+use crate::standing::hold_standard;
 use crate::stream::{Stream, make_for_owner};
 use mg_bytes::OutOfMemory;
 use std::alloc::Global;
 use std::env;
-use std::io::{ErrorKind, Write};
+use std::io::{self, ErrorKind, Write};
 use std::os::fd::AsRawFd;
 use std::rt::{Clock, Env, Files};
 
@@ -67,6 +68,48 @@ where
             None
         }
     }
+}
+
+/// What a program has where it begins.
+pub struct Begun<F> {
+    /// Its words, of which the first is its name, or how it ends without them.
+    pub words: Result<Vec<String>, CommonEnding<'static>>,
+    pub outlets: Outlets<F>,
+    /// What stands at the numbers of standard streams that weren't open, to be kept to the end.
+    pub held: io::Result<Vec<F>>,
+}
+
+// Written out: a derived drop, and those of all its parts, are proved anew by each crate that lets one go.
+impl<F: Drop> Drop for Begun<F> {
+    fn drop(self) {
+        let Begun {
+            words,
+            outlets,
+            held,
+        } = self;
+        drop(words);
+        drop(outlets);
+        drop(held);
+    }
+}
+
+/// Begins a program, and first of all holds the numbers of its standard streams. `None` where memory is refused for its outlets, and
+/// then that is said.
+pub fn begin<R: AllocGlobal + Env + Files>(rt: &R) -> Option<Begun<R::File>>
+where
+    R::File: AsRawFd,
+{
+    let held = hold_standard(rt, rt.alloc());
+    let outlets = open_outlets(rt)?;
+    let words = match words_of(rt) {
+        Ok(words) => Ok(words),
+        Err(fault) => Err(CommonEnding::wordless(fault)),
+    };
+    Some(Begun {
+        words,
+        outlets,
+        held,
+    })
 }
 
 /// The outlet of a capture, whose file isn't there yet, if one is asked for. To be opened once all sockets are had: so none is left where
