@@ -1,5 +1,5 @@
 -- Why a configuration is refused, in a line: the key, what stands there, and what may. All that it has of the configuration is escaped.
-use Rattle.std.specs.Prelude.{◌≡◌, ℕ, ◌==◌, codes, if◌then◌else◌, List, [], ◌++◌, length, Option, Some, None}
+use Rattle.std.specs.Prelude.{◌≡◌, ⊤, ℕ, ◌==◌, codes, if◌then◌else◌, List, [], ◌++◌, length, Option, Some, None}
 use Rattle.std.specs.Borrow.{Bor}
 use Rattle.toml.specs.Data.{Data, as_str, type_name}
 use Rattle.toml.specs.View.{view}
@@ -90,7 +90,7 @@ name_line place fault = place ++ fault_text fault
 abbrev pub limit_line : ℕ → List ℕ
 limit_line limit = codes "over " ++ number_shown limit ++ codes " bytes"
 
--- the refusal tells this line
+-- the refusal tells this line; where memory is refused for that it says so
 abbrev pub IsTold : List ℕ → ConfigRefusal → Type 0
-IsTold text OutOfMemory = ⊥
+IsTold text OutOfMemory = ⊤
 IsTold text (Told line) = line.items ≡ text

@@ -63,14 +63,6 @@ impl Drop for AgentConfig {
     }
 }
 
-// It is refused so, or for want of memory.
-fn told(refusal: Result<ConfigRefusal, AllocError>) -> ConfigRefusal {
-    match refusal {
-        Ok(refusal) => refusal,
-        Err(_) => ConfigRefusal::OutOfMemory,
-    }
-}
-
 // The numbers so far, of all gateways.
 type Numbers = BTreeMap<String, bool>;
 
@@ -131,7 +123,7 @@ fn address_at(
     };
     match found {
         Some(address) => Ok(address),
-        None => Err(told(refused(alloc, place, value, ValueFault::NoAddress))),
+        None => Err(refused(alloc, place, value, ValueFault::NoAddress)),
     }
 }
 
@@ -159,12 +151,12 @@ fn map_of(alloc: Global, table: &Table) -> Result<Option<Text>, ConfigRefusal> {
     match read_map(alloc, text) {
         Ok(_) => Ok(Some(copied(alloc, text)?)),
         Err(MapFault::OutOfMemory) => Err(ConfigRefusal::OutOfMemory),
-        Err(_) => Err(told(refused(
+        Err(_) => Err(refused(
             alloc,
             own_key("digit_map"),
             Some(value),
             ValueFault::NoDigitMap,
-        ))),
+        )),
     }
 }
 
@@ -214,14 +206,14 @@ fn numbers_of(
     let mut numbers = Vec::new(alloc);
     for value in values {
         let Some(number) = number_in(value) else {
-            return Err(told(refused(alloc, place, Some(value), ValueFault::NoNumber)));
+            return Err(refused(alloc, place, Some(value), ValueFault::NoNumber));
         };
         if !put_number(alloc, seen, &mut numbers, number)? {
-            return Err(told(refused(alloc, place, Some(value), ValueFault::Twice)));
+            return Err(refused(alloc, place, Some(value), ValueFault::Twice));
         }
     }
     if numbers.is_empty() || numbers.len() > MOST_NUMBERS {
-        return Err(told(miscounted(alloc, place, numbers.len(), ValueFault::NoNumbers)));
+        return Err(miscounted(alloc, place, numbers.len(), ValueFault::NoNumbers));
     }
     Ok(numbers)
 }
@@ -240,7 +232,7 @@ fn numbers_at(
     };
     match values {
         Some(values) => numbers_of(alloc, seen, place, values.as_slice()),
-        None => Err(told(refused(alloc, place, value, ValueFault::NoNumbers))),
+        None => Err(refused(alloc, place, value, ValueFault::NoNumbers)),
     }
 }
 
@@ -252,10 +244,10 @@ fn gateway_of(
     table: &Table,
 ) -> Result<GatewayConfig, ConfigRefusal> {
     if !is_domain(domain.as_bytes()) {
-        return Err(told(misnamed(alloc, key_of(domain, ""), ValueFault::NoDomain)));
+        return Err(misnamed(alloc, key_of(domain, ""), ValueFault::NoDomain));
     }
     if let Some(other) = other_key(table, &GATEWAY_KEYS) {
-        return Err(told(unknown(alloc, key_of(domain, other))));
+        return Err(unknown(alloc, key_of(domain, other)));
     }
     let address = address_at(alloc, table, key_of(domain, "address"))?;
     let phones = address_if(alloc, table, key_of(domain, "phones"))?;
@@ -287,7 +279,7 @@ fn put_gateway(
 ) -> Result<(), ConfigRefusal> {
     let Some(keys) = value.as_table() else {
         let place = key_of(domain, "");
-        return Err(told(refused(alloc, place, Some(value), ValueFault::NoGateway)));
+        return Err(refused(alloc, place, Some(value), ValueFault::NoGateway));
     };
     let gateway = gateway_of(alloc, seen, domain, keys)?;
     let is_new = !has_address(gateways.as_slice(), gateway.address);
@@ -298,7 +290,7 @@ fn put_gateway(
         return Ok(());
     }
     let place = key_of(domain, "address");
-    Err(told(refused(alloc, place, keys.get("address"), ValueFault::Twice)))
+    Err(refused(alloc, place, keys.get("address"), ValueFault::Twice))
 }
 
 fn gateways_of(alloc: Global, table: &Table) -> Result<Vec<GatewayConfig>, ConfigRefusal> {
@@ -309,7 +301,7 @@ fn gateways_of(alloc: Global, table: &Table) -> Result<Vec<GatewayConfig>, Confi
     }
     if gateways.is_empty() || gateways.len() > MOST_GATEWAYS {
         let place = own_key("gateways");
-        return Err(told(miscounted(alloc, place, gateways.len(), ValueFault::NoGateways)));
+        return Err(miscounted(alloc, place, gateways.len(), ValueFault::NoGateways));
     }
     Ok(gateways)
 }
@@ -323,13 +315,13 @@ fn gateways_at(alloc: Global, table: &Table) -> Result<Vec<GatewayConfig>, Confi
     };
     match gateways {
         Some(gateways) => gateways_of(alloc, gateways),
-        None => Err(told(refused(alloc, own_key("gateways"), value, ValueFault::NoGateways))),
+        None => Err(refused(alloc, own_key("gateways"), value, ValueFault::NoGateways)),
     }
 }
 
 fn config_of(alloc: Global, table: &Table) -> Result<AgentConfig, ConfigRefusal> {
     if let Some(key) = other_key(table, &KEYS) {
-        return Err(told(unknown(alloc, own_key(key))));
+        return Err(unknown(alloc, own_key(key)));
     }
     Ok(AgentConfig {
         own: address_at(alloc, table, own_key("own"))?,
@@ -352,7 +344,7 @@ fn line_at(text: &str, place: usize) -> u64 {
 /// The configuration that a text writes, or what is wrong with it: the key, what stands there, and what may.
 pub fn read_config(alloc: Global, text: &[u8]) -> Result<AgentConfig, ConfigRefusal> {
     let Ok(text) = std::str::from_utf8(text) else {
-        return Err(told(said(alloc, "no UTF-8")));
+        return Err(said(alloc, "no UTF-8"));
     };
     match toml::table_from_str(alloc, text) {
         Ok(table) => config_of(alloc, &table),
@@ -363,7 +355,7 @@ pub fn read_config(alloc: Global, text: &[u8]) -> Result<AgentConfig, ConfigRefu
                 None => 0,
             };
             let words = format!(in alloc; "line {}: {}", line_at(text, start), e.message())?;
-            Err(told(said(alloc, words.as_str())))
+            Err(said(alloc, words.as_str()))
         }
     }
 }

@@ -1,5 +1,5 @@
 //! Why a configuration is refused, in words: the key, what stands there, and what may.
-ghost use Rattle.std.specs.Prelude.{◌≡◌, ◌++◌, IfOk};
+ghost use Rattle.std.specs.Prelude.{◌≡◌, ◌++◌};
 ghost use Rattle.toml.specs.View.{view};
 ghost use Rattle.exchange_log.specs.Grouping.{number_shown};
 ghost use Rattle.agent_texts.specs.ConfigFaults.{key_behind, place_text, value_text, up_to, fault_text, missing_line, unknown_line, value_line, refused_line, count_line, name_line, limit_line, IsTold};
@@ -165,21 +165,23 @@ fn count_line(alloc: Global, place: Place<'_>, count: usize, fault: ValueFault) 
 }
 
 // It has a fault that this line tells.
-fn told(line: Draft) -> Result<ConfigRefusal, AllocError>
-    ensures { IfOk result (λ refusal. IsTold line refusal) }
+fn told(line: Draft) -> ConfigRefusal
+    ensures { IsTold line result }
 {
-    let line = line.end()?;
-    Ok(ConfigRefusal::Told { line })
+    match line.end() {
+        Ok(line) => ConfigRefusal::Told { line },
+        Err(_) => ConfigRefusal::OutOfMemory,
+    }
 }
 
-/// What stands at a key may not; or the key is missing. As with all of these, an error is for want of memory only.
+/// What stands at a key may not; or the key is missing.
 pub(crate) fn refused(
     alloc: Global,
     place: Place<'_>,
     value: Option<&Value>,
     fault: ValueFault,
-) -> Result<ConfigRefusal, AllocError>
-    ensures { IfOk result (λ refusal. IsTold (refused_line (place_text place.entry) value.entry fault) refusal) }
+) -> ConfigRefusal
+    ensures { IsTold (refused_line (place_text place.entry) value.entry fault) result }
 {
     let Some(value) = value else {
         return missing(alloc, place);
@@ -188,15 +190,15 @@ pub(crate) fn refused(
 }
 
 /// A key is missing.
-pub fn missing(alloc: Global, place: Place<'_>) -> Result<ConfigRefusal, AllocError>
-    ensures { IfOk result (λ refusal. IsTold (missing_line (place_text place.entry)) refusal) }
+pub fn missing(alloc: Global, place: Place<'_>) -> ConfigRefusal
+    ensures { IsTold (missing_line (place_text place.entry)) result }
 {
     told(place_line(alloc, "missing: ", place))
 }
 
 /// There is no such key.
-pub(crate) fn unknown(alloc: Global, place: Place<'_>) -> Result<ConfigRefusal, AllocError>
-    ensures { IfOk result (λ refusal. IsTold (unknown_line (place_text place.entry)) refusal) }
+pub(crate) fn unknown(alloc: Global, place: Place<'_>) -> ConfigRefusal
+    ensures { IsTold (unknown_line (place_text place.entry)) result }
 {
     told(place_line(alloc, "unknown key ", place))
 }
@@ -207,8 +209,8 @@ pub(crate) fn miscounted(
     place: Place<'_>,
     count: usize,
     fault: ValueFault,
-) -> Result<ConfigRefusal, AllocError>
-    ensures { IfOk result (λ refusal. IsTold (count_line (place_text place.entry) count fault) refusal) }
+) -> ConfigRefusal
+    ensures { IsTold (count_line (place_text place.entry) count fault) result }
 {
     told(count_line(alloc, place, count, fault))
 }
@@ -218,8 +220,8 @@ pub(crate) fn misnamed(
     alloc: Global,
     place: Place<'_>,
     fault: ValueFault,
-) -> Result<ConfigRefusal, AllocError>
-    ensures { IfOk result (λ refusal. IsTold (name_line (place_text place.entry) fault) refusal) }
+) -> ConfigRefusal
+    ensures { IsTold (name_line (place_text place.entry) fault) result }
 {
     let mut line = place_line(alloc, "", place);
     put_fault(&mut line, fault);
@@ -227,17 +229,17 @@ pub(crate) fn misnamed(
 }
 
 /// It has a fault that these words tell.
-pub(crate) fn said(alloc: Global, words: &str) -> Result<ConfigRefusal, AllocError>
-    ensures { IfOk result (λ refusal. IsTold words.now refusal) }
+pub(crate) fn said(alloc: Global, words: &str) -> ConfigRefusal
+    ensures { IsTold words.now result }
 {
-    Ok(ConfigRefusal::Told {
-        line: Vec::from_slice(alloc, words.as_bytes())?,
-    })
+    let mut line = Draft::new(alloc);
+    put(&mut line, words);
+    told(line)
 }
 
 /// The text has more bytes than this.
-pub fn too_long(alloc: Global, limit: usize) -> Result<ConfigRefusal, AllocError>
-    ensures { IfOk result (λ refusal. IsTold (limit_line limit) refusal) }
+pub fn too_long(alloc: Global, limit: usize) -> ConfigRefusal
+    ensures { IsTold (limit_line limit) result }
 {
     let mut line = Draft::new(alloc);
     put(&mut line, "over ");

@@ -14,7 +14,7 @@ use exchange_log::{
     Note, Packet, Stamp, Way, put_given_up, put_head, put_message, put_note, put_packet,
 };
 use live_ends::{Outlets, Record, Written};
-use mg_bytes::{OutOfMemory, lines};
+use mg_bytes::{Draft, OutOfMemory, lines};
 use mgcp_text::{Message, TextFault, read_message};
 use piggyback::parts;
 use std::alloc::Global;
@@ -87,16 +87,18 @@ fn put_line(out: &mut Vec<u8>, pieces: &[&[u8]]) -> Result<(), OutOfMemory>
 
 // The lines of a text in one, with bars between them.
 fn joined(alloc: Global, text: &[u8]) -> Result<Vec<u8>, OutOfMemory> {
-    let mut all = Vec::new(alloc);
+    let mut all = Draft::new(alloc);
+    let mut is_first = true;
     for line in lines(text) {
         if !line.is_empty() {
-            if !all.is_empty() {
-                all.extend_from_slice(b" | ")?;
+            if !is_first {
+                all.put(b" | ");
             }
-            all.extend_from_slice(line)?;
+            all.put(line);
+            is_first = false;
         }
     }
-    Ok(all)
+    all.end()
 }
 
 // What is noted of a text in its place, if anything is.
@@ -178,8 +180,9 @@ impl Journal {
         ensures { IfOk result (λ text. text.items
             ≡ counts_text self.now.tally ++ written_line self.now.written self.now.capture_name.items) }
     {
-        let counts = self.tally.text(self.alloc)?;
-        let mut text = Vec::from_slice(self.alloc, counts.as_bytes())?;
+        let mut counts = Draft::new(self.alloc);
+        self.tally.put_text(&mut counts);
+        let mut text = counts.end()?;
         self.written
             .put_line(self.alloc, &mut text, self.capture_name.as_slice())?;
         Ok(text)

@@ -1,9 +1,9 @@
 //! What was counted. A count stays at its greatest value.
-ghost use Rattle.std.specs.Prelude.{◌≡◌, ◌++◌, IfOk, OnOk, string_bytes, decimal};
+ghost use Rattle.std.specs.Prelude.{◌≡◌, ◌++◌};
 ghost use Rattle.std.specs.List.{flat_map};
 ghost use Rattle.agent_texts.specs.Counts.{one_more, entry_text, calls_text, messages_text, losses_text, counts_text};
 
-use std::alloc::{AllocError, Global};
+use mg_bytes::Draft;
 
 /// What was counted of calls and of messages.
 #[derive(Clone, Copy)]
@@ -52,20 +52,14 @@ pub fn count(number: &mut u64)
     *number = number.saturating_add(1);
 }
 
-// A number with what stands before it.
-fn put_entry(text: &mut String, before: &str, number: u64) -> Result<(), AllocError>
-    ensures { OnOk result (string_bytes text.new ≡ string_bytes text.old ++ (before.now ++ decimal number)) }
-{
-    write!(text, "{before}{number}")
-}
-
-fn put_entries(text: &mut String, entries: &[(&str, u64)]) -> Result<(), AllocError>
-    ensures { OnOk result (string_bytes text.new ≡ string_bytes text.old ++ flat_map entry_text entries.now) }
+// Numbers, each with what stands before it.
+fn put_entries(out: &mut Draft, entries: &[(&str, u64)])
+    ensures { out.new ≡ out.old ++ flat_map entry_text entries.now }
 {
     for (before, number) in entries {
-        put_entry(text, *before, *number)?;
+        out.put(before.as_bytes());
+        out.put_decimal(*number);
     }
-    Ok(())
 }
 
 impl Tally {
@@ -96,8 +90,8 @@ impl Tally {
     };
 
     #[tactic(auto, unfolding(crate::specs::Counts::calls_text))]
-    fn put_calls(&self, text: &mut String) -> Result<(), AllocError>
-        ensures { OnOk result (string_bytes text.new ≡ string_bytes text.old ++ calls_text self.now) }
+    fn put_calls(&self, out: &mut Draft)
+        ensures { out.new ≡ out.old ++ calls_text self.now }
     {
         let entries = [
             ("calls ", self.calls),
@@ -107,12 +101,12 @@ impl Tally {
             (" busy ", self.busy),
             (" wrong number ", self.wrong_number),
         ];
-        put_entries(text, &entries)
+        put_entries(out, &entries);
     }
 
     #[tactic(auto, unfolding(crate::specs::Counts::messages_text))]
-    fn put_messages(&self, text: &mut String) -> Result<(), AllocError>
-        ensures { OnOk result (string_bytes text.new ≡ string_bytes text.old ++ messages_text self.now) }
+    fn put_messages(&self, out: &mut Draft)
+        ensures { out.new ≡ out.old ++ messages_text self.now }
     {
         let entries = [
             ("\ndatagrams in ", self.datagrams_in),
@@ -126,12 +120,12 @@ impl Tally {
             (" announcements ", self.announcements),
             (" strange ", self.strange_names),
         ];
-        put_entries(text, &entries)
+        put_entries(out, &entries);
     }
 
     #[tactic(auto, unfolding(crate::specs::Counts::losses_text))]
-    fn put_losses(&self, text: &mut String) -> Result<(), AllocError>
-        ensures { OnOk result (string_bytes text.new ≡ string_bytes text.old ++ losses_text self.now) }
+    fn put_losses(&self, out: &mut Draft)
+        ensures { out.new ≡ out.old ++ losses_text self.now }
     {
         let entries = [
             ("\nnetwork lost ", self.lost),
@@ -141,18 +135,16 @@ impl Tally {
             (" receive ", self.receive_faults),
             (" send ", self.send_faults),
         ];
-        put_entries(text, &entries)
+        put_entries(out, &entries);
     }
 
-    /// The counts as text, one kind a line. An error is for want of memory only.
-    pub fn text(&self, alloc: Global) -> Result<String, AllocError>
-        ensures { IfOk result (λ text. string_bytes text ≡ counts_text self.now) }
+    /// Puts the counts as text, one kind a line.
+    pub fn put_text(&self, out: &mut Draft)
+        ensures { out.new ≡ out.old ++ counts_text self.now }
     {
-        let mut text = String::new(alloc);
-        self.put_calls(&mut text)?;
-        self.put_messages(&mut text)?;
-        self.put_losses(&mut text)?;
-        text.push_str("\n")?;
-        Ok(text)
+        self.put_calls(out);
+        self.put_messages(out);
+        self.put_losses(out);
+        out.put(b"\n");
     }
 }
