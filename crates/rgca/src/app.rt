@@ -5,8 +5,8 @@ use crate::help::of_all;
 use crate::phones::played;
 use crate::words::{Settings, read_words};
 use agent_texts::{AgentConfig, ConfigRefusal, Place, missing, read_config, too_long};
-use live_agent::{ServeFault, WireSettings, serve_agent};
-use live_ends::{CommonEnding, Outlets, end, hold_standard, open_outlets, read_file, words_of};
+use live_agent::{WireSettings, serve_agent};
+use live_ends::{CommonEnding, Outlets, SocketWanted, begin, end, read_file};
 use mg_bytes::OutOfMemory;
 use rgw_scripts::LIMIT;
 use std::alloc::Global;
@@ -22,7 +22,7 @@ fn config_of(
     text: &[u8],
 ) -> Result<AgentConfig, ConfigRefusal> {
     if text.len() > LIMIT {
-        return Err(too_long(alloc, LIMIT)?);
+        return Err(too_long(alloc, LIMIT));
     }
     let config = read_config(alloc, text)?;
     if settings.route && config.map.is_none() {
@@ -30,55 +30,33 @@ fn config_of(
             gateway: None,
             key: "digit_map",
         };
-        return Err(missing(alloc, place)?);
+        return Err(missing(alloc, place));
     }
     Ok(config)
 }
 
 // How the wire is opened.
 fn wire_settings(settings: &Settings<'_>, config: &AgentConfig) -> WireSettings {
+    let listen = match settings.listen {
+        Some(address) => SocketWanted {
+            word: "--listen",
+            address,
+        },
+        None => SocketWanted {
+            word: "own",
+            address: config.own,
+        },
+    };
     WireSettings {
-        listen: settings.listen.unwrap_or(config.own),
-        control: settings.control,
+        listen,
+        control: SocketWanted {
+            word: "--control",
+            address: settings.control,
+        },
         network: settings.network,
         has_log: settings.log,
         has_capture: settings.capture.is_some(),
         end: settings.stop_after,
-    }
-}
-
-// Who asks for the address of the socket for gateways: a word, or the configuration's key.
-fn listen_word(settings: &Settings<'_>) -> &'static str {
-    match settings.listen {
-        Some(_) => "--listen",
-        None => "own",
-    }
-}
-
-// How the program ends where it doesn't serve to its end.
-fn served_ending<'w>(
-    fault: ServeFault,
-    wire: WireSettings,
-    settings: &Settings<'w>,
-) -> CommonEnding<'w> {
-    match fault {
-        ServeFault::OutOfMemory => CommonEnding::OutOfMemory,
-        ServeFault::Listen { reason } => CommonEnding::Unbound {
-            word: listen_word(settings),
-            address: wire.listen,
-            reason,
-        },
-        ServeFault::Control { reason } => CommonEnding::Unbound {
-            word: "--control",
-            address: wire.control,
-            reason,
-        },
-        ServeFault::Clock => CommonEnding::Clock,
-        ServeFault::Write => CommonEnding::Write,
-        ServeFault::Capture { reason } => CommonEnding::Unwritable {
-            file: settings.capture.unwrap_or(""),
-            reason,
-        },
     }
 }
 
@@ -90,19 +68,9 @@ fn serve_with<'w, R: Files + Net + Clock>(
     config: &AgentConfig,
     outlets: &mut Outlets<R::File>,
 ) -> CommonEnding<'w> {
+    let (is_routed, capture) = (settings.route, settings.capture);
     let wire = wire_settings(settings, config);
-    match serve_agent(
-        rt,
-        alloc,
-        config,
-        settings.route,
-        wire,
-        settings.capture,
-        outlets,
-    ) {
-        Ok(()) => CommonEnding::Served,
-        Err(fault) => served_ending(fault, wire, settings),
-    }
+    serve_agent(rt, alloc, config, is_routed, wire, capture, outlets)
 }
 
 // Does what the settings ask, with this text of the configuration: how the program ends then.
@@ -162,60 +130,17 @@ fn tell<R: AllocGlobal + Clock, F: Write + Drop>(
     end(rt, outlets, text, ending.status(), ending.is_asked())
 }
 
-// What the program is asked for.
-#[derive(Clone, Copy)]
-enum Asked<'w> {
-    // To serve.
-    Serve,
-    // To check a gateway, by these words.
-    Check(&'w [String]),
-    // To play a script of telephones, by these words.
-    Play(&'w [String]),
-}
-
-// What words ask for, of which the first is the program's name.
-fn asked_by(words: &[String]) -> Asked<'_> {
-    match words {
-        [_, behind @ ..] => match behind {
-            [word, ..] if word.as_str() == "check" => Asked::Check(behind),
-            [word, ..] if word.as_str() == "phones" => Asked::Play(behind),
-            _ => Asked::Serve,
-        },
-        [] => Asked::Serve,
-    }
-}
-
 // How the program with these words ends, of which the first is its name.
 fn ending_by<'w, R: AllocGlobal + Files + Net + Clock>(
     rt: &R,
     words: &'w [String],
     outlets: &mut Outlets<R::File>,
 ) -> Ending<'w> {
-    match asked_by(words) {
-        Asked::Serve => ending_of(rt, words, outlets),
-        Asked::Check(asked) => checked(rt, asked, outlets),
-        Asked::Play(asked) => played(rt, rt.alloc(), asked),
-    }
-}
-
-// Does what these words ask, and gives the exit status.
-fn run_by<R: AllocGlobal + Files + Net + Clock>(
-    rt: &R,
-    words: &[String],
-    outlets: &mut Outlets<R::File>,
-) -> u8 {
-    let ending = ending_by(rt, words, outlets);
-    tell(rt, outlets, &ending)
-}
-
-// Runs the program with these outlets, and gives its exit status.
-fn run_with<R: AllocGlobal + Env + Files + Net + Clock>(
-    rt: &R,
-    outlets: &mut Outlets<R::File>,
-) -> u8 {
-    match words_of(rt) {
-        Ok(words) => run_by(rt, words.as_slice(), outlets),
-        Err(fault) => tell(rt, outlets, &Ending::Common(CommonEnding::wordless(fault))),
+    let asked = words.get(1..).unwrap_or(&[]);
+    match asked {
+        [word, ..] if word.as_str() == "check" => checked(rt, asked, outlets),
+        [word, ..] if word.as_str() == "phones" => played(rt, rt.alloc(), asked),
+        _ => ending_of(rt, words, outlets),
     }
 }
 
@@ -224,9 +149,12 @@ pub fn run<R: AllocGlobal + Env + Files + Net + Clock>(rt: &R) -> u8
 where
     R::File: AsRawFd,
 {
-    let _held = hold_standard(rt, rt.alloc());
-    match open_outlets(rt) {
-        Some(mut outlets) => run_with(rt, &mut outlets),
-        None => CommonEnding::OutOfMemory.status(),
-    }
+    let Some(mut begun) = begin(rt) else {
+        return CommonEnding::OutOfMemory.status();
+    };
+    let ending = match &begun.words {
+        Ok(words) => ending_by(rt, words.as_slice(), &mut begun.outlets),
+        Err(ending) => Ending::Common(*ending),
+    };
+    tell(rt, &mut begun.outlets, &ending)
 }

@@ -2,17 +2,20 @@
 use crate::ending::{Ending, phone_words_ending};
 use crate::phone_files::read_script;
 use crate::phone_words::{PhoneSettings, read_phone_words};
-use live_agent::{Played, open_sockets, play_phones};
-use live_ends::{CommonEnding, Live};
+use live_agent::{Played, play_phones};
+use live_ends::{CommonEnding, Live, SocketWanted};
 use mg_bytes::{OutOfMemory, Text};
 use phone_scripts::{Failure, Player, Script, failure_text};
 use std::alloc::Global;
 use std::net::{Ipv4Addr, Net, SocketAddrV4};
 use std::rt::{Clock, Files};
 
-// Any free port of this machine.
-fn any_port() -> SocketAddrV4 {
-    SocketAddrV4::new(Ipv4Addr::UNSPECIFIED, 0)
+// A socket at any free port of this machine.
+fn any_socket() -> SocketWanted {
+    SocketWanted {
+        word: "",
+        address: SocketAddrV4::new(Ipv4Addr::UNSPECIFIED, 0),
+    }
 }
 
 // How the program ends by a play that failed.
@@ -64,7 +67,7 @@ fn play<'w, R: Net + Clock>(
     settings: &PhoneSettings<'w>,
     script: Script,
 ) -> Result<Ending<'w>, OutOfMemory> {
-    let mut live = match open_sockets(rt, alloc, any_port(), any_port()) {
+    let mut live = match Live::open(rt, alloc, any_socket(), any_socket()) {
         Ok(live) => live,
         Err(_) => return Ok(Ending::System),
     };

@@ -9,7 +9,7 @@ use crate::help::{CONTROL, USAGE};
 use bad_network::Spoiling;
 use clap::error::ErrorKind;
 use clap::{Arg, ArgAction, ArgMatches, Command, Error};
-use live_ends::{CommonEnding, Outlet, VERSION, address_in};
+use live_ends::{CommonEnding, Outlet, VERSION, address_in, network_in};
 use std::alloc::{AllocError, Global};
 use std::io::Write;
 use std::net::SocketAddrV4;
@@ -51,6 +51,12 @@ pub enum WordFault {
 impl From<AllocError> for WordFault {
     fn from(_refused: AllocError) -> WordFault {
         WordFault::Common(CommonEnding::OutOfMemory)
+    }
+}
+
+impl From<CommonEnding<'static>> for WordFault {
+    fn from(ending: CommonEnding<'static>) -> WordFault {
+        WordFault::Common(ending)
     }
 }
 
@@ -140,19 +146,6 @@ pub fn address_behind(
     }
 }
 
-// How the network is spoilt, if the word for that stands there.
-fn spoiling_behind(matches: &ArgMatches<'_>) -> Result<Option<Spoiling>, WordFault> {
-    let Some(text) = matches.get_str("network") else {
-        return Ok(None);
-    };
-    match Spoiling::read(text.as_bytes()) {
-        Ok(spoiling) => Ok(Some(spoiling)),
-        Err(fault) => Err(WordFault::Common(CommonEnding::BadNetwork {
-            wanted: fault.text(),
-        })),
-    }
-}
-
 /// Why no settings are found in words, by clap's error: this outlet says which words are wrong, where memory isn't refused for that.
 pub fn fault_of<F: Write + Drop>(alloc: Global, fault: &Error, said: &mut Outlet<F>) -> WordFault
     ensures memory { kind_of fault.now ≡ kinds.OutOfMemory → result ≡ WordFault.Common CommonEnding.OutOfMemory }
@@ -194,7 +187,7 @@ fn settings_in<'a>(matches: &ArgMatches<'a>) -> Result<Settings<'a>, WordFault> 
         route: matches.get_flag("route"),
         log: matches.get_flag("log"),
         capture: matches.get_str("capture"),
-        network: spoiling_behind(matches)?,
+        network: network_in(matches.get_str("network"))?,
         stop_after: matches.get_one::<u64>("stop-after"),
     })
 }
