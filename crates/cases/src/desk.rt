@@ -10,8 +10,8 @@ use crate::stories::{
     Place, Program, Records, Story, Transcript, Words, put_given, told, words_in,
 };
 use agent_texts::{AgentConfig, ConfigRefusal, Journal, read_config};
-use live_agent::{Recorder, ServeFault, Wire, WireSettings, serve_config, wire_over};
-use live_ends::Written;
+use live_agent::{Recorder, Wire, WireSettings, serve_config, wire_over};
+use live_ends::{CommonEnding, SocketWanted, Written};
 use live_gateway::boxed;
 use mg_bytes::OutOfMemory;
 use scenario_files::{Count, Titled};
@@ -60,8 +60,14 @@ fn config_in(alloc: Global, settings: &str) -> Result<Option<AgentConfig>, OutOf
 // What is asked of a wire, which ends behind what comes where no word says when.
 fn settings_of(words: &Words, story: &Story) -> WireSettings {
     WireSettings {
-        listen: words.own[0],
-        control: words.own[1],
+        listen: SocketWanted {
+            word: "own",
+            address: words.own[0],
+        },
+        control: SocketWanted {
+            word: "--control",
+            address: words.own[1],
+        },
         network: words.network,
         has_log: words.has_log,
         has_capture: words.capture.is_some(),
@@ -111,7 +117,7 @@ fn run(
 ) -> Result<bool, OutOfMemory> {
     let mut records = Records::new(alloc, wire.around.time(), Written::ALL);
     let served = serve_config(alloc, config, is_routed, wire, &mut records);
-    if matches!(served, Err(ServeFault::OutOfMemory)) {
+    if matches!(served, CommonEnding::OutOfMemory) {
         return Err(AllocError);
     }
     if end(wire, &mut records, is_counted).is_err() {

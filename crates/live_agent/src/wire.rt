@@ -26,7 +26,8 @@ pub struct Wire<S> {
     pub(crate) lines: Lines,
     // The network that spoils what comes and what is sent, where there is one.
     network: Option<BadNetwork>,
-    pub journal: Journal,
+    // In a box: a check pays for all that a value holds inline at each step of a function that is lent it.
+    pub journal: Box<Journal>,
     // What clocks say at the turn under way.
     pub(crate) now: Now,
     // The agents' clock is behind, as where what came in a pause is read.
@@ -88,7 +89,7 @@ impl<S: Surroundings + Drop> Wire<S> {
         alloc: Global,
         around: S,
         network: Option<BadNetwork>,
-        journal: Journal,
+        journal: Box<Journal>,
         end: Option<u64>,
     ) -> Result<Wire<S>, AllocError>
         ensures around { IfOk result (λ wire. wire.around ≡ around) }
