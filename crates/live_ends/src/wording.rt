@@ -3,7 +3,7 @@ ghost use Rattle.std.specs.Prelude.{◌≡◌, ◌++◌, decimal, OnOk};
 ghost use Rattle.std.specs.List.{flat_map};
 ghost use Rattle.live_ends.specs.Wording.{piece_text};
 
-use mg_bytes::{OutOfMemory, put_decimal};
+use mg_bytes::{Draft, OutOfMemory};
 use std::alloc::Global;
 
 /// Puts texts, one behind another. Its only error is want of memory.
@@ -26,8 +26,9 @@ pub fn put_around(
 ) -> Result<(), OutOfMemory>
     ensures { OnOk result (out.new.items ≡ out.old.items ++ (before.now ++ decimal number ++ after.now)) }
 {
-    out.extend_from_slice(before.as_bytes())?;
-    put_decimal(alloc, out, number)?;
-    out.extend_from_slice(after.as_bytes())?;
-    Ok(())
+    let mut text = Draft::new(alloc);
+    text.put(before.as_bytes());
+    text.put_decimal(number);
+    text.put(after.as_bytes());
+    text.append_to(out)
 }

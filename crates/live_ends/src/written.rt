@@ -2,8 +2,8 @@
 ghost use Rattle.std.specs.Prelude.{◌≡◌, ◌++◌, OnOk};
 ghost use Rattle.live_ends.specs.Written.{name_text, numbers_text, names_text, faults_in, written_line};
 
-use exchange_log::put_shown;
-use mg_bytes::{OutOfMemory, put_decimal};
+use exchange_log::write_shown;
+use mg_bytes::{Draft, OutOfMemory};
 use std::alloc::Global;
 
 /// What became of what was recorded: how many lines weren't kept, and how often it failed to be written, by where that is.
@@ -17,39 +17,32 @@ pub struct Written {
 
 // Puts a name, behind a blank, where that failed.
 #[tactic(auto, unfolding(crate::specs::Written::name_text))]
-fn put_name(out: &mut Vec<u8>, faults: u64, name: &[u8]) -> Result<(), OutOfMemory>
-    ensures { OnOk result (out.new.items ≡ out.old.items ++ name_text faults name.now) }
+fn put_name(out: &mut Draft, faults: u64, name: &[u8])
+    ensures { out.new ≡ out.old ++ name_text faults name.now }
 {
     if faults > 0 {
-        out.push(b' ')?;
-        put_shown(out, name)?;
+        out.put_byte(b' ');
+        write_shown(out, name);
     }
-    Ok(())
 }
 
 // How many lines weren't kept, and how many write faults there were.
-fn put_numbers(
-    alloc: Global,
-    out: &mut Vec<u8>,
-    dropped: u64,
-    faults: u64,
-) -> Result<(), OutOfMemory>
-    ensures { OnOk result (out.new.items ≡ out.old.items ++ numbers_text dropped faults) }
+fn put_numbers(out: &mut Draft, dropped: u64, faults: u64)
+    ensures { out.new ≡ out.old ++ numbers_text dropped faults }
 {
-    out.extend_from_slice(b"records dropped ")?;
-    put_decimal(alloc, out, dropped)?;
-    out.extend_from_slice(b" write faults ")?;
-    put_decimal(alloc, out, faults)
+    out.put(b"records dropped ");
+    out.put_decimal(dropped);
+    out.put(b" write faults ");
+    out.put_decimal(faults);
 }
 
 // Where they were.
-fn put_names(out: &mut Vec<u8>, written: Written, capture: &[u8]) -> Result<(), OutOfMemory>
-    ensures { OnOk result (out.new.items ≡ out.old.items ++ names_text written capture.now) }
+fn put_names(out: &mut Draft, written: Written, capture: &[u8])
+    ensures { out.new ≡ out.old ++ names_text written capture.now }
 {
-    put_name(out, written.output, b"standard output")?;
-    put_name(out, written.error, b"standard error")?;
-    put_name(out, written.capture, capture)?;
-    Ok(())
+    put_name(out, written.output, b"standard output");
+    put_name(out, written.error, b"standard error");
+    put_name(out, written.capture, capture);
 }
 
 impl Written {
@@ -81,8 +74,10 @@ impl Written {
     ) -> Result<(), OutOfMemory>
         ensures { OnOk result (out.new.items ≡ out.old.items ++ written_line self capture.now) }
     {
-        put_numbers(alloc, out, self.dropped, self.faults())?;
-        put_names(out, self, capture)?;
-        out.extend_from_slice(b"\n")
+        let mut line = Draft::new(alloc);
+        put_numbers(&mut line, self.dropped, self.faults());
+        put_names(&mut line, self, capture);
+        line.put(b"\n");
+        line.append_to(out)
     }
 }

@@ -5,6 +5,6 @@ use Rattle.live_ends.proofs.written.put_names.Goals as goal
 
 pub returns : goal.returns
 returns c =
-    three_put c.args.out.now.items c.put_name.new.out.items c.put_name-2.new.out.items c.put_name-3.new.out.items
+    three_put c.args.out.now c.put_name.new.out c.put_name-2.new.out c.put_name-3.new.out
     (name_text c.args.written.output (codes "standard output")) (name_text c.args.written.error (codes "standard error"))
-    (name_text c.args.written.capture c.args.capture.now) c.in_ok-put_name.ensures c.in_ok-put_name-2.ensures c.in_ok-put_name-3.ensures
+    (name_text c.args.written.capture c.args.capture.now) c.put_name.ensures c.put_name-2.ensures c.put_name-3.ensures
