@@ -8,7 +8,7 @@ use crate::program::SystemFault;
 use crate::stream::make_for_owner;
 use mg_bytes::decimal;
 use std::alloc::{AllocError, Global};
-use std::fs::{read_dir, remove_file};
+use std::fs::{DirEntry, read_dir, remove_file};
 use std::io;
 use std::io::ErrorKind;
 use std::rt::Files;
@@ -65,6 +65,17 @@ fn is_full(size: u64, written: u64, more: u64) -> bool
     written > 0 && written.saturating_add(more) > size
 }
 
+// The number that an entry of a folder has behind this name, if it has one. A name that is no text is no capture's.
+fn number_in<R: Files + Alloc + Clone + Drop>(
+    name: &str,
+    entry: io::Result<DirEntry<R, R::A>>,
+) -> Option<u64> {
+    match entry {
+        Ok(entry) => number_behind(name.as_bytes(), entry.file_name().as_bytes()),
+        Err(_) => None,
+    }
+}
+
 // The numbers of the files of this name.
 fn numbers_of<R: Files + Alloc + Clone + Drop>(
     rt: &R,
@@ -74,11 +85,7 @@ fn numbers_of<R: Files + Alloc + Clone + Drop>(
     let (folder, name) = sides_of(file);
     let mut numbers = Vec::new(alloc);
     for entry in read_dir(rt, folder)? {
-        // A name that is no text is no capture's.
-        let Ok(entry) = entry else {
-            continue;
-        };
-        if let Some(number) = number_behind(name.as_bytes(), entry.file_name().as_bytes()) {
+        if let Some(number) = number_in(name, entry) {
             numbers.push(number)?;
         }
     }
