@@ -19,10 +19,12 @@ pub enum AskFault {
     Refused { kind: ErrorKind },
 }
 
-// A socket that is connected with this address: from there alone it takes datagrams, and it is told where nobody is there.
-fn connected<R: Net>(rt: &R, address: SocketAddrV4) -> io::Result<UdpSocket> {
+// A socket that is connected with this address, by which a line was sent there: from there alone it takes datagrams, and it is told
+// where nobody is there.
+fn sent<R: Net>(rt: &R, address: SocketAddrV4, line: &[u8]) -> io::Result<UdpSocket> {
     let socket = UdpSocket::bind(rt, SocketAddrV4::new(Ipv4Addr::UNSPECIFIED, 0))?;
     socket.connect(address)?;
+    let _ = socket.send(line)?;
     Ok(socket)
 }
 
@@ -95,12 +97,8 @@ pub fn ask<R: Net + Clock>(
     line: &[u8],
     room: &mut Vec<u8>,
 ) -> Result<(), AskFault> {
-    let socket = match connected(rt, address) {
-        Ok(socket) => socket,
-        Err(fault) => return Err(unsent(fault.kind())),
-    };
-    match socket.send(line) {
-        Ok(_) => hear(rt, &socket, room),
+    match sent(rt, address, line) {
+        Ok(socket) => hear(rt, &socket, room),
         Err(fault) => Err(unsent(fault.kind())),
     }
 }
