@@ -4,28 +4,28 @@ ghost use Rattle.rgw_scripts.specs.Script.{key_with, key_of, act_of};
 
 use mg_line::{Act, Key};
 
-// The key with this sign.
+/// The key with this sign, in ASCII.
 #[tactic(auto, unfolding(crate::specs::Script::key_with))]
-fn key_with(sign: u8) -> Option<Key>
+pub fn key_with(sign: u32) -> Option<Key>
     ensures { result ≡ key_with sign }
 {
     match sign {
-        b'0' => Some(Key::Zero),
-        b'1' => Some(Key::One),
-        b'2' => Some(Key::Two),
-        b'3' => Some(Key::Three),
-        b'4' => Some(Key::Four),
-        b'5' => Some(Key::Five),
-        b'6' => Some(Key::Six),
-        b'7' => Some(Key::Seven),
-        b'8' => Some(Key::Eight),
-        b'9' => Some(Key::Nine),
-        b'*' => Some(Key::Star),
-        b'#' => Some(Key::Hash),
-        b'A' => Some(Key::A),
-        b'B' => Some(Key::B),
-        b'C' => Some(Key::C),
-        b'D' => Some(Key::D),
+        48 => Some(Key::Zero),
+        49 => Some(Key::One),
+        50 => Some(Key::Two),
+        51 => Some(Key::Three),
+        52 => Some(Key::Four),
+        53 => Some(Key::Five),
+        54 => Some(Key::Six),
+        55 => Some(Key::Seven),
+        56 => Some(Key::Eight),
+        57 => Some(Key::Nine),
+        42 => Some(Key::Star),
+        35 => Some(Key::Hash),
+        65 => Some(Key::A),
+        66 => Some(Key::B),
+        67 => Some(Key::C),
+        68 => Some(Key::D),
         _ => None,
     }
 }
@@ -35,7 +35,7 @@ fn key_of(word: &[u8]) -> Option<Key>
     ensures { result ≡ key_of word.now }
 {
     match word {
-        [sign] => key_with(*sign),
+        [sign] => key_with(u32::from(*sign)),
         _ => None,
     }
 }

@@ -19,6 +19,7 @@ mod status;
 mod step;
 mod words;
 
+pub use crate::acts::key_with;
 pub use crate::input::{Parts, is_too_long, parts_of, read_limited};
 pub use crate::link::{Direct, Link};
 pub use crate::played::{LinkFault, PlayFault, Played, StepFault, name_of_config_fault};
