@@ -25,13 +25,23 @@ fn form() -> &'static str
 fn any_blank(text: &[u8]) -> bool
     ensures { result ≡ list_any is_blank text.now }
 {
-    text.iter().any(|byte| *byte == b' ' || *byte == b'\t')
+    for byte in text {
+        if *byte == b' ' || *byte == b'\t' {
+            return true;
+        }
+    }
+    false
 }
 
 fn any_line_feed(text: &[u8]) -> bool
     ensures { result ≡ list_any is_line_feed text.now }
 {
-    text.iter().any(|byte| *byte == b'\n')
+    for byte in text {
+        if *byte == b'\n' {
+            return true;
+        }
+    }
+    false
 }
 
 fn is_literal(host: &[u8]) -> bool
