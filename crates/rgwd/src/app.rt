@@ -10,8 +10,8 @@ use crate::telling::{TELL, tell_line};
 use crate::words::{Settings, read_words};
 use gateway_core::Gateway;
 use live_ends::{
-    CaptureFiles, CommonEnding, Live, Outlets, Parting, SystemFault, end, hold_standard,
-    open_capture, open_outlets, put_pieces, read_file, words_of,
+    CaptureFiles, CommonEnding, Live, Outlets, Parting, SystemFault, begin, end, open_capture,
+    put_pieces, read_file,
 };
 use live_gateway::{agents_line, boxed};
 use live_journal::{Journal, Trace};
@@ -351,36 +351,17 @@ fn tell<R: AllocGlobal + Files + Clock>(
     end(rt, outlets, text, ending.status(), ending.is_asked())
 }
 
-// Runs the program with these outlets, and gives its exit status.
-fn run_with<R: AllocGlobal + Env + Files + Net + Clock + RandomSource + Clone + Drop, P: Reception>(
+// Runs the program with these words, or without them, and gives its exit status.
+fn run_with<R: AllocGlobal + Files + Net + Clock + RandomSource + Clone + Drop, P: Reception>(
     rt: &R,
+    words: &Result<Vec<String>, CommonEnding<'static>>,
     recording: &mut Recording<R>,
 ) -> u8 {
-    let words = match words_of(rt) {
-        Ok(words) => words,
-        Err(fault) => {
-            let ending = Ending::Common(CommonEnding::wordless(fault));
-            return tell(rt, &mut recording.outlets, ending);
-        }
+    let ending = match words {
+        Ok(words) => ending_by::<R, P>(rt, words.as_slice(), recording),
+        Err(ending) => Ending::Common(*ending),
     };
-    let ending = ending_by::<R, P>(rt, words.as_slice(), recording);
     tell(rt, &mut recording.outlets, ending)
-}
-
-// The outlets of the program, whose gateway captures nothing yet; none for want of memory.
-fn recording_of<R: AllocGlobal + Files + Clone + Drop>(rt: &R) -> Option<Recording<R>>
-where
-    R::File: AsRawFd,
-{
-    let outlets = open_outlets(rt)?;
-    match rt.clone() {
-        Ok(rt) => Some(Recording {
-            rt,
-            outlets,
-            files: None,
-        }),
-        Err(_) => None,
-    }
 }
 
 /// Runs the program, whose page's visitors are received so, and gives its exit status.
@@ -390,11 +371,23 @@ pub fn run<R: AllocGlobal + Env + Files + Net + Clock + RandomSource + Clone + D
 where
     R::File: AsRawFd,
 {
-    let _held = hold_standard(rt, rt.alloc());
-    match recording_of(rt) {
-        Some(mut recording) => run_with::<R, P>(rt, &mut recording),
-        None => CommonEnding::OutOfMemory.status(),
-    }
+    let Some(begun) = begin(rt) else {
+        return CommonEnding::OutOfMemory.status();
+    };
+    let live_ends::Begun {
+        words,
+        outlets,
+        held: _held,
+    } = begun;
+    let Ok(runtime) = rt.clone() else {
+        return CommonEnding::OutOfMemory.status();
+    };
+    let mut recording = Recording {
+        rt: runtime,
+        outlets,
+        files: None,
+    };
+    run_with::<R, P>(rt, &words, &mut recording)
 }
 
 /// The program, over what its machine gives it.

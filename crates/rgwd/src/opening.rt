@@ -7,11 +7,10 @@ use crate::ending::Ending;
 use crate::reception::PageReception;
 use crate::words::{Settings, hosts_in, speakers_in};
 use gateway_core::Gateway;
-use live_ends::{Live, bind};
+use live_ends::{Live, SocketWanted};
 use live_gateway::{Admission, Desk, DeskSettings, boxed, open_desk, speakers_of};
 use live_journal::Trace;
 use live_page::{HostNames, Reception};
-use mio::net::UdpSocket;
 use std::alloc::Global;
 use std::net::{Ipv4Addr, Net, SocketAddr, SocketAddrV4};
 use std::rt::Clock;
@@ -22,32 +21,6 @@ use surroundings::Surroundings;
 pub struct Opened<'a, R, P> {
     pub desk: Box<Desk<Live<'a, R>, Trace>>,
     pub visitors: Option<Box<PageReception<P>>>,
-}
-
-// The socket that a word asks for.
-fn socket_for<'w, R: Net>(
-    rt: &R,
-    word: &'static str,
-    address: SocketAddrV4,
-) -> Result<UdpSocket, Ending<'w>> {
-    match bind(rt, address) {
-        Ok(socket) => Ok(socket),
-        Err(fault) => Err(Ending::unbound(word, address, fault.kind())),
-    }
-}
-
-// The sockets and the clock.
-fn open_sockets<'a, 'w, R: Net + Clock>(
-    rt: &'a R,
-    alloc: Global,
-    settings: &Settings<'w>,
-) -> Result<Box<Live<'a, R>>, Ending<'w>> {
-    let socket = socket_for(rt, "--listen", settings.sockets.listen)?;
-    let phones = socket_for(rt, "--phones", settings.sockets.phones)?;
-    match Live::watch(rt, alloc, socket, phones) {
-        Ok(live) => Ok(boxed(alloc, live)?),
-        Err(fault) => Err(Ending::unbound("--listen", settings.sockets.listen, fault.kind())),
-    }
 }
 
 // The site, if one is asked for.
@@ -131,7 +104,15 @@ pub fn open<'a, 'w, R: Net + Clock, P: Reception>(
     config: &[u8],
     gateway: Box<Gateway>,
 ) -> Result<Opened<'a, R, P>, Ending<'w>> {
-    let live = open_sockets(rt, alloc, settings)?;
+    let datagrams = SocketWanted {
+        word: "--listen",
+        address: settings.sockets.listen,
+    };
+    let lines = SocketWanted {
+        word: "--phones",
+        address: settings.sockets.phones,
+    };
+    let live = Live::open(rt, alloc, datagrams, lines)?;
     let visitors = open_site(rt, alloc, settings, &live)?;
     let admission = admission_of(alloc, settings, &gateway, live.own())?;
     let asked = desk_settings(settings, &gateway, &live);

@@ -9,7 +9,7 @@ use crate::parted::parting_of;
 use bad_network::Spoiling;
 use clap::error::ErrorKind;
 use clap::{Arg, ArgAction, ArgMatches, Command, Error};
-use live_ends::{CommonEnding, Outlet, Parting, VERSION, address_in};
+use live_ends::{CommonEnding, Outlet, Parting, VERSION, address_in, network_in};
 use live_page::HostNames;
 use new_start::{FirstNumber, spread_in};
 use std::alloc::{AllocError, Global};
@@ -177,19 +177,6 @@ fn bytes_in<'m>(matches: &'m ArgMatches<'_>, word: &str) -> Option<&'m [u8]> {
     }
 }
 
-// How a network spoils datagrams, if that stands there.
-fn network_in<'a>(matches: &ArgMatches<'a>) -> Result<Option<Spoiling>, Ending<'a>> {
-    let Some(text) = matches.get_str("network") else {
-        return Ok(None);
-    };
-    match Spoiling::read(text.as_bytes()) {
-        Ok(spoiling) => Ok(Some(spoiling)),
-        Err(fault) => Err(Ending::Common(CommonEnding::BadNetwork {
-            wanted: fault.text(),
-        })),
-    }
-}
-
 // The number with which ids begin, if that stands there and is one.
 fn first_in(matches: &ArgMatches<'_>) -> Option<FirstNumber> {
     FirstNumber::read(matches.get_str("first")?.as_bytes())
@@ -241,7 +228,7 @@ fn settings_in<'a>(alloc: Global, matches: &ArgMatches<'a>) -> Result<Settings<'
         log: matches.get_flag("log"),
         capture,
         parting: parting_of(capture.is_some(), size, bytes_in(matches, "capture-files"))?,
-        network: network_in(matches)?,
+        network: network_in(matches.get_str("network"))?,
         first,
         spread: longest_wait_in(matches)?,
         stop_after: matches.get_one::<u64>("stop-after"),
