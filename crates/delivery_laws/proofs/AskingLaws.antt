@@ -76,7 +76,7 @@ own_later setup now later past log own s = (
   soon_later setup now later 0 own past s.1,
 )
 
-logged_later : (now later : ℕ) → now ≤ later → (log : List Begun) → Logged now log → Logged later log
+logged_later : (now later : ℕ) → now ≤ later → (log : List Begun) → Logged setup now log → Logged setup later log
 logged_later now later past log logged = record {
   begun = each_weaker (WasBegun now) (WasBegun later) (λ b was. record { name = was.name; reads = was.reads; past = omega (arith, past, was.past) }) log logged.begun;
   apart = logged.apart;
@@ -84,13 +84,13 @@ logged_later now later past log logged = record {
 
 module _ (setup : Setup) (set_up : IsSetUp setup) where
   abbrev StandsAt : ℕ → List Begun → Endpoints → Type 0
-  StandsAt now log endpoints = Stands setup now (LineSoon setup now) (OwnSoon setup now) (Own now) (Logged now) (soon_turns setup now set_up) log endpoints
+  StandsAt now log endpoints = Stands setup now (LineSoon setup now) (OwnSoon setup now) (Own now) (Logged setup now) (soon_turns setup now set_up) log endpoints
 
   -- the endpoints by this moment, beside some commands that began
   abbrev StandsSo : ℕ → Endpoints → Type 0
   StandsSo now endpoints = (log : List Begun) × StandsAt now log endpoints
 
-  goes_so : (now : ℕ) (log : List Begun) (is : Effect Endpoints) → Goes setup now (LineSoon setup now) (OwnSoon setup now) (Own now) (Logged now) (soon_turns setup now set_up) log is
+  goes_so : (now : ℕ) (log : List Begun) (is : Effect Endpoints) → Goes setup now (LineSoon setup now) (OwnSoon setup now) (Own now) (Logged setup now) (soon_turns setup now set_up) log is
       → StandsSo now is.value
   goes_so now log is goes = (log ++ begun_in is.sent, goes.stands)
 
@@ -122,10 +122,10 @@ module _ (setup : Setup) (set_up : IsSetUp setup) where
   handled_so m source (message (messages.Command verb id name params body)) s =
       let said : Command = record { verb = verb; name = name; params = params; body = body } in
       transacted_so (look_of most_firsts m.history id m.now) m source _ s
-      (goes_so m.now s.0 _ (command_goes setup m.now (LineSoon setup m.now) (OwnSoon setup m.now) (Own m.now) (Logged m.now) (soon_turns setup m.now set_up) said (k_of params) s.0 m.endpoints id s.1))
+      (goes_so m.now s.0 _ (command_goes setup m.now (LineSoon setup m.now) (OwnSoon setup m.now) (Own m.now) (Logged setup m.now) (soon_turns setup m.now set_up) said (k_of params) s.0 m.endpoints id s.1))
   handled_so m source (message (messages.Response code id params body)) s =
       goes_so m.now s.0 _
-      (responded_goes setup m.now (LineSoon setup m.now) (OwnSoon setup m.now) (Own m.now) (Logged m.now) (soon_turns setup m.now set_up) s.0 m.endpoints (response_with setup id code params) s.1)
+      (responded_goes setup m.now (LineSoon setup m.now) (OwnSoon setup m.now) (Own m.now) (Logged setup m.now) (soon_turns setup m.now set_up) s.0 m.endpoints (response_with setup id code params) s.1)
 
   texts_so : (m : Machine) (source : SocketAddrV4) (texts : List (List ℕ)) → StandsSo m.now m.endpoints → StandsSo m.now (took_all setup m source texts).value.endpoints
   unfolding took_all
@@ -142,10 +142,10 @@ module _ (setup : Setup) (set_up : IsSetUp setup) where
   unfolding effect
   event_at m (datagram source bytes) s taken = texts_so m source (texts_of bytes) s
   event_at m (phone line act) s taken =
-      goes_so m.now s.0 _ (acted_goes setup m.now (LineSoon setup m.now) (OwnSoon setup m.now) (Own m.now) (Logged m.now) (soon_turns setup m.now set_up) s.0 m.endpoints line act s.1)
+      goes_so m.now s.0 _ (acted_goes setup m.now (LineSoon setup m.now) (OwnSoon setup m.now) (Own m.now) (Logged setup m.now) (soon_turns setup m.now set_up) s.0 m.endpoints line act s.1)
   event_at m (tick moment) s taken =
       let later = stands_later m.now moment (tick_on m moment taken) m.endpoints s in
-      goes_so moment later.0 _ (pass_goes setup moment (LineSoon setup moment) (OwnSoon setup moment) (Own moment) (Logged moment) (soon_turns setup moment set_up) later.0 m.endpoints later.1)
+      goes_so moment later.0 _ (pass_goes setup moment (LineSoon setup moment) (OwnSoon setup moment) (Own moment) (Logged setup moment) (soon_turns setup moment set_up) later.0 m.endpoints later.1)
 
   abbrev IsSo : Machine → Type 0
   IsSo m = StandsSo m.now m.endpoints

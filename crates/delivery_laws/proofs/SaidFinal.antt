@@ -70,7 +70,7 @@ command_asks id name (message (messages.Response code other params body)) is = a
 command_final : (b : Begun) → IsCommand b → IsSaid b.text
 command_final b is = (λ code id params body reads. absurd (no_response b.id is.name (read_text b.text) code id params body is.reads reads), command_asks b.id is.name (read_text b.text) is.reads)
 
-own_final : (until : ℕ) (log : List Begun) (sent : List Sent) → Logged until log → Each (Own until log) sent → Each SaysFinal sent
+own_final : (until : ℕ) (log : List Begun) (sent : List Sent) → Logged setup until log → Each (Own until log) sent → Each SaysFinal sent
 own_final until log sent logged own =
     let commands : Each IsCommand log = each_weaker (WasBegun until) IsCommand (λ b w. record { name = w.name; reads = w.reads }) log logged.begun in
     each_weaker (Own until log) SaysFinal
@@ -84,14 +84,14 @@ record ToldFinal (setup : Setup) (until : ℕ) (log : List Begun) (is : Effect E
   says : Each SaysFinal is.sent
 
 told_final : (setup : Setup) (until : ℕ) (set_up : IsSetUp setup) (log : List Begun) (is : Effect Endpoints)
-    → Goes setup until (LineStands setup until) (OwnStands setup until) (Own until) (Logged until) (log_turns setup until set_up) log is → ToldFinal setup until log is
+    → Goes setup until (LineStands setup until) (OwnStands setup until) (Own until) (Logged setup until) (log_turns setup until set_up) log is → ToldFinal setup until log is
 told_final setup until set_up log is goes = record {
   stands = record { logged = goes.stands.log_holds; list = goes.stands.list; own = goes.stands.own };
   says = own_final until (log ++ begun_in is.sent) is.sent goes.stands.log_holds goes.sent;
 }
 
 as_stands : (setup : Setup) (until : ℕ) (set_up : IsSetUp setup) (log : List Begun) (endpoints : Endpoints) → EndpointsStand setup until log endpoints
-    → Stands setup until (LineStands setup until) (OwnStands setup until) (Own until) (Logged until) (log_turns setup until set_up) log endpoints
+    → Stands setup until (LineStands setup until) (OwnStands setup until) (Own until) (Logged setup until) (log_turns setup until set_up) log endpoints
 as_stands setup until set_up log endpoints s = record { log_holds = s.logged; list = s.list; own = s.own }
 
 same_stands : (setup : Setup) (until : ℕ) (log : List Begun) (endpoints : Endpoints) → EndpointsStand setup until log endpoints → EndpointsStand setup until (log ++ []) endpoints
@@ -151,13 +151,13 @@ handled_final setup log m source (message (messages.Command verb id name params 
           (commanded_bare setup m.endpoints m.now id said (k_of params)),
     )
     (told_final setup m.now fits.set_up log t.done.told
-    (command_goes setup m.now (LineStands setup m.now) (OwnStands setup m.now) (Own m.now) (Logged m.now) (log_turns setup m.now fits.set_up) said (k_of params) log m.endpoints id
+    (command_goes setup m.now (LineStands setup m.now) (OwnStands setup m.now) (Own m.now) (Logged setup m.now) (log_turns setup m.now fits.set_up) said (k_of params) log m.endpoints id
     (as_stands setup m.now fits.set_up log m.endpoints stands))) refl
 handled_final setup log m source (message (messages.Response code id params body)) fits stands kept has asks =
     let response = response_with setup id code params in
     let done = responded setup m.endpoints m.now response in
     let told = told_final setup m.now fits.set_up log done
-    (responded_goes setup m.now (LineStands setup m.now) (OwnStands setup m.now) (Own m.now) (Logged m.now) (log_turns setup m.now fits.set_up) log m.endpoints response
+    (responded_goes setup m.now (LineStands setup m.now) (OwnStands setup m.now) (Own m.now) (Logged setup m.now) (log_turns setup m.now fits.set_up) log m.endpoints response
     (as_stands setup m.now fits.set_up log m.endpoints stands)) in
     subst (λ (first : List Sent). EndsFinal setup log m (record { value = record m { endpoints = done.value }; sent = first ++ done.sent }))
     (sym (none_acknowledged m.now source code id params asks)) (record { stands = told.stands; kept = kept; says = told.says })
@@ -225,12 +225,12 @@ event_final setup log m (datagram source bytes) h taken kept ask =
 event_final setup log m (phone line act) h taken kept ask = record {
   kept = kept;
   says = (told_final setup m.now h.fits.set_up log _
-      (acted_goes setup m.now (LineStands setup m.now) (OwnStands setup m.now) (Own m.now) (Logged m.now) (log_turns setup m.now h.fits.set_up) log m.endpoints line act
+      (acted_goes setup m.now (LineStands setup m.now) (OwnStands setup m.now) (Own m.now) (Logged setup m.now) (log_turns setup m.now h.fits.set_up) log m.endpoints line act
       (as_stands setup m.now h.fits.set_up log m.endpoints h.stands))).says;
 }
 event_final setup log m (tick moment) h taken kept ask = record {
   kept = kept;
   says = (told_final setup moment h.fits.set_up log _
-      (pass_goes setup moment (LineStands setup moment) (OwnStands setup moment) (Own moment) (Logged moment) (log_turns setup moment h.fits.set_up) log m.endpoints
+      (pass_goes setup moment (LineStands setup moment) (OwnStands setup moment) (Own moment) (Logged setup moment) (log_turns setup moment h.fits.set_up) log m.endpoints
       (as_stands setup moment h.fits.set_up log m.endpoints (stands_later setup m.now moment (tick_on m moment taken) log m.endpoints h.stands)))).says;
 }

@@ -145,35 +145,35 @@ both_keep : {A : Type 0} (P : List Begun → A → Type 0) (S : A → Type 0) (Q
     → EffectKeeps P Q L log line turn → S turn.value → EffectKeeps (λ (x : List Begun) (a : A). P x a × S a) Q L log line turn
 both_keep P S Q L log line turn keeps is = record { log_holds = keeps.log_holds; of = keeps.of; holds = (keeps.holds, is); sent_holds = keeps.sent_holds }
 
-pub soon_turns : (setup : Setup) (now : ℕ) → IsSetUp setup → LogTurns setup now (LineSoon setup now) (OwnSoon setup now) (Own now) (Logged now)
+pub soon_turns : (setup : Setup) (now : ℕ) → IsSetUp setup → LogTurns setup now (LineSoon setup now) (OwnSoon setup now) (Own now) (Logged setup now)
 unfolding happened_on
 soon_turns setup now set_up = record {
   act = λ log line act endpoint logged s.
-      both_keep (λ (x : List Begun). LineStands setup now x line) (λ (st : Endpoint). Soon setup now line st.post) (Own now) (Logged now) log line _ (turns.act log line act endpoint logged s.0)
+      both_keep (λ (x : List Begun). LineStands setup now x line) (λ (st : Endpoint). Soon setup now line st.post) (Own now) (Logged setup now) log line _ (turns.act log line act endpoint logged s.0)
       (noted_soon setup now line now endpoint _ s.1);
   deed = λ command confirms target deed is log line endpoint logged s.
-      both_keep (λ (x : List Begun). LineStands setup now x line) (λ (st : Endpoint). Soon setup now line st.post) (Own now) (Logged now) log line _
+      both_keep (λ (x : List Begun). LineStands setup now x line) (λ (st : Endpoint). Soon setup now line st.post) (Own now) (Logged setup now) log line _
       (turns.deed command confirms target deed is log line endpoint logged s.0) (deed_soon setup now line now deed endpoint s.1);
   response = λ log line response endpoint logged s.
-      both_keep (λ (x : List Begun). LineStands setup now x line) (λ (st : Endpoint). Soon setup now line st.post) (Own now) (Logged now) log line _
+      both_keep (λ (x : List Begun). LineStands setup now x line) (λ (st : Endpoint). Soon setup now line st.post) (Own now) (Logged setup now) log line _
       (turns.response log line response endpoint logged s.0) (responded_soon setup now line now response endpoint s.1);
   happening = λ log line item endpoint logged s due past.
-      both_keep (λ (x : List Begun). LineStands setup now x line) (λ (st : Endpoint). Soon setup now line st.post) (Own now) (Logged now) log line _
+      both_keep (λ (x : List Begun). LineStands setup now x line) (λ (st : Endpoint). Soon setup now line st.post) (Own now) (Logged setup now) log line _
       (turns.happening log line item endpoint logged s.0 due past) (happened_soon setup now line item.moment item.kind endpoint past s.1);
   redirecting = λ log agent line endpoint logged s.
-      both_keep (λ (x : List Begun). LineStands setup now x line) (λ (st : Endpoint). Soon setup now line st.post) (Own now) (Logged now) log line _
+      both_keep (λ (x : List Begun). LineStands setup now x line) (λ (st : Endpoint). Soon setup now line st.post) (Own now) (Logged setup now) log line _
       (turns.redirecting log agent line endpoint logged s.0) (redirected_soon setup now line agent endpoint s.1);
   opening = λ log agent line endpoint logged s.
-      both_keep (λ (x : List Begun). LineStands setup now x line) (λ (st : Endpoint). Soon setup now line st.post) (Own now) (Logged now) log line _
+      both_keep (λ (x : List Begun). LineStands setup now x line) (λ (st : Endpoint). Soon setup now line st.post) (Own now) (Logged setup now) log line _
       (turns.opening log agent line endpoint logged s.0) (opened_soon setup now line now agent endpoint s.1);
   own_response = λ log response own logged s.
-      both_keep (OwnStands setup now) (Soon setup now 0) (Own now) (Logged now) log 0 _ (turns.own_response log response own logged s.0) (own_responded_soon setup now now response own s.1);
+      both_keep (OwnStands setup now) (Soon setup now 0) (Own now) (Logged setup now) log 0 _ (turns.own_response log response own logged s.0) (own_responded_soon setup now now response own s.1);
   own_happening = λ log item own logged s due past.
-      both_keep (OwnStands setup now) (Soon setup now 0) (Own now) (Logged now) log 0 _ (turns.own_happening log item own logged s.0 due past)
+      both_keep (OwnStands setup now) (Soon setup now 0) (Own now) (Logged setup now) log 0 _ (turns.own_happening log item own logged s.0 due past)
       (own_happened_soon setup now item.moment item.kind own past s.1);
   others = λ log new line endpoint apart s. (turns.others log new line endpoint apart s.0, s.1);
   own_others = λ log new own apart s. (turns.own_others log new own apart s.0, s.1);
   more = turns.more;
 } where
-  turns : LogTurns setup now (LineStands setup now) (OwnStands setup now) (Own now) (Logged now)
+  turns : LogTurns setup now (LineStands setup now) (OwnStands setup now) (Own now) (Logged setup now)
   turns = log_turns setup now set_up

@@ -2,8 +2,8 @@
 use Rattle.std.specs.Prelude.{⊤}
 use Rattle.world_laws.proofs.Computing.{on_examples as world_examples}
 use Rattle.life_laws.specs.Lives.{lived, lived_refusal, lives_after, lives_are_taken}
-use Rattle.life_laws.specs.Apart.{taken_after}
+use Rattle.life_laws.specs.Apart.{keeps_pace, taken_after}
 
 unfoldable pub on_examples : ⊤
-unfolding world_examples lived lived_refusal lives_after lives_are_taken taken_after
+unfolding world_examples lived lived_refusal lives_after lives_are_taken keeps_pace taken_after
 on_examples = tt

@@ -20,3 +20,4 @@ pub mod OpenedLemmas
 pub mod ExampleLemmas
 pub mod ClockBack
 pub mod GatewaysOfLives
+pub mod CountedLives

@@ -1,15 +1,15 @@
 -- What the laws of lives speak of: what a life executed and began, which of it the agent took, and when lives' ids lie apart (RFC
 -- 3435, 3.2.1.2 and 3.5.1).
-use Rattle.std.specs.Prelude.{◌≡◌, ℕ, zero, suc, ◌+◌, ◌<◌, ◌≤◌, List, [], ◌∷◌, ◌++◌, map, fold, All, AllPairs}
+use Rattle.std.specs.Prelude.{◌≡◌, ℕ, zero, suc, ◌+◌, ◌<◌, ◌≤◌, nat_lt, Bool, true, ◌&&◌, List, [], ◌∷◌, ◌++◌, map, fold, All, AllPairs}
 use Rattle.history.specs.Memory.{most_firsts}
 use Rattle.history.specs.Firsts.{Kind, a_first, a_repeat, lost, kind_of, IsCopy}
 use Rattle.plain_machine.specs.Event.{GatewayEvent, datagram, phone, tick}
 use Rattle.plain_machine.specs.Arriving.{arrivals_of}
 use Rattle.plain_machine.specs.Lists.{sent_of}
-use Rattle.plain_machine.specs.Posting.{numbers, id_on}
+use Rattle.plain_machine.specs.Posting.{numbers, id_on, line_of_id}
 use Rattle.transmission.specs.Texts.{texts_of}
-use Rattle.machine_laws.specs.Saying.{Begun, OneOf, HasNumbersLeft, begun_in}
-use Rattle.machine_laws.specs.Starting.{BeganUnder, longest_life, safe_time, shortest_life}
+use Rattle.machine_laws.specs.Saying.{Begun, OneOf, HasNumbersLeft, begun_in, count_of}
+use Rattle.machine_laws.specs.Starting.{BeganUnder, first_at, longest_life, most_after, safe_time, shortest_life}
 use Rattle.world_laws.specs.Reached.{Reached, as_arrival, executed_of}
 use Rattle.life_laws.specs.Lives.{Life, Brought, LivesWorld}
 
@@ -78,6 +78,27 @@ IsByTime day life = All (BeganByTime day life.start) (begun_of life)
 -- a life starts a second later than an earlier one, or later still
 abbrev pub StartsLater : Life → Life → Type 0
 StartsLater earlier later = earlier.start + shortest_life ≤ later.start
+
+-- By counts
+
+-- where the world began at this time of day, in ms, a life's first number is that of the time of day at its start
+abbrev pub StartsByTime : ℕ → Life → Type 0
+StartsByTime day life = life.setup.first ≡ first_at (day + life.start)
+
+-- begun behind those before: whenever a line, or the gateway itself, begins a command it began fewer than it may by that ms of its life
+unfoldable pub keeps_pace : List Begun → List Begun → Bool
+keeps_pace before [] = true
+keeps_pace before (one ∷ after) =
+    nat_lt (count_of (line_of_id one.id) before) (most_after one.moment) && keeps_pace (before ++ one ∷ []) after
+
+-- so it is from the first on, and all began within five days
+pub record ArePaced (begun : List Begun) : Type 0 where
+  pub few : keeps_pace [] begun ≡ true
+  pub within : All (λ (one : Begun). one.moment ≤ longest_life) begun
+
+-- so it is with all that a life began
+abbrev pub KeepsPace : Life → Type 0
+KeepsPace life = ArePaced (own_of life)
 
 -- Of the agent
 

@@ -167,3 +167,7 @@ packet_to to = record { moment = 0; sender = agent; to = to; bytes = [] }
 -- the gateway of an agent that has two addresses
 abbrev pub two_addresses : Setup
 two_addresses = record two_lines { agent = record { text = codes "ca@ca.example.net"; route = Two agent other_agent } }
+
+-- line 1 begins ten commands at this moment
+abbrev pub ten_at : ℕ → List Begun
+ten_at moment = map (λ number. beginning (10000000 + number) moment) (0 ∷ 1 ∷ 2 ∷ 3 ∷ 4 ∷ 5 ∷ 6 ∷ 7 ∷ 8 ∷ 9 ∷ [])

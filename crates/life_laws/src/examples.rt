@@ -21,8 +21,8 @@ ghost use Rattle.agent_core.specs.declared.packet.End.TheVariants.{AgentEnd, Gat
 ghost use Rattle.agent_core.specs.World.{agent_of, gateway_address, ticking, delivering, dialling, by_gateway, by_agent, no_such_packet, packet_too_old};
 ghost use Rattle.world_laws.specs.Reached.{issued_in};
 ghost use Rattle.life_laws.specs.Lives.{Life, handed_from, said_to, sent_by, stepping, restarting, lives_opening, lives_of, lives_are_taken, new_life, agent_side, clock_of, gateway_of, plain_lives, as_step, no_such_first};
-ghost use Rattle.life_laws.specs.Apart.{AllHaveNumbersLeft, added_as, own_of, BringsCopy, moved, begun_of, OfLife, BeginsLater, LieApart, IsByTime, BeganByTime, StartsLater, IsTakenFor, firsts_of_lives, taken_after};
-ghost use Rattle.life_laws.specs.Example.{lives, packet_to, two_addresses, first_life, both_lives, answered_late, audited_twice, audited_too_late, heard_late, audited_later, started_far, announced_too_late, gone_back, started_alike, audited_first, issued_two, broken, broken_after, broken_notified, started_late, started_back, serves_after, told_after, texts_after, owners_after, moments_after, began_after, starts_after, brought_key, brought_after, firsts_after, keys_of, refused_then, bringing, beginning, begun_key};
+ghost use Rattle.life_laws.specs.Apart.{AllHaveNumbersLeft, added_as, ArePaced, KeepsPace, StartsByTime, keeps_pace, own_of, BringsCopy, moved, begun_of, OfLife, BeginsLater, LieApart, IsByTime, BeganByTime, StartsLater, IsTakenFor, firsts_of_lives, taken_after};
+ghost use Rattle.life_laws.specs.Example.{lives, packet_to, two_addresses, first_life, both_lives, answered_late, audited_twice, audited_too_late, heard_late, audited_later, started_far, announced_too_late, gone_back, started_alike, audited_first, issued_two, broken, broken_after, broken_notified, started_late, started_back, serves_after, told_after, texts_after, owners_after, moments_after, began_after, starts_after, brought_key, brought_after, firsts_after, keys_of, refused_then, bringing, beginning, begun_key, ten_at};
 
 /// Where both lives' numbers begin alike, all that the second says is taken for repeats: the agent never hears that line 1 was lifted
 /// again. Their ids don't lie apart.
@@ -219,6 +219,25 @@ pub fn packets_have_addresses()
     ensures no_room { length (taken_after (replicate 4096 (bringing 0 1 5)) (bringing 0 2 6)) ≡ 4096 }
     ensures have_left { AllHaveNumbersLeft (new_life two_lines 0 ∷ new_life two_lines 5 ∷ []) }
     ensures each_has_left { (one other : Life) → AllHaveNumbersLeft (one ∷ other ∷ []) → HasNumbersLeft (own_of one) × HasNumbersLeft (own_of other) }
+{}
+
+/// A line may begin ten commands at once and another from its 100th ms on; others' don't count, nor does what comes five days after its
+/// start. A life whose numbers begin otherwise than by the time of day doesn't follow it, though its commands are few.
+pub fn commands_are_counted_as_they_begin()
+    ensures ten { keeps_pace [] (ten_at 0) ≡ true }
+    ensures eleventh_too_soon { keeps_pace [] (ten_at 0 ++ beginning 10000010 99 ∷ []) ≡ false }
+    ensures eleventh { keeps_pace [] (ten_at 0 ++ beginning 10000010 100 ∷ []) ≡ true }
+    ensures tenth_late { keeps_pace (ten_at 0) (beginning 10000010 99 ∷ beginning 20000000 5000 ∷ []) ≡ false }
+    ensures of_another_line { keeps_pace [] (ten_at 0 ++ beginning 20000000 0 ∷ []) ≡ true }
+    ensures own { keeps_pace [] (ten_at 0 ++ beginning 1 0 ∷ []) ≡ true }
+    ensures within { ArePaced (beginning 10000000 432000000 ∷ []) }
+    ensures too_late { ¬ ArePaced (beginning 10000000 432000001 ∷ []) }
+    ensures too_many { ¬ ArePaced (ten_at 0 ++ beginning 10000010 99 ∷ []) }
+    ensures starts { StartsByTime 7 (record (new_life two_lines 1000) { setup = record two_lines { first = 20 } }) }
+    ensures starts_otherwise { ¬ StartsByTime 50 (new_life two_lines 0) }
+    ensures taken { lives_are_taken two_lines (lives_opening two_lines) (both_lives 20) ≡ true }
+    ensures paced { All KeepsPace (lives_of (lives (both_lives 20))) }
+    ensures follows_not { ¬ IsByTime 0 (lives (both_lives 20)).life }
 {}
 
 /// What the laws of lives say of commands.

@@ -11,7 +11,7 @@ ghost use Rattle.plain_machine.specs.Setup.{IsSetUp};
 ghost use Rattle.plain_machine.specs.Machine.{endpoint_at, opening};
 ghost use Rattle.plain_machine.specs.Lists.{are_taken};
 ghost use Rattle.transmission.specs.Texts.{texts_of};
-ghost use Rattle.machine_laws.specs.Saying.{Begun};
+ghost use Rattle.machine_laws.specs.Saying.{Begun, HasNumbersLeft};
 ghost use Rattle.call_agent.specs.Agent.{agent_opening, nothing_taken};
 ghost use Rattle.call_agent.specs.AgentStands.{agent_takes};
 ghost use Rattle.call_agent.specs.Taking.{with_taken};
@@ -19,7 +19,7 @@ ghost use Rattle.agent_core.specs.declared.packet.End.TheVariants.{AgentEnd};
 ghost use Rattle.agent_core.specs.World.{WorldStep, delivering, agent_of, world_opening, plain_world, steps_are_taken};
 ghost use Rattle.world_laws.specs.Reached.{Reached, issued_in, key_kept, key_reached, taken_with};
 ghost use Rattle.life_laws.specs.Lives.{Life, Letter, Brought, LivesStep, stepping, lives_opening, lives_of, lives_are_taken, plain_lives, agent_side, agent_then, clock_of, gateway_of, number_of};
-ghost use Rattle.life_laws.specs.Apart.{executed_by, BringsCopy, begun_of, OfLife, AllHaveNumbersLeft, LieApart, IsTakenFor, what_came, firsts_of_lives, IsByTime, StartsLater};
+ghost use Rattle.life_laws.specs.Apart.{executed_by, BringsCopy, begun_of, own_of, OfLife, AllHaveNumbersLeft, LieApart, IsTakenFor, what_came, firsts_of_lives, IsByTime, KeepsPace, StartsByTime, StartsLater};
 
 /// In each life the gateway executes each command that the agent issued once at most, as it was issued, and only where a copy of
 /// it was handed to that life; and no id is issued twice, however often the gateway starts.
@@ -87,6 +87,20 @@ pub fn lives_by_the_time_of_day_lie_apart()
     ensures { (day : ℕ) (setup : Setup) (steps : List LivesStep) →
         lives_are_taken setup (lives_opening setup) steps ≡ true → All (IsByTime day) (lives_of (plain_lives setup steps)) →
         AllPairs StartsLater (lives_of (plain_lives setup steps)) → LieApart (lives_of (plain_lives setup steps)) }
+{}
+
+/// Counted so: where each life's first number is that of the time of day at its start, and by each of its ms a line, or the gateway
+/// itself, began 10 commands and one for each 100 ms at most, none of them five days after its start, their numbers follow the time of
+/// day. So such lives lie apart, where starts are a second apart.
+pub fn lives_that_keep_pace_follow_the_time_of_day()
+    ensures follow { (day : ℕ) (setup : Setup) (steps : List LivesStep) → IsSetUp setup →
+        lives_are_taken setup (lives_opening setup) steps ≡ true → All (StartsByTime day) (lives_of (plain_lives setup steps)) →
+        All KeepsPace (lives_of (plain_lives setup steps)) → All (IsByTime day) (lives_of (plain_lives setup steps)) }
+    ensures apart { (day : ℕ) (setup : Setup) (steps : List LivesStep) → IsSetUp setup →
+        lives_are_taken setup (lives_opening setup) steps ≡ true → All (StartsByTime day) (lives_of (plain_lives setup steps)) →
+        All KeepsPace (lives_of (plain_lives setup steps)) → AllPairs StartsLater (lives_of (plain_lives setup steps)) →
+        LieApart (lives_of (plain_lives setup steps)) }
+    ensures numbers_left { (life : Life) → KeepsPace life → HasNumbersLeft (own_of life) }
 {}
 
 /// The agent's clock goes on through all lives, and the moments of the one that goes on count from its start.

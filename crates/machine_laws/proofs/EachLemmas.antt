@@ -1,5 +1,5 @@
 -- What holds of each element, and of one of them, by recursion.
-use Rattle.std.proofs.Common.{◌≡◌, Option, Some, None, true, List, [], ◌∷◌, ◌++◌, map, inl, inr, sym, subst, refl, arith}
+use Rattle.std.proofs.Common.{◌≡◌, Option, Some, None, true, List, [], ◌∷◌, ◌++◌, map, inl, inr, sym, subst, refl, arith, append-nil, append_assoc}
 use Rattle.std.specs.List.{slice_index_or}
 use Rattle.std.specs.Prelude.{is_none, flat_map, slice_get, ℕ, zero, suc, ◌<◌, length, All, Any, IfSome}
 use Rattle.machine_laws.specs.Saying.{OneOf}
@@ -15,6 +15,21 @@ each_both P (x ∷ xs) ys one two = (one.0, each_both P xs ys one.1 two)
 
 pub each_push : {X : Type 0} (P : X → Type 0) (xs : List X) (y : X) → Each P xs → P y → Each P (xs ++ y ∷ [])
 each_push P xs y all is = each_both P xs (y ∷ []) all (is, tt)
+
+-- of each element and all before it, behind those
+abbrev pub EachAfter : {X : Type 0} → (List X → X → Type 0) → List X → List X → Type 0
+EachAfter P before [] = Unit {0}
+EachAfter P before (x ∷ xs) = P before x × EachAfter P (before ++ x ∷ []) xs
+
+pub each_after_push : {X : Type 0} (P : List X → X → Type 0) (before xs : List X) (y : X) → EachAfter P before xs → P (before ++ xs) y → EachAfter P before (xs ++ y ∷ [])
+each_after_push {X} P before [] y all is = (subst (λ (l : List X). P l y) (append-nil before) is, tt)
+each_after_push {X} P before (x ∷ xs) y all is =
+    (all.0, each_after_push P (before ++ x ∷ []) xs y all.1 (subst (λ (l : List X). P l y) (sym (append_assoc before (x ∷ []) xs)) is))
+
+pub each_after_at : {X : Type 0} (P : List X → X → Type 0) (before some : List X) (y : X) (more : List X) → EachAfter P before (some ++ y ∷ more) → P (before ++ some) y
+each_after_at {X} P before [] y more all = subst (λ (l : List X). P l y) (sym (append-nil before)) all.0
+each_after_at {X} P before (x ∷ some) y more all =
+    subst (λ (l : List X). P l y) (append_assoc before (x ∷ []) some) (each_after_at P (before ++ x ∷ []) some y more all.1)
 
 pub each_front : {X : Type 0} (P : X → Type 0) (xs ys : List X) → Each P (xs ++ ys) → Each P xs
 each_front P [] ys all = tt

@@ -58,7 +58,7 @@ said_on log more firsts later until sent s = (tells_on log more firsts later (te
 
 -- the endpoints by this moment
 pub record EndpointsStand (setup : Setup) (until : ℕ) (log : List Begun) (endpoints : Endpoints) : Type 0 where
-  pub logged : Logged until log
+  pub logged : Logged setup until log
   pub list : OnAll (LineStands setup until log) 1 endpoints.list
   pub own : OwnStands setup until log endpoints.own
 
@@ -149,12 +149,12 @@ acknowledged_says log firsts now source code id params has = by_test (asks_for_a
 
 -- what a turn of the endpoints gives
 from_goes : (setup : Setup) (until : ℕ) (set_up : IsSetUp setup) (log : List Begun) (is : Effect Endpoints)
-    → Goes setup until (LineStands setup until) (OwnStands setup until) (Own until) (Logged until) (log_turns setup until set_up) log is → ToldGoes setup until log is
+    → Goes setup until (LineStands setup until) (OwnStands setup until) (Own until) (Logged setup until) (log_turns setup until set_up) log is → ToldGoes setup until log is
 from_goes setup until set_up log is goes =
     record { stands = record { logged = goes.stands.log_holds; list = goes.stands.list; own = goes.stands.own }; sent_own = goes.sent }
 
 to_stands : (setup : Setup) (until : ℕ) (set_up : IsSetUp setup) (log : List Begun) (endpoints : Endpoints) → EndpointsStand setup until log endpoints
-    → Stands setup until (LineStands setup until) (OwnStands setup until) (Own until) (Logged until) (log_turns setup until set_up) log endpoints
+    → Stands setup until (LineStands setup until) (OwnStands setup until) (Own until) (Logged setup until) (log_turns setup until set_up) log endpoints
 to_stands setup until set_up log endpoints s = record { log_holds = s.logged; list = s.list; own = s.own }
 
 handled_goes : (setup : Setup) (log : List Begun) (m : Machine) (source : SocketAddrV4) (outcome : Outcome) → Fits setup m → EndpointsStand setup m.now log m.endpoints
@@ -170,12 +170,12 @@ handled_goes setup log m source (message (messages.Command verb id name params b
     let t = command_with setup m id said (k_of params) in
     transacted_goes setup log _ m source t stands answered (answer_is t has (command_answered setup m id said (k_of params) fits has).is)
     (from_goes setup m.now fits.set_up log t.done.told
-    (command_goes setup m.now (LineStands setup m.now) (OwnStands setup m.now) (Own m.now) (Logged m.now) (log_turns setup m.now fits.set_up) said (k_of params) log m.endpoints id
+    (command_goes setup m.now (LineStands setup m.now) (OwnStands setup m.now) (Own m.now) (Logged setup m.now) (log_turns setup m.now fits.set_up) said (k_of params) log m.endpoints id
     (to_stands setup m.now fits.set_up log m.endpoints stands))) refl
 handled_goes setup log m source (message (messages.Response code id params body)) fits stands answered has =
     let response = response_with setup id code params in
     let goes = from_goes setup m.now fits.set_up log (responded setup m.endpoints m.now response)
-    (responded_goes setup m.now (LineStands setup m.now) (OwnStands setup m.now) (Own m.now) (Logged m.now) (log_turns setup m.now fits.set_up) log m.endpoints response
+    (responded_goes setup m.now (LineStands setup m.now) (OwnStands setup m.now) (Own m.now) (Logged setup m.now) (log_turns setup m.now fits.set_up) log m.endpoints response
     (to_stands setup m.now fits.set_up log m.endpoints stands)) in
     let own = (responded setup m.endpoints m.now response).sent in
     let ack = acknowledged m.now source code id params in
@@ -242,6 +242,7 @@ stands_later setup now later past log endpoints s = record {
   logged = record {
     begun = each_weaker (WasBegun now) (WasBegun later) (λ b w. record { name = w.name; reads = w.reads; past = omega (arith, past, w.past) }) log s.logged.begun;
     apart = s.logged.apart;
+    turns = s.logged.turns;
   };
   list = on_later (LineStands setup now log) (LineStands setup later log) 1 endpoints.list
       (λ i endpoint low is. record { sound = is.sound; post = record { below = is.post.below; counts = is.post.counts; flight = flight_later now later past log endpoint.post.pending is.post.flight } })
@@ -282,7 +283,7 @@ event_holds setup log m (datagram source bytes) h taken =
     }
 event_holds setup log m (phone line act) h taken =
     let goes = from_goes setup m.now h.fits.set_up log _
-    (acted_goes setup m.now (LineStands setup m.now) (OwnStands setup m.now) (Own m.now) (Logged m.now) (log_turns setup m.now h.fits.set_up) log m.endpoints line act (to_stands setup m.now h.fits.set_up log m.endpoints h.stands)) in
+    (acted_goes setup m.now (LineStands setup m.now) (OwnStands setup m.now) (Own m.now) (Logged setup m.now) (log_turns setup m.now h.fits.set_up) log m.endpoints line act (to_stands setup m.now h.fits.set_up log m.endpoints h.stands)) in
     record {
       holds = record { fits = event_fits setup m (phone line act) h.fits; stands = goes.stands; kept = h.kept; answers = h.answers };
       more = [];
@@ -292,7 +293,7 @@ event_holds setup log m (phone line act) h taken =
 event_holds setup log m (tick moment) h taken =
     let past = tick_on m moment taken in
     let goes = from_goes setup moment h.fits.set_up log _
-    (pass_goes setup moment (LineStands setup moment) (OwnStands setup moment) (Own moment) (Logged moment) (log_turns setup moment h.fits.set_up) log m.endpoints
+    (pass_goes setup moment (LineStands setup moment) (OwnStands setup moment) (Own moment) (Logged setup moment) (log_turns setup moment h.fits.set_up) log m.endpoints
     (to_stands setup moment h.fits.set_up log m.endpoints (stands_later setup m.now moment past log m.endpoints h.stands))) in
     record {
       holds = record { fits = event_fits setup m (tick moment) h.fits; stands = goes.stands; kept = h.kept; answers = h.answers };
@@ -306,7 +307,7 @@ opening_stands setup set_up =
     let lines : setup.names.lines ≤ most_lines = set_up.lines in
     let sound = opening_is_sound setup set_up in
     record {
-      logged = record { begun = tt; apart = λ few. λ i j d less none. absurd (omega arith) };
+      logged = record { begun = tt; apart = λ few. λ i j d less none. absurd (omega arith); turns = λ few. tt };
       list = on_made (LineStands setup 0 []) (opening_endpoint setup) 1 setup.names.lines
           (λ i low high. record {
             sound = record { some = low; few = omega (arith, high, lines); below = omega arith; fine = opening_is_fine; flight = tt };

@@ -15,13 +15,13 @@ use Rattle.plain_machine.specs.Refusing.{refusal_of}
 use Rattle.plain_machine.specs.Posting.{line_of_id}
 use Rattle.plain_machine.specs.Lists.{machine_after, sent_from, sent_of, are_taken, plain}
 use Rattle.plain_machine.proofs.EffectLaws.{effect_now}
-use Rattle.machine_laws.proofs.EachLemmas.{Each, all_from_each, each_both, each_weaker, is_none-None}
+use Rattle.machine_laws.proofs.EachLemmas.{Each, EachAfter, all_from_each, each_after_at, each_both, each_weaker, is_none-None}
 use Rattle.machine_laws.proofs.GatewayEvents.{GatewayHolds, Said, event_holds, gateway_forward, opening_gateway, said_on}
 use Rattle.machine_laws.proofs.LogTurns.{log_both}
 use Rattle.machine_laws.proofs.GatewayTurns.{LineStands}
 use Rattle.machine_laws.proofs.PostLogs.{OneOfFirst}
 use Rattle.machine_laws.proofs.TurnLemmas.{of_line}
-use Rattle.machine_laws.specs.Numbering.{start_on, IsTaken}
+use Rattle.machine_laws.specs.Numbering.{start_on, IsInTurn, IsTaken}
 use Rattle.machine_laws.specs.Saying.{HasNumbersLeft, IsAnswerTo, Begun, Tells, begun_in, count_of}
 
 pub record ListGoes (setup : Setup) (log : List Begun) (m n : Machine) (sent : List Sent) : Type 0 where
@@ -92,3 +92,10 @@ pub own_in_turn : (setup : Setup) (es : List GatewayEvent) → IsSetUp setup →
 own_in_turn setup es set_up taken few =
     let log = begun_in (sent_of setup es) in
     all_from_each (OneOfFirst setup 0 (count_of 0 log)) log ((all_hold setup es set_up taken).holds.stands.own.post.counts (few 0)).taken
+
+-- and each is under the number behind as many as its line began before it
+pub each_in_turn : (setup : Setup) (es : List GatewayEvent) (before after : List Begun) (one : Begun) → IsSetUp setup → are_taken setup (opening setup) es ≡ true
+    → HasNumbersLeft (begun_in (sent_of setup es)) → begun_in (sent_of setup es) ≡ before ++ one ∷ after → IsInTurn setup before one
+each_in_turn setup es before after one set_up taken few is =
+    each_after_at (IsInTurn setup) [] before one after
+    (subst (λ (log : List Begun). EachAfter (IsInTurn setup) [] log) is ((all_hold setup es set_up taken).holds.stands.logged.turns few))

@@ -60,22 +60,22 @@ pub record OwnStands (setup : Setup) (until : ℕ) (log : List Begun) (own : Pos
   pub post : Posted setup until log 0 own
 
 abbrev GoodTurn : Setup → ℕ → List Begun → ℕ → Effect Endpoint → Type 0
-GoodTurn setup until log line turn = Good (LineStands setup until) (Own until) (Logged until) log line turn
+GoodTurn setup until log line turn = Good (LineStands setup until) (Own until) (Logged setup until) log line turn
 
 -- a turn of its post, after which the endpoint is sound
 post_turn : (setup : Setup) (until : ℕ) (log : List Begun) (line : ℕ) (endpoint : Endpoint) (turn : Effect Post) → Sound line (posted endpoint turn).value → PostGood setup until log line turn
     → GoodTurn setup until log line (posted endpoint turn)
 post_turn setup until log line endpoint turn sound good =
-    whole_keeps (λ (x : List Begun). Posted setup until x line) (λ (x : List Begun). LineStands setup until x line) (Own until) (Logged until) log line
+    whole_keeps (λ (x : List Begun). Posted setup until x line) (λ (x : List Begun). LineStands setup until x line) (Own until) (Logged setup until) log line
     (λ (post : Post). record endpoint { post = post }) turn (λ posted. record { sound = sound; post = posted }) good
 
 -- a turn in which nothing is sent
-still : (setup : Setup) (until : ℕ) (log : List Begun) (line : ℕ) (endpoint : Endpoint) → Logged until log → LineStands setup until log line endpoint → GoodTurn setup until log line (silently endpoint)
-still setup until log line endpoint logged s = silent_keeps (λ (x : List Begun). LineStands setup until x line) (Own until) (Logged until) log line endpoint logged s
+still : (setup : Setup) (until : ℕ) (log : List Begun) (line : ℕ) (endpoint : Endpoint) → Logged setup until log → LineStands setup until log line endpoint → GoodTurn setup until log line (silently endpoint)
+still setup until log line endpoint logged s = silent_keeps (λ (x : List Begun). LineStands setup until x line) (Own until) (Logged setup until) log line endpoint logged s
 
 -- the same of the gateway itself
 own_turn : (setup : Setup) (until : ℕ) (log : List Begun) (turn : Effect Post) → OwnSound turn.value → PostGood setup until log 0 turn
-    → OwnGood (OwnStands setup until) (Own until) (Logged until) log turn
+    → OwnGood (OwnStands setup until) (Own until) (Logged setup until) log turn
 own_turn setup until log turn sound good =
     record { log_holds = good.log_holds; of = good.of; holds = record { sound = sound; post = good.holds }; sent_holds = good.sent_holds }
 
@@ -88,7 +88,7 @@ entity_stands setup until log line endpoint agent s = record {
 
 -- A notification
 
-noted_good : (setup : Setup) (until : ℕ) → IsSetUp setup → (log : List Begun) (line moment : ℕ) (endpoint : Endpoint) (done : LineDone) → moment ≤ until → Logged until log
+noted_good : (setup : Setup) (until : ℕ) → IsSetUp setup → (log : List Begun) (line moment : ℕ) (endpoint : Endpoint) (done : LineDone) → moment ≤ until → Logged setup until log
     → LineStands setup until log line endpoint → IsDone done → GoodTurn setup until log line (noted setup line moment endpoint done)
 unfolding noted notification
 noted_good setup until set_up log line moment endpoint done past logged s is =
@@ -110,7 +110,7 @@ noted_good setup until set_up log line moment endpoint done past logged s is =
 some_id : (line : ℕ) (endpoint : Endpoint) → Sound line endpoint → 1 ≤ id_on line endpoint.post.number
 some_id line endpoint s = let one : 1 ≤ line = s.some in omega (arith, one)
 
-happening_good : (setup : Setup) (until : ℕ) → IsSetUp setup → (log : List Begun) (line : ℕ) (item : DueItem) (endpoint : Endpoint) → Logged until log → LineStands setup until log line endpoint
+happening_good : (setup : Setup) (until : ℕ) → IsSetUp setup → (log : List Begun) (line : ℕ) (item : DueItem) (endpoint : Endpoint) → Logged setup until log → LineStands setup until log line endpoint
     → due_on (line, endpoint) ≡ Some item → item.moment ≤ until → GoodTurn setup until log line (happened_on item.kind setup line item.moment endpoint)
 unfolding happened_on
 happening_good setup until set_up log line item endpoint logged s due past = by_case (due_cases line endpoint item due) where
@@ -141,34 +141,34 @@ happening_good setup until set_up log line item endpoint logged s due past = by_
   by_case (inl of) = subst Happens of.same (λ by sound. of_line of.found.1 of.found.0 by) past sounds
   by_case (inr is) = by_post (post_cases line endpoint.post item is)
 
-own_happening_good : (setup : Setup) (until : ℕ) → IsSetUp setup → (log : List Begun) (item : DueItem) (own : Post) → Logged until log → OwnStands setup until log own
-    → post_due 0 own ≡ Some item → item.moment ≤ until → OwnGood (OwnStands setup until) (Own until) (Logged until) log (happened_under item.kind setup 0 item.moment own)
+own_happening_good : (setup : Setup) (until : ℕ) → IsSetUp setup → (log : List Begun) (item : DueItem) (own : Post) → Logged setup until log → OwnStands setup until log own
+    → post_due 0 own ≡ Some item → item.moment ≤ until → OwnGood (OwnStands setup until) (Own until) (Logged setup until) log (happened_under item.kind setup 0 item.moment own)
 unfolding happened_under
 own_happening_good setup until set_up log item own logged s due past = by_post (post_cases 0 own item due) where
   sounds : OwnSound (happened_under item.kind setup 0 item.moment own).value
   sounds = ((sound_own_turns setup set_up).happening item.kind item.moment own s.sound).0
 
   Happens : DueItem → Type 0
-  Happens i = i.moment ≤ until → OwnSound (happened_under i.kind setup 0 i.moment own).value → OwnGood (OwnStands setup until) (Own until) (Logged until) log (happened_under i.kind setup 0 i.moment own)
+  Happens i = i.moment ≤ until → OwnSound (happened_under i.kind setup 0 i.moment own).value → OwnGood (OwnStands setup until) (Own until) (Logged setup until) log (happened_under i.kind setup 0 i.moment own)
 
   of_command : (message : InFlight) → own.pending ≡ Some message → message.due ≤ until → OwnSound (happened_under Resend setup 0 message.due own).value
-      → OwnGood (OwnStands setup until) (Own until) (Logged until) log (happened_under Resend setup 0 message.due own)
+      → OwnGood (OwnStands setup until) (Own until) (Logged setup until) log (happened_under Resend setup 0 message.due own)
   of_command message pending by sound =
       own_turn setup until log (resent_on setup 0 message.due own) sound (resent_good setup until log 0 message.due own message pending refl by logged s.post)
 
   of_announcement : (moment : ℕ) → moment ≤ until → OwnSound (happened_under Announce setup 0 moment own).value
-      → OwnGood (OwnStands setup until) (Own until) (Logged until) log (happened_under Announce setup 0 moment own)
+      → OwnGood (OwnStands setup until) (Own until) (Logged setup until) log (happened_under Announce setup 0 moment own)
   of_announcement moment by sound =
       own_turn setup until log (announced_on setup 0 moment own) sound
       (announcing_good setup until log 0 moment own set_up (omega arith) s.sound.some by logged s.post)
 
-  by_post : OfItsCommand 0 own item ⊎ OfItsAnnouncement 0 own item → OwnGood (OwnStands setup until) (Own until) (Logged until) log (happened_under item.kind setup 0 item.moment own)
+  by_post : OfItsCommand 0 own item ⊎ OfItsAnnouncement 0 own item → OwnGood (OwnStands setup until) (Own until) (Logged setup until) log (happened_under item.kind setup 0 item.moment own)
   by_post (inl of) = subst Happens of.same (λ by sound. of_command of.message of.pending by sound) past sounds
   by_post (inr of) = subst Happens of.same (λ by sound. of_announcement of.until by sound) past sounds
 
 -- A response
 
-responded_good : (setup : Setup) (until : ℕ) → IsSetUp setup → (log : List Begun) (line : ℕ) (response : Response) (endpoint : Endpoint) → Logged until log → LineStands setup until log line endpoint
+responded_good : (setup : Setup) (until : ℕ) → IsSetUp setup → (log : List Begun) (line : ℕ) (response : Response) (endpoint : Endpoint) → Logged setup until log → LineStands setup until log line endpoint
     → GoodTurn setup until log line (responded_on setup line until response endpoint)
 unfolding responded_on replied
 responded_good setup until set_up log line response endpoint logged s = by_heard (heard_on endpoint.post response) (responded_sound setup set_up line until response endpoint s.sound).0 where
@@ -188,8 +188,8 @@ responded_good setup until set_up log line response endpoint logged s = by_heard
       })
       (answered_done endpoint.line until s.sound.fine)
 
-own_responded_good : (setup : Setup) (until : ℕ) → IsSetUp setup → (log : List Begun) (response : Response) (own : Post) → Logged until log → OwnStands setup until log own
-    → OwnGood (OwnStands setup until) (Own until) (Logged until) log (replied_on setup 0 until response own)
+own_responded_good : (setup : Setup) (until : ℕ) → IsSetUp setup → (log : List Begun) (response : Response) (own : Post) → Logged setup until log → OwnStands setup until log own
+    → OwnGood (OwnStands setup until) (Own until) (Logged setup until) log (replied_on setup 0 until response own)
 unfolding replied_on
 own_responded_good setup until set_up log response own logged s =
     own_turn setup until log (replied (heard_on own response) setup 0 until response own) (own_responded_sound setup set_up until response own s.sound).0
@@ -197,13 +197,13 @@ own_responded_good setup until set_up log response own logged s =
 
 -- The lines hear of the gateway's answer
 
-redirected_good : (setup : Setup) (until : ℕ) (log : List Begun) (agent : Entity) (line : ℕ) (endpoint : Endpoint) → Logged until log → LineStands setup until log line endpoint
+redirected_good : (setup : Setup) (until : ℕ) (log : List Begun) (agent : Entity) (line : ℕ) (endpoint : Endpoint) → Logged setup until log → LineStands setup until log line endpoint
     → GoodTurn setup until log line (redirected_on agent line endpoint)
 unfolding redirected_on
 redirected_good setup until log agent line endpoint logged s =
     still setup until log line (with_entity (Some agent) endpoint) logged (entity_stands setup until log line endpoint (Some agent) s)
 
-opened_good : (setup : Setup) (until : ℕ) → IsSetUp setup → (log : List Begun) (agent : Option Entity) (line : ℕ) (endpoint : Endpoint) → Logged until log → LineStands setup until log line endpoint
+opened_good : (setup : Setup) (until : ℕ) → IsSetUp setup → (log : List Begun) (agent : Option Entity) (line : ℕ) (endpoint : Endpoint) → Logged setup until log → LineStands setup until log line endpoint
     → GoodTurn setup until log line (opened_on agent setup until line endpoint)
 unfolding opened_on
 opened_good setup until set_up log agent line endpoint logged s =
@@ -213,7 +213,7 @@ opened_good setup until set_up log agent line endpoint logged s =
 -- A deed
 
 deed_good : (setup : Setup) (until : ℕ) → IsSetUp setup → (command : Command) (confirms : KValue) (target : Target) (deed : Deed)
-    → form_of command confirms setup.names ≡ Ok (Does target deed) → (log : List Begun) (line : ℕ) (endpoint : Endpoint) → Logged until log → LineStands setup until log line endpoint
+    → form_of command confirms setup.names ≡ Ok (Does target deed) → (log : List Begun) (line : ℕ) (endpoint : Endpoint) → Logged setup until log → LineStands setup until log line endpoint
     → GoodTurn setup until log line (deed_on setup deed until line endpoint)
 unfolding deed_on
 deed_good setup until set_up command confirms target deed is log line endpoint logged s =
@@ -222,7 +222,7 @@ deed_good setup until set_up command confirms target deed is log line endpoint l
     (record { sound = record { some = with'.sound.some; few = with'.sound.few; below = with'.sound.below; fine = with'.sound.fine; flight = with'.sound.flight }; post = with'.post })
     (asked_if_done command.params endpoint.line deed.request until (deed_has_values command confirms setup.names target deed is).request s.sound.fine)
 
-pub log_turns : (setup : Setup) (until : ℕ) → IsSetUp setup → LogTurns setup until (LineStands setup until) (OwnStands setup until) (Own until) (Logged until)
+pub log_turns : (setup : Setup) (until : ℕ) → IsSetUp setup → LogTurns setup until (LineStands setup until) (OwnStands setup until) (Own until) (Logged setup until)
 log_turns setup until set_up = record {
   act = λ log line act endpoint logged s.
       noted_good setup until set_up log line until endpoint (phoned endpoint.line act until) (omega arith) logged s (phoned_done endpoint.line act until s.sound.fine);

@@ -39,10 +39,10 @@ use Rattle.plain_machine.specs.Announcing.{announced_lines, method_of, announcem
 use Rattle.machine_laws.proofs.FlightLaws.{next_below}
 use Rattle.machine_laws.proofs.GoingRound.{start_below, behind_next, taken_apart, taken_more}
 use Rattle.machine_laws.proofs.AnnouncementLemmas.{announcement_writable}
-use Rattle.machine_laws.proofs.EachLemmas.{Each, all_from_each, each_both, each_push, each_weaker, one_before, one_behind, one_weaker}
+use Rattle.machine_laws.proofs.EachLemmas.{Each, EachAfter, all_from_each, each_after_push, each_both, each_push, each_weaker, one_before, one_behind, one_weaker}
 use Rattle.machine_laws.proofs.KeepLemmas.{EffectKeeps, silent_keeps}
 use Rattle.machine_laws.proofs.FlightLemmas.{IsSame}
-use Rattle.machine_laws.specs.Numbering.{start_on, IsBehind, IsTaken}
+use Rattle.machine_laws.specs.Numbering.{start_on, IsBehind, IsInTurn, IsTaken}
 use Rattle.machine_laws.specs.Saying.{Carries, Begun, OneOf, count_of, is_command_as}
 
 -- a command of a gateway's own: it is read as a command with its id, and began by this moment
@@ -61,9 +61,10 @@ AllFew log = (line : ℕ) → Few line log
 abbrev pub Apart : List Begun → Type 0
 Apart log = AllPairs (λ (a b : Begun). a.id ≢ b.id) log
 
-pub record Logged (until : ℕ) (log : List Begun) : Type 0 where
+pub record Logged (setup : Setup) (until : ℕ) (log : List Begun) : Type 0 where
   pub begun : Each (WasBegun until) log
   pub apart : AllFew log → Apart log
+  pub turns : AllFew log → EachAfter (IsInTurn setup) [] log
 
 -- the command in flight is one that began
 pub record InLog (until : ℕ) (log : List Begun) (flight : InFlight) : Type 0 where
@@ -91,14 +92,14 @@ pub record Own (until : ℕ) (log : List Begun) (sent : Sent) : Type 0 where
 
 -- a turn of a post keeps all that
 abbrev pub PostGood : Setup → ℕ → List Begun → ℕ → Effect Post → Type 0
-PostGood setup until log line turn = EffectKeeps (λ (x : List Begun). Posted setup until x line) (Own until) (Logged until) log line turn
+PostGood setup until log line turn = EffectKeeps (λ (x : List Begun). Posted setup until x line) (Own until) (Logged setup until) log line turn
 
 -- Counting
 
 line_is : (line number : ℕ) → number < numbers → line_of_id (id_on line number) ≡ line
 line_is line number below = div-mul-add line numbers number below
 
-count_both : (line : ℕ) (log more : List Begun) → count_of line (log ++ more) ≡ count_of line log + count_of line more
+pub count_both : (line : ℕ) (log more : List Begun) → count_of line (log ++ more) ≡ count_of line log + count_of line more
 count_both line log more =
     ap (λ (x : List Begun). length x) (filter-append (λ (one : Begun). line_of_id one.id == line) log more)
     ∙ length-append (filter (λ (one : Begun). line_of_id one.id == line) log) (filter (λ (one : Begun). line_of_id one.id == line) more)
@@ -106,10 +107,10 @@ count_both line log more =
 pub few_before : (line : ℕ) (log more : List Begun) → Few line (log ++ more) → Few line log
 few_before line log more few = let both = count_both line log more in omega (arith, both, few)
 
-count_one : (line : ℕ) (one : Begun) → line_of_id one.id ≡ line → count_of line (one ∷ []) ≡ 1
+pub count_one : (line : ℕ) (one : Begun) → line_of_id one.id ≡ line → count_of line (one ∷ []) ≡ 1
 count_one line one is = rw (eq-eqb (line_of_id one.id) line is) refl
 
-count_none : (line : ℕ) (new : List Begun) → Each (λ (b : Begun). line_of_id b.id ≢ line) new → count_of line new ≡ 0
+pub count_none : (line : ℕ) (new : List Begun) → Each (λ (b : Begun). line_of_id b.id ≢ line) new → count_of line new ≡ 0
 count_none line [] all = refl
 count_none line (b ∷ new) all = rw (ne_eqb (line_of_id b.id) line all.0) (count_none line new all.1)
 
@@ -150,8 +151,8 @@ own_more until log new sent own = record { carries = one_before (Carries (text_o
 
 -- A turn in which nothing begins and nothing is sent
 
-pub post_still : (setup : Setup) (until : ℕ) (log : List Begun) (line : ℕ) (post : Post) → Logged until log → Posted setup until log line post → PostGood setup until log line (silently post)
-post_still setup until log line post logged s = silent_keeps (λ (x : List Begun). Posted setup until x line) (Own until) (Logged until) log line post logged s
+pub post_still : (setup : Setup) (until : ℕ) (log : List Begun) (line : ℕ) (post : Post) → Logged setup until log → Posted setup until log line post → PostGood setup until log line (silently post)
+post_still setup until log line post logged s = silent_keeps (λ (x : List Begun). Posted setup until x line) (Own until) (Logged setup until) log line post logged s
 
 -- A command begins
 
@@ -159,7 +160,7 @@ same_command : (id : ℕ) (name : List ℕ) → (id == id && bytes_eq name name)
 same_command id name = and_from (id == id) (bytes_eq name name) (eq-eqb id id refl) ((bytes_eq-Decides name name).1 refl)
 
 pub command_good : (setup : Setup) (until : ℕ) (log : List Begun) (line moment : ℕ) (post : Post) (verb : Verb) (name : List ℕ) (params : List Param) (body : List ℕ)
-    → is_writable (messages.Command verb (id_on line post.number) name params body) ≡ true → moment ≤ until → Logged until log → Posted setup until log line post
+    → is_writable (messages.Command verb (id_on line post.number) name params body) ≡ true → moment ≤ until → Logged setup until log → Posted setup until log line post
     → PostGood setup until log line (with_command line moment post (messages.Command verb (id_on line post.number) name params body))
 command_good setup until log line moment post verb name params body writable past logged s = record {
   log_holds = record {
@@ -169,6 +170,8 @@ command_good setup until log line moment post verb name params body writable pas
         (all_from_each (λ (a : Begun). a.id ≢ id) log
         (each_weaker (OneOfFirst setup line (count_of line log)) (λ (a : Begun). a.id ≢ id) (other (few_before line log (b ∷ []) (few line)))
         log (s.counts (few_before line log (b ∷ []) (few line))).taken));
+    turns = λ few. each_after_push (IsInTurn setup) [] log b (logged.turns (λ i. few_before i log (b ∷ []) (few i)))
+        (in_turn (s.counts (few_before line log (b ∷ []) (few line))).behind);
   };
   of = (of_line, tt);
   holds = record {
@@ -203,6 +206,14 @@ command_good setup until log line moment post verb name params body writable pas
   of_line : line_of_id (id_on line post.number) ≡ line
   of_line = line_is line post.number s.below
 
+  in_turn : IsBehind line (start_on setup line) (count_of line log) post.number → IsInTurn setup log b
+  in_turn behind = record {
+    number = post.number;
+    below = s.below;
+    behind = subst (λ (l : ℕ). IsBehind l (start_on setup l) (count_of l log) post.number) (sym of_line) behind;
+    is = ap (λ (l : ℕ). id_on l post.number) (sym of_line);
+  }
+
   -- none of those before it has its id
   other : Few line log → (a : Begun) → OneOfFirst setup line (count_of line log) a → a.id ≢ id_on line post.number
   other few a taken = λ same.
@@ -214,7 +225,7 @@ command_good setup until log line moment post verb name params body writable pas
 -- What falls due of a post
 
 pub resent_good : (setup : Setup) (until : ℕ) (log : List Begun) (line moment : ℕ) (post : Post) (flight : InFlight) → post.pending ≡ Some flight → moment ≡ flight.due → moment ≤ until
-    → Logged until log → Posted setup until log line post → PostGood setup until log line (resent_on setup line moment post)
+    → Logged setup until log → Posted setup until log line post → PostGood setup until log line (resent_on setup line moment post)
 resent_good setup until log line moment post flight pending due past logged s =
     subst (λ (found : Option InFlight). PostGood setup until log line (resent_by found setup line moment post)) (sym pending) (by_repeat (repeat_of flight moment) refl) where
       in_log : InLog until log flight
@@ -227,7 +238,7 @@ resent_good setup until log line moment post flight pending due past logged s =
           let later = sent_later flight moment is in
           let few : moment - flight.first < sending_time = sent_soon flight moment is in
           record {
-            log_holds = subst (Logged until) (sym (append-nil log)) logged;
+            log_holds = subst (Logged setup until) (sym (append-nil log)) logged;
             of = tt;
             holds = subst (λ (x : List Begun). Posted setup until x line (record post { pending = Some (repeated flight moment) })) (sym (append-nil log)) (record {
               below = s.below;
@@ -251,7 +262,7 @@ resent_good setup until log line moment post flight pending due past logged s =
 
 -- An announcement
 
-pub announced_good : (setup : Setup) (until : ℕ) (log : List Begun) (line moment : ℕ) (post : Post) → IsSetUp setup → line ≤ most_lines → 1 ≤ id_on line post.number → moment ≤ until → Logged until log
+pub announced_good : (setup : Setup) (until : ℕ) (log : List Begun) (line moment : ℕ) (post : Post) → IsSetUp setup → line ≤ most_lines → 1 ≤ id_on line post.number → moment ≤ until → Logged setup until log
     → Posted setup until log line post → PostGood setup until log line (announced setup line moment post)
 unfolding announced announcement
 announced_good setup until log line moment post set_up few some past logged s =
@@ -259,7 +270,7 @@ announced_good setup until log line moment post set_up few some past logged s =
     ((record { code = codes "RM"; value = method_of line }) ∷ []) [] (announcement_writable setup line post.number set_up few s.below some) past logged
     (record { below = s.below; counts = s.counts; flight = s.flight })
 
-pub announcing_good : (setup : Setup) (until : ℕ) (log : List Begun) (line moment : ℕ) (post : Post) → IsSetUp setup → line ≤ most_lines → 1 ≤ id_on line post.number → moment ≤ until → Logged until log
+pub announcing_good : (setup : Setup) (until : ℕ) (log : List Begun) (line moment : ℕ) (post : Post) → IsSetUp setup → line ≤ most_lines → 1 ≤ id_on line post.number → moment ≤ until → Logged setup until log
     → Posted setup until log line post → PostGood setup until log line (announced_on setup line moment post)
 announcing_good setup until log line moment post set_up few some past logged s = by_restart post.restart where
   by_restart : (restart : Restart) → PostGood setup until log line (announced_by restart setup line moment post)
@@ -288,7 +299,7 @@ put_off_stands setup until log line response post s = by_pending post.pending s.
   by_pending None is = record { below = s.below; counts = s.counts; flight = tt }
   by_pending (Some flight) is = record { below = s.below; counts = s.counts; flight = heard_in_log until log flight response.id response.code is }
 
-pub replied_good : (heard : Heard) (setup : Setup) (until : ℕ) (log : List Begun) (line : ℕ) (response : Response) (post : Post) → IsSetUp setup → line ≤ most_lines → 1 ≤ id_on line post.number → Logged until log
+pub replied_good : (heard : Heard) (setup : Setup) (until : ℕ) (log : List Begun) (line : ℕ) (response : Response) (post : Post) → IsSetUp setup → line ≤ most_lines → 1 ≤ id_on line post.number → Logged setup until log
     → Posted setup until log line post → PostGood setup until log line (replied heard setup line until response post)
 unfolding replied
 replied_good Nothing setup until log line response post set_up few some logged s = post_still setup until log line post logged s

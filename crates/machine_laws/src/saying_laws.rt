@@ -1,5 +1,5 @@
 //! What a gateway says, and for how long.
-ghost use Rattle.std.specs.Prelude.{◌≡◌, ◌≢◌, ◌≤◌, ◌<◌, ℕ, List, All, AllPairs, Some, true};
+ghost use Rattle.std.specs.Prelude.{◌≡◌, ◌≢◌, ◌≤◌, ◌<◌, ◌++◌, ◌∷◌, ℕ, List, All, AllPairs, Some, true};
 ghost use Rattle.history.specs.declared.entry.KeptFirst.{KeptFirst};
 ghost use Rattle.history.specs.Kept.{firsts_in};
 ghost use Rattle.plain_machine.specs.declared.setup.Setup.{Setup};
@@ -10,7 +10,7 @@ ghost use Rattle.plain_machine.specs.Message.{Sent, text_of};
 ghost use Rattle.plain_machine.specs.Machine.{endpoint_at, opening};
 ghost use Rattle.plain_machine.specs.Lists.{are_taken, plain, sent_of};
 ghost use Rattle.plain_machine.specs.Posting.{line_of_id};
-ghost use Rattle.machine_laws.specs.Numbering.{start_on, IsTaken};
+ghost use Rattle.machine_laws.specs.Numbering.{start_on, IsInTurn, IsTaken};
 ghost use Rattle.machine_laws.specs.Saying.{Begun, begun_in, count_of, HasNumbersLeft, Tells, IsAnswerTo};
 
 /// What a gateway sends are commands of its own, each for less than 20,000 ms and under an id of its own, the answers that it
@@ -38,6 +38,9 @@ pub fn ids_are_taken_in_turn()
         are_taken setup (opening setup) events ≡ true → HasNumbersLeft (begun_in (sent_of setup events)) →
         All (λ (one : Begun). line_of_id one.id ≡ 0 → IsTaken 0 (start_on setup 0)
         (count_of 0 (begun_in (sent_of setup events))) one.id) (begun_in (sent_of setup events)) }
+    ensures each { (setup : Setup) (events : List GatewayEvent) (before after : List Begun) (one : Begun) → IsSetUp setup →
+        are_taken setup (opening setup) events ≡ true → HasNumbersLeft (begun_in (sent_of setup events)) →
+        begun_in (sent_of setup events) ≡ before ++ one ∷ after → IsInTurn setup before one }
 {}
 
 /// Not all numbers are used up where a line has begun fewer than 10,000,000 commands, and the gateway itself fewer than 9,999,999.
