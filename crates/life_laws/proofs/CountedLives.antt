@@ -125,6 +125,9 @@ life_by_time day life takes starts pace =
     (at_each (λ (b : Begun). BeganByTime day life.start (moved life.start b)) (own_of life) [] (own_of life) refl
     (λ before after one is. one_by_time day life before after one takes.0 takes.1 starts pace is)))
 
+abbrev Takes : Life → Type 0
+Takes life = IsSetUp life.setup × (are_taken life.setup (opening life.setup) life.took ≡ true)
+
 pub paced_follow : (day : ℕ) (setup : Setup) (steps : List LivesStep) → IsSetUp setup → lives_are_taken setup (lives_opening setup) steps ≡ true
     → All (StartsByTime day) (lives_of (plain_lives setup steps)) → All KeepsPace (lives_of (plain_lives setup steps)) → All (IsByTime day) (lives_of (plain_lives setup steps))
 paced_follow day setup steps set_up taken starts paces =
@@ -135,9 +138,6 @@ paced_follow day setup steps set_up taken starts paces =
     (each_and (StartsByTime day) KeepsPace lives (each_from_all (StartsByTime day) lives starts) (each_from_all KeepsPace lives paces)))) where
       lives : List Life
       lives = lives_of (plain_lives setup steps)
-
-      abbrev Takes : Life → Type 0
-      Takes life = IsSetUp life.setup × (are_taken life.setup (opening life.setup) life.took ≡ true)
 
 pub paced_lie_apart : (day : ℕ) (setup : Setup) (steps : List LivesStep) → IsSetUp setup → lives_are_taken setup (lives_opening setup) steps ≡ true
     → All (StartsByTime day) (lives_of (plain_lives setup steps)) → All KeepsPace (lives_of (plain_lives setup steps)) → AllPairs StartsLater (lives_of (plain_lives setup steps))
