@@ -1,20 +1,19 @@
 //! Tells what changed, a line for each change.
-ghost use Rattle.std.specs.Prelude.{◌≡◌, ◌++◌, [], OnOk, OnErr};
-ghost use Rattle.std.specs.Net.Text.{socket_v4_text};
+ghost use Rattle.std.specs.Prelude.{◌≡◌, ◌++◌, [], OnOk};
+ghost use Rattle.std.specs.Net.Addr.{ipv4_octets};
+ghost use Rattle.std.specs.Net.Text.{ipv4_text, socket_v4_text};
+ghost use Rattle.connections.specs.Numbers.{number_text};
 ghost use Rattle.line_changes.specs.Telling.{hook_word, end_text, remote_text, ends_text, media_text, mode_part, connection_text, what_text, head_text, change_line, with_change, with_changes, watching_line};
 
 use crate::change::{Change, codec_text};
 use crate::seen::SeenConnection;
 use connections::{mode_text, write_number};
-use mg_bytes::{OutOfMemory, put_decimal};
+use mg_bytes::{Draft, OutOfMemory};
 use mg_packages::{Hook, signal_name};
 use signals::ActiveSignal;
 use std::alloc::Global;
 use std::marker::Model;
-use std::net::SocketAddrV4;
-
-// The room, in bytes, that the text of an address begins with: none is longer.
-const ADDRESS_ROOM: usize = 24;
+use std::net::{Ipv4Addr, SocketAddrV4};
 
 fn hook_word(hook: Hook) -> &'static [u8]
     ensures { result.now ≡ hook_word hook }
@@ -25,140 +24,152 @@ fn hook_word(hook: Hook) -> &'static [u8]
     }
 }
 
-fn put_end(alloc: Global, out: &mut Vec<u8>, end: Option<u64>) -> Result<(), OutOfMemory>
-    ensures { OnOk result (out.new.items ≡ out.old.items ++ end_text end) }
+fn put_end(out: &mut Draft, end: Option<u64>)
+    ensures { out.new ≡ out.old ++ end_text end }
 {
     match end {
-        Some(end) => put_decimal(alloc, out, end),
-        None => out.extend_from_slice(b"-"),
+        Some(end) => out.put_decimal(end),
+        None => out.put(b"-"),
     }
 }
 
-fn put_address(alloc: Global, out: &mut Vec<u8>, address: SocketAddrV4) -> Result<(), OutOfMemory>
-    ensures { OnOk result (out.new.items ≡ out.old.items ++ socket_v4_text address) }
+fn put_host(out: &mut Draft, host: Ipv4Addr)
+    ensures { out.new ≡ out.old ++ ipv4_text (ipv4_octets host) }
 {
-    let mut text = String::with_capacity(alloc, ADDRESS_ROOM)?;
-    write!(text, "{}", address)?;
-    out.extend_from_slice(text.as_bytes())
+    let [a, b, c, d] = host.octets();
+    out.put_decimal(u64::from(a));
+    out.put_byte(b'.');
+    out.put_decimal(u64::from(b));
+    out.put_byte(b'.');
+    out.put_decimal(u64::from(c));
+    out.put_byte(b'.');
+    out.put_decimal(u64::from(d));
 }
 
-fn put_remote(
-    alloc: Global,
-    out: &mut Vec<u8>,
-    address: Option<SocketAddrV4>,
-) -> Result<(), OutOfMemory>
-    ensures { OnOk result (out.new.items ≡ out.old.items ++ remote_text address) }
+fn put_address(out: &mut Draft, address: SocketAddrV4)
+    ensures { out.new ≡ out.old ++ socket_v4_text address }
+{
+    put_host(out, *address.ip());
+    out.put_byte(b':');
+    out.put_decimal(u64::from(address.port()));
+}
+
+fn put_remote(out: &mut Draft, address: Option<SocketAddrV4>)
+    ensures { out.new ≡ out.old ++ remote_text address }
 {
     match address {
-        Some(address) => put_address(alloc, out, address),
-        None => out.extend_from_slice(b"-"),
+        Some(address) => put_address(out, address),
+        None => out.put(b"-"),
     }
 }
 
 // From where and to where media go.
 #[tactic(auto, unfolding(crate::specs::Telling::ends_text))]
-fn put_ends(alloc: Global, out: &mut Vec<u8>, connection: SeenConnection) -> Result<(), OutOfMemory>
-    ensures { OnOk result (out.new.items ≡ out.old.items ++ ends_text connection) }
+fn put_ends(out: &mut Draft, connection: SeenConnection)
+    ensures { out.new ≡ out.old ++ ends_text connection }
 {
-    put_address(alloc, out, connection.local)?;
-    out.extend_from_slice(b" to ")?;
-    put_remote(alloc, out, connection.remote)
+    put_address(out, connection.local);
+    out.put(b" to ");
+    put_remote(out, connection.remote);
 }
 
 // As which they go.
 #[tactic(auto, unfolding(crate::specs::Telling::media_text))]
-fn put_media(
-    alloc: Global,
-    out: &mut Vec<u8>,
-    connection: SeenConnection,
-) -> Result<(), OutOfMemory>
-    ensures { OnOk result (out.new.items ≡ out.old.items ++ media_text connection) }
+fn put_media(out: &mut Draft, connection: SeenConnection)
+    ensures { out.new ≡ out.old ++ media_text connection }
 {
-    out.push(b' ')?;
-    out.extend_from_slice(codec_text(connection.codec))?;
-    out.push(b' ')?;
-    put_decimal(alloc, out, u64::from(connection.packet_time))
+    out.put(b" ");
+    out.put(codec_text(connection.codec));
+    out.put(b" ");
+    out.put_decimal(u64::from(connection.packet_time));
+}
+
+// The identifier of a connection.
+fn put_id(alloc: Global, out: &mut Draft, number: u32) -> Result<(), OutOfMemory>
+    ensures { OnOk result (out.new ≡ out.old ++ number_text number) }
+{
+    let mut id = Vec::new(alloc);
+    write_number(alloc, &mut id, number)?;
+    out.put(id.as_slice());
+    Ok(())
 }
 
 // Which it is, and its mode.
-fn put_mode(alloc: Global, out: &mut Vec<u8>, connection: SeenConnection) -> Result<(), OutOfMemory>
-    ensures { OnOk result (out.new.items ≡ out.old.items ++ mode_part connection) }
+#[tactic(auto, unfolding(crate::specs::Telling::mode_part))]
+fn put_mode(alloc: Global, out: &mut Draft, connection: SeenConnection) -> Result<(), OutOfMemory>
+    ensures { OnOk result (out.new ≡ out.old ++ mode_part connection) }
 {
-    out.extend_from_slice(b"connection ")?;
-    write_number(alloc, out, connection.number)?;
-    out.push(b' ')?;
-    out.extend_from_slice(mode_text(connection.mode))?;
-    out.push(b' ')?;
+    out.put(b"connection ");
+    put_id(alloc, out, connection.number)?;
+    out.put(b" ");
+    out.put(mode_text(connection.mode));
+    out.put(b" ");
     Ok(())
 }
 
 fn put_connection(
     alloc: Global,
-    out: &mut Vec<u8>,
+    out: &mut Draft,
     connection: SeenConnection,
 ) -> Result<(), OutOfMemory>
-    ensures { OnOk result (out.new.items ≡ out.old.items ++ connection_text connection) }
+    ensures { OnOk result (out.new ≡ out.old ++ connection_text connection) }
 {
     put_mode(alloc, out, connection)?;
-    put_ends(alloc, out, connection)?;
-    put_media(alloc, out, connection)
+    put_ends(out, connection);
+    put_media(out, connection);
+    Ok(())
 }
 
 #[tactic(auto, unfolding(crate::specs::Telling::what_text))]
-fn put_begun(alloc: Global, out: &mut Vec<u8>, active: ActiveSignal) -> Result<(), OutOfMemory>
-    ensures { OnOk result (out.new.items ≡ out.old.items ++ what_text (Change.Begins active)) }
+fn put_begun(out: &mut Draft, active: ActiveSignal)
+    ensures { out.new ≡ out.old ++ what_text (Change.Begins active) }
 {
-    out.extend_from_slice(b"begins ")?;
-    out.extend_from_slice(signal_name(active.signal))?;
-    out.extend_from_slice(b" until ")?;
-    put_end(alloc, out, active.end)
+    out.put(b"begins ");
+    out.put(signal_name(active.signal));
+    out.put(b" until ");
+    put_end(out, active.end);
 }
 
-fn put_over(alloc: Global, out: &mut Vec<u8>, number: u32) -> Result<(), OutOfMemory>
-    ensures { OnOk result (out.new.items ≡ out.old.items ++ what_text (Change.Over number)) }
+#[tactic(auto, unfolding(crate::specs::Telling::what_text))]
+fn put_over(alloc: Global, out: &mut Draft, number: u32) -> Result<(), OutOfMemory>
+    ensures { OnOk result (out.new ≡ out.old ++ what_text (Change.Over number)) }
 {
-    out.extend_from_slice(b"connection ")?;
-    write_number(alloc, out, number)?;
-    out.extend_from_slice(b" over")?;
+    out.put(b"connection ");
+    put_id(alloc, out, number)?;
+    out.put(b" over");
     Ok(())
 }
 
 // What changed.
 #[tactic(auto, unfolding(crate::specs::Telling::what_text))]
-fn put_what(alloc: Global, out: &mut Vec<u8>, change: Change) -> Result<(), OutOfMemory>
-    ensures { OnOk result (out.new.items ≡ out.old.items ++ what_text change) }
+fn put_what(alloc: Global, out: &mut Draft, change: Change) -> Result<(), OutOfMemory>
+    ensures { OnOk result (out.new ≡ out.old ++ what_text change) }
 {
     match change {
-        Change::Hook { hook } => out.extend_from_slice(hook_word(hook)),
+        Change::Hook { hook } => out.put(hook_word(hook)),
         Change::Ends { signal } => {
-            out.extend_from_slice(b"ends ")?;
-            out.extend_from_slice(signal_name(signal))
+            out.put(b"ends ");
+            out.put(signal_name(signal));
         }
-        Change::Begins { active } => put_begun(alloc, out, active),
-        Change::Over { number } => put_over(alloc, out, number),
-        Change::Stands { connection } => put_connection(alloc, out, connection),
+        Change::Begins { active } => put_begun(out, active),
+        Change::Over { number } => return put_over(alloc, out, number),
+        Change::Stands { connection } => return put_connection(alloc, out, connection),
     }
+    Ok(())
 }
 
 // Which change it is, when, and of which line.
 #[tactic(auto, unfolding(crate::specs::Telling::head_text))]
-fn put_head(
-    alloc: Global,
-    out: &mut Vec<u8>,
-    number: u64,
-    moment: u64,
-    line: u16,
-) -> Result<(), OutOfMemory>
-    ensures { OnOk result (out.new.items ≡ out.old.items ++ head_text number moment line) }
+fn put_head(out: &mut Draft, number: u64, moment: u64, line: u16)
+    ensures { out.new ≡ out.old ++ head_text number moment line }
 {
-    out.extend_from_slice(b"change ")?;
-    put_decimal(alloc, out, number)?;
-    out.extend_from_slice(b" at ")?;
-    put_decimal(alloc, out, moment)?;
-    out.extend_from_slice(b" line ")?;
-    put_decimal(alloc, out, u64::from(line))?;
-    out.push(b' ')?;
-    Ok(())
+    out.put(b"change ");
+    out.put_decimal(number);
+    out.put(b" at ");
+    out.put_decimal(moment);
+    out.put(b" line ");
+    out.put_decimal(u64::from(line));
+    out.put(b" ");
 }
 
 /// What is told next, and the number that the next change has. A contract sees both.
@@ -218,14 +229,16 @@ impl ChangeText {
     ) -> Result<(), OutOfMemory>
         ensures { OnOk result (self.new ≡ with_change moment line self.old change) }
     {
-        put_head(alloc, &mut self.text, self.number, moment, line)?;
-        put_what(alloc, &mut self.text, change)?;
-        self.text.push(b'\n')?;
+        let mut told = Draft::new(alloc);
+        put_head(&mut told, self.number, moment, line);
+        put_what(alloc, &mut told, change)?;
+        told.put_byte(b'\n');
+        told.append_to(&mut self.text)?;
         self.number = self.number.saturating_add(1);
         Ok(())
     }
 
-    /// Tells changes of a line at this moment, in ms, each under a number of its own. After an error part of a line may stand there.
+    /// Tells changes of a line at this moment, in ms, each under a number of its own. After an error some of them may be told.
     pub fn put_all(
         &mut self,
         alloc: Global,
@@ -243,6 +256,7 @@ impl ChangeText {
 }
 
 /// Puts the answer to who begins to watch: the number that the next change will have, and the gateway's moment, in ms.
+#[tactic(auto, unfolding(crate::specs::Telling::watching_line))]
 pub fn put_watching(
     alloc: Global,
     out: &mut Vec<u8>,
@@ -251,10 +265,11 @@ pub fn put_watching(
 ) -> Result<(), OutOfMemory>
     ensures { OnOk result (out.new.items ≡ out.old.items ++ watching_line number moment) }
 {
-    out.extend_from_slice(b"watching from ")?;
-    put_decimal(alloc, out, number)?;
-    out.extend_from_slice(b" at ")?;
-    put_decimal(alloc, out, moment)?;
-    out.push(b'\n')?;
-    Ok(())
+    let mut line = Draft::new(alloc);
+    line.put(b"watching from ");
+    line.put_decimal(number);
+    line.put(b" at ");
+    line.put_decimal(moment);
+    line.put_byte(b'\n');
+    line.append_to(out)
 }

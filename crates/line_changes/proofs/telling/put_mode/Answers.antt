@@ -8,20 +8,13 @@ use Rattle.line_changes.proofs.telling.put_mode.Goals as goal
 pub returns : goal.returns
 unfolding mode_part
 returns c =
-    let out = c.args.out.now.items in
+    let out = c.args.out.now in
     let word = codes "connection " in
     let id = number_text c.args.connection.number in
     let mode = mode_text c.args.connection.mode in
     let space = codes " " in
-    let put : c.push-2.new.self.items ≡ ((((out ++ word) ++ id) ++ space) ++ mode) ++ space =
-    rw (
-      c.in_ok-push-2.ensures.items,
-      c.in_ok-extend_from_slice-2.ensures.items,
-      c.mode_text.ensures,
-      c.in_ok-push.ensures.items,
-      c.in_ok-write_number.ensures.ok,
-      c.in_ok-extend_from_slice.ensures.items,
-    ) refl in
+    let put : c.put-4.new.self ≡ ((((out ++ word) ++ id) ++ space) ++ mode) ++ space =
+    rw (c.put-4.ensures, c.put-3.ensures, c.mode_text.ensures, c.put-2.ensures, c.in_ok-put_id.ensures, c.put.ensures) refl in
     put
     ∙ more ((((out ++ word) ++ id) ++ space) ++ mode) out (((word ++ id) ++ space) ++ mode) space
     (more (((out ++ word) ++ id) ++ space) out ((word ++ id) ++ space) mode

@@ -7,9 +7,8 @@ use Rattle.line_changes.proofs.telling.put_over.Goals as goal
 pub returns : goal.returns
 unfolding what_text
 returns c =
-    let out = c.args.out.now.items in
+    let out = c.args.out.now in
     let word = codes "connection " in
     let id = number_text c.args.number in
-    let put : c.extend_from_slice-2.new.self.items ≡ ((out ++ word) ++ id) ++ codes " over" =
-    rw (c.in_ok-extend_from_slice-2.ensures.items, c.in_ok-write_number.ensures.ok, c.in_ok-extend_from_slice.ensures.items) refl in
+    let put : c.put-2.new.self ≡ ((out ++ word) ++ id) ++ codes " over" = rw (c.put-2.ensures, c.in_ok-put_id.ensures, c.put.ensures) refl in
     put ∙ more ((out ++ word) ++ id) out (word ++ id) (codes " over") (append_assoc out word id)
