@@ -1,19 +1,18 @@
 //! Tells what changed, a line for each change.
 ghost use Rattle.std.specs.Prelude.{◌≡◌, ◌++◌, [], OnOk};
-ghost use Rattle.std.specs.Net.Addr.{ipv4_octets};
-ghost use Rattle.std.specs.Net.Text.{ipv4_text, socket_v4_text};
 ghost use Rattle.connections.specs.Numbers.{number_text};
 ghost use Rattle.line_changes.specs.Telling.{hook_word, end_text, remote_text, ends_text, media_text, mode_part, connection_text, what_text, head_text, change_line, with_change, with_changes, watching_line};
 
 use crate::change::{Change, codec_text};
 use crate::seen::SeenConnection;
 use connections::{mode_text, write_number};
+use exchange_log::put_peer;
 use mg_bytes::{Draft, OutOfMemory};
 use mg_packages::{Hook, signal_name};
 use signals::ActiveSignal;
 use std::alloc::Global;
 use std::marker::Model;
-use std::net::{Ipv4Addr, SocketAddrV4};
+use std::net::SocketAddrV4;
 
 fn hook_word(hook: Hook) -> &'static [u8]
     ensures { result.now ≡ hook_word hook }
@@ -33,32 +32,11 @@ fn put_end(out: &mut Draft, end: Option<u64>)
     }
 }
 
-fn put_host(out: &mut Draft, host: Ipv4Addr)
-    ensures { out.new ≡ out.old ++ ipv4_text (ipv4_octets host) }
-{
-    let [a, b, c, d] = host.octets();
-    out.put_decimal(u64::from(a));
-    out.put_byte(b'.');
-    out.put_decimal(u64::from(b));
-    out.put_byte(b'.');
-    out.put_decimal(u64::from(c));
-    out.put_byte(b'.');
-    out.put_decimal(u64::from(d));
-}
-
-fn put_address(out: &mut Draft, address: SocketAddrV4)
-    ensures { out.new ≡ out.old ++ socket_v4_text address }
-{
-    put_host(out, *address.ip());
-    out.put_byte(b':');
-    out.put_decimal(u64::from(address.port()));
-}
-
 fn put_remote(out: &mut Draft, address: Option<SocketAddrV4>)
     ensures { out.new ≡ out.old ++ remote_text address }
 {
     match address {
-        Some(address) => put_address(out, address),
+        Some(address) => put_peer(out, address),
         None => out.put(b"-"),
     }
 }
@@ -68,7 +46,7 @@ fn put_remote(out: &mut Draft, address: Option<SocketAddrV4>)
 fn put_ends(out: &mut Draft, connection: SeenConnection)
     ensures { out.new ≡ out.old ++ ends_text connection }
 {
-    put_address(out, connection.local);
+    put_peer(out, connection.local);
     out.put(b" to ");
     put_remote(out, connection.remote);
 }
