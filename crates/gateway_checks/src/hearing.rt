@@ -4,7 +4,7 @@ ghost use Rattle.mgcp_text.specs.Reading.{message as said, read_text};
 ghost use Rattle.gateway_checks.specs.Hearing.{heard_of};
 ghost use Rattle.gateway_checks.specs.Judging.{is_provisional};
 
-use mg_bytes::OutOfMemory;
+use mg_bytes::{Draft, OutOfMemory};
 use mgcp_text::{Message, TextFault, param_at, read_message};
 use std::alloc::{AllocError, Global};
 
@@ -79,10 +79,12 @@ pub(crate) fn value_of(
     }
 }
 
-/// Puts the response to a command of the gateway's, behind those that stand there.
-pub(crate) fn put_response(out: &mut String, id: u32) -> Result<(), OutOfMemory> {
-    if !out.is_empty() {
-        out.push_str(".\r\n")?;
+/// Puts the response to a command of the gateway's, behind those that stand there, unless it is the first.
+pub(crate) fn put_response(out: &mut Draft, is_first: bool, id: u32) {
+    if !is_first {
+        out.put(b".\r\n");
     }
-    write!(out, "200 {id} OK\r\n")
+    out.put(b"200 ");
+    out.put_decimal(u64::from(id));
+    out.put(b" OK\r\n");
 }

@@ -24,6 +24,7 @@ mod player;
 mod report;
 mod socket;
 mod step;
+mod texts;
 mod unasked;
 mod waiting;
 

@@ -2,7 +2,8 @@
 ghost use Rattle.std.specs.Prelude.{◌≡◌};
 ghost use Rattle.gateway_checks.specs.Hearing.{is_own};
 
-use mg_bytes::OutOfMemory;
+use crate::texts::text_of;
+use mg_bytes::{Draft, OutOfMemory};
 use std::alloc::Global;
 
 // A session description: G.711 to and from the machine's own address.
@@ -47,6 +48,27 @@ fn meaning_of(text: &str) -> Meaning {
         }
     }
     Meaning::Kept
+}
+
+// Puts an endpoint's name.
+fn put_endpoint(out: &mut Draft, local: &str, domain: &str) {
+    out.put(local.as_bytes());
+    out.put_byte(b'@');
+    out.put(domain.as_bytes());
+}
+
+// Puts a text in upper case.
+fn put_upper(out: &mut Draft, text: &str) {
+    for byte in text.as_bytes() {
+        out.put_byte(byte.to_ascii_uppercase());
+    }
+}
+
+// Puts an endpoint's name in upper case.
+fn put_upper_endpoint(out: &mut Draft, local: &str, domain: &str) {
+    put_upper(out, local);
+    out.put_byte(b'@');
+    put_upper(out, domain);
 }
 
 /// A value that an answer gave, and its name.
@@ -112,59 +134,48 @@ impl<'a> Names<'a> {
     }
 
     // Puts the value that has a name; the name in its braces where none has it.
-    fn put_kept(&self, out: &mut String, name: &str) -> Result<(), OutOfMemory> {
+    fn put_kept(&self, out: &mut Draft, name: &str) {
         for kept in &self.kept {
             if kept.name == name {
-                return out.push_str(kept.value.as_str());
+                return out.put(kept.value.as_bytes());
             }
         }
-        write!(out, "{{{name}}}")
-    }
-
-    // Puts the line's name in upper case.
-    fn put_upper(&self, out: &mut String) -> Result<(), OutOfMemory> {
-        for letter in self.places.local.chars() {
-            out.push(letter.to_ascii_uppercase())?;
-        }
-        out.push('@')?;
-        for letter in self.places.domain.chars() {
-            out.push(letter.to_ascii_uppercase())?;
-        }
-        Ok(())
+        out.put(b"{");
+        out.put(name.as_bytes());
+        out.put(b"}");
     }
 
     // Puts what a name stands for.
-    fn put(&self, out: &mut String, name: &str) -> Result<(), OutOfMemory> {
+    fn put(&self, out: &mut Draft, name: &str) {
         if let Ok(digit) = name.parse::<u32>() {
-            let id = self.base.saturating_add(digit);
-            return write!(out, "{id}");
+            return out.put_decimal(u64::from(self.base.saturating_add(digit)));
         }
         let places = &self.places;
         match meaning_of(name) {
-            Meaning::Line => write!(out, "{}@{}", places.local, places.domain),
-            Meaning::UpperLine => self.put_upper(out),
-            Meaning::Other => write!(out, "{}@{}", places.other, places.domain),
-            Meaning::Local => out.push_str(places.local),
-            Meaning::Domain => out.push_str(places.domain),
-            Meaning::Here => out.push_str(places.here),
-            Meaning::There => out.push_str(places.there),
-            Meaning::Call => write!(out, "{}", self.base),
-            Meaning::Description => out.push_str(SDP),
+            Meaning::Line => put_endpoint(out, places.local, places.domain),
+            Meaning::UpperLine => put_upper_endpoint(out, places.local, places.domain),
+            Meaning::Other => put_endpoint(out, places.other, places.domain),
+            Meaning::Local => out.put(places.local.as_bytes()),
+            Meaning::Domain => out.put(places.domain.as_bytes()),
+            Meaning::Here => out.put(places.here.as_bytes()),
+            Meaning::There => out.put(places.there.as_bytes()),
+            Meaning::Call => out.put_decimal(u64::from(self.base)),
+            Meaning::Description => out.put(SDP.as_bytes()),
             Meaning::Kept => self.put_kept(out, name),
         }
     }
 
     /// A text with what its names stand for.
     pub(crate) fn filled(&self, text: &str) -> Result<String, OutOfMemory> {
-        let mut out = String::new(self.alloc);
+        let mut out = Draft::new(self.alloc);
         let mut pieces = text.split('{');
-        out.push_str(pieces.next().unwrap_or(""))?;
+        out.put(pieces.next().unwrap_or("").as_bytes());
         for piece in pieces {
             let (name, after) = piece.split_once('}').unwrap_or((piece, ""));
-            self.put(&mut out, name)?;
-            out.push_str(after)?;
+            self.put(&mut out, name);
+            out.put(after.as_bytes());
         }
-        Ok(out)
+        text_of(self.alloc, out)
     }
 
     /// The transaction id that a text says; 0 where it says none.

@@ -15,9 +15,10 @@ use crate::matching::{code_fault, has_another, has_value};
 use crate::names::Names;
 use crate::socket::Socket;
 use crate::step::{Step, step_of};
+use crate::texts::append;
 use crate::unasked::{Expected, Unasked, is_for_check};
 use crate::waiting::{UNASKED_TIME, is_prolonged, waited_until};
-use mg_bytes::OutOfMemory;
+use mg_bytes::{Draft, OutOfMemory};
 use piggyback::parts;
 use std::alloc::Global;
 
@@ -287,9 +288,9 @@ impl<'a> Player<'a> {
         let Some(unasked) = self.mailbox.take() else {
             return Ok(None);
         };
-        let mut response = String::new(self.alloc);
-        put_response(&mut response, unasked.id)?;
-        self.sent = response.into_bytes();
+        let mut response = Draft::new(self.alloc);
+        put_response(&mut response, true, unasked.id);
+        self.sent = response.end()?;
         Ok(Some(Turn::Send { from: unasked.at }))
     }
 
@@ -614,14 +615,17 @@ impl<'a> Player<'a> {
     /// Puts the responses to the commands of a datagram that the gateway says by itself, but to those that steps answer: a gateway that
     /// announces itself waits for one.
     pub fn put_responses(&self, out: &mut String, datagram: &[u8]) -> Result<(), OutOfMemory> {
+        let mut responses = Draft::new(self.alloc);
+        let mut is_first = out.is_empty();
         for text in parts(datagram) {
             if let Heard::Command { id } = hear_text(self.alloc, text)? {
                 if !self.is_for_steps(text)? {
-                    put_response(out, id)?;
+                    put_response(&mut responses, is_first, id);
+                    is_first = false;
                 }
             }
         }
-        Ok(())
+        append(responses, out)
     }
 
     // The gateway has said this by itself, at this moment: it waits for a step where one may answer it.

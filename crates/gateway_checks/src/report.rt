@@ -4,7 +4,8 @@ ghost use Rattle.gateway_checks.specs.Reporting.{word_of, one_more, with_verdict
 
 use crate::check::Check;
 use crate::judging::Verdict;
-use mg_bytes::OutOfMemory;
+use crate::texts::append;
+use mg_bytes::{Draft, OutOfMemory};
 
 /// How many checks have come to what.
 #[derive(Clone, Copy)]
@@ -67,6 +68,19 @@ pub fn word_of(verdict: Option<Verdict>) -> &'static str
     }
 }
 
+// So many blanks have the room of a verdict's word.
+const ROOM: &[u8] = b"              ";
+
+// Puts the sections of a check's rule, and the rule, behind its name.
+fn put_rule(out: &mut Draft, check: &Check<'_>) {
+    out.put(check.name.as_bytes());
+    out.put(b" (");
+    out.put(check.sections.as_bytes());
+    out.put(b"): ");
+    out.put(check.rule.as_bytes());
+    out.put_byte(b'\n');
+}
+
 /// Puts a check: its verdict, its rule, and what was said.
 pub fn put_check(
     out: &mut String,
@@ -75,15 +89,16 @@ pub fn put_check(
     said: &str,
 ) -> Result<(), OutOfMemory> {
     let word = word_of(verdict);
-    write!(
-        out,
-        "{word:<14}{} ({}): {}\n",
-        check.name, check.sections, check.rule
-    )?;
+    let mut told = Draft::new(*out.allocator());
+    told.put(word.as_bytes());
+    told.put(ROOM.get(word.len()..).unwrap_or(&[]));
+    put_rule(&mut told, check);
     for line in said.lines() {
-        write!(out, "    {line}\n")?;
+        told.put(b"    ");
+        told.put(line.as_bytes());
+        told.put_byte(b'\n');
     }
-    Ok(())
+    append(told, out)
 }
 
 /// Puts how many checks have come to what.
@@ -97,5 +112,7 @@ pub fn put_tally(out: &mut String, tally: &Tally) -> Result<(), OutOfMemory> {
 
 /// Puts a check in a list of them: its name, the sections of its rule, and the rule.
 pub fn put_entry(out: &mut String, check: &Check<'_>) -> Result<(), OutOfMemory> {
-    write!(out, "{} ({}): {}\n", check.name, check.sections, check.rule)
+    let mut entry = Draft::new(*out.allocator());
+    put_rule(&mut entry, check);
+    append(entry, out)
 }

@@ -1,0 +1,15 @@
+//! Texts that are put together as drafts.
+use mg_bytes::{Draft, OutOfMemory};
+use std::alloc::Global;
+
+/// All that was put, as a text for people. Its only error is want of memory, also for what was put.
+pub(crate) fn text_of(alloc: Global, draft: Draft) -> Result<String, OutOfMemory> {
+    let bytes = draft.end()?;
+    String::from_utf8_lossy(alloc, bytes.as_slice())
+}
+
+/// Appends all that was put to a text. After an error, which is for want of memory only, also for what was put, `out` is as it was.
+pub(crate) fn append(draft: Draft, out: &mut String) -> Result<(), OutOfMemory> {
+    let text = text_of(*out.allocator(), draft)?;
+    out.push_str(text.as_str())
+}
