@@ -116,14 +116,14 @@ impl Watched {
         }
     }
 
-    /// What is known of a line's telephone.
-    pub(crate) fn known(
-        &mut self,
-        alloc: Global,
-        line: u16,
-    ) -> Result<Option<&Known>, OutOfMemory> {
-        let place = self.place(alloc, line)?;
-        Ok(self.telephones.get(place))
+    /// What is known of a line's telephone, if anything was told of it.
+    pub(crate) fn known(&self, line: u16) -> Option<&Known> {
+        for known in self.telephones.iter() {
+            if known.line == line {
+                return Some(known);
+            }
+        }
+        None
     }
 
     /// Whether it hasn't answered for too long, at this moment of this machine's clock, in ms.

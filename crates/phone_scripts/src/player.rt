@@ -7,7 +7,7 @@ use crate::runner::{Runner, Waits, new_runner};
 use crate::script::Script;
 use crate::statement::Place;
 use mg_bytes::{OutOfMemory, Text};
-use std::alloc::Global;
+use std::alloc::{AllocError, Global};
 use std::collections::VecDeque;
 
 /// What is to be done next.
@@ -28,9 +28,12 @@ pub struct Player {
     pub(crate) script: Script,
     pub(crate) gateways: Vec<Watched>,
     // Who goes through the script has a place here, which is empty while it does something. The script itself has the first.
-    pub(crate) runners: Vec<Option<Runner>>,
+    pub(crate) runners: Vec<Option<Box<Runner>>>,
     pub(crate) sends: VecDeque<(u16, Text)>,
-    pub(crate) failure: Option<Failure>,
+    // In a box: a check pays for all that a value holds inline at each step of a function that is lent it.
+    pub(crate) failure: Box<Option<Failure>>,
+    // Whether memory was refused: then each call fails for that.
+    is_refused: bool,
 }
 
 // Written out: a derived drop, and those of all its parts, are proved anew by each crate that lets one go.
@@ -43,12 +46,21 @@ impl Drop for Player {
             runners,
             sends,
             failure,
+            is_refused: _,
         } = self;
         drop(script);
         drop(gateways);
         drop(runners);
         drop(sends);
         drop(failure);
+    }
+}
+
+// None yet, in its box.
+fn no_failure(alloc: Global) -> Result<Box<Option<Failure>>, OutOfMemory> {
+    match Box::new(alloc, None) {
+        Ok(failure) => Ok(failure),
+        Err(_) => Err(AllocError),
     }
 }
 
@@ -62,19 +74,25 @@ impl Player {
         now: u64,
     ) -> Result<Player, OutOfMemory> {
         let end = script.statements.len();
+        let failure = no_failure(alloc)?;
         let mut player = Player {
             alloc,
             script,
             gateways: Vec::new(alloc),
             runners: Vec::new(alloc),
             sends: VecDeque::new(alloc),
-            failure: None,
+            failure,
+            is_refused: false,
         };
-        player.runners.push(Some(new_runner(alloc, 0, end, None)))?;
+        let runner = new_runner(alloc, 0, end, None)?;
+        player.runners.push(Some(runner))?;
         for gateway in 0..gateways {
             player.gateways.push(Watched::new(alloc))?;
-            player.ask(gateway, None, WATCH, now)?;
-            player.ask(gateway, None, SHOW_ALL, now)?;
+            player.ask(gateway, None, WATCH, now);
+            player.ask(gateway, None, SHOW_ALL, now);
+        }
+        if player.is_refused {
+            return Err(AllocError);
         }
         Ok(player)
     }
@@ -86,11 +104,38 @@ impl Player {
 
     /// It fails so, unless it has failed already.
     pub(crate) fn stop(&mut self, failure: Failure) {
-        let _ = self.failure.get_or_insert(failure);
+        let kept = &mut *self.failure;
+        let _ = kept.get_or_insert(failure);
+    }
+
+    /// Memory was refused for something: the call in which it was fails for that, and so does each behind it.
+    pub(crate) fn refuse(&mut self) {
+        self.is_refused = true;
+    }
+
+    /// That memory was refused is kept, where it was.
+    pub(crate) fn keep_refusal(&mut self, done: Result<(), OutOfMemory>) {
+        if done.is_err() {
+            self.is_refused = true;
+        }
+    }
+
+    /// What a call comes to whose only error is want of memory.
+    pub(crate) fn outcome(&self) -> Result<(), OutOfMemory> {
+        if self.is_refused {
+            return Err(AllocError);
+        }
+        Ok(())
     }
 
     /// This is asked of a gateway, by a runner or by the player itself.
-    pub(crate) fn ask(
+    pub(crate) fn ask(&mut self, gateway: u16, runner: Option<usize>, text: &[u8], now: u64) {
+        let asked = self.put_question(gateway, runner, text, now);
+        self.keep_refusal(asked);
+    }
+
+    // The same, where memory isn't refused.
+    fn put_question(
         &mut self,
         gateway: u16,
         runner: Option<usize>,
@@ -108,7 +153,7 @@ impl Player {
     }
 
     /// Takes a runner out of its place.
-    pub(crate) fn take(&mut self, place: usize) -> Option<Runner> {
+    pub(crate) fn take(&mut self, place: usize) -> Option<Box<Runner>> {
         match self.runners.get_mut(place) {
             Some(slot) => slot.take(),
             None => None,
@@ -116,7 +161,7 @@ impl Player {
     }
 
     /// A runner has this place.
-    pub(crate) fn put(&mut self, place: usize, runner: Runner) {
+    pub(crate) fn put(&mut self, place: usize, runner: Box<Runner>) {
         if let Some(slot) = self.runners.get_mut(place) {
             *slot = Some(runner);
         }
@@ -151,18 +196,17 @@ impl Player {
     }
 
     // Gateways that were asked long ago are asked again to tell what changes, and one that doesn't answer fails.
-    fn renew(&mut self, now: u64) -> Result<(), OutOfMemory> {
+    fn renew(&mut self, now: u64) {
         for gateway in 0..u16::MAX {
             let Some(watched) = self.gateways.get(usize::from(gateway)) else {
-                return Ok(());
+                return;
             };
             if watched.is_silent(now) {
                 self.stop(Failure::NoAnswer { gateway });
             } else if now >= watched.renewed.saturating_add(RENEWAL) {
-                self.ask(gateway, None, WATCH, now)?;
+                self.ask(gateway, None, WATCH, now);
             }
         }
-        Ok(())
     }
 
     // Until when it is waited for what gateways say, at most.
@@ -188,15 +232,20 @@ impl Player {
         until
     }
 
-    /// What is to be done next, at this moment of this machine's clock, in ms. Its only error is want of memory.
+    /// What is to be done next, at this moment of this machine's clock, in ms. Its only error is want of memory, and each call behind an
+    /// error is one.
     pub fn next(&mut self, now: u64) -> Result<Next, OutOfMemory> {
         if self.is_watched() {
             for place in 0..=MOST_BESIDE {
-                self.run_one(place, now)?;
+                self.run_one(place, now);
             }
         }
-        self.renew(now)?;
-        if let Some(failure) = self.failure.take() {
+        self.renew(now);
+        if self.is_refused {
+            return Err(AllocError);
+        }
+        let failure = &mut *self.failure;
+        if let Some(failure) = failure.take() {
             return Ok(Next::Failed { failure });
         }
         if let Some((gateway, text)) = self.sends.pop_front() {

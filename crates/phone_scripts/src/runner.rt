@@ -6,7 +6,7 @@ use crate::expecting::{Expected, Open};
 use crate::script::Placed;
 use crate::statement::{Phone, Statement};
 use mg_bytes::OutOfMemory;
-use std::alloc::Global;
+use std::alloc::{AllocError, Global};
 
 /// So long behind the end of an expectation, and again and again, its gateway is asked what time it is, in ms.
 pub(crate) const ASKED_AGAIN: u64 = 20;
@@ -74,14 +74,24 @@ impl Waits {
     }
 }
 
-/// One who goes from here to there, for another one or for nobody.
-pub(crate) fn new_runner(alloc: Global, at: usize, end: usize, parent: Option<usize>) -> Runner {
-    Runner {
+/// One who goes from here to there, for another one or for nobody. It is in a box, since it is held while it does something. Its only
+/// error is want of memory.
+pub(crate) fn new_runner(
+    alloc: Global,
+    at: usize,
+    end: usize,
+    parent: Option<usize>,
+) -> Result<Box<Runner>, OutOfMemory> {
+    let runner = Runner {
         at,
         end,
         parent,
         blocks: Vec::new(alloc),
         waits: Waits::Nothing,
+    };
+    match Box::new(alloc, runner) {
+        Ok(runner) => Ok(runner),
+        Err(_) => Err(AllocError),
     }
 }
 
@@ -99,6 +109,15 @@ impl Runner {
             Waits::Expect(pending) => pending.ask,
             Waits::Answer | Waits::Begin { .. } | Waits::Others { .. } => u64::MAX,
         }
+    }
+
+    /// A block begins, which is done so often. Its only error is want of memory.
+    pub(crate) fn begin_block(&mut self, times: u64) -> Result<(), OutOfMemory> {
+        self.blocks.push(Block {
+            begin: self.at,
+            left: times.saturating_sub(1),
+        })?;
+        Ok(())
     }
 
     /// The block ends in which it is: it is done once more, or is over. Its only error is want of memory.
