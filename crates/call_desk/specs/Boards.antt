@@ -1,5 +1,6 @@
 -- What is asked of the gateways of a board, and of the lines of its exchange.
 use Rattle.std.specs.Prelude.{◌≡◌, ℕ, Bool, length, Option, Some, None, IsSomeAnd}
+use Rattle.std.specs.Global.{Box}
 use Rattle.std.specs.declared.net.socket_addr.SocketAddrV4.{SocketAddrV4}
 use Rattle.transmission.specs.Packing.{same_address}
 use Rattle.call_desk.specs.declared.gateway.Gateway.{Gateway}
@@ -12,15 +13,17 @@ abbrev pub is_at : SocketAddrV4 → Gateway → Bool
 is_at address gateway = same_address gateway.address address
 
 -- so many lines of the exchange are settled now; none where there is no exchange
-abbrev pub settling_in : Option Office → ℕ
+abbrev pub settling_in : Option (Box Office) → ℕ
 settling_in None = 0
-settling_in (Some office) = settling office.worklist.settled.items office.worklist.settles_all (length office.cares.items)
+settling_in (Some office) =
+    settling office.value.worklist.settled.items office.value.worklist.settles_all (length office.value.cares.items)
 
 -- those lines of the exchange that waited are settled from now on; nothing else of it has changed
-abbrev pub SettlesIn : Option Office → Option Office → Type 0
+abbrev pub SettlesIn : Option (Box Office) → Option (Box Office) → Type 0
 SettlesIn None is = is ≡ None
 SettlesIn (Some was) is =
-    IsSomeAnd is (λ office. Settles was.worklist office.worklist × (office ≡ record was { worklist = office.worklist }))
+    IsSomeAnd is (λ office. Settles was.value.worklist office.value.worklist
+    × (office.value ≡ record was.value { worklist = office.value.worklist }))
 
 -- so many lines of the gateway are taken, of those whose notifications came; none where there is no such gateway
 abbrev pub taking_in : Option Gateway → Worklist → ℕ

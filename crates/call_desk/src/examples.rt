@@ -2,6 +2,7 @@
 #![tactic(auto, unfolding(crate::proofs::Computing::on_examples))]
 
 ghost use Rattle.std.specs.Prelude.{◌≡◌, [], ◌∷◌, length, true, false, Some, None, codes};
+ghost use Rattle.std.specs.Global.{Box};
 ghost use Rattle.mg_bytes.specs.Items.{items_of};
 ghost use Rattle.mgcp_text.specs.declared.message.Message.TheVariants as messages;
 ghost use Rattle.mgcp_text.specs.Reading.{message, bad_version, bad_body};
@@ -157,9 +158,10 @@ pub fn a_response_is_taken_by_what_was_asked()
 /// An exchange settles its own lines; a gateway's lines are taken where there is one.
 pub fn lines_of_an_exchange_and_of_a_gateway()
     ensures no_exchange { settling_in None ≡ 0 }
-    ensures all { (office : Office) → office.worklist.settles_all ≡ true → settling_in (Some office) ≡ length office.cares.items }
-    ensures some { (office : Office) → office.worklist.settles_all ≡ false
-        → settling_in (Some office) ≡ length office.worklist.settled.items }
+    ensures all { (office : Box Office) → office.value.worklist.settles_all ≡ true
+        → settling_in (Some office) ≡ length office.value.cares.items }
+    ensures some { (office : Box Office) → office.value.worklist.settles_all ≡ false
+        → settling_in (Some office) ≡ length office.value.worklist.settled.items }
     ensures no_gateway { (notifying : Worklist) → taking_in None notifying ≡ 0 }
     ensures all_of_gateway { (gateway : Gateway) → (notifying : Worklist) → notifying.settles_all ≡ true
         → taking_in (Some gateway) notifying ≡ gateway.lines }

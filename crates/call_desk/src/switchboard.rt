@@ -15,7 +15,7 @@ use endpoint_names::{Pattern, read_name, write_name};
 use mg_bytes::{OutOfMemory, Sequence, Text, same_no_case, split_once};
 use mgcp_text::{Message, Param, TextFault, TransactionId, Verb, param_at, read_message};
 use plain_machine::{Event, Outputs, Refusal};
-use std::alloc::Global;
+use std::alloc::{AllocError, Global};
 use std::net::SocketAddrV4;
 use transmission::same_address;
 use turns::earlier;
@@ -25,7 +25,8 @@ pub struct Switchboard {
     alloc: Global,
     gateways: Vec<Gateway>,
     stations: Vec<Station>,
-    office: Option<Office>,
+    // In a box: a check pays for all that a value holds inline at each step of a function that is lent it.
+    office: Option<Box<Office>>,
     // The lines of the gateway that was heard last whose notifications came.
     notifying: Worklist,
 }
@@ -130,8 +131,13 @@ impl Switchboard {
         let plan = plan_of(self.alloc, &self.stations)?;
         let map = copied(self.alloc, map)?;
         let office = Office::new(self.alloc, self.stations.len(), plan, map)?;
-        self.office = Some(office);
-        Ok(())
+        match Box::new(self.alloc, office) {
+            Ok(office) => {
+                self.office = Some(office);
+                Ok(())
+            }
+            Err(_) => Err(AllocError),
+        }
     }
 
     // Adds the gateways of a configuration, and opens an exchange for their lines where calls are routed.
