@@ -3,7 +3,7 @@ ghost use Rattle.std.specs.Prelude.{◌≡◌, ◌++◌, false, IfOk, OnOk, opti
 ghost use Rattle.mg_bytes.specs.Lines.{crlf};
 ghost use Rattle.call_desk.specs.Typed.{held, plain_byte, typed_byte, typed_from, ended, typed_text, typed_in};
 
-use mg_bytes::{OutOfMemory, lines, words};
+use mg_bytes::{Draft, OutOfMemory, lines, words};
 use std::alloc::Global;
 
 /// Why a command that was typed isn't issued.
@@ -30,57 +30,56 @@ pub struct Typed<'a> {
     pub rest: &'a [u8],
 }
 
-fn put_line_end(out: &mut Vec<u8>) -> Result<(), OutOfMemory>
-    ensures { OnOk result (out.new.items ≡ out.old.items ++ crlf) }
+fn put_line_end(out: &mut Draft)
+    ensures { out.new ≡ out.old ++ crlf }
 {
-    out.extend_from_slice(b"\r\n")
+    out.put(b"\r\n");
 }
 
 // Puts the backslash that was typed last, where one was: it stands for itself.
-fn put_held(out: &mut Vec<u8>, is_escaped: bool) -> Result<(), OutOfMemory>
-    ensures { OnOk result (out.new.items ≡ out.old.items ++ held is_escaped) }
+fn put_held(out: &mut Draft, is_escaped: bool)
+    ensures { out.new ≡ out.old ++ held is_escaped }
 {
     if is_escaped {
-        return out.extend_from_slice(b"\\");
+        out.put(b"\\");
     }
-    Ok(())
 }
 
 // Puts a byte that stands for itself, or ends a line; a backslash isn't put before it is known what is behind it.
-fn put_plain(out: &mut Vec<u8>, byte: u8) -> Result<(), OutOfMemory>
-    ensures { OnOk result (out.new.items ≡ out.old.items ++ plain_byte byte) }
+fn put_plain(out: &mut Draft, byte: u8)
+    ensures { out.new ≡ out.old ++ plain_byte byte }
 {
     if byte == b'\n' {
         return put_line_end(out);
     }
     if byte == b'\r' || byte == b'\\' {
-        return Ok(());
+        return;
     }
-    out.extend_from_slice(&[byte])
+    out.put_byte(byte);
 }
 
 // Puts a byte that was typed, behind a backslash or not.
-fn put_byte(out: &mut Vec<u8>, is_escaped: bool, byte: u8) -> Result<(), OutOfMemory>
-    ensures { OnOk result (out.new.items ≡ out.old.items ++ typed_byte is_escaped byte) }
+fn put_byte(out: &mut Draft, is_escaped: bool, byte: u8)
+    ensures { out.new ≡ out.old ++ typed_byte is_escaped byte }
 {
     if is_escaped && byte == b'n' {
         return put_line_end(out);
     }
-    put_held(out, is_escaped)?;
-    put_plain(out, byte)
+    put_held(out, is_escaped);
+    put_plain(out, byte);
 }
 
 // Puts what was typed, with the line ends of a message: a backslash with an n is one too, and any other one stands for itself.
 #[tactic(auto, unfolding(crate::specs::Typed::typed_from))]
-fn put_typed(out: &mut Vec<u8>, text: &[u8]) -> Result<(), OutOfMemory>
-    ensures { OnOk result (out.new.items ≡ out.old.items ++ typed_from false text.now) }
+fn put_typed(out: &mut Draft, text: &[u8])
+    ensures { out.new ≡ out.old ++ typed_from false text.now }
 {
     let mut is_escaped = false;
     for byte in text {
-        put_byte(out, is_escaped, *byte)?;
+        put_byte(out, is_escaped, *byte);
         is_escaped = *byte == b'\\';
     }
-    put_held(out, is_escaped)
+    put_held(out, is_escaped);
 }
 
 // The last line ends, where it doesn't yet.
@@ -90,17 +89,18 @@ fn end_line(out: &mut Vec<u8>) -> Result<(), OutOfMemory>
     if out.as_slice().ends_with(b"\r\n") {
         return Ok(());
     }
-    put_line_end(out)
+    out.extend_from_slice(b"\r\n")
 }
 
 /// A command that was typed, and what stands behind its line, with the line ends of a message. An error is for want of memory only.
 pub fn typed_text(alloc: Global, line: &[u8], rest: &[u8]) -> Result<Vec<u8>, OutOfMemory>
     ensures { IfOk result (λ text. text.items ≡ typed_text line.now rest.now) }
 {
-    let mut text = Vec::new(alloc);
-    put_typed(&mut text, line)?;
-    put_line_end(&mut text)?;
-    put_typed(&mut text, rest)?;
+    let mut draft = Draft::new(alloc);
+    put_typed(&mut draft, line);
+    put_line_end(&mut draft);
+    put_typed(&mut draft, rest);
+    let mut text = draft.end()?;
     end_line(&mut text)?;
     Ok(text)
 }

@@ -4,4 +4,4 @@ use Rattle.call_desk.proofs.typed.put_typed.Given as goal
 
 abbrev pub invariant-loop-byte : goal.invariant-loop-byte
 invariant-loop-byte l =
-    l.out.items ++ typed_from l.is_escaped (drop l.byte-index l.text) ≡ l.fn.out.items ++ typed_from false l.text
+    l.out ++ typed_from l.is_escaped (drop l.byte-index l.text) ≡ l.fn.out ++ typed_from false l.text
