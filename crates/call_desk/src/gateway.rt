@@ -1,5 +1,5 @@
 //! A gateway that a call agent works with.
-ghost use Rattle.std.specs.Prelude.{◌≡◌, [], None, IfOk, OnOk, OnErr};
+ghost use Rattle.std.specs.Prelude.{◌≡◌, ◌≤◌, [], None, IfOk, OnOk, OnErr};
 ghost use Rattle.endpoint_names.specs.declared.route.Route.TheVariants as routes;
 ghost use Rattle.plain_machine.specs.Event.{tick};
 ghost use Rattle.call_agent.specs.Hearing.{hears};
@@ -13,7 +13,7 @@ use endpoint_names::Route;
 use mg_bytes::{OutOfMemory, Text};
 use mgcp_text::TransactionId;
 use plain_machine::{Event, Outputs, Refusal};
-use std::alloc::Global;
+use std::alloc::{AllocError, Global};
 use std::net::SocketAddrV4;
 
 // The clock of an agent goes on by no more than this at once, in ms.
@@ -28,7 +28,8 @@ const FIRST_IDS: u64 = 900_000_000;
 /// A gateway, with the agent that works with it.
 #[derive(Drop)]
 pub(crate) struct Gateway {
-    pub(crate) agent: Agent,
+    // In a box: a check pays for all that a value holds inline at each step of a function that is lent it.
+    pub(crate) agent: Box<Agent>,
     pub(crate) address: SocketAddrV4,
     /// What stands behind the `@` of its endpoints' names.
     pub(crate) domain: Text,
@@ -57,6 +58,33 @@ fn tick_to(ticked: u64, moment: u64) -> u64
     moment.min(ticked.saturating_add(LONGEST_TICK))
 }
 
+// The agent of a gateway at this address with this domain and so many lines, which issues its commands from this id on.
+fn agent_of(
+    alloc: Global,
+    own: SocketAddrV4,
+    address: SocketAddrV4,
+    domain: Text,
+    lines: u16,
+    first: u32,
+) -> Result<Box<Agent>, OutOfMemory>
+    requires some { 1 ≤ first }
+    requires short { first ≤ 999999999 }
+    ensures stands { IfOk result (λ agent. AgentStands agent.value []) }
+    ensures setup { IfOk result (λ agent. agent.value.setup ≡ record {
+      own = routes.One own;
+      gateway = address;
+      domain = domain;
+      lines = lines;
+      first = first;
+    }) }
+{
+    let agent = Agent::new(alloc, Route::One(own), address, domain, lines, first)?;
+    match Box::new(alloc, agent) {
+        Ok(agent) => Ok(agent),
+        Err(_) => Err(AllocError),
+    }
+}
+
 impl Gateway {
     /// A gateway at this address with this domain and so many lines, of which the first has this place. The agent has this address of
     /// its own. It is this time of day, in ms: an agent that is started again issues its commands behind the ids of the one before, of
@@ -70,8 +98,8 @@ impl Gateway {
         lines: u16,
         time: u64,
     ) -> Result<Gateway, OutOfMemory>
-        ensures agent { IfOk result (λ made. AgentStands made.agent []) }
-        ensures setup { IfOk result (λ made. made.agent.setup ≡ record {
+        ensures agent { IfOk result (λ made. AgentStands made.agent.value []) }
+        ensures setup { IfOk result (λ made. made.agent.value.setup ≡ record {
           own = routes.One own;
           gateway = address;
           domain = domain.now;
@@ -84,14 +112,7 @@ impl Gateway {
     {
         let kept = copied(alloc, domain)?;
         let named = copied(alloc, domain)?;
-        let agent = Agent::new(
-            alloc,
-            Route::One(own),
-            address,
-            named,
-            lines,
-            first_id(time),
-        )?;
+        let agent = agent_of(alloc, own, address, named, lines, first_id(time))?;
         Ok(Gateway {
             agent,
             address,
@@ -124,9 +145,9 @@ impl Gateway {
     /// The clock goes on to this moment (in ms), but by no more than a second: what is sent.
     pub(crate) fn tick(&mut self, moment: u64) -> Result<Outputs, Refusal>
         ensures ok { IfOk result (λ outputs.
-            AgentTook self.old.agent (hears (tick (tick_to self.old.ticked moment))) self.new.agent outputs) }
+            AgentTook self.old.agent.value (hears (tick (tick_to self.old.ticked moment))) self.new.agent.value outputs) }
         ensures ticked { OnOk result (self.new.ticked ≡ tick_to self.old.ticked moment) }
-        ensures err { OnErr result (AgentStays self.old.agent self.new.agent) }
+        ensures err { OnErr result (AgentStays self.old.agent.value self.new.agent.value) }
         ensures not_ticked { OnErr result (self.new.ticked ≡ self.old.ticked) }
     {
         let moment = tick_to(self.ticked, moment);
