@@ -12,7 +12,7 @@ use agent_texts::{AgentConfig, Journal, Station, copied};
 use call_agent::{IssueFault, Issued};
 use call_routing::NumberPlan;
 use endpoint_names::{Pattern, read_name, write_name};
-use mg_bytes::{OutOfMemory, Sequence, Text, same_no_case, split_once};
+use mg_bytes::{Draft, OutOfMemory, Sequence, Text, same_no_case, split_once};
 use mgcp_text::{Message, Param, TextFault, TransactionId, Verb, param_at, read_message};
 use plain_machine::{Event, Outputs, Refusal};
 use std::alloc::{AllocError, Global};
@@ -78,10 +78,11 @@ fn plan_of(alloc: Global, stations: &[Station]) -> Result<NumberPlan, OutOfMemor
 
 // The whole name of an endpoint.
 fn whole_name(alloc: Global, local: &[u8], domain: &[u8]) -> Result<Vec<u8>, OutOfMemory> {
-    let mut name = Vec::from_slice(alloc, local)?;
-    name.push(b'@')?;
-    name.extend_from_slice(domain)?;
-    Ok(name)
+    let mut name = Draft::new(alloc);
+    name.put(local);
+    name.put_byte(b'@');
+    name.put(domain);
+    name.end()
 }
 
 fn is_at(gateway: &Gateway, address: SocketAddrV4) -> bool
