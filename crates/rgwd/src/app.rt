@@ -114,29 +114,6 @@ fn wait_first<R: Net + Clock>(rt: &R, live: &mut Live<'_, R>, begun: Begun) -> i
     }
 }
 
-// Opens the file for a capture, if one is asked for, says on standard error where the sockets are, serves until the end, and answers who
-// asked for that once all is written.
-fn serve_opened<'w, R: Files + Net + Clock + RandomSource + Alloc + Clone + Drop, P: Reception>(
-    rt: &R,
-    alloc: Global,
-    settings: &Settings<'w>,
-    begun: Begun,
-    opened: &mut Opened<'_, R, P>,
-    recording: &mut Recording<R>,
-) -> Ending<'w> {
-    match open_files(rt, alloc, settings, recording) {
-        Ok(()) => {}
-        Err(ending) => return ending,
-    }
-    tell_start(alloc, &mut recording.outlets, opened, begun);
-    if wait_first(rt, &mut opened.desk.exchange.around, begun).is_err() {
-        return Ending::Common(CommonEnding::Clock);
-    }
-    let ending = serve_to_end(rt, opened, recording);
-    opened.desk.answer_stop();
-    ending
-}
-
 // Says on standard output what this gateway will be, who may speak to it, and its sockets.
 fn check_gateway<F: Write + Drop>(
     alloc: Global,
@@ -218,7 +195,8 @@ fn open_files<'w, R: Files + Alloc + Clone + Drop>(
     }
 }
 
-// Opens what the settings ask for, the file for a capture once all sockets are had, and serves.
+// Opens what the settings ask for, the file for a capture once all sockets are had, says on standard error where these are, serves until
+// the end, and answers who asked for that once all is written.
 fn serve_with<'w, R: Files + Net + Clock + RandomSource + Alloc + Clone + Drop, P: Reception>(
     rt: &R,
     alloc: Global,
@@ -233,7 +211,17 @@ fn serve_with<'w, R: Files + Net + Clock + RandomSource + Alloc + Clone + Drop, 
         Ok(opened) => opened,
         Err(ending) => return ending,
     };
-    serve_opened(rt, alloc, settings, begun, &mut opened, recording)
+    match open_files(rt, alloc, settings, recording) {
+        Ok(()) => {}
+        Err(ending) => return ending,
+    }
+    tell_start(alloc, &mut recording.outlets, &opened, begun);
+    if wait_first(rt, &mut opened.desk.exchange.around, begun).is_err() {
+        return Ending::Common(CommonEnding::Clock);
+    }
+    let ending = serve_to_end(rt, &mut opened, recording);
+    opened.desk.answer_stop();
+    ending
 }
 
 // Serves with a gateway of the configuration in this text, which has no flaw; or says what it will be.
