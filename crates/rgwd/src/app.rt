@@ -152,7 +152,8 @@ fn unwritable<'w>(settings: &Settings<'w>, fault: SystemFault) -> Ending<'w> {
     Ending::Common(CommonEnding::unwritable(file, fault))
 }
 
-// The first file of a capture that is parted, whose outlet that is, and what is known of the others.
+// The first file of a capture that is parted, whose outlet that is, and what is known of the others, in a box: who is lent what is recorded
+// is lent little.
 fn open_parted<'w, R: Files + Alloc + Clone + Drop>(
     rt: &R,
     alloc: Global,
@@ -160,9 +161,9 @@ fn open_parted<'w, R: Files + Alloc + Clone + Drop>(
     name: &str,
     parting: Parting,
     outlets: &mut Outlets<R::File>,
-) -> Result<CaptureFiles, Ending<'w>> {
+) -> Result<Box<CaptureFiles>, Ending<'w>> {
     let mut files = match CaptureFiles::find(rt, alloc, name, parting) {
-        Ok(files) => files,
+        Ok(files) => boxed(alloc, files)?,
         Err(fault) => return Err(unwritable(settings, fault)),
     };
     match files.next(rt) {

@@ -10,7 +10,7 @@ use std::rt::Files;
 pub struct Recording<R: Files> {
     pub rt: R,
     pub outlets: Outlets<R::File>,
-    pub files: Option<CaptureFiles>,
+    pub files: Option<Box<CaptureFiles>>,
 }
 
 // What is captured goes on in the next file; where that can't be made the capture has failed.
