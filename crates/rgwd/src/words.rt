@@ -9,7 +9,7 @@ use crate::parted::parting_of;
 use bad_network::Spoiling;
 use clap::error::ErrorKind;
 use clap::{Arg, ArgAction, ArgMatches, Command, Error};
-use live_ends::{CommonEnding, Outlet, Parting, VERSION, address_in, network_in};
+use live_ends::{CommonEnding, Outlet, Parting, VERSION, address_in, boxed, network_in};
 use live_page::HostNames;
 use new_start::{FirstNumber, spread_in};
 use std::alloc::{AllocError, Global};
@@ -210,7 +210,11 @@ fn sockets_in<'a>(alloc: Global, matches: &ArgMatches<'a>) -> Result<Sockets<'a>
     })
 }
 
-fn settings_in<'a>(alloc: Global, matches: &ArgMatches<'a>) -> Result<Settings<'a>, Ending<'a>> {
+// They stand in a box: whoever holds them, or may have an ending in their place, holds little.
+fn settings_in<'a>(
+    alloc: Global,
+    matches: &ArgMatches<'a>,
+) -> Result<Box<Settings<'a>>, Ending<'a>> {
     let Some(config) = matches.get_str("config") else {
         return Err(Ending::Common(CommonEnding::Usage));
     };
@@ -220,7 +224,7 @@ fn settings_in<'a>(alloc: Global, matches: &ArgMatches<'a>) -> Result<Settings<'
     }
     let capture = matches.get_str("capture");
     let size = bytes_in(matches, "capture-size");
-    Ok(Settings {
+    let settings = Settings {
         config,
         check: matches.get_flag("check"),
         sockets: sockets_in(alloc, matches)?,
@@ -232,7 +236,8 @@ fn settings_in<'a>(alloc: Global, matches: &ArgMatches<'a>) -> Result<Settings<'
         first,
         spread: longest_wait_in(matches)?,
         stop_after: matches.get_one::<u64>("stop-after"),
-    })
+    };
+    Ok(boxed(alloc, settings)?)
 }
 
 // How the program ends where there are no settings in words, by clap's error: an outlet says which words are wrong.
@@ -260,7 +265,7 @@ pub fn read_words<'a, F: Write + Drop>(
     alloc: Global,
     words: &'a [String],
     said: &mut Outlet<F>,
-) -> Result<Settings<'a>, Ending<'a>> {
+) -> Result<Box<Settings<'a>>, Ending<'a>> {
     match command(alloc)?.try_get_matches_from(words) {
         Ok(matches) => settings_in(alloc, &matches),
         Err(fault) => Err(Ending::Common(ending_by(alloc, &fault, said))),
