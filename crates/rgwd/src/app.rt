@@ -346,10 +346,11 @@ fn run_with<R: AllocGlobal + Files + Net + Clock + RandomSource + Clone + Drop, 
     words: &Result<Vec<String>, CommonEnding<'static>>,
     recording: &mut Recording<R>,
 ) -> u8 {
-    let ending = match words {
-        Ok(words) => ending_by::<R, P>(rt, words.as_slice(), recording),
-        Err(ending) => Ending::Common(*ending),
+    let words = match words {
+        Ok(words) => words,
+        Err(ending) => return tell(rt, &mut recording.outlets, Ending::Common(*ending)),
     };
+    let ending = ending_by::<R, P>(rt, words.as_slice(), recording);
     tell(rt, &mut recording.outlets, ending)
 }
 
