@@ -133,6 +133,14 @@ impl<'a> Names<'a> {
         Ok(())
     }
 
+    /// Gives an id a name.
+    pub(crate) fn keep_id(&mut self, name: &'a str, id: u32) -> Result<(), OutOfMemory> {
+        let mut digits = Draft::new(self.alloc);
+        digits.put_decimal(u64::from(id));
+        let value = text_of(self.alloc, digits)?;
+        self.keep(name, value)
+    }
+
     // Puts the value that has a name; the name in its braces where none has it.
     fn put_kept(&self, out: &mut Draft, name: &str) {
         for kept in &self.kept {
@@ -182,6 +190,13 @@ impl<'a> Names<'a> {
     pub(crate) fn id_in(&self, text: &str) -> Result<u32, OutOfMemory> {
         let digits = self.filled(text)?;
         Ok(digits.parse::<u32>().unwrap_or(0))
+    }
+
+    /// Whether two texts stand for different values.
+    pub(crate) fn differ(&self, first: &str, second: &str) -> Result<bool, OutOfMemory> {
+        let first = self.filled(first)?;
+        let second = self.filled(second)?;
+        Ok(first.as_str() != second.as_str())
     }
 
     /// The bytes of a datagram that a step sends: each of its lines ends in CRLF, or as its text says.

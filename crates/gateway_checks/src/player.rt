@@ -20,7 +20,7 @@ use crate::unasked::{Expected, Unasked, is_for_check};
 use crate::waiting::{UNASKED_TIME, is_prolonged, waited_until};
 use mg_bytes::{Draft, OutOfMemory};
 use piggyback::parts;
-use std::alloc::Global;
+use std::alloc::{AllocError, Global};
 
 // No check has more steps, those that undo it among them.
 const MOST_STEPS: u32 = 1000;
@@ -70,6 +70,8 @@ pub struct Player<'a> {
     fault: Option<Fault>,
     said: String,
     due: String,
+    // Whether memory was refused for what a turn does.
+    is_refused: bool,
 }
 
 // Written out: a derived drop, and those of all its parts, are proved anew by each crate that lets one go.
@@ -98,6 +100,7 @@ impl Drop for Player<'_> {
             fault: _,
             said,
             due,
+            is_refused: _,
         } = self;
         drop(names);
         drop(sent);
@@ -106,6 +109,65 @@ impl Drop for Player<'_> {
         drop(came);
         drop(said);
         drop(due);
+    }
+}
+
+// Tells what was due of a line that isn't met. An error is for want of memory only.
+fn told_due(names: &Names<'_>, said: &mut String, line: &str) -> Result<String, OutOfMemory> {
+    let due = names.filled(line)?;
+    put_said(said, "! due: ", due.as_bytes())?;
+    Ok(due)
+}
+
+// Whether an answer has this parameter, with this value or any; or has it with another one. An error is for want of memory only.
+fn is_as_due(
+    alloc: Global,
+    names: &Names<'_>,
+    answer: &[u8],
+    code: &str,
+    value: &str,
+    is_other: bool,
+) -> Result<bool, OutOfMemory> {
+    let wanted = names.filled(value)?;
+    let given = value_of(alloc, answer, code)?;
+    Ok(if is_other {
+        has_another(bytes_of(&given), wanted.as_bytes())
+    } else {
+        has_value(bytes_of(&given), value.is_empty(), wanted.as_bytes())
+    })
+}
+
+// Whether an answer holds this text. An error is for want of memory only.
+fn is_told(alloc: Global, answer: &[u8], text: &str) -> Result<bool, OutOfMemory> {
+    let answer = String::from_utf8_lossy(alloc, answer)?;
+    Ok(answer.as_str().contains(text))
+}
+
+// An answer's parameter has this name from here on: whether it is there. An error is for want of memory only.
+fn keep_value<'a>(
+    alloc: Global,
+    names: &mut Names<'a>,
+    answer: &[u8],
+    name: &'a str,
+    code: &str,
+) -> Result<bool, OutOfMemory> {
+    let Some(value) = value_of(alloc, answer, code)? else {
+        return Ok(false);
+    };
+    names.keep(name, value)?;
+    Ok(true)
+}
+
+// A step has asked for what waits at this place, whose id has this name from here on. An error is for want of memory only.
+fn name_id<'a>(
+    mailbox: &mut Mailbox,
+    names: &mut Names<'a>,
+    place: usize,
+    name: &'a str,
+) -> Result<(), OutOfMemory> {
+    match mailbox.ask(place)? {
+        Some(id) => names.keep_id(name, id),
+        None => Ok(()),
     }
 }
 
@@ -143,6 +205,7 @@ impl<'a> Player<'a> {
             fault: None,
             said: String::new(alloc),
             due: String::new(alloc),
+            is_refused: false,
         }
     }
 
@@ -215,25 +278,27 @@ impl<'a> Player<'a> {
 
     // The step is done, with this fault in it or none, and asks for nothing more. The first fault is told; those of steps that undo the
     // check don't count.
-    fn finish(&mut self, fault: Option<Fault>) -> Result<Option<Turn>, OutOfMemory>
+    fn finish(&mut self, fault: Option<Fault>) -> Option<Turn>
         ensures counts { self.old.is_undoing ≡ false → self.new.fault ≡ settled self.old.fault fault }
         ensures undoes { self.old.is_undoing ≡ true → self.new.fault ≡ self.old.fault }
     {
         self.step = None;
         if self.is_undoing {
-            return Ok(None);
+            return None;
         }
         let was_faultless = self.fault.is_none();
         self.fault = settled(self.fault, fault);
         if was_faultless && fault.is_some() {
-            self.due = self.names.filled(self.line)?;
-            put_said(&mut self.said, "! due: ", self.due.as_bytes())?;
+            match told_due(&self.names, &mut self.said, self.line) {
+                Ok(due) => self.due = due,
+                Err(_) => self.is_refused = true,
+            }
         }
-        Ok(None)
+        None
     }
 
     // The step is done, and met or not.
-    fn finish_met(&mut self, is_met: bool) -> Result<Option<Turn>, OutOfMemory>
+    fn finish_met(&mut self, is_met: bool) -> Option<Turn>
         ensures counts { self.old.is_undoing ≡ false
             → self.new.fault ≡ settled self.old.fault (judged is_met false 0) }
         ensures undoes { self.old.is_undoing ≡ true → self.new.fault ≡ self.old.fault }
@@ -264,38 +329,58 @@ impl<'a> Player<'a> {
 
     /// What is asked for at this moment, in ms. It is asked again once that was done.
     pub fn turn(&mut self, now: u64) -> Result<Turn, OutOfMemory> {
+        let turn = self.next_turn(now);
+        if self.is_refused {
+            return Err(AllocError);
+        }
+        Ok(turn)
+    }
+
+    // The same, but where memory was refused, which is kept.
+    fn next_turn(&mut self, now: u64) -> Turn {
         for _ in 0..MOST_STEPS {
             let next = self.next_step();
-            if let Some(turn) = self.answer_left()? {
-                return Ok(turn);
+            if let Some(turn) = self.answer_left() {
+                return turn;
             }
             let Some(step) = next else {
-                return Ok(Turn::Over);
+                return Turn::Over;
             };
-            if let Some(turn) = self.play(step, now)? {
-                return Ok(turn);
+            if let Some(turn) = self.play(step, now) {
+                return turn;
             }
         }
-        Ok(Turn::Over)
+        Turn::Over
+    }
+
+    // Memory was refused for what a turn does: that ends there.
+    fn refused(&mut self) -> Option<Turn> {
+        self.is_refused = true;
+        Some(Turn::Over)
     }
 
     // Before what undoes a check that a fault has ended all is answered that the gateway said by itself meanwhile: it would come again,
     // and keep its line from notifying what the checks behind are for.
-    fn answer_left(&mut self) -> Result<Option<Turn>, OutOfMemory> {
+    fn answer_left(&mut self) -> Option<Turn> {
         if !self.is_undoing || self.fault.is_none() {
-            return Ok(None);
+            return None;
         }
         let Some(unasked) = self.mailbox.take() else {
-            return Ok(None);
+            return None;
         };
         let mut response = Draft::new(self.alloc);
         put_response(&mut response, true, unasked.id);
-        self.sent = response.end()?;
-        Ok(Some(Turn::Send { from: unasked.at }))
+        match response.end() {
+            Ok(sent) => {
+                self.sent = sent;
+                Some(Turn::Send { from: unasked.at })
+            }
+            Err(_) => self.refused(),
+        }
     }
 
     // Plays a step: what it asks for, or nothing where it is done.
-    fn play(&mut self, step: Step<'a>, now: u64) -> Result<Option<Turn>, OutOfMemory> {
+    fn play(&mut self, step: Step<'a>, now: u64) -> Option<Turn> {
         match step {
             Step::Send { from, text } => self.send(from, text),
             Step::SendAgain { from } => self.send_now(from),
@@ -318,7 +403,7 @@ impl<'a> Player<'a> {
     }
 
     // Plays a step that speaks of what the gateway says by itself, or of what is done at a telephone.
-    fn play_unasked(&mut self, step: Step<'a>, now: u64) -> Result<Option<Turn>, OutOfMemory> {
+    fn play_unasked(&mut self, step: Step<'a>, now: u64) -> Option<Turn> {
         match step {
             Step::Notified { at, name, due } => self.notified(at, name, due, now),
             Step::Announced { at, name, method } => self.announced(at, name, method, now),
@@ -330,20 +415,27 @@ impl<'a> Player<'a> {
     }
 
     // What is there goes out from a socket.
-    fn send_now(&mut self, from: Socket) -> Result<Option<Turn>, OutOfMemory> {
+    fn send_now(&mut self, from: Socket) -> Option<Turn> {
         self.from = from;
         let mark = if from.is_second() { ">> " } else { "> " };
         if !self.is_undoing {
-            put_said(&mut self.said, mark, self.sent.as_slice())?;
+            if put_said(&mut self.said, mark, self.sent.as_slice()).is_err() {
+                return self.refused();
+            }
             self.came = Vec::new(self.alloc);
         }
-        self.finish(None)?;
-        Ok(Some(Turn::Send { from }))
+        let _ = self.finish(None);
+        Some(Turn::Send { from })
     }
 
-    fn send(&mut self, from: Socket, text: &str) -> Result<Option<Turn>, OutOfMemory> {
-        self.sent = self.names.datagram(text)?;
-        self.send_now(from)
+    fn send(&mut self, from: Socket, text: &str) -> Option<Turn> {
+        match self.names.datagram(text) {
+            Ok(sent) => {
+                self.sent = sent;
+                self.send_now(from)
+            }
+            Err(_) => self.refused(),
+        }
     }
 
     // Until when this step waits, which has begun now if it hasn't before.
@@ -380,28 +472,26 @@ impl<'a> Player<'a> {
     }
 
     // Waits for an answer; where none came in time the step isn't met.
-    fn await_answer(&mut self, now: u64) -> Result<Option<Turn>, OutOfMemory> {
+    fn await_answer(&mut self, now: u64) -> Option<Turn> {
         let until = self.answer_deadline(now);
         if now < until {
-            return Ok(Some(Turn::Wait { until }));
+            return Some(Turn::Wait { until });
         }
         self.finish_met(false)
     }
 
     // The answer with this id is to come, with one of these codes.
-    fn answered(
-        &mut self,
-        codes: &str,
-        id: &str,
-        is_optional: bool,
-        now: u64,
-    ) -> Result<Option<Turn>, OutOfMemory> {
-        let id = self.names.id_in(id)?;
+    fn answered(&mut self, codes: &str, id: &str, is_optional: bool, now: u64) -> Option<Turn> {
+        let Ok(id) = self.names.id_in(id) else {
+            return self.refused();
+        };
         let from = self.from;
         match self.inbox.take(from, id) {
             Some(arrived) => {
                 let code = arrived.code;
-                self.inbox.keep(arrived)?;
+                if self.inbox.keep(arrived).is_err() {
+                    return self.refused();
+                }
                 self.finish(code_fault(codes, is_optional, code))
             }
             None => self.await_answer(now),
@@ -409,8 +499,10 @@ impl<'a> Player<'a> {
     }
 
     // The answer with this id is to come again as it first came.
-    fn answered_again(&mut self, id: &str, now: u64) -> Result<Option<Turn>, OutOfMemory> {
-        let id = self.names.id_in(id)?;
+    fn answered_again(&mut self, id: &str, now: u64) -> Option<Turn> {
+        let Ok(id) = self.names.id_in(id) else {
+            return self.refused();
+        };
         let from = self.from;
         match self.inbox.take(from, id) {
             Some(arrived) => {
@@ -422,53 +514,43 @@ impl<'a> Player<'a> {
     }
 
     // It is waited for so long; then the step is met or not.
-    fn waited(&mut self, ms: u64, is_met: bool, now: u64) -> Result<Option<Turn>, OutOfMemory> {
+    fn waited(&mut self, ms: u64, is_met: bool, now: u64) -> Option<Turn> {
         let until = self.deadline(ms, now);
         if now < until {
-            return Ok(Some(Turn::Wait { until }));
+            return Some(Turn::Wait { until });
         }
         self.finish_met(is_met)
+    }
+
+    // The step is done, and met or not, where memory wasn't refused.
+    fn finish_by(&mut self, is_met: Result<bool, OutOfMemory>) -> Option<Turn> {
+        match is_met {
+            Ok(is_met) => self.finish_met(is_met),
+            Err(_) => self.refused(),
+        }
     }
 
     // The last answer has this parameter, with this value or any; or it has it with another one.
-    fn compared(
-        &mut self,
-        code: &str,
-        value: &str,
-        is_other: bool,
-    ) -> Result<Option<Turn>, OutOfMemory> {
-        let wanted = self.names.filled(value)?;
-        let given = value_of(self.alloc, self.inbox.last(), code)?;
-        let is_met = if is_other {
-            has_another(bytes_of(&given), wanted.as_bytes())
-        } else {
-            has_value(bytes_of(&given), value.is_empty(), wanted.as_bytes())
-        };
-        self.finish_met(is_met)
+    fn compared(&mut self, code: &str, value: &str, is_other: bool) -> Option<Turn> {
+        let answer = self.inbox.last();
+        let is_met = is_as_due(self.alloc, &self.names, answer, code, value, is_other);
+        self.finish_by(is_met)
     }
 
-    fn tells(&mut self, text: &str) -> Result<Option<Turn>, OutOfMemory> {
-        let answer = String::from_utf8_lossy(self.alloc, self.inbox.last())?;
-        let is_met = answer.as_str().contains(text);
-        self.finish_met(is_met)
+    fn tells(&mut self, text: &str) -> Option<Turn> {
+        let is_met = is_told(self.alloc, self.inbox.last(), text);
+        self.finish_by(is_met)
     }
 
-    fn keep(&mut self, name: &'a str, code: &str) -> Result<Option<Turn>, OutOfMemory> {
-        match value_of(self.alloc, self.inbox.last(), code)? {
-            Some(value) => {
-                self.names.keep(name, value)?;
-                self.finish_met(true)
-            }
-            None => self.finish_met(false),
-        }
+    fn keep(&mut self, name: &'a str, code: &str) -> Option<Turn> {
+        let is_met = keep_value(self.alloc, &mut self.names, self.inbox.last(), name, code);
+        self.finish_by(is_met)
     }
 
     // Two names stand for different values.
-    fn differ(&mut self, first: &str, second: &str) -> Result<Option<Turn>, OutOfMemory> {
-        let first = self.names.filled(first)?;
-        let second = self.names.filled(second)?;
-        let is_met = first.as_str() != second.as_str();
-        self.finish_met(is_met)
+    fn differ(&mut self, first: &str, second: &str) -> Option<Turn> {
+        let is_met = self.names.differ(first, second);
+        self.finish_by(is_met)
     }
 
     // This is to come to a socket: whether as due or not, its id has this name from here on.
@@ -478,26 +560,24 @@ impl<'a> Player<'a> {
         expected: &Expected<'_>,
         name: &'a str,
         now: u64,
-    ) -> Result<Option<Turn>, OutOfMemory> {
-        let Some((place, is_due)) = self.mailbox.first_meant(at, expected)? else {
-            return self.waited(UNASKED_TIME, false, now);
-        };
-        if let Some(id) = self.mailbox.ask(place)? {
-            let id = format!(in self.alloc; "{id}")?;
-            self.names.keep(name, id)?;
+    ) -> Option<Turn> {
+        match self.mailbox.first_meant(at, expected) {
+            Ok(Some((place, is_due))) => {
+                match name_id(&mut self.mailbox, &mut self.names, place, name) {
+                    Ok(()) => self.finish_met(is_due),
+                    Err(_) => self.refused(),
+                }
+            }
+            Ok(None) => self.waited(UNASKED_TIME, false, now),
+            Err(_) => self.refused(),
         }
-        self.finish_met(is_due)
     }
 
     // A notification is to come to a socket: the endpoint, X and O that are due have blanks between them.
-    fn notified(
-        &mut self,
-        at: Socket,
-        name: &'a str,
-        due: &str,
-        now: u64,
-    ) -> Result<Option<Turn>, OutOfMemory> {
-        let due = self.names.filled(due)?;
+    fn notified(&mut self, at: Socket, name: &'a str, due: &str, now: u64) -> Option<Turn> {
+        let Ok(due) = self.names.filled(due) else {
+            return self.refused();
+        };
         let (endpoint, rest) = due.as_str().split_once(' ').unwrap_or((due.as_str(), ""));
         let (x, events) = rest.split_once(' ').unwrap_or((rest, ""));
         let expected = Expected::Notification {
@@ -509,13 +589,7 @@ impl<'a> Player<'a> {
     }
 
     // An announcement with this method is to come to a socket.
-    fn announced(
-        &mut self,
-        at: Socket,
-        name: &'a str,
-        method: &str,
-        now: u64,
-    ) -> Result<Option<Turn>, OutOfMemory> {
+    fn announced(&mut self, at: Socket, name: &'a str, method: &str, now: u64) -> Option<Turn> {
         let expected = Expected::Announcement {
             method: method.as_bytes(),
         };
@@ -523,12 +597,7 @@ impl<'a> Player<'a> {
     }
 
     // What a step asked for last is to come so often again, each time within a time of its own.
-    fn came_again(
-        &mut self,
-        times: u64,
-        grows: bool,
-        now: u64,
-    ) -> Result<Option<Turn>, OutOfMemory> {
+    fn came_again(&mut self, times: u64, grows: bool, now: u64) -> Option<Turn> {
         let Some(gaps) = self.mailbox.gaps() else {
             return self.finish_met(false);
         };
@@ -538,13 +607,13 @@ impl<'a> Player<'a> {
         }
         let until = gaps.previous.saturating_add(UNASKED_TIME);
         if now < until {
-            return Ok(Some(Turn::Wait { until }));
+            return Some(Turn::Wait { until });
         }
         self.finish_met(false)
     }
 
     // No answer is to come for so long, or the gateway is to say nothing by itself.
-    fn quiet(&mut self, ms: u64, is_unasked: bool, now: u64) -> Result<Option<Turn>, OutOfMemory> {
+    fn quiet(&mut self, ms: u64, is_unasked: bool, now: u64) -> Option<Turn> {
         let until = self.deadline(ms, now);
         let is_quiet = if is_unasked {
             self.mailbox.is_quiet(until.saturating_sub(ms))
@@ -552,21 +621,23 @@ impl<'a> Player<'a> {
             self.inbox.is_empty()
         };
         if now < until && is_quiet {
-            return Ok(Some(Turn::Wait { until }));
+            return Some(Turn::Wait { until });
         }
-        if is_quiet {
-            self.note("(nothing comes)", &[])?;
+        if is_quiet && self.note("(nothing comes)", &[]).is_err() {
+            return self.refused();
         }
         self.finish_met(is_quiet)
     }
 
     // This is to be done at the line's telephone, or with the gateway.
-    fn ask_for(&mut self, act: &'a str) -> Result<Option<Turn>, OutOfMemory> {
+    fn ask_for(&mut self, act: &'a str) -> Option<Turn> {
         match self.acted {
             None => {
                 self.act = act;
-                self.note("@ ", act.as_bytes())?;
-                Ok(Some(Turn::Act))
+                if self.note("@ ", act.as_bytes()).is_err() {
+                    return self.refused();
+                }
+                Some(Turn::Act)
             }
             Some(is_done) => {
                 self.acted = None;
