@@ -392,25 +392,38 @@ impl<'a> Player<'a> {
             Step::Same { id } => self.answered_again(id, now),
             Step::Silence { ms } => self.quiet(ms, false, now),
             Step::Wait { ms } => self.waited(ms, true, now),
-            Step::Has { code, value } => self.compared(code, value, false),
-            Step::Unlike { code, value } => self.compared(code, value, true),
-            Step::Tells { text } => self.tells(text),
-            Step::Keep { name, code } => self.keep(name, code),
-            Step::Differ { first, second } => self.differ(first, second),
-            Step::Unknown => self.finish_met(false),
-            _ => self.play_unasked(step, now),
-        }
-    }
-
-    // Plays a step that speaks of what the gateway says by itself, or of what is done at a telephone.
-    fn play_unasked(&mut self, step: Step<'a>, now: u64) -> Option<Turn> {
-        match step {
             Step::Notified { at, name, due } => self.notified(at, name, due, now),
-            Step::Announced { at, name, method } => self.announced(at, name, method, now),
+            Step::Announced { at, name, method } => {
+                let method = method.as_bytes();
+                self.find(at, &Expected::Announcement { method }, name, now)
+            }
             Step::Again { times, grows } => self.came_again(times, grows, now),
             Step::Quiet { ms } => self.quiet(ms, true, now),
             Step::Act { act } => self.ask_for(act),
-            _ => self.finish_met(false),
+            _ => self.play_at_once(step),
+        }
+    }
+
+    // Plays a step that is met or not at once: by what the last answer holds, or by what names stand for.
+    fn play_at_once(&mut self, step: Step<'a>) -> Option<Turn> {
+        let alloc = self.alloc;
+        let is_met = match step {
+            Step::Has { code, value } => {
+                is_as_due(alloc, &self.names, self.inbox.last(), code, value, false)
+            }
+            Step::Unlike { code, value } => {
+                is_as_due(alloc, &self.names, self.inbox.last(), code, value, true)
+            }
+            Step::Tells { text } => is_told(alloc, self.inbox.last(), text),
+            Step::Keep { name, code } => {
+                keep_value(alloc, &mut self.names, self.inbox.last(), name, code)
+            }
+            Step::Differ { first, second } => self.names.differ(first, second),
+            _ => Ok(false),
+        };
+        match is_met {
+            Ok(is_met) => self.finish_met(is_met),
+            Err(_) => self.refused(),
         }
     }
 
@@ -522,37 +535,6 @@ impl<'a> Player<'a> {
         self.finish_met(is_met)
     }
 
-    // The step is done, and met or not, where memory wasn't refused.
-    fn finish_by(&mut self, is_met: Result<bool, OutOfMemory>) -> Option<Turn> {
-        match is_met {
-            Ok(is_met) => self.finish_met(is_met),
-            Err(_) => self.refused(),
-        }
-    }
-
-    // The last answer has this parameter, with this value or any; or it has it with another one.
-    fn compared(&mut self, code: &str, value: &str, is_other: bool) -> Option<Turn> {
-        let answer = self.inbox.last();
-        let is_met = is_as_due(self.alloc, &self.names, answer, code, value, is_other);
-        self.finish_by(is_met)
-    }
-
-    fn tells(&mut self, text: &str) -> Option<Turn> {
-        let is_met = is_told(self.alloc, self.inbox.last(), text);
-        self.finish_by(is_met)
-    }
-
-    fn keep(&mut self, name: &'a str, code: &str) -> Option<Turn> {
-        let is_met = keep_value(self.alloc, &mut self.names, self.inbox.last(), name, code);
-        self.finish_by(is_met)
-    }
-
-    // Two names stand for different values.
-    fn differ(&mut self, first: &str, second: &str) -> Option<Turn> {
-        let is_met = self.names.differ(first, second);
-        self.finish_by(is_met)
-    }
-
     // This is to come to a socket: whether as due or not, its id has this name from here on.
     fn find(
         &mut self,
@@ -584,14 +566,6 @@ impl<'a> Player<'a> {
             name: endpoint.as_bytes(),
             x: x.as_bytes(),
             events: events.as_bytes(),
-        };
-        self.find(at, &expected, name, now)
-    }
-
-    // An announcement with this method is to come to a socket.
-    fn announced(&mut self, at: Socket, name: &'a str, method: &str, now: u64) -> Option<Turn> {
-        let expected = Expected::Announcement {
-            method: method.as_bytes(),
         };
         self.find(at, &expected, name, now)
     }
