@@ -1,13 +1,12 @@
 //! The program: reads its words and its configuration, and serves, checks or plays.
 use crate::checks::checked;
-use crate::ending::{Ending, config_ending};
+use crate::ending::{Ending, config_ending, word_ending};
 use crate::help::of_all;
 use crate::phones::played;
 use crate::words::{Settings, read_words};
 use agent_texts::{AgentConfig, ConfigRefusal, Place, missing, read_config, too_long};
 use live_agent::{WireSettings, serve_agent};
 use live_ends::{CommonEnding, Outlets, SocketWanted, begin, end, read_file};
-use mg_bytes::OutOfMemory;
 use rgw_scripts::LIMIT;
 use std::alloc::Global;
 use std::io::Write;
@@ -60,64 +59,37 @@ fn wire_settings(settings: &Settings<'_>, config: &AgentConfig) -> WireSettings 
     }
 }
 
-// Serves with what is configured: how the program ends then.
+// Serves with the configuration in this text: how the program ends then.
 fn serve_with<'w, R: Files + Net + Clock>(
-    rt: &R,
-    alloc: Global,
-    settings: &Settings<'w>,
-    config: &AgentConfig,
-    outlets: &mut Outlets<R::File>,
-) -> CommonEnding<'w> {
-    let (is_routed, capture) = (settings.route, settings.capture);
-    let wire = wire_settings(settings, config);
-    serve_agent(rt, alloc, config, is_routed, wire, capture, outlets)
-}
-
-// Does what the settings ask, with this text of the configuration: how the program ends then.
-fn perform_with<'w, R: Files + Net + Clock>(
     rt: &R,
     alloc: Global,
     settings: &Settings<'w>,
     text: &[u8],
     outlets: &mut Outlets<R::File>,
 ) -> Ending<'w> {
-    match config_of(alloc, settings, text) {
-        Ok(config) => Ending::Common(serve_with(rt, alloc, settings, &config, outlets)),
-        Err(refusal) => config_ending(settings.config, refusal),
-    }
+    let config = match config_of(alloc, settings, text) {
+        Ok(config) => config,
+        Err(refusal) => return config_ending(settings.config, refusal),
+    };
+    let (is_routed, capture) = (settings.route, settings.capture);
+    let wire = wire_settings(settings, &config);
+    Ending::Common(serve_agent(rt, alloc, &config, is_routed, wire, capture, outlets))
 }
 
-// Does what the settings ask.
-fn perform<'w, R: Files + Net + Clock>(
-    rt: &R,
-    alloc: Global,
-    settings: &Settings<'w>,
-    outlets: &mut Outlets<R::File>,
-) -> Ending<'w> {
-    match read_file(rt, alloc, settings.config, LIMIT as u64) {
-        Ok(text) => perform_with(rt, alloc, settings, text.as_slice(), outlets),
-        Err(ending) => Ending::Common(ending),
-    }
-}
-
-// How the program with these words ends.
-fn ending_of<'w, R: AllocGlobal + Files + Net + Clock>(
+// Serves as these words ask: how the program ends then.
+fn served<'w, R: AllocGlobal + Files + Net + Clock>(
     rt: &R,
     words: &'w [String],
     outlets: &mut Outlets<R::File>,
 ) -> Ending<'w> {
     let settings = match read_words(rt.alloc(), words, &mut outlets.error) {
         Ok(settings) => settings,
-        Err(fault) => return Ending::from(fault),
+        Err(fault) => return word_ending(fault),
     };
-    perform(rt, rt.alloc(), &settings, outlets)
-}
-
-// What the program says at its end.
-fn ending_text(alloc: Global, ending: &Ending<'_>) -> Result<Vec<u8>, OutOfMemory> {
-    let mut text = Vec::new(alloc);
-    ending.put_text(alloc, &mut text, of_all())?;
-    Ok(text)
+    match read_file(rt, rt.alloc(), settings.config, LIMIT as u64) {
+        Ok(text) => serve_with(rt, rt.alloc(), &settings, text.as_slice(), outlets),
+        Err(ending) => Ending::Common(ending),
+    }
 }
 
 // Says how the program ends, and gives its status.
@@ -126,7 +98,11 @@ fn tell<R: AllocGlobal + Clock, F: Write + Drop>(
     outlets: &mut Outlets<F>,
     ending: &Ending<'_>,
 ) -> u8 {
-    let text = ending_text(rt.alloc(), ending);
+    let mut text = Vec::new(rt.alloc());
+    let text = match ending.put_text(rt.alloc(), &mut text, of_all()) {
+        Ok(()) => Ok(text),
+        Err(refused) => Err(refused),
+    };
     end(rt, outlets, text, ending.status(), ending.is_asked())
 }
 
@@ -140,7 +116,7 @@ fn ending_by<'w, R: AllocGlobal + Files + Net + Clock>(
     match asked {
         [word, ..] if word.as_str() == "check" => checked(rt, asked, outlets),
         [word, ..] if word.as_str() == "phones" => played(rt, rt.alloc(), asked),
-        _ => ending_of(rt, words, outlets),
+        _ => served(rt, words, outlets),
     }
 }
 

@@ -35,24 +35,17 @@ fn fault_line(alloc: Global, ending: &Ending<'_>) -> Result<String, OutOfMemory>
     Ok(line)
 }
 
-// Says why it fails as an object of the report, where that is JSON. Where memory is refused for that, its line on standard
-// error says it alone.
-fn report_fault<F: Write + Drop>(alloc: Global, out: &mut Outlet<F>, ending: &Ending<'_>) {
-    if let Ok(line) = fault_line(alloc, ending) {
-        out.say(line.as_bytes());
-        out.offer();
-    }
-}
-
-// How the program ends where nothing can be checked, or a report can't be kept.
+// How the program ends where nothing can be checked, or a report can't be kept. That is said as an object of the report, too, where
+// that is JSON; where memory is refused for that, its line on standard error says it alone.
 fn failed<'w, F: Write + Drop>(
     alloc: Global,
     out: &mut Outlet<F>,
     ending: Ending<'w>,
     is_json: bool,
 ) -> Ending<'w> {
-    if is_json {
-        report_fault(alloc, out, &ending);
+    if is_json && let Ok(line) = fault_line(alloc, &ending) {
+        out.say(line.as_bytes());
+        out.offer();
     }
     ending
 }

@@ -166,14 +166,8 @@ impl From<OutOfMemory> for Ending<'_> {
     }
 }
 
-impl<'a> From<CommonEnding<'a>> for Ending<'a> {
-    fn from(ending: CommonEnding<'a>) -> Ending<'a> {
-        Ending::Common(ending)
-    }
-}
-
-// How the program ends by its words.
-fn word_ending<'a>(fault: WordFault) -> Ending<'a>
+/// How the program ends by its words.
+pub fn word_ending<'a>(fault: WordFault) -> Ending<'a>
     ensures { result ≡ word_ending fault }
 {
     match fault {
@@ -181,12 +175,6 @@ fn word_ending<'a>(fault: WordFault) -> Ending<'a>
         WordFault::BadLine { word } => Ending::BadLine { word },
         WordFault::SameLine => Ending::SameLine,
         WordFault::NoCheck => Ending::NoCheck,
-    }
-}
-
-impl<'a> From<WordFault> for Ending<'a> {
-    fn from(fault: WordFault) -> Ending<'a> {
-        word_ending(fault)
     }
 }
 

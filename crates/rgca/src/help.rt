@@ -59,15 +59,6 @@ static HELP: [&str; 5] = ["usage: ", USAGE, ABOVE, CONTROL, BELOW];
 // The version of the program, and of its protocol, in pieces.
 static VERSIONS: [&str; 3] = ["rgca ", VERSION, "\nMGCP 1.0 (RFC 3435)\n"];
 
-// What the program says of itself.
-fn of_program() -> About {
-    About {
-        usage: USAGE,
-        help: HELP.as_slice(),
-        version: VERSIONS.as_slice(),
-    }
-}
-
 /// The words behind `check`.
 pub const CHECK_USAGE: &str =
     "rgca check ADDRESS --domain D --line NAME [--more-lines NAME] [--own ADDRESS] [--phones ADDRESS | --hook ADDRESS]
@@ -106,15 +97,6 @@ The status is 0 where none failed, 1 where one did, 2 for other words, 3 where n
 // How a check is asked for, in pieces.
 static CHECK_HELP: [&str; 3] = ["usage: ", CHECK_USAGE, CHECK_BELOW];
 
-// What it says of its checks.
-fn of_checks() -> About {
-    About {
-        usage: CHECK_USAGE,
-        help: CHECK_HELP.as_slice(),
-        version: VERSIONS.as_slice(),
-    }
-}
-
 // The words behind `phones`, in a line.
 const PHONES_USAGE: &str = "rgca phones SCRIPT [NAME=ADDRESS ..]";
 
@@ -149,20 +131,24 @@ The status is 0 where all was as expected, 1 where something wasn't, 2 for a fau
 // How a script of telephones is played, in pieces.
 static PHONES_HELP: [&str; 3] = ["usage: ", PHONES_USAGE, PHONES_BELOW];
 
-// What it says of its scripts of telephones.
-fn of_phones() -> About {
-    About {
-        usage: PHONES_USAGE,
-        help: PHONES_HELP.as_slice(),
-        version: VERSIONS.as_slice(),
-    }
-}
-
-/// What the program says of all it can be asked for.
+/// What the program says of itself, of its checks, and of its scripts of telephones.
 pub(crate) fn of_all() -> Abouts {
+    let version = VERSIONS.as_slice();
     Abouts {
-        program: of_program(),
-        checks: of_checks(),
-        phones: of_phones(),
+        program: About {
+            usage: USAGE,
+            help: HELP.as_slice(),
+            version,
+        },
+        checks: About {
+            usage: CHECK_USAGE,
+            help: CHECK_HELP.as_slice(),
+            version,
+        },
+        phones: About {
+            usage: PHONES_USAGE,
+            help: PHONES_HELP.as_slice(),
+            version,
+        },
     }
 }

@@ -10,14 +10,6 @@ use std::alloc::Global;
 use std::net::{Ipv4Addr, Net, SocketAddrV4};
 use std::rt::{Clock, Files};
 
-// A socket at any free port of this machine.
-fn any_socket() -> SocketWanted {
-    SocketWanted {
-        word: "",
-        address: SocketAddrV4::new(Ipv4Addr::UNSPECIFIED, 0),
-    }
-}
-
 // How the program ends by a play that failed.
 fn failure_ending<'w>(
     alloc: Global,
@@ -67,7 +59,12 @@ fn play<'w, R: Net + Clock>(
     settings: &PhoneSettings<'w>,
     script: Script,
 ) -> Result<Ending<'w>, OutOfMemory> {
-    let mut live = match Live::open(rt, alloc, any_socket(), any_socket()) {
+    // Any free port of this machine.
+    let any = SocketWanted {
+        word: "",
+        address: SocketAddrV4::new(Ipv4Addr::UNSPECIFIED, 0),
+    };
+    let mut live = match Live::open(rt, alloc, any, any) {
         Ok(live) => live,
         Err(_) => return Ok(Ending::System),
     };
