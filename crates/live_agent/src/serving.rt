@@ -33,14 +33,6 @@ pub struct WireSettings {
     pub end: Option<u64>,
 }
 
-// The network that spoils what comes and what is sent, where one is asked for.
-fn network_of(alloc: Global, spoiling: Option<Spoiling>) -> Option<BadNetwork> {
-    match spoiling {
-        Some(spoiling) => Some(BadNetwork::new(alloc, spoiling)),
-        None => None,
-    }
-}
-
 /// The wire over these surroundings, whose socket for gateways is here, as the settings ask for it. An error is for want of memory.
 pub fn wire_over<S: Surroundings + Drop>(
     alloc: Global,
@@ -53,7 +45,10 @@ pub fn wire_over<S: Surroundings + Drop>(
 {
     let journal = Journal::new(alloc, settings.has_log, settings.has_capture, here);
     let journal = boxed(alloc, journal)?;
-    let network = network_of(alloc, settings.network);
+    let network = match settings.network {
+        Some(spoiling) => Some(BadNetwork::new(alloc, spoiling)),
+        None => None,
+    };
     let around = Box::into_inner(around);
     let wire = Wire::new(alloc, around, network, journal, settings.end)?;
     boxed(alloc, wire)
@@ -101,26 +96,19 @@ pub fn serve_config<S: Surroundings + Drop, W: Recorder>(
     }
 }
 
-// Where the sockets are, as a line; none where a socket doesn't tell that.
-fn addresses_line<R: Net + Clock>(
-    alloc: Global,
-    live: &Live<'_, R>,
-) -> Result<String, OutOfMemory> {
-    match live.addresses() {
-        Ok((listen, control)) => format!(in alloc; "listen {listen} control {control}\n"),
-        Err(_) => Ok(String::new(alloc)),
-    }
-}
-
-// Says on standard error where the sockets are.
+// Says on standard error where the sockets are; nothing where a socket doesn't tell that.
 fn tell_addresses<R: Net + Clock, F: Write + Drop>(
     alloc: Global,
     live: &Live<'_, R>,
     outlets: &mut Outlets<F>,
 ) {
-    // For want of memory that line alone isn't said.
-    if let Ok(line) = addresses_line(alloc, live) {
-        outlets.error.say(line.as_bytes());
+    if let Ok((listen, control)) = live.addresses() {
+        let line: Result<String, OutOfMemory> =
+            format!(in alloc; "listen {listen} control {control}\n");
+        // For want of memory that line alone isn't said.
+        if let Ok(line) = line {
+            outlets.error.say(line.as_bytes());
+        }
     }
     outlets.offer();
 }

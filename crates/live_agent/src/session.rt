@@ -5,6 +5,7 @@ ghost use Rattle.live_agent.specs.Clock.{is_behind};
 use crate::recorder::Recorder;
 use crate::wire::Wire;
 use agent_texts::count;
+use bad_network::Way;
 use call_agent::Issued;
 use call_desk::{Switchboard, TypedFault, typed_text};
 use live_ends::STOP_FROM_AFAR;
@@ -143,7 +144,7 @@ fn take_datagram<S: Surroundings + Drop>(board: &mut Switchboard, wire: &mut Wir
         return;
     };
     let bytes = room.get(..len).unwrap_or(&[]);
-    if wire.is_spoilt(source, bytes) {
+    if wire.offer(Way::In, source, bytes) {
         let _ = take_over(board, wire);
     } else {
         hear(board, wire, source, bytes);

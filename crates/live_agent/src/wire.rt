@@ -75,13 +75,6 @@ fn note_fate(journal: &mut Journal, stamp: Stamp, fate: Fate) {
     journal.note(stamp, note);
 }
 
-fn is_by(due: Option<u64>, moment: u64) -> bool {
-    match due {
-        Some(due) => due <= moment,
-        None => false,
-    }
-}
-
 impl<S: Surroundings + Drop> Wire<S> {
     /// The wire over these surroundings, over which nothing went, at moment 0. This network spoils what goes over it, where there is one;
     /// it ends at a moment of its clock, in ms, if one is given. An error is for want of memory.
@@ -137,9 +130,13 @@ impl<S: Surroundings + Drop> Wire<S> {
     /// What may come now.
     pub(crate) fn ready(&self) -> Ready {
         let told = self.around.told();
+        let is_due = match self.network_due() {
+            Some(due) => due <= self.now.clock,
+            None => false,
+        };
         Ready {
             commands: told.lines || !self.lines.is_empty(),
-            datagrams: told.datagrams || is_by(self.network_due(), self.now.clock),
+            datagrams: told.datagrams || is_due,
             visitors: false,
         }
     }
@@ -195,8 +192,8 @@ impl<S: Surroundings + Drop> Wire<S> {
         self.lines.answer_all(&mut self.around, text);
     }
 
-    // Offers a packet to the network that spoils it: whether there is one.
-    fn offer(&mut self, way: Way, peer: SocketAddrV4, bytes: &[u8]) -> bool
+    /// Offers a packet to the network that spoils it: whether there is one.
+    pub(crate) fn offer(&mut self, way: Way, peer: SocketAddrV4, bytes: &[u8]) -> bool
         ensures spoilt { result ≡ is_some self.old.network }
         ensures around { self.new.around ≡ self.old.around }
     {
@@ -212,14 +209,6 @@ impl<S: Surroundings + Drop> Wire<S> {
             Err(_) => count(&mut self.journal.tally.refused),
         }
         true
-    }
-
-    /// What has come is offered to the network that spoils it: whether there is one.
-    pub(crate) fn is_spoilt(&mut self, peer: SocketAddrV4, bytes: &[u8]) -> bool
-        ensures spoilt { result ≡ is_some self.old.network }
-        ensures around { self.new.around ≡ self.old.around }
-    {
-        self.offer(Way::In, peer, bytes)
     }
 
     // The next packet that the network hands out now, if there is one.
