@@ -1,12 +1,12 @@
 //! What is told at the end: counts, one kind a line.
-ghost use Rattle.std.specs.Prelude.{◌≡◌, ◌++◌, OnOk, IfOk};
+ghost use Rattle.std.specs.Prelude.{◌≡◌, ◌++◌, IfOk};
 ghost use Rattle.std.specs.List.{flat_map};
 ghost use Rattle.page_answers.specs.Metrics.{code_text};
 ghost use Rattle.live_journal.specs.Reporting.{told, entry_text, datagrams_text, verbs_text, commands_text, texts_text, answer_text, answers_from, traffic_text, others_with, others_text, report_text, counts_with};
 
 use crate::journal::Journal;
 use crate::message_tally::MessageTally;
-use mg_bytes::put_decimal;
+use mg_bytes::Draft;
 use mgcp_text::Verb;
 use sent_counts::place_of;
 use std::alloc::{AllocError, Global};
@@ -32,42 +32,36 @@ impl Faults {
 }
 
 // A number, with what stands before it.
-fn put_number(
-    alloc: Global,
-    text: &mut Vec<u8>,
-    before: &str,
-    number: u64,
-) -> Result<(), AllocError>
-    ensures { OnOk result (text.new.items ≡ text.old.items ++ told before.now number) }
+fn put_number(text: &mut Draft, before: &str, number: u64)
+    ensures { text.new ≡ text.old ++ told before.now number }
 {
-    text.extend_from_slice(before.as_bytes())?;
-    put_decimal(alloc, text, number)
+    text.put(before.as_bytes());
+    text.put_decimal(number);
 }
 
 // Each number, with what stands before it.
-fn put_numbers(alloc: Global, text: &mut Vec<u8>, numbers: &[(&str, u64)]) -> Result<(), AllocError>
-    ensures { OnOk result (text.new.items ≡ text.old.items ++ flat_map entry_text numbers.now) }
+fn put_numbers(text: &mut Draft, numbers: &[(&str, u64)])
+    ensures { text.new ≡ text.old ++ flat_map entry_text numbers.now }
 {
     for (before, number) in numbers {
-        put_number(alloc, text, *before, *number)?;
+        put_number(text, *before, *number);
     }
-    Ok(())
 }
 
 #[tactic(auto, unfolding(crate::specs::Reporting::datagrams_text))]
-fn put_datagrams(alloc: Global, text: &mut Vec<u8>, tally: &MessageTally) -> Result<(), AllocError>
-    ensures { OnOk result (text.new.items ≡ text.old.items ++ datagrams_text tally.now) }
+fn put_datagrams(text: &mut Draft, tally: &MessageTally)
+    ensures { text.new ≡ text.old ++ datagrams_text tally.now }
 {
     let numbers = [
         ("datagrams in ", tally.datagrams_in),
         (" out ", tally.datagrams_out),
     ];
-    put_numbers(alloc, text, &numbers)
+    put_numbers(text, &numbers);
 }
 
 #[tactic(auto, unfolding(crate::specs::Reporting::verbs_text))]
-fn put_verbs(alloc: Global, text: &mut Vec<u8>, commands: &[u64; 10]) -> Result<(), AllocError>
-    ensures { OnOk result (text.new.items ≡ text.old.items ++ verbs_text commands.now) }
+fn put_verbs(text: &mut Draft, commands: &[u64; 10])
+    ensures { text.new ≡ text.old ++ verbs_text commands.now }
 {
     let numbers = [
         (" EPCF ", commands[0]),
@@ -81,72 +75,70 @@ fn put_verbs(alloc: Global, text: &mut Vec<u8>, commands: &[u64; 10]) -> Result<
         (" RSIP ", commands[8]),
         (" other ", commands[9]),
     ];
-    put_numbers(alloc, text, &numbers)
+    put_numbers(text, &numbers);
 }
 
-fn put_commands(alloc: Global, text: &mut Vec<u8>, commands: &[u64; 10]) -> Result<(), AllocError>
-    ensures { OnOk result (text.new.items ≡ text.old.items ++ commands_text commands.now) }
+fn put_commands(text: &mut Draft, commands: &[u64; 10])
+    ensures { text.new ≡ text.old ++ commands_text commands.now }
 {
-    text.extend_from_slice(b"\ncommands")?;
-    put_verbs(alloc, text, commands)
+    text.put(b"\ncommands");
+    put_verbs(text, commands);
 }
 
 #[tactic(auto, unfolding(crate::specs::Reporting::texts_text))]
-fn put_texts(alloc: Global, text: &mut Vec<u8>, tally: &MessageTally) -> Result<(), AllocError>
-    ensures { OnOk result (text.new.items ≡ text.old.items ++ texts_text tally.now) }
+fn put_texts(text: &mut Draft, tally: &MessageTally)
+    ensures { text.new ≡ text.old ++ texts_text tally.now }
 {
     let numbers = [
         ("\nresponses ", tally.texts.responses),
         (" no message ", tally.texts.others),
     ];
-    put_numbers(alloc, text, &numbers)
+    put_numbers(text, &numbers);
 }
 
 // The three digits of a return code (RFC 3435, 2.4).
-fn put_code(alloc: Global, text: &mut Vec<u8>, code: usize) -> Result<(), AllocError>
-    ensures { OnOk result (text.new.items ≡ text.old.items ++ code_text code) }
+fn put_code(text: &mut Draft, code: usize)
+    ensures { text.new ≡ text.old ++ code_text code }
 {
     if code < 10 {
-        text.extend_from_slice(b"00")?;
+        text.put(b"00");
     } else if code < 100 {
-        text.extend_from_slice(b"0")?;
+        text.put(b"0");
     }
-    put_decimal(alloc, text, code as u64)
+    text.put_decimal(code as u64);
 }
 
 // How often something was answered by a return code, if it ever was.
-fn put_answer(alloc: Global, text: &mut Vec<u8>, code: usize, number: u64) -> Result<(), AllocError>
-    ensures { OnOk result (text.new.items ≡ text.old.items ++ answer_text code number) }
+fn put_answer(text: &mut Draft, code: usize, number: u64)
+    ensures { text.new ≡ text.old ++ answer_text code number }
 {
     if number == 0 {
-        return Ok(());
+        return;
     }
-    text.extend_from_slice(b" ")?;
-    put_code(alloc, text, code)?;
-    put_number(alloc, text, " ", number)
+    text.put(b" ");
+    put_code(text, code);
+    put_number(text, " ", number);
 }
 
 #[tactic(auto, unfolding(crate::specs::Reporting::answers_from))]
-fn put_answers(alloc: Global, text: &mut Vec<u8>, answers: &[u64]) -> Result<(), AllocError>
-    ensures { OnOk result (text.new.items ≡ text.old.items ++ answers_from 0 answers.now) }
+fn put_answers(text: &mut Draft, answers: &[u64])
+    ensures { text.new ≡ text.old ++ answers_from 0 answers.now }
 {
     for (code, number) in answers.iter().enumerate() {
-        put_answer(alloc, text, code, *number)?;
+        put_answer(text, code, *number);
     }
-    Ok(())
 }
 
 // What is told behind the answers, where so many commands of its own were given up.
 #[tactic(auto, unfolding(crate::specs::Reporting::others_with))]
 fn put_others_with(
-    alloc: Global,
-    text: &mut Vec<u8>,
+    text: &mut Draft,
     tally: &MessageTally,
     given_up: u64,
     lost: u64,
     faults: Faults,
-) -> Result<(), AllocError>
-    ensures { OnOk result (text.new.items ≡ text.old.items ++ others_with tally.now given_up lost faults) }
+)
+    ensures { text.new ≡ text.old ++ others_with tally.now given_up lost faults }
 {
     let (notifications, announcements) = (place_of(Verb::Ntfy), place_of(Verb::Rsip));
     let numbers = [
@@ -163,47 +155,42 @@ fn put_others_with(
         ("\nstrangers ", tally.strangers),
         (" lost commands ", tally.texts.lost),
     ];
-    put_numbers(alloc, text, &numbers)
+    put_numbers(text, &numbers);
 }
 
 // What is told behind the answers.
-fn put_others(
-    alloc: Global,
-    text: &mut Vec<u8>,
-    tally: &MessageTally,
-    lost: u64,
-    faults: Faults,
-) -> Result<(), AllocError>
-    ensures { OnOk result (text.new.items ≡ text.old.items ++ others_text tally.now lost faults) }
+fn put_others(text: &mut Draft, tally: &MessageTally, lost: u64, faults: Faults)
+    ensures { text.new ≡ text.old ++ others_text tally.now lost faults }
 {
-    put_others_with(alloc, text, tally, tally.sent.given_up(), lost, faults)
+    put_others_with(text, tally, tally.sent.given_up(), lost, faults);
 }
 
 // What is told of texts.
 #[tactic(auto, unfolding(crate::specs::Reporting::traffic_text))]
-fn put_traffic(alloc: Global, text: &mut Vec<u8>, tally: &MessageTally) -> Result<(), AllocError>
-    ensures { OnOk result (text.new.items ≡ text.old.items ++ traffic_text tally.now) }
+fn put_traffic(text: &mut Draft, tally: &MessageTally)
+    ensures { text.new ≡ text.old ++ traffic_text tally.now }
 {
-    put_datagrams(alloc, text, tally)?;
-    put_commands(alloc, text, &tally.texts.commands)?;
-    put_texts(alloc, text, tally)?;
-    text.extend_from_slice(b"\nanswers")?;
-    put_answers(alloc, text, tally.sent.answers.as_slice())
+    put_datagrams(text, tally);
+    put_commands(text, &tally.texts.commands);
+    put_texts(text, tally);
+    text.put(b"\nanswers");
+    put_answers(text, tally.sent.answers.as_slice());
 }
 
 // All of it, where so many events of all lines were lost.
-fn put_report(
+fn report_text(
     alloc: Global,
-    text: &mut Vec<u8>,
     tally: &MessageTally,
     lost: u64,
     faults: Faults,
-) -> Result<(), AllocError>
-    ensures { OnOk result (text.new.items ≡ text.old.items ++ report_text tally.now lost faults) }
+) -> Result<Vec<u8>, AllocError>
+    ensures { IfOk result (λ text. text.items ≡ report_text tally.now lost faults) }
 {
-    put_traffic(alloc, text, tally)?;
-    put_others(alloc, text, tally, lost, faults)?;
-    text.extend_from_slice(b"\n")
+    let mut text = Draft::new(alloc);
+    put_traffic(&mut text, tally);
+    put_others(&mut text, tally, lost, faults);
+    text.put_byte(b'\n');
+    text.end()
 }
 
 /// The counts as text, where so many events of all lines were lost. Its only error is want of memory.
@@ -215,8 +202,7 @@ pub fn report_with(
 ) -> Result<Vec<u8>, AllocError>
     ensures { IfOk result (λ text. text.items ≡ counts_with journal.now lost faults) }
 {
-    let mut text = Vec::new(alloc);
-    put_report(alloc, &mut text, &journal.tally, lost, faults)?;
+    let mut text = report_text(alloc, &journal.tally, lost, faults)?;
     let capture = journal.capture.name.as_bytes();
     journal.written.put_line(alloc, &mut text, capture)?;
     Ok(text)

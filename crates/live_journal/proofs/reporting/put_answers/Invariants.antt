@@ -4,4 +4,4 @@ use Rattle.live_journal.proofs.reporting.put_answers.Given as goal
 
 abbrev pub invariant-loop-code : goal.invariant-loop-code
 invariant-loop-code l =
-    l.text.items ++ answers_from l.code (drop l.code l.answers) ≡ l.initial.text.items ++ answers_from 0 l.answers
+    l.text ++ answers_from l.code (drop l.code l.answers) ≡ l.initial.text ++ answers_from 0 l.answers

@@ -5,4 +5,4 @@ use Rattle.live_journal.proofs.reporting.put_numbers.Given as goal
 
 abbrev pub invariant-loop-before : goal.invariant-loop-before
 invariant-loop-before l =
-    l.text.items ++ flat_map entry_text (drop l.before-index l.numbers) ≡ l.fn.text.items ++ flat_map entry_text l.numbers
+    l.text ++ flat_map entry_text (drop l.before-index l.numbers) ≡ l.fn.text ++ flat_map entry_text l.numbers
