@@ -103,21 +103,26 @@ impl Log {
         })
     }
 
-    // Puts a text that goes this way between the gateway and its peer.
-    pub(crate) fn put_text(
-        &mut self,
-        stamp: Stamp,
-        way: Way,
-        text: &[u8],
-        waited: Option<u64>,
-    ) -> Result<(), OutOfMemory> {
+    // Puts a text that goes this way between the gateway and its peer. Where memory is refused for it, nothing is told from then on.
+    pub(crate) fn put_text(&mut self, stamp: Stamp, way: Way, text: &[u8], waited: Option<u64>) {
+        if !self.record.is_on() {
+            return;
+        }
         let own = self.domain.as_bytes();
         let out = &mut self.record.out;
-        put_message(self.alloc, out, own, stamp, way, text, waited)
+        if put_message(self.alloc, out, own, stamp, way, text, waited).is_err() {
+            self.record.refuse();
+        }
     }
 
-    pub(crate) fn put_note(&mut self, stamp: Stamp, note: Note) -> Result<(), OutOfMemory> {
-        put_note(self.alloc, &mut self.record.out, stamp, note)
+    // Puts a note, likewise.
+    pub(crate) fn put_note(&mut self, stamp: Stamp, note: Note) {
+        if !self.record.is_on() {
+            return;
+        }
+        if put_note(self.alloc, &mut self.record.out, stamp, note).is_err() {
+            self.record.refuse();
+        }
     }
 
     /// A datagram comes for the gateway, so late, in ms.
@@ -146,38 +151,33 @@ impl Log {
     }
 
     // Tells a text that came, by what it was to the gateway.
-    fn put_arrived(&mut self, text: &[u8], outcome: &TextOutcome) -> Result<(), OutOfMemory> {
+    fn put_arrived(&mut self, text: &[u8], outcome: &TextOutcome) {
         let waited = match outcome {
             TextOutcome::NoMessage => return self.put_note(self.came, Note::Unreadable),
             TextOutcome::Command { .. } => None,
             TextOutcome::Response { .. } => self.waited(text),
         };
-        self.put_text(self.came, Way::Came, text, waited)
+        self.put_text(self.came, Way::Came, text, waited);
     }
 
-    fn put_all_arrived(
-        &mut self,
-        bytes: &[u8],
-        outcomes: &[TextOutcome],
-    ) -> Result<(), OutOfMemory> {
+    fn put_all_arrived(&mut self, bytes: &[u8], outcomes: &[TextOutcome]) {
         let Some(texts) = texts(bytes) else {
             let length = bytes.len();
             return self.put_note(self.came, Note::TooLong { length });
         };
         for (text, outcome) in texts.zip(outcomes.iter()) {
-            self.put_arrived(text, outcome)?;
+            self.put_arrived(text, outcome);
         }
-        Ok(())
     }
 
     // Tells the datagram that came and isn't told yet, by what its texts were, and that it came late.
-    fn put_arrival(&mut self, outcomes: &[TextOutcome]) -> Result<(), OutOfMemory> {
+    fn put_arrival(&mut self, outcomes: &[TextOutcome]) {
         let Some(Arrival { bytes, late }) = self.arrival.take() else {
-            return Ok(());
+            return;
         };
-        self.put_all_arrived(bytes.as_slice(), outcomes)?;
+        self.put_all_arrived(bytes.as_slice(), outcomes);
         match late {
-            0 => Ok(()),
+            0 => {}
             ms => self.put_note(self.came, Note::Late { ms }),
         }
     }
@@ -200,8 +200,8 @@ impl Log {
         )
     }
 
+    // What the gateway sends at an event is kept, and what it gave up is noted.
     fn take_turn(&mut self, now: Now, taken: &Taken<'_>) -> Result<(), OutOfMemory> {
-        self.put_arrival(taken.outcomes)?;
         self.messages.clear();
         for message in taken.sent {
             self.messages.push_back(*message)?;
@@ -214,12 +214,16 @@ impl Log {
 
     /// The gateway took an event: what came is told, and what it gave up is noted; what it sends is told by its labels, in its order.
     pub(crate) fn turned(&mut self, now: Now, taken: &Taken<'_>) {
+        if !self.record.is_on() {
+            return;
+        }
+        self.put_arrival(taken.outcomes);
         if self.record.is_on() && self.take_turn(now, taken).is_err() {
             self.record.refuse();
         }
     }
 
-    // A command of the gateway's own is sent for the first time.
+    // A command of the gateway's own is sent for the first time: what it was is kept.
     fn own_sent(
         &mut self,
         to: Stamp,
@@ -227,7 +231,6 @@ impl Log {
         id: TransactionId,
         text: &[u8],
     ) -> Result<(), OutOfMemory> {
-        self.put_text(to, Way::Sent, text, None)?;
         let own = OwnCommand {
             id,
             first: to,
@@ -237,32 +240,40 @@ impl Log {
         Ok(())
     }
 
+    // A command is sent for the first time, of the gateway's own or not.
+    fn command_sent(&mut self, to: Stamp, label: Label, text: &[u8]) {
+        self.put_text(to, Way::Sent, text, None);
+        let is_kept = match label.whose {
+            Whose::OwnOf(line) => self.own_sent(to, line, label.id, text),
+            Whose::AnswerOf(_) | Whose::Nobody => Ok(()),
+        };
+        if is_kept.is_err() {
+            self.record.refuse();
+        }
+    }
+
     // A message is sent that has this label.
-    fn labelled_sent(&mut self, to: Stamp, label: Label, text: &[u8]) -> Result<(), OutOfMemory> {
+    fn labelled_sent(&mut self, to: Stamp, label: Label, text: &[u8]) {
         let id = label.id;
         match label.what {
             What::Answer { .. } => {
                 let waited = to.moment.saturating_sub(self.came.moment) / MICROSECONDS;
-                self.put_text(to, Way::Sent, text, Some(waited))
+                self.put_text(to, Way::Sent, text, Some(waited));
             }
             What::Again { .. } => self.put_note(to, Note::AnsweredAgain(id)),
-            What::Command { .. } => match label.whose {
-                Whose::OwnOf(line) => self.own_sent(to, line, id, text),
-                Whose::AnswerOf(_) | Whose::Nobody => self.put_text(to, Way::Sent, text, None),
-            },
+            What::Command { .. } => self.command_sent(to, label, text),
             What::Resent { .. } => self.put_note(to, Note::SentAgain(id)),
             What::Acknowledgement => self.put_text(to, Way::Sent, text, None),
         }
     }
 
-    fn datagram_sent(&mut self, to: Stamp, bytes: &[u8]) -> Result<(), OutOfMemory> {
+    fn datagram_sent(&mut self, to: Stamp, bytes: &[u8]) {
         for text in parts(bytes) {
             match self.messages.pop_front() {
-                Some(message) => self.labelled_sent(to, message.label, text)?,
-                None => self.put_text(to, Way::Sent, text, None)?,
+                Some(message) => self.labelled_sent(to, message.label, text),
+                None => self.put_text(to, Way::Sent, text, None),
             }
         }
-        Ok(())
     }
 
     /// A datagram is sent.
@@ -275,8 +286,6 @@ impl Log {
             peer: to,
         };
         self.sent = now.time;
-        if self.datagram_sent(to, bytes).is_err() {
-            self.record.refuse();
-        }
+        self.datagram_sent(to, bytes);
     }
 }

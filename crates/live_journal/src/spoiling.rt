@@ -7,7 +7,6 @@ use crate::log::Log;
 use bad_network::Fate;
 use exchange_log::{Note, Stamp, Way, put_pause};
 use live_ends::Now;
-use mg_bytes::OutOfMemory;
 use piggyback::parts;
 use std::net::SocketAddrV4;
 
@@ -22,11 +21,11 @@ pub(crate) fn note_of(fate: Fate) -> Option<Note> {
 }
 
 impl Log {
-    fn put_untaken(&mut self, from: Stamp, bytes: &[u8], why: Note) -> Result<(), OutOfMemory> {
+    fn put_untaken(&mut self, from: Stamp, bytes: &[u8], why: Note) {
         for text in parts(bytes) {
-            self.put_text(from, Way::Came, text, None)?;
+            self.put_text(from, Way::Came, text, None);
         }
-        self.put_note(from, why)
+        self.put_note(from, why);
     }
 
     /// A datagram that was sent to the gateway isn't taken, for this reason.
@@ -36,8 +35,8 @@ impl Log {
             peer: source,
         };
         self.arrival = None;
-        if self.record.is_on() && self.put_untaken(from, bytes, why).is_err() {
-            self.record.refuse();
+        if self.record.is_on() {
+            self.put_untaken(from, bytes, why);
         }
     }
 
@@ -47,9 +46,7 @@ impl Log {
             moment: now.time,
             peer,
         };
-        if self.record.is_on() && self.put_note(stamp, note).is_err() {
-            self.record.refuse();
-        }
+        self.put_note(stamp, note);
     }
 
     /// The program was stopped and went on so much later than it was to, in ms, and so many datagrams had come, where that is known.
