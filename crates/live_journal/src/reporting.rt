@@ -131,13 +131,7 @@ fn put_answers(text: &mut Draft, answers: &[u64])
 
 // What is told behind the answers, where so many commands of its own were given up.
 #[tactic(auto, unfolding(crate::specs::Reporting::others_with))]
-fn put_others_with(
-    text: &mut Draft,
-    tally: &MessageTally,
-    given_up: u64,
-    lost: u64,
-    faults: Faults,
-)
+fn put_others_with(text: &mut Draft, tally: &MessageTally, given_up: u64, lost: u64, faults: Faults)
     ensures { text.new ≡ text.old ++ others_with tally.now given_up lost faults }
 {
     let (notifications, announcements) = (place_of(Verb::Ntfy), place_of(Verb::Rsip));
