@@ -1,5 +1,5 @@
 //! The word that says of a gateway who may speak to it, where none is said.
-ghost use Rattle.std.specs.Prelude.{◌≡◌, string_bytes, IfOk, OnOk, option_copied};
+ghost use Rattle.std.specs.Prelude.{◌≡◌, IfOk, OnOk, option_copied};
 ghost use Rattle.std.specs.List.{fold};
 ghost use Rattle.std.specs.Net.Addr.{ipv4_octets};
 ghost use Rattle.std.specs.Net.Text.{ipv4_text};
@@ -8,7 +8,8 @@ ghost use Rattle.live_gateway.specs.Naming.{word_of, no_word, listed, with_named
 
 use crate::admission::hosts_of;
 use endpoint_names::{Host, Route};
-use mg_bytes::OutOfMemory;
+use exchange_log::put_host;
+use mg_bytes::{Draft, OutOfMemory};
 use plain_machine::Setup;
 use std::alloc::Global;
 use std::net::Ipv4Addr;
@@ -23,12 +24,12 @@ struct Named {
 }
 
 // An address as text.
-fn host_text(alloc: Global, host: Ipv4Addr) -> Result<String, OutOfMemory>
-    ensures { IfOk result (λ text. string_bytes text ≡ ipv4_text (ipv4_octets host)) }
+fn host_text(alloc: Global, host: Ipv4Addr) -> Result<Vec<u8>, OutOfMemory>
+    ensures { IfOk result (λ text. text.items ≡ ipv4_text (ipv4_octets host)) }
 {
-    let mut text = String::new(alloc);
-    write!(text, "{host}")?;
-    Ok(text)
+    let mut text = Draft::new(alloc);
+    put_host(&mut text, host);
+    text.end()
 }
 
 // Puts an item behind others, which commas part.
@@ -62,7 +63,7 @@ impl Named {
             return Ok(());
         }
         let item = host_text(self.alloc, host)?;
-        put_item(&mut self.text, item.as_bytes())?;
+        put_item(&mut self.text, item.as_slice())?;
         self.speakers.admit(host)?;
         Ok(())
     }
@@ -113,11 +114,12 @@ fn known_word(alloc: Global, setup: &Setup) -> Result<Vec<u8>, OutOfMemory>
 pub fn agents_line(alloc: Global, word: Option<&str>, setup: &Setup) -> Result<Vec<u8>, OutOfMemory>
     ensures { IfOk result (λ line. line.items ≡ agents_line (option_copied word.entry) setup.now) }
 {
-    let mut line = Vec::from_slice(alloc, b"agents: --agents ")?;
+    let mut line = Draft::new(alloc);
+    line.put(b"agents: --agents ");
     match word {
-        Some(word) => line.extend_from_slice(word.as_bytes())?,
-        None => line.extend_from_slice(known_word(alloc, setup)?.as_slice())?,
+        Some(word) => line.put(word.as_bytes()),
+        None => line.put(known_word(alloc, setup)?.as_slice()),
     }
-    line.extend_from_slice(b"\n")?;
-    Ok(line)
+    line.put(b"\n");
+    line.end()
 }
