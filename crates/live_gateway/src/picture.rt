@@ -9,9 +9,11 @@ ghost use Rattle.live_gateway.specs.Picturing.{with_traffic, with_own, with_faul
 
 use crate::seeing::seen_line;
 use connections::mode_text;
+use exchange_log::put_peer;
 use gateway_core::Gateway;
 use line_changes::{SeenConnection, SeenLine, codec_text};
 use live_journal::{Faults, Journal, MessageTally};
+use mg_bytes::Draft;
 use mg_packages::{Hook, signal_name};
 use mgcp_text::Verb;
 use page_answers::{
@@ -35,8 +37,9 @@ fn signals_of(alloc: Global, signals: &[ActiveSignal]) -> Result<Vec<SignalView>
 
 // An address as text.
 fn address_text(alloc: Global, address: SocketAddrV4) -> Result<Vec<u8>, AllocError> {
-    let text = format!(in alloc; "{address}")?;
-    Ok(text.into_bytes())
+    let mut text = Draft::new(alloc);
+    put_peer(&mut text, address);
+    text.end()
 }
 
 // Where media go, as text; nothing where that isn't known.
