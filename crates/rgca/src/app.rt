@@ -6,7 +6,7 @@ use crate::phones::played;
 use crate::words::{Settings, read_words};
 use agent_texts::{AgentConfig, ConfigRefusal, Place, missing, read_config, too_long};
 use live_agent::{WireSettings, serve_agent};
-use live_ends::{CommonEnding, Outlets, SocketWanted, begin, end, read_file};
+use live_ends::{Begun, CommonEnding, Outlets, SocketWanted, begin, end, read_file};
 use rgw_scripts::LIMIT;
 use std::alloc::Global;
 use std::io::Write;
@@ -120,17 +120,32 @@ fn ending_by<'w, R: AllocGlobal + Files + Net + Clock>(
     }
 }
 
+// Runs the program with these words, or without them, and gives its exit status.
+fn run_with<R: AllocGlobal + Files + Net + Clock>(
+    rt: &R,
+    words: &Result<Vec<String>, CommonEnding<'static>>,
+    outlets: &mut Outlets<R::File>,
+) -> u8 {
+    let words = match words {
+        Ok(words) => words,
+        Err(ending) => return tell(rt, outlets, &Ending::Common(*ending)),
+    };
+    let ending = ending_by(rt, words.as_slice(), outlets);
+    tell(rt, outlets, &ending)
+}
+
 /// Runs the program, and gives its exit status.
 pub fn run<R: AllocGlobal + Env + Files + Net + Clock>(rt: &R) -> u8
 where
     R::File: AsRawFd,
 {
-    let Some(mut begun) = begin(rt) else {
+    let Some(begun) = begin(rt) else {
         return CommonEnding::OutOfMemory.status();
     };
-    let ending = match &begun.words {
-        Ok(words) => ending_by(rt, words.as_slice(), &mut begun.outlets),
-        Err(ending) => Ending::Common(*ending),
-    };
-    tell(rt, &mut begun.outlets, &ending)
+    let Begun {
+        held: _held,
+        words,
+        mut outlets,
+    } = begun;
+    run_with(rt, &words, &mut outlets)
 }
