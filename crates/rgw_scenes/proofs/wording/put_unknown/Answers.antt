@@ -3,4 +3,4 @@ use Rattle.rgw_scenes.proofs.PieceLemmas.{behind}
 use Rattle.rgw_scenes.proofs.wording.put_unknown.Goals as goal
 
 pub returns : goal.returns
-returns c = behind _ (codes "unknown key ") _ _ _ c.in_ok-put.ensures c.in_ok-put_text.ensures
+returns c = behind _ (codes "unknown key ") _ _ _ c.put.ensures c.put_text.ensures
