@@ -7,6 +7,7 @@
 //! that isn't met. `report NAME` and `case NAME` are the same, with what is printed of the check, for people or as JUnit's XML; so are
 //! `tally NAME` and `suite NAME`, with what is printed at the end of a report of this check alone. `entry NAME` is how it stands in the
 //! list of all, and `unplayed NAME` how it is reported where it isn't played, whatever the value is.
+use crate::texts::words_of;
 use gateway_checks::{
     Check, Names, Places, Player, Socket, Tally, Turn, Verdict, check_named, put_case, put_check,
     put_entry, put_suite, put_tally,
@@ -52,14 +53,14 @@ fn come(player: &mut Player<'_>, item: &[u8], now: u64) -> Result<u64, OutOfMemo
 
 // Plays a check to its end, where this comes.
 fn play(player: &mut Player<'_>, came: &[u8]) -> Result<(), OutOfMemory> {
-    let mut items = came.split(|byte| *byte == b'|');
+    let mut items = words_of(came).split('|');
     let mut now = 0;
     for _ in 0..MOST_TURNS {
         match player.turn(now)? {
             Turn::Send { .. } => {}
             Turn::Wait { until } => match items.next() {
-                Some(b"-") | None => now = until,
-                Some(item) => now = come(player, item, now)?,
+                Some("-") | None => now = until,
+                Some(item) => now = come(player, item.as_bytes(), now)?,
             },
             // What is to be done at a telephone is done, unless a `!` says that it can't be.
             Turn::Act => player.acted(!came.contains(&b'!')),
@@ -67,33 +68,6 @@ fn play(player: &mut Player<'_>, came: &[u8]) -> Result<(), OutOfMemory> {
         }
     }
     Ok(())
-}
-
-// What is told of a check.
-#[derive(Clone, Copy)]
-enum Form {
-    Verdict,
-    Report,
-    Case,
-    Entry,
-    Unplayed,
-    Tally,
-    Suite,
-}
-
-// The form that a call asks for, and the name of its check.
-fn asked(call: &str) -> Option<(Form, &str)> {
-    let (word, name) = call.split_once(' ')?;
-    match word {
-        "check" => Some((Form::Verdict, name)),
-        "report" => Some((Form::Report, name)),
-        "case" => Some((Form::Case, name)),
-        "entry" => Some((Form::Entry, name)),
-        "unplayed" => Some((Form::Unplayed, name)),
-        "tally" => Some((Form::Tally, name)),
-        "suite" => Some((Form::Suite, name)),
-        _ => None,
-    }
 }
 
 // Puts the verdict, with the step that isn't met.
@@ -133,23 +107,24 @@ fn put_suite_of(
     put_suite(out, cases.as_str(), &tally_of(verdict))
 }
 
-// Puts what is told of a check that was played.
-fn put_form(
+// Puts what the word of a call asks of a check that was played, and nothing where there is no such word.
+fn put_asked(
     alloc: Global,
     out: &mut String,
-    form: Form,
+    word: &str,
     check: &Check<'_>,
     player: &Player<'_>,
 ) -> Result<(), OutOfMemory> {
     let verdict = Some(player.verdict());
-    match form {
-        Form::Verdict => put_verdict(out, player),
-        Form::Report => put_check(out, check, verdict, player.said()),
-        Form::Case => put_case(out, check, verdict, player.due(), player.said()),
-        Form::Entry => put_entry(out, check),
-        Form::Unplayed => put_check(out, check, None, ""),
-        Form::Tally => put_tally(out, &tally_of(player.verdict())),
-        Form::Suite => put_suite_of(alloc, out, check, player),
+    match word {
+        "check" => put_verdict(out, player),
+        "report" => put_check(out, check, verdict, player.said()),
+        "case" => put_case(out, check, verdict, player.due(), player.said()),
+        "entry" => put_entry(out, check),
+        "unplayed" => put_check(out, check, None, ""),
+        "tally" => put_tally(out, &tally_of(player.verdict())),
+        "suite" => put_suite_of(alloc, out, check, player),
+        _ => Ok(()),
     }
 }
 
@@ -157,40 +132,37 @@ fn put_form(
 fn told_by(
     alloc: Global,
     player: &mut Player<'_>,
-    form: Form,
+    word: &str,
     check: &Check<'_>,
     came: &[u8],
 ) -> Result<String, OutOfMemory> {
     play(player, came)?;
     let mut out = String::new(alloc);
-    put_form(alloc, &mut out, form, check, player)?;
+    put_asked(alloc, &mut out, word, check, player)?;
     Ok(out)
 }
 
 // What is told of a check in which this comes.
 fn told(
     alloc: Global,
-    form: Form,
+    word: &str,
     check: &Check<'static>,
     came: &[u8],
 ) -> Result<String, OutOfMemory> {
     let names = Names::new(alloc, &PLACES, 0);
     let mut player = Player::new(alloc, check, names);
-    told_by(alloc, &mut player, form, check, came)
+    told_by(alloc, &mut player, word, check, came)
 }
 
-/// Puts what a call gives, and says whether there is such a call here. Where there is no check of this name there is no such row.
+/// Puts what a call gives; no where there is no such call here, and where there is no check of its name.
 pub fn put_answer(given: &mut Outcome, call: &str, value: &[u8]) -> bool {
-    let Some((form, name)) = asked(call) else {
+    let (word, name) = call.split_once(' ').unwrap_or((call, ""));
+    let Some(check) = check_named(name) else {
         return false;
     };
-    let Some(check) = check_named(name) else {
-        given.unread();
-        return true;
-    };
-    match told(given.alloc, form, &check, value) {
+    match told(given.alloc, word, &check, value) {
         Ok(text) => given.put(text.as_bytes()),
         Err(_) => given.refuse(),
     }
-    true
+    !given.bytes.is_empty()
 }

@@ -3,7 +3,7 @@ ghost use Rattle.std.specs.Prelude.{◌≡◌};
 ghost use Rattle.std.specs.List.{list_all};
 ghost use Rattle.piggyback.specs.Packing.{is_joinable};
 
-use crate::texts::put_pieces;
+use crate::texts::{put_pieces, words_of};
 use crate::values::numbered;
 use mg_bytes::{OutOfMemory, Text};
 use piggyback::{is_joinable, join, parts};
@@ -13,9 +13,9 @@ use std::alloc::Global;
 // The texts of a value, each of which has a `|` behind it.
 fn texts_in(alloc: Global, value: &[u8]) -> Result<Vec<Text>, OutOfMemory> {
     let mut texts = Vec::new(alloc);
-    if let Some(inner) = value.strip_suffix(b"|") {
-        for text in inner.split(|byte| *byte == b'|') {
-            texts.push(Text::of(Vec::from_slice(alloc, text)?))?;
+    if let Some(inner) = words_of(value).strip_suffix("|") {
+        for text in inner.split('|') {
+            texts.push(Text::of(Vec::from_slice(alloc, text.as_bytes())?))?;
         }
     }
     Ok(texts)
