@@ -6,11 +6,11 @@
 //! - `least 500 1 T` what is due first; `least -` nothing is;
 //! - `falls 36` so many are due, each behind the one before, and are cleared;
 //! - `keep` and `back`: the table as it was once.
-use crate::keeping::{Kept, Thing};
+use crate::keeping::Kept;
 use crate::texts::named;
 use mg_bytes::OutOfMemory;
 use mg_packages::SIGNALS;
-use scenario_files::{Outcome, Row, range_in};
+use scenario_files::{Outcome, Row, Scenario, range_in};
 use std::alloc::Global;
 use timers::{Due, DueItem, DueKind, LineDue, comes_before};
 
@@ -106,27 +106,35 @@ fn set_all(due: &mut Due, row: &mut Row<'_>, is_cleared: bool) {
     }
 }
 
-impl Thing for Due {
-    fn begin(alloc: Global) -> Result<Due, OutOfMemory> {
-        Due::new(alloc, LINES)
+/// The table that rows go on with.
+#[derive(Drop)]
+pub struct MomentScenario {
+    due: Due,
+}
+
+impl Scenario for MomentScenario {
+    fn begin(alloc: Global) -> Result<MomentScenario, OutOfMemory> {
+        let due = Due::new(alloc, LINES)?;
+        Ok(MomentScenario { due })
     }
 
     fn turn(&mut self, row: &mut Row<'_>) {
         match row.before(" ") {
-            "set" => set_all(self, row, false),
-            "clear" => set_all(self, row, true),
-            "least" => put_least(&mut row.given, self),
+            "set" => set_all(&mut self.due, row, false),
+            "clear" => set_all(&mut self.due, row, true),
+            "least" => put_least(&mut row.given, &self.due),
             "falls" => {
                 let most = row.left.parse::<u32>().unwrap_or(0);
-                row.given.put_shown(fallen(self, most));
+                row.given.put_shown(fallen(&mut self.due, most));
             }
             _ => row.given.unread(),
         }
     }
 }
 
-impl Kept for Due {
-    fn copy(&self, _alloc: Global) -> Result<Due, OutOfMemory> {
-        self.try_copy()
+impl Kept for MomentScenario {
+    fn copy(&self, _alloc: Global) -> Result<MomentScenario, OutOfMemory> {
+        let due = self.due.try_copy()?;
+        Ok(MomentScenario { due })
     }
 }

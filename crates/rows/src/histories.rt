@@ -8,11 +8,17 @@
 //! - `run 1-20000 every 10 holding 3000` commands that come one by one, at their ids times 10 ms: each is new, and after a
 //!   purge no more firsts are ever kept; `run 1-4999 every 100 confirming holding 300` the same, each with a K that names all
 //!   so far.
-use crate::keeping::Thing;
+use crate::keeping::boxed;
 use history::{History, IdSpan, Look};
 use mg_bytes::{OutOfMemory, Sequence, Text};
-use scenario_files::{Outcome, Row, again, range_in};
+use scenario_files::{Outcome, Row, Scenario, again, range_in};
 use std::alloc::Global;
+
+/// The history that rows go on with.
+#[derive(Drop)]
+pub struct HistoryScenario {
+    history: Box<History>,
+}
 
 // `7` or `1-4096`.
 fn ids_of(given: &mut Outcome, text: &str) -> IdSpan {
@@ -53,8 +59,8 @@ fn run_of(row: &mut Row<'_>) -> Run {
     }
 }
 
-fn told(history: &History, id: u32, now: u64) -> &'static str {
-    match history.look(id, now) {
+fn told(held: &HistoryScenario, id: u32, now: u64) -> &'static str {
+    match held.history.look(id, now) {
         Look::New => "new",
         Look::Repeat(answer) if answer.as_bytes() == id.to_be_bytes().as_slice() => "again",
         Look::Repeat(_) => "another answer",
@@ -64,25 +70,30 @@ fn told(history: &History, id: u32, now: u64) -> &'static str {
 }
 
 // Keeps a command with its answer, the bytes of its id.
-fn keep(history: &mut History, alloc: Global, id: u32, moment: u64) -> Result<(), OutOfMemory> {
+fn keep(
+    held: &mut HistoryScenario,
+    alloc: Global,
+    id: u32,
+    moment: u64,
+) -> Result<(), OutOfMemory> {
     let answer = Text::of(id.to_be_bytes().to_vec(alloc)?);
-    history.first(id, moment, answer)
+    held.history.first(id, moment, answer)
 }
 
 // Of several commands each is kept again where memory was refused.
-fn keep_all(history: &mut History, row: &mut Row<'_>) {
+fn keep_all(held: &mut HistoryScenario, row: &mut Row<'_>) {
     let first = row.before(" ");
     let ids = ids_of(&mut row.given, first);
     let moment = u64::from(row.number_behind("at"));
     for id in ids.first..=ids.last {
-        if again!(keep(history, row.given.alloc, id, moment)).is_err() {
+        if again!(keep(held, row.given.alloc, id, moment)).is_err() {
             return row.given.refuse();
         }
     }
 }
 
 // `1-7,9`: a K names these.
-fn confirm(history: &mut History, row: &mut Row<'_>) {
+fn confirm(held: &mut HistoryScenario, row: &mut Row<'_>) {
     let mut spans = Sequence::new(row.given.alloc);
     for written in row.rest().split(',') {
         let ids = ids_of(&mut row.given, written);
@@ -90,22 +101,28 @@ fn confirm(history: &mut History, row: &mut Row<'_>) {
             return row.given.refuse();
         }
     }
-    if history.confirm(spans).is_err() {
+    if held.history.confirm(spans).is_err() {
         row.given.refuse();
     }
 }
 
 // A K names all these.
-fn confirm_all(history: &mut History, alloc: Global, ids: IdSpan) -> Result<(), OutOfMemory> {
+fn confirm_all(held: &mut HistoryScenario, alloc: Global, ids: IdSpan) -> Result<(), OutOfMemory> {
     let mut spans = Sequence::new(alloc);
     spans.push(ids)?;
-    history.confirm(spans)
+    held.history.confirm(spans)
 }
 
 // Puts what commands with these ids are, where one is something else than the row says, and says whether one is.
-fn put_unlike(history: &History, given: &mut Outcome, ids: IdSpan, now: u64, wanted: &str) -> bool {
+fn put_unlike(
+    held: &HistoryScenario,
+    given: &mut Outcome,
+    ids: IdSpan,
+    now: u64,
+    wanted: &str,
+) -> bool {
     for id in ids.first..=ids.last {
-        let told = told(history, id, now);
+        let told = told(held, id, now);
         if told != wanted {
             given.put(told.as_bytes());
             given.put(b" for ");
@@ -117,24 +134,24 @@ fn put_unlike(history: &History, given: &mut Outcome, ids: IdSpan, now: u64, wan
 }
 
 // A command of a run is kept, and maybe confirms all so far. It is done again where memory was refused.
-fn take(history: &mut History, given: &mut Outcome, run: Run, id: u32, now: u64) {
+fn take(held: &mut HistoryScenario, given: &mut Outcome, run: Run, id: u32, now: u64) {
     let first = run.ids.first;
     let so_far = IdSpan { first, last: id };
-    if run.confirming && again!(confirm_all(history, given.alloc, so_far)).is_err() {
+    if run.confirming && again!(confirm_all(held, given.alloc, so_far)).is_err() {
         return given.refuse();
     }
-    if again!(keep(history, given.alloc, id, now)).is_err() {
+    if again!(keep(held, given.alloc, id, now)).is_err() {
         given.refuse();
     }
 }
 
 // One command of a run: it is new, and is kept. Says whether it is otherwise, and puts that.
-fn put_come(history: &mut History, given: &mut Outcome, run: Run, id: u32) -> bool {
+fn put_come(held: &mut HistoryScenario, given: &mut Outcome, run: Run, id: u32) -> bool {
     let now = u64::from(id).saturating_mul(u64::from(run.wait));
-    history.purge(now);
-    let held = history.len();
-    if held > run.most as usize {
-        given.put_shown(held);
+    held.history.purge(now);
+    let kept = held.history.len();
+    if kept > run.most as usize {
+        given.put_shown(kept);
         given.put(b" at ");
         given.put_shown(now);
         return true;
@@ -143,44 +160,45 @@ fn put_come(history: &mut History, given: &mut Outcome, run: Run, id: u32) -> bo
         first: id,
         last: id,
     };
-    if put_unlike(history, given, alone, now, "new") {
+    if put_unlike(held, given, alone, now, "new") {
         return true;
     }
-    take(history, given, run, id, now);
+    take(held, given, run, id, now);
     given.is_refused
 }
 
 // `run 1-20000 every 10 holding 3000`.
-fn put_run(history: &mut History, row: &mut Row<'_>) {
+fn put_run(held: &mut HistoryScenario, row: &mut Row<'_>) {
     let run = run_of(row);
     for id in run.ids.first..=run.ids.last {
-        if put_come(history, &mut row.given, run, id) {
+        if put_come(held, &mut row.given, run, id) {
             return;
         }
     }
 }
 
 // `7 at 30999 again`: what commands with these ids are.
-fn put_look(history: &History, row: &mut Row<'_>, ids: &str) {
+fn put_look(held: &HistoryScenario, row: &mut Row<'_>, ids: &str) {
     let ids = ids_of(&mut row.given, ids);
     let now = u64::from(row.number_behind("at"));
     let wanted = row.rest();
-    put_unlike(history, &mut row.given, ids, now, wanted);
+    put_unlike(held, &mut row.given, ids, now, wanted);
 }
 
-impl Thing for History {
-    fn begin(alloc: Global) -> Result<History, OutOfMemory> {
-        Ok(History::new(alloc))
+impl Scenario for HistoryScenario {
+    fn begin(alloc: Global) -> Result<HistoryScenario, OutOfMemory> {
+        let history = boxed(alloc, History::new(alloc))?;
+        Ok(HistoryScenario { history })
     }
 
     fn turn(&mut self, row: &mut Row<'_>) {
         match row.before(" ") {
             "first" => keep_all(self, row),
             "confirm" => confirm(self, row),
-            "purge" => self.purge(u64::from(row.number())),
-            "undo" => self.undo(),
+            "purge" => self.history.purge(u64::from(row.number())),
+            "undo" => self.history.undo(),
             "run" => put_run(self, row),
-            "holds" => row.given.put_shown(self.len()),
+            "holds" => row.given.put_shown(self.history.len()),
             ids => put_look(self, row, ids),
         }
     }

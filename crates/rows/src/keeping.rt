@@ -1,57 +1,42 @@
-//! Things that rows go on with. Some can be kept as they are, and come back: `keep` and `back` of each such kind.
+//! What rows go on with. Some kinds can be kept as they are, and come back: `keep` and `back` of each such kind.
 use mg_bytes::OutOfMemory;
 use scenario_files::{Row, Scenario};
-use std::alloc::Global;
+use std::alloc::{AllocError, Global};
 
-/// A thing that rows go on with.
-pub trait Thing {
-    /// What it is under a new title.
-    fn begin(alloc: Global) -> Result<Self, OutOfMemory>;
-
-    /// Plays a row.
-    fn turn(&mut self, row: &mut Row<'_>);
-}
-
-/// A thing that can be kept. Where a turn was refused memory it isn't used any more.
-pub trait Kept: Thing {
+/// A kind that can be kept.
+pub trait Kept: Scenario {
     /// The same once more.
     fn copy(&self, alloc: Global) -> Result<Self, OutOfMemory>;
 }
 
-// What a row gives that it doesn't say, played at a thing.
-fn unlike<T: Thing>(
-    thing: &mut T,
-    alloc: Global,
-    row: &str,
-) -> Result<Option<String>, OutOfMemory> {
-    let mut row = Row::of(alloc, row);
-    thing.turn(&mut row);
-    row.unlike()
-}
-
-/// A thing that can't be kept. A turn changes it last, so where memory was refused it is as it was.
-#[derive(Drop)]
-pub struct Going<T> {
-    thing: T,
-}
-
-impl<T: Thing + Drop> Scenario for Going<T> {
-    fn begin(alloc: Global) -> Result<Going<T>, OutOfMemory> {
-        Ok(Going {
-            thing: T::begin(alloc)?,
-        })
-    }
-
-    fn unlike(&mut self, alloc: Global, row: &str) -> Result<Option<String>, OutOfMemory> {
-        unlike(&mut self.thing, alloc, row)
+/// A value in a box, since a check pays at each step of a function for all that is lent to it inline. The only error is want of memory,
+/// at which the value is gone.
+pub fn boxed<T: Drop>(alloc: Global, value: T) -> Result<Box<T>, OutOfMemory> {
+    match Box::new(alloc, value) {
+        Ok(held) => Ok(held),
+        Err(_) => Err(AllocError),
     }
 }
 
-/// A thing, and as it was kept; under a new title that is as it begins.
+/// A scenario, and as it was kept; under a new title that is as it begins.
 #[derive(Drop)]
 pub struct Keeping<T> {
     now: T,
     kept: T,
+}
+
+impl<T: Kept + Drop> Keeping<T> {
+    // A row is played at a copy, which takes the place of the scenario once all is done.
+    fn go_on(&mut self, row: &mut Row<'_>) {
+        let Ok(mut next) = self.now.copy(row.given.alloc) else {
+            return row.given.refuse();
+        };
+        next.turn(row);
+        if row.given.is_refused {
+            return;
+        }
+        self.now = next;
+    }
 }
 
 impl<T: Kept + Drop> Scenario for Keeping<T> {
@@ -61,18 +46,19 @@ impl<T: Kept + Drop> Scenario for Keeping<T> {
         Ok(Keeping { now, kept })
     }
 
-    // A row is played at a copy, which takes the place of the thing once all is done.
-    fn unlike(&mut self, alloc: Global, row: &str) -> Result<Option<String>, OutOfMemory> {
-        match row {
-            "keep" => self.kept = self.now.copy(alloc)?,
-            "back" => self.now = self.kept.copy(alloc)?,
-            _ => {
-                let mut next = self.now.copy(alloc)?;
-                let given = unlike(&mut next, alloc, row)?;
-                self.now = next;
-                return Ok(given);
-            }
+    fn turn(&mut self, row: &mut Row<'_>) {
+        let alloc = row.given.alloc;
+        match row.left {
+            "keep" => match self.now.copy(alloc) {
+                Ok(copy) => self.kept = copy,
+                Err(_) => return row.given.refuse(),
+            },
+            "back" => match self.kept.copy(alloc) {
+                Ok(copy) => self.now = copy,
+                Err(_) => return row.given.refuse(),
+            },
+            _ => return self.go_on(row),
         }
-        Ok(None)
+        row.left = "";
     }
 }

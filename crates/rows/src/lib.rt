@@ -20,43 +20,39 @@ mod signal_sets;
 mod texts;
 mod values;
 
-use crate::keeping::{Going, Keeping};
+use crate::due_moments::MomentScenario;
+use crate::histories::HistoryScenario;
+use crate::keeping::Keeping;
+use crate::line::LineScenario;
 use crate::line_connections::ConnectionsScenario;
 use crate::messages::MessageScenario;
+use crate::quarantines::QuarantineScenario;
 use crate::requests::RequestScenario;
 use crate::restarts::RestartScenario;
+use crate::signal_sets::SignalScenario;
 use crate::values::Values;
-use history::History;
-use mg_line::Line;
-use quarantine::Buffer;
-use scenario_files::{Count, Kinds, told};
-use signals::SignalSet;
-use std::io;
+use scenario_files::{Kinds, Report, told};
 use std::net::Net;
-use timers::Due;
 
 /// The kinds of rows.
 pub struct Rows;
 
 impl Kinds for Rows {
-    fn told<R: AllocGlobal + Net + Print>(
-        rt: &R,
-        kind: &str,
-        text: &str,
-    ) -> io::Result<Option<Count>> {
-        let told = match kind {
-            "values" => told::<Values, R>(rt, text),
-            "line" => told::<Keeping<Line>, R>(rt, text),
-            "request" => told::<Going<RequestScenario>, R>(rt, text),
-            "signals" => told::<Going<SignalSet>, R>(rt, text),
-            "quarantine" => told::<Keeping<Buffer>, R>(rt, text),
-            "message" => told::<Keeping<MessageScenario>, R>(rt, text),
-            "history" => told::<Going<History>, R>(rt, text),
-            "connections" => told::<Keeping<ConnectionsScenario>, R>(rt, text),
-            "moments" => told::<Keeping<Due>, R>(rt, text),
-            "restart" => told::<Keeping<RestartScenario>, R>(rt, text),
-            _ => return Ok(None),
-        };
-        Ok(Some(told?))
+    fn told<R: AllocGlobal + Net>(rt: &R, kind: &str, text: &str, report: &mut Report) -> bool {
+        let alloc = rt.alloc();
+        match kind {
+            "values" => told::<Values>(alloc, text, report),
+            "line" => told::<Keeping<LineScenario>>(alloc, text, report),
+            "request" => told::<RequestScenario>(alloc, text, report),
+            "signals" => told::<SignalScenario>(alloc, text, report),
+            "quarantine" => told::<Keeping<QuarantineScenario>>(alloc, text, report),
+            "message" => told::<Keeping<MessageScenario>>(alloc, text, report),
+            "history" => told::<HistoryScenario>(alloc, text, report),
+            "connections" => told::<Keeping<ConnectionsScenario>>(alloc, text, report),
+            "moments" => told::<Keeping<MomentScenario>>(alloc, text, report),
+            "restart" => told::<Keeping<RestartScenario>>(alloc, text, report),
+            _ => return false,
+        }
+        true
     }
 }

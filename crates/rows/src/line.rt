@@ -15,114 +15,128 @@ mod acts;
 pub mod parameters;
 mod shown;
 
-use crate::keeping::{Kept, Thing};
+use crate::keeping::{Kept, boxed};
 use crate::requests;
 use crate::texts::{named, unless_fields};
 use acts::{ACTS, due_of};
 use mg_bytes::OutOfMemory;
 use mg_line::Line;
 use parameters::request_of;
-use scenario_files::{Outcome, Row};
+use scenario_files::{Outcome, Row, Scenario};
 use shown::{put_notice, put_state};
 use std::alloc::Global;
 
 // What a row gives whose turn can't be played.
 const NO_TURN: &[u8] = b"0";
 
+/// A line that rows go on with.
+#[derive(Drop)]
+pub struct LineScenario {
+    pub(crate) line: Box<Line>,
+}
+
+impl LineScenario {
+    // The line as it opens.
+    fn opening(alloc: Global) -> Result<LineScenario, OutOfMemory> {
+        let line = boxed(alloc, Line::new(alloc)?)?;
+        Ok(LineScenario { line })
+    }
+}
+
 // A request with these parameters; a code where the line refuses it.
-fn ask(line: &mut Line, row: &mut Row<'_>, moment: u64)
+fn ask(held: &mut LineScenario, row: &mut Row<'_>, moment: u64)
     requires { moment < 2 ^ 62 }
 {
     let fields = row.parameters();
     match request_of(row.given.alloc, fields) {
-        Ok(request) => match line.check(&request) {
+        Ok(request) => match held.line.check(&request) {
             Some(code) => row.given.put_shown(code),
-            None => put_notice(&mut row.given, line.request(&request, moment)),
+            None => put_notice(&mut row.given, held.line.request(&request, moment)),
         },
         Err(fault) => row.given.put_code(fault),
     }
 }
 
 // An act that the hook state allows: it is done, or isn't heeded.
-fn act(line: &mut Line, given: &mut Outcome, word: &str, moment: u64, is_heeded: bool)
+fn act(held: &mut LineScenario, given: &mut Outcome, word: &str, moment: u64, is_heeded: bool)
     requires { moment < 2 ^ 62 }
 {
     let Some(act) = named(&ACTS, word) else {
         return given.put(NO_TURN);
     };
-    if !line.takes(act) {
+    if !held.line.takes(act) {
         given.put(NO_TURN);
     } else if is_heeded {
-        put_notice(given, line.phone(act, moment));
-    } else if line.heeds(act) {
+        put_notice(given, held.line.phone(act, moment));
+    } else if held.line.heeds(act) {
         given.put(NO_TURN);
     } else {
-        line.pass_over(act);
+        held.line.pass_over(act);
     }
 }
 
-fn fall(line: &mut Line, given: &mut Outcome, word: &str, moment: u64)
+fn fall(held: &mut LineScenario, given: &mut Outcome, word: &str, moment: u64)
     requires { moment < 2 ^ 62 }
 {
     match due_of(word) {
-        Some(due) if line.due() == Some((moment, due)) => {
-            put_notice(given, line.fire(due, moment));
+        Some(due) if held.line.due() == Some((moment, due)) => {
+            put_notice(given, held.line.fire(due, moment));
         }
         _ => given.put(NO_TURN),
     }
 }
 
 // A turn at this moment.
-fn go_on(line: &mut Line, row: &mut Row<'_>, moment: u64)
+fn go_on(held: &mut LineScenario, row: &mut Row<'_>, moment: u64)
     requires { moment < 2 ^ 62 }
 {
     let words = row.before("  ");
     let (word, what) = words.split_once(' ').unwrap_or((words, ""));
     match word {
-        "asks" => ask(line, row, moment),
-        "idles" => act(line, &mut row.given, what, moment, false),
-        "falls" => fall(line, &mut row.given, what, moment),
-        "answered" => put_notice(&mut row.given, line.answered(moment)),
-        "opened" => put_notice(&mut row.given, line.opened(moment)),
-        _ => act(line, &mut row.given, words, moment, true),
+        "asks" => ask(held, row, moment),
+        "idles" => act(held, &mut row.given, what, moment, false),
+        "falls" => fall(held, &mut row.given, what, moment),
+        "answered" => put_notice(&mut row.given, held.line.answered(moment)),
+        "opened" => put_notice(&mut row.given, held.line.opened(moment)),
+        _ => act(held, &mut row.given, words, moment, true),
     }
 }
 
 // What the line says to a question, by its hook state or its request.
-fn put_answer(line: &Line, given: &mut Outcome, question: &str) {
+fn put_answer(held: &LineScenario, given: &mut Outcome, question: &str) {
     let (word, act) = question.split_once(' ').unwrap_or((question, ""));
     match named(&ACTS, act) {
-        Some(act) if word == "takes" => given.put_judged(line.takes(act)),
-        Some(act) if word == "heeds" => given.put_judged(line.heeds(act)),
-        _ => requests::put_answer(given, line.requests(), question),
+        Some(act) if word == "takes" => given.put_judged(held.line.takes(act)),
+        Some(act) if word == "heeds" => given.put_judged(held.line.heeds(act)),
+        _ => requests::put_answer(given, held.line.requests(), question),
     }
 }
 
-// The line as it opens: a function of its own, since a check pays for a whole line at each step that holds one.
-fn open(line: &mut Line, given: &mut Outcome) {
-    match Line::new(given.alloc) {
-        Ok(new) => *line = new,
+// The line as it opens.
+fn open(held: &mut LineScenario, given: &mut Outcome) {
+    match LineScenario::opening(given.alloc) {
+        Ok(new) => *held = new,
         Err(_) => given.refuse(),
     }
 }
 
 // A row without a moment.
-fn put_shown(line: &mut Line, row: &mut Row<'_>) {
+fn put_shown(held: &mut LineScenario, row: &mut Row<'_>) {
     match row.before("  ") {
-        "opening" => open(line, &mut row.given),
+        "opening" => open(held, &mut row.given),
         "is" => {
-            put_state(&mut row.given, line);
+            put_state(&mut row.given, held);
             unless_fields(row);
         }
-        question => put_answer(line, &mut row.given, question),
+        question => put_answer(held, &mut row.given, question),
     }
 }
 
-impl Thing for Line {
-    fn begin(alloc: Global) -> Result<Line, OutOfMemory> {
-        let mut line = Line::new(alloc)?;
-        line.opened(0)?;
-        Ok(line)
+impl Scenario for LineScenario {
+    fn begin(alloc: Global) -> Result<LineScenario, OutOfMemory> {
+        let mut held = LineScenario::opening(alloc)?;
+        held.line.opened(0)?;
+        Ok(held)
     }
 
     fn turn(&mut self, row: &mut Row<'_>) {
@@ -137,8 +151,9 @@ impl Thing for Line {
     }
 }
 
-impl Kept for Line {
-    fn copy(&self, _alloc: Global) -> Result<Line, OutOfMemory> {
-        self.try_copy()
+impl Kept for LineScenario {
+    fn copy(&self, alloc: Global) -> Result<LineScenario, OutOfMemory> {
+        let line = boxed(alloc, self.line.try_copy()?)?;
+        Ok(LineScenario { line })
     }
 }

@@ -13,12 +13,12 @@
 //! Behind a row's parameters stand fields that its answer has, or its return code; 0 stands for a value that isn't read.
 mod asked;
 
-use crate::keeping::{Kept, Thing};
+use crate::keeping::{Kept, boxed};
 use crate::texts::{unless_fields, words_of};
 use asked::{change_of, creation_of, deletion_of, identifier_in};
 use connections::{Audited, Connections, Created, Encoding, mode_text, read_encoding};
 use mg_bytes::{CodeFault, OutOfMemory};
-use scenario_files::{Outcome, Row};
+use scenario_files::{Outcome, Row, Scenario};
 use sdp_subset::{Session, write_sdp};
 use std::alloc::Global;
 use std::net::Ipv4Addr;
@@ -60,7 +60,7 @@ fn put_created(given: &mut Outcome, created: &Created) {
 /// The connections of a line, its encoding, and the last answer.
 #[derive(Drop)]
 pub struct ConnectionsScenario {
-    line: Connections,
+    line: Box<Connections>,
     encoding: Encoding,
     answer: Vec<u8>,
 }
@@ -138,10 +138,11 @@ impl ConnectionsScenario {
     }
 }
 
-impl Thing for ConnectionsScenario {
+impl Scenario for ConnectionsScenario {
     fn begin(alloc: Global) -> Result<ConnectionsScenario, OutOfMemory> {
+        let line = boxed(alloc, Connections::new(Ipv4Addr::LOCALHOST, 3000))?;
         Ok(ConnectionsScenario {
-            line: Connections::new(Ipv4Addr::LOCALHOST, 3000),
+            line,
             encoding: Encoding::Mu,
             answer: Vec::new(alloc),
         })
@@ -164,7 +165,7 @@ impl Thing for ConnectionsScenario {
 impl Kept for ConnectionsScenario {
     fn copy(&self, alloc: Global) -> Result<ConnectionsScenario, OutOfMemory> {
         let answer = Vec::from_slice(alloc, &self.answer)?;
-        let line = self.line.try_copy()?;
+        let line = boxed(alloc, self.line.try_copy()?)?;
         Ok(ConnectionsScenario {
             line,
             encoding: self.encoding,

@@ -10,14 +10,16 @@
 //! - `keep` and `back`: the message as it was once.
 ghost use Rattle.std.specs.Prelude.{◌<◌, ◌^◌};
 
-use crate::keeping::{Kept, Thing};
-use endpoint_names::Route;
+use crate::keeping::{Kept, boxed};
+use crate::values::names::route_to;
 use mg_bytes::OutOfMemory;
 use mgcp_text::TransactionId;
 use outbound::{Pending, Repeat, Reply};
-use scenario_files::{Outcome, Row, said, value_of};
+use scenario_files::{Outcome, Row, Scenario, said, value_of};
 use std::alloc::Global;
-use std::net::{Ipv4Addr, SocketAddrV4};
+
+// Where a message goes.
+const PORT: u16 = 2727;
 
 fn id_in(row: &mut Row<'_>) -> TransactionId {
     let number = row.number();
@@ -28,25 +30,10 @@ fn id_in(row: &mut Row<'_>) -> TransactionId {
     TransactionId::of(number)
 }
 
-// The address 127.0.0.n, port 2727.
-fn agent_at(host: u8) -> SocketAddrV4 {
-    SocketAddrV4::new(Ipv4Addr::new(127, 0, 0, host), 2727)
-}
-
-// The route to 127.0.0.1 and those after it, so many in all.
-fn route_to(hosts: u32) -> Route<SocketAddrV4> {
-    match hosts {
-        2 => Route::Two(agent_at(1), agent_at(2)),
-        3 => Route::Three(agent_at(1), agent_at(2), agent_at(3)),
-        4 => Route::Four(agent_at(1), agent_at(2), agent_at(3), agent_at(4)),
-        _ => Route::One(agent_at(1)),
-    }
-}
-
 /// A message, and how many addresses the next one has.
 #[derive(Drop)]
 pub struct MessageScenario {
-    message: Pending,
+    message: Box<Pending>,
     hosts: u32,
 }
 
@@ -55,8 +42,9 @@ impl MessageScenario {
     fn begins(&mut self, row: &mut Row<'_>) -> Result<(), OutOfMemory> {
         let (id, moment) = (id_in(row), u64::from(row.number_behind("at")));
         let text = value_of(row.given.alloc, row.rest().trim_start())?;
-        let route = route_to(self.hosts);
-        self.message = Pending::begin(row.given.alloc, id, route, text.as_bytes(), moment)?;
+        let route = route_to(self.hosts).with_port(PORT);
+        let message = Pending::begin(row.given.alloc, id, route, text.as_bytes(), moment)?;
+        self.message = boxed(row.given.alloc, message)?;
         Ok(())
     }
 
@@ -99,9 +87,11 @@ impl MessageScenario {
     }
 }
 
-impl Thing for MessageScenario {
+impl Scenario for MessageScenario {
     fn begin(alloc: Global) -> Result<MessageScenario, OutOfMemory> {
-        let message = Pending::begin(alloc, TransactionId::of(1), route_to(1), b"", 0)?;
+        let route = route_to(1).with_port(PORT);
+        let message = Pending::begin(alloc, TransactionId::of(1), route, b"", 0)?;
+        let message = boxed(alloc, message)?;
         Ok(MessageScenario { message, hosts: 1 })
     }
 
@@ -130,8 +120,8 @@ impl Thing for MessageScenario {
 }
 
 impl Kept for MessageScenario {
-    fn copy(&self, _alloc: Global) -> Result<MessageScenario, OutOfMemory> {
-        let message = self.message.try_copy()?;
+    fn copy(&self, alloc: Global) -> Result<MessageScenario, OutOfMemory> {
+        let message = boxed(alloc, self.message.try_copy()?)?;
         Ok(MessageScenario {
             message,
             hosts: self.hosts,

@@ -6,21 +6,37 @@
 //! - `into 2`: it goes on as its copy, in a quarantine that had room for so many, and held one event;
 //! - `keep` and `back`: the quarantine as it was once.
 use crate::events::observed_of;
-use crate::keeping::{Kept, Thing};
+use crate::keeping::Kept;
 use event_syntax::write_observed;
 use event_values::Observed;
 use mg_bytes::OutOfMemory;
 use mg_line::MOST_QUARANTINED;
 use quarantine::Buffer;
-use scenario_files::{Outcome, Row};
+use scenario_files::{Outcome, Row, Scenario};
 use std::alloc::Global;
 
-// `L/hf`: this event comes.
-fn hold(buffer: &mut Buffer, row: &mut Row<'_>) {
-    let word = row.rest();
-    match observed_of(&mut row.given, word) {
-        Some(event) => buffer.hold(event),
-        None => row.given.unread(),
+/// The quarantine that rows go on with.
+#[derive(Drop)]
+pub struct QuarantineScenario {
+    buffer: Buffer,
+}
+
+impl QuarantineScenario {
+    // `L/hf`: this event comes.
+    fn hold(&mut self, row: &mut Row<'_>) {
+        let word = row.rest();
+        match observed_of(&mut row.given, word) {
+            Some(event) => self.buffer.hold(event),
+            None => row.given.unread(),
+        }
+    }
+
+    // Another quarantine stands in its place.
+    fn become_other(&mut self, given: &mut Outcome, other: Result<Buffer, OutOfMemory>) {
+        match other {
+            Ok(other) => self.buffer = other,
+            Err(_) => given.refuse(),
+        }
     }
 }
 
@@ -40,17 +56,10 @@ fn copy_into(alloc: Global, buffer: &Buffer, room: u32) -> Result<Buffer, OutOfM
     Ok(other)
 }
 
-// Another quarantine stands in its place.
-fn become_other(buffer: &mut Buffer, given: &mut Outcome, other: Result<Buffer, OutOfMemory>) {
-    match other {
-        Ok(other) => *buffer = other,
-        Err(_) => given.refuse(),
-    }
-}
-
-impl Thing for Buffer {
-    fn begin(alloc: Global) -> Result<Buffer, OutOfMemory> {
-        Buffer::new(alloc, MOST_QUARANTINED)
+impl Scenario for QuarantineScenario {
+    fn begin(alloc: Global) -> Result<QuarantineScenario, OutOfMemory> {
+        let buffer = Buffer::new(alloc, MOST_QUARANTINED)?;
+        Ok(QuarantineScenario { buffer })
     }
 
     fn turn(&mut self, row: &mut Row<'_>) {
@@ -58,25 +67,26 @@ impl Thing for Buffer {
             "room" => {
                 let room = row.number() as usize;
                 let other = Buffer::new(row.given.alloc, room);
-                become_other(self, &mut row.given, other);
+                self.become_other(&mut row.given, other);
             }
             "into" => {
                 let room = row.number();
-                let other = copy_into(row.given.alloc, self, room);
-                become_other(self, &mut row.given, other);
+                let other = copy_into(row.given.alloc, &self.buffer, room);
+                self.become_other(&mut row.given, other);
             }
-            "hold" => hold(self, row),
-            "clear" => self.clear(),
-            "take" => put_taken(&mut row.given, self.take()),
-            "holds" => row.given.put_shown(self.iter().count()),
-            "lost" => row.given.put_shown(self.lost()),
+            "hold" => self.hold(row),
+            "clear" => self.buffer.clear(),
+            "take" => put_taken(&mut row.given, self.buffer.take()),
+            "holds" => row.given.put_shown(self.buffer.iter().count()),
+            "lost" => row.given.put_shown(self.buffer.lost()),
             _ => row.given.unread(),
         }
     }
 }
 
-impl Kept for Buffer {
-    fn copy(&self, _alloc: Global) -> Result<Buffer, OutOfMemory> {
-        self.try_copy()
+impl Kept for QuarantineScenario {
+    fn copy(&self, _alloc: Global) -> Result<QuarantineScenario, OutOfMemory> {
+        let buffer = self.buffer.try_copy()?;
+        Ok(QuarantineScenario { buffer })
     }
 }

@@ -7,13 +7,12 @@
 //! - `lacks map  yes` some action D has no digit map where none is known; `lacks map with D  no` where one is;
 //! - `after L/hd  S L/dl  D (1|2)` the request that is embedded at this event takes effect: its S, and its D or `-`.
 use crate::events::observed_of;
-use crate::keeping::Thing;
 use crate::line::parameters::events_of;
 use event_requests::{Decision, Doing, EventRequest, decide};
 use event_syntax::{Action, Embedding, Observed, write_signals};
 use mg_bytes::OutOfMemory;
 use mg_packages::event_of;
-use scenario_files::{Outcome, Row};
+use scenario_files::{Outcome, Row, Scenario};
 use std::alloc::Global;
 
 // What is done, as a row says it.
@@ -126,7 +125,7 @@ impl RequestScenario {
     }
 }
 
-impl Thing for RequestScenario {
+impl Scenario for RequestScenario {
     fn begin(_alloc: Global) -> Result<RequestScenario, OutOfMemory> {
         let request = EventRequest::nothing();
         Ok(RequestScenario { request })

@@ -6,10 +6,10 @@
 //! - `keep` and `back`: the announcement as it was once.
 ghost use Rattle.std.specs.Prelude.{◌<◌, ◌^◌};
 
-use crate::keeping::{Kept, Thing};
+use crate::keeping::Kept;
 use mg_bytes::OutOfMemory;
 use restart::Restart;
-use scenario_files::{Outcome, Row};
+use scenario_files::{Outcome, Row, Scenario};
 use std::alloc::Global;
 
 /// An announcement.
@@ -44,7 +44,7 @@ impl RestartScenario {
     }
 }
 
-impl Thing for RestartScenario {
+impl Scenario for RestartScenario {
     fn begin(_alloc: Global) -> Result<RestartScenario, OutOfMemory> {
         let restart = Restart::Serving;
         Ok(RestartScenario { restart })

@@ -5,13 +5,19 @@
 //! - `due 181000 L/rg` the earliest end; `due -` no time ends any;
 //! - `active  L/rg 181000  L/vmwi -` the active signals with their ends; `active` there is none;
 //! - `refused on  L/dl  402` the return code with which an S is refused on hook; `-` where it isn't.
-use crate::keeping::Thing;
+use crate::keeping::boxed;
 use event_syntax::read_signals;
 use mg_bytes::OutOfMemory;
 use mg_packages::{Hook, signal_name, signal_of};
-use scenario_files::{Outcome, Row};
+use scenario_files::{Outcome, Row, Scenario};
 use signals::{SignalSet, refused};
 use std::alloc::Global;
+
+/// The active signals that rows go on with.
+#[derive(Drop)]
+pub struct SignalScenario {
+    set: Box<SignalSet>,
+}
 
 // `on` or `off`, up to the next field.
 fn hook_of(row: &mut Row<'_>) -> Hook {
@@ -26,8 +32,8 @@ fn hook_of(row: &mut Row<'_>) -> Hook {
 }
 
 // What ends first.
-fn put_due(given: &mut Outcome, set: &SignalSet) {
-    match set.next_due() {
+fn put_due(given: &mut Outcome, held: &SignalScenario) {
+    match held.set.next_due() {
         Some((moment, signal)) => {
             given.put_shown(moment);
             given.put(b" ");
@@ -38,8 +44,8 @@ fn put_due(given: &mut Outcome, set: &SignalSet) {
 }
 
 // The active signals, a field each.
-fn put_active(given: &mut Outcome, set: &SignalSet) {
-    for active in set.list().as_slice() {
+fn put_active(given: &mut Outcome, held: &SignalScenario) {
+    for active in held.set.list().as_slice() {
         given.put(b"  ");
         given.put(signal_name(active.signal));
         given.put(b" ");
@@ -63,34 +69,35 @@ fn put_refusal(row: &mut Row<'_>) {
 }
 
 // `1000 on  S: L/rg` takes effect at this moment.
-fn apply(set: &mut SignalSet, row: &mut Row<'_>, moment: u32) {
+fn apply(held: &mut SignalScenario, row: &mut Row<'_>, moment: u32) {
     let hook = hook_of(row);
     let value = row.rest();
     let value = value.strip_prefix("S: ").unwrap_or(value);
     match read_signals(value.as_bytes()) {
-        Ok(requests) => set.apply(requests.as_slice(), hook, u64::from(moment)),
+        Ok(requests) => held.set.apply(requests.as_slice(), hook, u64::from(moment)),
         Err(fault) => row.given.fault(fault),
     }
 }
 
 // `L/dl`.
-fn expire(set: &mut SignalSet, row: &mut Row<'_>) {
+fn expire(held: &mut SignalScenario, row: &mut Row<'_>) {
     match signal_of(row.rest().as_bytes()) {
-        Ok(signal) => set.expire(signal),
+        Ok(signal) => held.set.expire(signal),
         Err(_) => row.given.unread(),
     }
 }
 
-impl Thing for SignalSet {
-    fn begin(_alloc: Global) -> Result<SignalSet, OutOfMemory> {
-        Ok(SignalSet::new())
+impl Scenario for SignalScenario {
+    fn begin(alloc: Global) -> Result<SignalScenario, OutOfMemory> {
+        let set = boxed(alloc, SignalSet::new())?;
+        Ok(SignalScenario { set })
     }
 
     fn turn(&mut self, row: &mut Row<'_>) {
         match row.before(" ") {
-            "hook" => self.hook_changed(hook_of(row)),
+            "hook" => self.set.hook_changed(hook_of(row)),
             "expire" => expire(self, row),
-            "stop" => self.stop_timeouts(),
+            "stop" => self.set.stop_timeouts(),
             "due" => put_due(&mut row.given, self),
             "active" => put_active(&mut row.given, self),
             "refused" => put_refusal(row),

@@ -11,13 +11,14 @@ mod descriptions;
 mod logged;
 mod maps;
 mod messages;
-mod names;
+pub mod names;
 mod packing;
 mod shown;
 mod spelled;
 
+use crate::texts::words_of;
 use mg_bytes::OutOfMemory;
-use scenario_files::{Outcome, Scenario, bytes_of, said};
+use scenario_files::{Outcome, Row, Scenario, bytes_of, said};
 use std::alloc::Global;
 
 /// Rows that stand alone.
@@ -49,46 +50,48 @@ fn put_answer(given: &mut Outcome, call: &str, value: &[u8]) -> bool {
         || messages::put_answer(given, call, value)
 }
 
-// What a call gives of a value, as a row says it.
-fn answer_to(given: &mut Outcome, call: &str, field: &str) -> Result<String, OutOfMemory> {
-    let value = bytes_of(given.alloc, field)?;
-    given.bytes.clear();
-    if !put_answer(given, call, &value) {
-        given.unread();
-    }
+// What is given, as a row says it: fields are parted by two blanks.
+fn as_said(given: &Outcome) -> Result<String, OutOfMemory> {
     let text = said(given.alloc, &given.bytes)?;
-    // Fields are parted by two blanks.
     text.replace(given.alloc, "  ", "\\s\\s")
 }
 
-// Whether a row says this answer.
-fn is_said(answer: &str, wanted: &str) -> bool {
-    match wanted {
-        "ok" => answer.parse::<u32>().is_err(),
-        _ => answer == wanted,
+// Puts what a call gives of a value, as a row says it, in place of what was given before.
+fn put_answer_to(given: &mut Outcome, call: &str, field: &str) {
+    given.bytes.clear();
+    let Ok(value) = bytes_of(given.alloc, field) else {
+        return given.refuse();
+    };
+    if !put_answer(given, call, &value) {
+        given.unread();
+    }
+    let answer = as_said(given);
+    given.bytes.clear();
+    match answer {
+        Ok(text) => given.put(text.as_bytes()),
+        Err(_) => given.refuse(),
     }
 }
 
-// Puts what a call gives of one of the values that the row doesn't say, with its place; else what the row says.
-fn put_given(
-    given: &mut Outcome,
-    call: &str,
-    values: &str,
-    wanted: &str,
-) -> Result<(), OutOfMemory> {
+// Whether a row says this answer.
+fn is_said(answer: &[u8], wanted: &str) -> bool {
+    match wanted {
+        "ok" => words_of(answer).parse::<u32>().is_err(),
+        _ => answer == wanted.as_bytes(),
+    }
+}
+
+// Puts what a call gives of the first of the values that the row doesn't say, with its place; where there is none, what the row says.
+fn put_given(given: &mut Outcome, call: &str, values: &str, wanted: &str) {
     for (place, field) in values.split("  ").enumerate() {
-        let answer = answer_to(given, call, field)?;
-        if !is_said(answer.as_str(), wanted) {
-            given.bytes.clear();
-            given.put(answer.as_bytes());
+        put_answer_to(given, call, field);
+        if !is_said(&given.bytes, wanted) {
             given.put(b" for value ");
-            given.put_shown(place.saturating_add(1));
-            return Ok(());
+            return given.put_shown(place.saturating_add(1));
         }
     }
     given.bytes.clear();
     given.put(wanted.as_bytes());
-    Ok(())
 }
 
 impl Scenario for Values {
@@ -96,16 +99,15 @@ impl Scenario for Values {
         Ok(Values)
     }
 
-    fn unlike(&mut self, alloc: Global, row: &str) -> Result<Option<String>, OutOfMemory> {
-        let (rest, wanted) = row.rsplit_once("  ").unwrap_or((row, ""));
+    fn turn(&mut self, row: &mut Row<'_>) {
+        let (rest, wanted) = row.left.rsplit_once("  ").unwrap_or((row.left, ""));
         let (call, values) = rest.split_once("  ").unwrap_or((rest, ""));
-        let mut given = Outcome::nothing(alloc);
+        row.left = wanted;
         match call {
-            "verdict" | "in range" => maps::put_answer_of_two(&mut given, call, values)?,
+            "verdict" | "in range" => maps::put_answer_of_two(&mut row.given, call, values),
             // Without a value the row would say nothing of the call.
-            _ if values.is_empty() => given.unread(),
-            _ => put_given(&mut given, call, values, wanted)?,
+            _ if values.is_empty() => row.given.unread(),
+            _ => put_given(&mut row.given, call, values, wanted),
         }
-        given.unlike(wanted)
     }
 }

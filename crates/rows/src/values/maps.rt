@@ -146,16 +146,22 @@ fn in_range(range: &[u8], key: &[u8]) -> &'static str {
     }
 }
 
-/// Puts the answer of a call of two values: of `verdict` or `in range`.
-pub fn put_answer_of_two(given: &mut Outcome, call: &str, fields: &str) -> Result<(), OutOfMemory> {
+// The answer of a call of two values.
+fn answer_of_two(alloc: Global, call: &str, fields: &str) -> Result<&'static str, OutOfMemory> {
     let (one, other) = fields.split_once("  ").unwrap_or((fields, ""));
-    let (one, other) = (bytes_of(given.alloc, one)?, bytes_of(given.alloc, other)?);
-    let answer = match call {
-        "verdict" => verdict(given.alloc, &one, &other)?,
-        _ => in_range(&one, &other),
-    };
-    given.put(answer.as_bytes());
-    Ok(())
+    let (one, other) = (bytes_of(alloc, one)?, bytes_of(alloc, other)?);
+    match call {
+        "verdict" => verdict(alloc, &one, &other),
+        _ => Ok(in_range(&one, &other)),
+    }
+}
+
+/// Puts the answer of a call of two values: of `verdict` or `in range`.
+pub fn put_answer_of_two(given: &mut Outcome, call: &str, fields: &str) {
+    match answer_of_two(given.alloc, call, fields) {
+        Ok(answer) => given.put(answer.as_bytes()),
+        Err(_) => given.refuse(),
+    }
 }
 
 // Puts a map, by a copy of it.

@@ -85,8 +85,8 @@ fn local(host: u8) -> Ipv4Addr {
     Ipv4Addr::new(127, 0, 0, host)
 }
 
-// The route to 127.0.0.1 and those after it, so many in all.
-fn route_to(hosts: u16) -> Route<Ipv4Addr> {
+/// The route to 127.0.0.1 and those after it, so many in all.
+pub fn route_to(hosts: u32) -> Route<Ipv4Addr> {
     match hosts {
         2 => Route::Two(local(1), local(2)),
         3 => Route::Three(local(1), local(2), local(3)),
@@ -146,7 +146,11 @@ fn put_entity(given: &mut Outcome, text: &[u8], table: &Table) {
 // The same where ca.example.net has so many addresses; there is no host where that is 0.
 fn put_place(given: &mut Outcome, text: &[u8], hosts: u16) {
     let mut table = Table::new();
-    if hosts > 0 && table.add(b"ca.example.net", route_to(hosts)).is_err() {
+    if hosts > 0
+        && table
+            .add(b"ca.example.net", route_to(u32::from(hosts)))
+            .is_err()
+    {
         return given.unread();
     }
     put_entity(given, text, &table);

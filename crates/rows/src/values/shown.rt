@@ -3,9 +3,10 @@
 //! A value has a word for each thing that isn't 0: `refused:3`, `verb:6:2` for two commands of the verb at this place,
 //! `code:200:4`; `off:1` and `on:0` for a line on which so many events were lost, and behind it `tone:2000` and `tone:-`
 //! for a signal and its end, and `connection:26`; `file:trace:1` for a file that couldn't be written so often.
+use crate::keeping::boxed;
 use crate::texts::words_of;
 use crate::values::capturing::number_of;
-use mg_bytes::{decimal, split_once};
+use mg_bytes::{OutOfMemory, decimal, split_once};
 use page_answers::{
     CodeCount, ConnectionView, FileCount, LineView, Picture, SignalView, VerbCount, metrics_text,
     state_text,
@@ -13,33 +14,39 @@ use page_answers::{
 use scenario_files::Outcome;
 use std::alloc::Global;
 
+// What words tell so far.
+#[derive(Drop)]
+struct Told {
+    picture: Box<Picture>,
+}
+
 // Sets the number that a word names, the clock, the first of ids or a count, and says whether it names one.
-fn set_number(picture: &mut Picture, key: &str, number: u64) -> bool {
+fn set_number(told: &mut Told, key: &str, number: u64) -> bool {
     match key {
-        "clock" => picture.clock = number,
-        "first" => picture.first = u32::try_from(number).unwrap_or(u32::MAX),
-        "in" => picture.counts.datagrams_in = number,
-        "out" => picture.counts.datagrams_out = number,
-        "responses" => picture.counts.responses = number,
-        "unreadable" => picture.counts.unreadable = number,
-        "answers-again" => picture.counts.answers_again = number,
-        "notifications" => picture.counts.notifications = number,
-        "notifications-again" => picture.counts.notifications_again = number,
-        "announcements" => picture.counts.announcements = number,
-        "announcements-again" => picture.counts.announcements_again = number,
-        "given-up" => picture.counts.given_up_by_lines = number,
-        "gateway-given-up" => picture.counts.given_up_by_gateway = number,
-        "sends" => picture.counts.sends[0] = number,
-        "second-sends" => picture.counts.sends[1] = number,
-        "other-sends" => picture.counts.sends[4] = number,
-        "strangers" => picture.counts.strangers = number,
-        "lost-commands" => picture.counts.lost_commands = number,
-        "serving" => picture.is_serving = number > 0,
-        "refused" => picture.counts.refused = number,
-        "receive-faults" => picture.counts.receive_faults = number,
-        "send-faults" => picture.counts.send_faults = number,
-        "dropped" => picture.counts.dropped_lines = number,
-        "transactions" => picture.counts.transactions = number,
+        "clock" => told.picture.clock = number,
+        "first" => told.picture.first = u32::try_from(number).unwrap_or(u32::MAX),
+        "in" => told.picture.counts.datagrams_in = number,
+        "out" => told.picture.counts.datagrams_out = number,
+        "responses" => told.picture.counts.responses = number,
+        "unreadable" => told.picture.counts.unreadable = number,
+        "answers-again" => told.picture.counts.answers_again = number,
+        "notifications" => told.picture.counts.notifications = number,
+        "notifications-again" => told.picture.counts.notifications_again = number,
+        "announcements" => told.picture.counts.announcements = number,
+        "announcements-again" => told.picture.counts.announcements_again = number,
+        "given-up" => told.picture.counts.given_up_by_lines = number,
+        "gateway-given-up" => told.picture.counts.given_up_by_gateway = number,
+        "sends" => told.picture.counts.sends[0] = number,
+        "second-sends" => told.picture.counts.sends[1] = number,
+        "other-sends" => told.picture.counts.sends[4] = number,
+        "strangers" => told.picture.counts.strangers = number,
+        "lost-commands" => told.picture.counts.lost_commands = number,
+        "serving" => told.picture.is_serving = number > 0,
+        "refused" => told.picture.counts.refused = number,
+        "receive-faults" => told.picture.counts.receive_faults = number,
+        "send-faults" => told.picture.counts.send_faults = number,
+        "dropped" => told.picture.counts.dropped_lines = number,
+        "transactions" => told.picture.counts.transactions = number,
         _ => return false,
     }
     true
@@ -125,12 +132,12 @@ fn begun(alloc: Global, is_off_hook: bool, lost: u64) -> LineView {
 }
 
 // What a word tells of a list of the picture.
-fn tell_list(given: &mut Outcome, picture: &mut Picture, key: &str, value: &[u8]) {
+fn tell_list(given: &mut Outcome, told: &mut Told, key: &str, value: &[u8]) {
     let is_told = match key {
         "verb" => {
             let (place, number) = pair_of(given, value);
             let verb = place.min(255) as u8;
-            picture
+            told.picture
                 .counts
                 .commands
                 .push(VerbCount { verb, number })
@@ -138,22 +145,22 @@ fn tell_list(given: &mut Outcome, picture: &mut Picture, key: &str, value: &[u8]
         }
         "code" => {
             let (code, number) = pair_of(given, value);
-            picture
+            told.picture
                 .counts
                 .answers
                 .push(CodeCount { code, number })
                 .is_ok()
         }
         "file" => match file_of(given, value) {
-            Some(file) => picture.counts.write_faults.push(file).is_ok(),
+            Some(file) => told.picture.counts.write_faults.push(file).is_ok(),
             None => false,
         },
         "off" | "on" => {
             let lost = number_of(given, value);
             let line = begun(given.alloc, key == "off", lost);
-            picture.lines.push(line).is_ok()
+            told.picture.lines.push(line).is_ok()
         }
-        _ => match picture.lines.last_mut() {
+        _ => match told.picture.lines.last_mut() {
             Some(line) => return tell_line(given, line, key, value),
             None => return given.unread(),
         },
@@ -163,25 +170,26 @@ fn tell_list(given: &mut Outcome, picture: &mut Picture, key: &str, value: &[u8]
     }
 }
 
-fn tell(given: &mut Outcome, picture: &mut Picture, key: &str, value: &[u8]) {
+fn tell(given: &mut Outcome, told: &mut Told, key: &str, value: &[u8]) {
     let number = decimal(value);
-    if !set_number(picture, key, number.unwrap_or(0)) {
-        tell_list(given, picture, key, value);
+    if !set_number(told, key, number.unwrap_or(0)) {
+        tell_list(given, told, key, value);
     } else if number.is_none() {
         given.unread();
     }
 }
 
 // The picture that these words tell.
-fn picture_of(given: &mut Outcome, value: &[u8]) -> Picture {
-    let mut picture = Picture::new(given.alloc);
+fn told_by(given: &mut Outcome, value: &[u8]) -> Result<Told, OutOfMemory> {
+    let picture = boxed(given.alloc, Picture::new(given.alloc))?;
+    let mut told = Told { picture };
     for word in words_of(value).split(' ') {
         match word.split_once(':') {
-            Some((key, value)) => tell(given, &mut picture, key, value.as_bytes()),
+            Some((key, value)) => tell(given, &mut told, key, value.as_bytes()),
             None => given.unread(),
         }
     }
-    picture
+    Ok(told)
 }
 
 // Puts a text with `<` and `>` in place of braces, which are short forms in rows.
@@ -197,16 +205,20 @@ fn put_unbraced(given: &mut Outcome, text: &[u8]) {
 }
 
 fn put_metrics(given: &mut Outcome, value: &[u8]) {
-    let picture = picture_of(given, value);
-    match metrics_text(given.alloc, &picture) {
+    let Ok(told) = told_by(given, value) else {
+        return given.refuse();
+    };
+    match metrics_text(given.alloc, &told.picture) {
         Ok(text) => put_unbraced(given, &text),
         Err(_) => given.refuse(),
     }
 }
 
 fn put_state(given: &mut Outcome, value: &[u8]) {
-    let picture = picture_of(given, value);
-    match state_text(given.alloc, &picture, 1) {
+    let Ok(told) = told_by(given, value) else {
+        return given.refuse();
+    };
+    match state_text(given.alloc, &told.picture, 1) {
         Ok(text) => put_unbraced(given, text.as_bytes()),
         Err(_) => given.refuse(),
     }
