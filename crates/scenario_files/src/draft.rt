@@ -1,18 +1,19 @@
-//! A text that is put together.
+//! A text that is put together, as a `Draft` of `mg_bytes` puts bytes together.
 use mg_bytes::OutOfMemory;
 use std::alloc::{AllocError, Global};
 
 /// A text that is put together of pieces. That memory was refused for one is kept, and told at the end.
 #[derive(Drop)]
-pub struct Draft {
+pub struct TextDraft {
     text: String,
-    is_refused: bool,
+    /// Memory was refused.
+    pub is_refused: bool,
 }
 
-impl Draft {
+impl TextDraft {
     /// Nothing yet.
-    pub fn new(alloc: Global) -> Draft {
-        Draft {
+    pub fn new(alloc: Global) -> TextDraft {
+        TextDraft {
             text: String::new(alloc),
             is_refused: false,
         }
@@ -39,9 +40,14 @@ impl Draft {
         }
     }
 
+    /// What was put so far.
+    pub fn as_str(&self) -> &str {
+        self.text.as_str()
+    }
+
     /// All that was put. Its only error is want of memory, also for what was put.
     pub fn end(self) -> Result<String, OutOfMemory> {
-        let Draft { text, is_refused } = self;
+        let TextDraft { text, is_refused } = self;
         if is_refused {
             return Err(AllocError);
         }

@@ -1,6 +1,7 @@
 //! The files that a program is called with, each of which says in its first line what it has.
 use crate::again;
-use crate::count::Count;
+use crate::report::Report;
+use std::io::Write;
 use std::net::Net;
 use std::process::ExitCode;
 use std::rt::{Env, Files};
@@ -8,12 +9,8 @@ use std::{env, fs, io};
 
 /// The kinds of scenarios that a program knows.
 pub trait Kinds {
-    /// Tells a text of this kind; nothing where that is none of these kinds.
-    fn told<R: AllocGlobal + Net + Print>(
-        rt: &R,
-        kind: &str,
-        text: &str,
-    ) -> io::Result<Option<Count>>;
+    /// Tells a text of this kind: whether that is one of these kinds.
+    fn told<R: AllocGlobal + Net>(rt: &R, kind: &str, text: &str, report: &mut Report) -> bool;
 }
 
 // The first line before a file's first title that is no comment: nothing plays what stands there.
@@ -29,47 +26,66 @@ fn unplayed(text: &str) -> Option<&str> {
 
 // Tells a file by what its first line says that it has. The other lines keep the line end before them, so that a title
 // may be the first of them.
-fn told<K: Kinds, R: AllocGlobal + Net + Print>(rt: &R, text: &str) -> io::Result<Count> {
+fn told<K: Kinds, R: AllocGlobal + Net>(rt: &R, text: &str, report: &mut Report) {
     let kind = text.lines().next().unwrap_or("");
     let rest = text.strip_prefix(kind).unwrap_or("");
-    if let Some(line) = unplayed(rest) {
-        println!(rt; "{line}\n  stands before the first title")?;
-        return Ok(Count { cases: 1, wrong: 1 });
+    match unplayed(rest) {
+        Some(line) => report.wrong(line, "\n  stands before the first title\n"),
+        None if K::told(rt, kind, rest, report) => {}
+        None => {
+            report.wrong("there are no scenarios of ", kind);
+            report.put(b"\n");
+        }
     }
-    if let Some(count) = K::told(rt, kind, rest)? {
-        return Ok(count);
-    }
-    println!(rt; "there are no scenarios of {kind}")?;
-    Ok(Count { cases: 1, wrong: 1 })
 }
 
-// Tells the file of this name, and says how many cases it has.
+// Tells the file of this name. Prints what is said of it, and how many cases it has.
 fn told_file<K: Kinds, R: AllocGlobal + Files + Net + Print>(
     rt: &R,
     name: &str,
-) -> io::Result<Count> {
+    report: &mut Report,
+) -> io::Result<()> {
     let text = again!(fs::read_to_string(rt, name))?;
-    let count = told::<K, R>(rt, text.as_str())?;
-    println!(rt; "{name}: {}", count.cases)?;
-    Ok(count)
+    let before = report.cases;
+    told::<K, R>(rt, text.as_str(), report);
+    io::writer(rt).write_all(&report.said)?;
+    report.said.clear();
+    println!(rt; "{name}: {}", report.cases.wrapping_sub(before))
 }
 
 // Tells the files.
-fn told_all<K: Kinds, R: AllocGlobal + Env + Files + Net + Print>(rt: &R) -> io::Result<Count> {
-    let mut all = Count::nothing();
-    for name in again!(env::args(rt))?.skip(1) {
-        all.add(told_file::<K, R>(rt, name.as_str())?);
+fn told_all<K: Kinds, R: AllocGlobal + Env + Files + Net + Print>(
+    rt: &R,
+    report: &mut Report,
+) -> io::Result<()> {
+    let mut words = again!(env::args(rt))?;
+    // The first is the program's own name.
+    words.next();
+    for name in words {
+        told_file::<K, R>(rt, name.as_str(), report)?;
     }
-    Ok(all)
+    Ok(())
+}
+
+// Prints how many cases the files have, and whether they are as they are told.
+fn print_sum<R: Print>(rt: &R, cases: u32, wrong: u32) -> io::Result<()> {
+    if wrong > 0 {
+        return println!(rt; "{wrong} of {cases} cases aren't told as they happen");
+    }
+    println!(rt; "{cases} cases, all as told")
 }
 
 /// Tells the files that the program's words name, and says at the end how many cases they have.
 pub fn play<K: Kinds, R: AllocGlobal + Env + Files + Net + Print>(rt: &R) -> io::Result<ExitCode> {
-    let Count { cases, wrong } = told_all::<K, R>(rt)?;
-    if wrong > 0 {
-        println!(rt; "{wrong} of {cases} cases aren't told as they happen")?;
-        return Ok(ExitCode::FAILURE);
+    let mut report = Report::nothing(rt.alloc());
+    told_all::<K, R>(rt, &mut report)?;
+    if report.is_refused {
+        return Err(io::Error::from(io::ErrorKind::OutOfMemory));
     }
-    println!(rt; "{cases} cases, all as told")?;
-    Ok(ExitCode::SUCCESS)
+    print_sum(rt, report.cases, report.wrong)?;
+    Ok(if report.wrong > 0 {
+        ExitCode::FAILURE
+    } else {
+        ExitCode::SUCCESS
+    })
 }

@@ -9,13 +9,13 @@
 #![tactic(auto)]
 
 mod again;
-mod count;
 mod draft;
 mod files;
 mod input;
 mod lists;
 mod numbers;
 mod outcome;
+mod report;
 mod row;
 mod rows;
 mod settings;
@@ -23,13 +23,13 @@ mod texts;
 mod titles;
 mod written;
 
-pub use crate::count::Count;
-pub use crate::draft::Draft;
+pub use crate::draft::TextDraft;
 pub use crate::files::{Kinds, play};
 pub use crate::input::input_of;
 pub use crate::lists::item_at;
 pub use crate::numbers::{number_in, range_in};
 pub use crate::outcome::Outcome;
+pub use crate::report::Report;
 pub use crate::row::Row;
 pub use crate::rows::{Scenario, told};
 pub use crate::settings::SETTINGS;

@@ -3,7 +3,7 @@
 //! It is apart from what is read of the row, which is lent: nearly all that plays a row only puts, and is checked for no loan then.
 use crate::texts::yes_or_no;
 use mg_bytes::{CodeFault, OutOfMemory, Text};
-use std::alloc::{AllocError, Global};
+use std::alloc::Global;
 use std::fmt::Display;
 use std::io::Write;
 
@@ -100,19 +100,5 @@ impl Outcome {
     /// Puts a judgement.
     pub fn put_judged(&mut self, is_so: bool) {
         self.put(yes_or_no(is_so).as_bytes());
-    }
-
-    /// What is given, unless that is what was wanted, whatever blanks stand before both.
-    pub fn unlike(&self, wanted: &str) -> Result<Option<String>, OutOfMemory> {
-        if self.is_refused {
-            return Err(AllocError);
-        }
-        if self.is_unread {
-            return Ok(Some("no such row".to_string(self.alloc)?));
-        }
-        if self.bytes.trim_ascii_start() == wanted.trim_start().as_bytes() {
-            return Ok(None);
-        }
-        Ok(Some(String::from_utf8_lossy(self.alloc, &self.bytes)?))
     }
 }

@@ -3,17 +3,18 @@
 //!
 //! Neither reading nor putting can fail: what comes of the row keeps that a word couldn't be read, or that memory was refused, and
 //! says nothing else then. So a kind of row asks for that only before it changes its state.
-use crate::again;
 use crate::outcome::Outcome;
 use crate::texts::{bytes_of, said};
 use mg_bytes::OutOfMemory;
-use std::alloc::Global;
+use std::alloc::{AllocError, Global};
 
 /// A row: what hasn't been read of it, and what it gives.
 #[derive(Drop)]
 pub struct Row<'a> {
     pub left: &'a str,
     pub given: Outcome,
+    /// What is given is compared with what is left byte for byte, and not whatever blanks stand before both.
+    pub is_exact: bool,
 }
 
 impl<'a> Row<'a> {
@@ -22,6 +23,7 @@ impl<'a> Row<'a> {
         Row {
             left: row,
             given: Outcome::nothing(alloc),
+            is_exact: false,
         }
     }
 
@@ -71,21 +73,31 @@ impl<'a> Row<'a> {
         left
     }
 
-    /// What is given, unless that is what is left, whatever blanks stand before both.
-    pub fn unlike(&self) -> Result<Option<String>, OutOfMemory> {
-        self.given.unlike(self.left)
-    }
-
-    /// What is given, unless that is what is left, byte for byte, in short forms.
-    pub fn unlike_bytes(&self) -> Result<Option<String>, OutOfMemory> {
+    // What is given in short forms, unless that is what is left, byte for byte.
+    fn unlike_bytes(&self) -> Result<Option<String>, OutOfMemory> {
         let given = &self.given;
-        if given.is_refused || given.is_unread {
-            return self.unlike();
-        }
-        let wanted = again!(bytes_of(given.alloc, self.left))?;
+        let wanted = bytes_of(given.alloc, self.left)?;
         if wanted.as_slice() == given.bytes.as_slice() {
             return Ok(None);
         }
-        Ok(Some(again!(said(given.alloc, &given.bytes))?))
+        Ok(Some(said(given.alloc, &given.bytes)?))
+    }
+
+    /// What is given, unless that is what is left, whatever blanks stand before both.
+    pub fn unlike(&self) -> Result<Option<String>, OutOfMemory> {
+        let given = &self.given;
+        if given.is_refused {
+            return Err(AllocError);
+        }
+        if given.is_unread {
+            return Ok(Some("no such row".to_string(given.alloc)?));
+        }
+        if self.is_exact {
+            return self.unlike_bytes();
+        }
+        if given.bytes.trim_ascii_start() == self.left.trim_start().as_bytes() {
+            return Ok(None);
+        }
+        Ok(Some(String::from_utf8_lossy(given.alloc, &given.bytes)?))
     }
 }

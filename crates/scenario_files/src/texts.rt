@@ -1,6 +1,6 @@
 //! Short forms in what is told.
-use crate::draft::Draft;
-use mg_bytes::{OutOfMemory, decimal};
+use crate::draft::TextDraft;
+use mg_bytes::{Draft, OutOfMemory, decimal};
 use std::alloc::Global;
 
 /// Puts a line with its end.
@@ -10,7 +10,7 @@ pub fn put_line(out: &mut String, line: &str) -> Result<(), OutOfMemory> {
 }
 
 // What stands behind a `{`: `64*1}`, and the text behind it.
-fn put_times(out: &mut Draft, piece: &str) {
+fn put_times(out: &mut TextDraft, piece: &str) {
     let Some((times, after)) = piece.split_once('}') else {
         return out.put(piece);
     };
@@ -24,7 +24,7 @@ fn put_times(out: &mut Draft, piece: &str) {
 /// The text without short forms: `~` is the domain with the protocol's name, `{64*1}` is 64 times the text `1`.
 pub fn in_full(alloc: Global, text: &str) -> Result<String, OutOfMemory> {
     let named = text.replace(alloc, '~', "rgw.example.net MGCP 1.0")?;
-    let mut out = Draft::new(alloc);
+    let mut out = TextDraft::new(alloc);
     let mut pieces = named.as_str().split('{');
     out.put(pieces.next().unwrap_or(""));
     for piece in pieces {
@@ -33,31 +33,28 @@ pub fn in_full(alloc: Global, text: &str) -> Result<String, OutOfMemory> {
     out.end()
 }
 
-// The byte that a short form is, whose letters stand behind a `\`, and what follows it.
-fn short_form(piece: &str) -> Option<(u8, &str)> {
-    let (letter, rest) = piece.split_at_checked(1)?;
-    match letter {
-        "s" => Some((b' ', rest)),
-        "t" => Some((b'\t', rest)),
-        "n" => Some((b'\n', rest)),
-        "x" => hexadecimal_byte(rest),
-        _ => None,
-    }
-}
+// The letters that stand behind a `\` for a byte.
+const SHORT_FORMS: [(&str, u8); 3] = [("s", b' '), ("t", b'\t'), ("n", b'\n')];
 
-// The byte with these two digits in front, and what follows them.
-fn hexadecimal_byte(text: &str) -> Option<(u8, &str)> {
-    let (digits, rest) = text.split_at_checked(2)?;
+// The byte with these two digits behind `x` in front, and what follows them.
+fn hexadecimal_byte(piece: &str) -> Option<(u8, &str)> {
+    let (digits, rest) = piece.strip_prefix('x')?.split_at_checked(2)?;
     Some((u8::from_str_radix(digits, 16).ok()?, rest))
 }
 
 // Puts what stands behind a `\`: the byte that its short form is, and what follows it.
-fn put_short(out: &mut Vec<u8>, piece: &str) -> Result<(), OutOfMemory> {
-    let Some((byte, rest)) = short_form(piece) else {
-        return out.extend_from_slice(piece.as_bytes());
+fn put_short(out: &mut Draft, piece: &str) {
+    for (letter, byte) in &SHORT_FORMS {
+        if let Some(rest) = piece.strip_prefix(*letter) {
+            out.put_byte(*byte);
+            return out.put(rest.as_bytes());
+        }
+    }
+    let Some((byte, rest)) = hexadecimal_byte(piece) else {
+        return out.put(piece.as_bytes());
     };
-    out.push(byte)?;
-    out.extend_from_slice(rest.as_bytes())
+    out.put_byte(byte);
+    out.put(rest.as_bytes());
 }
 
 // A text without the short forms that are no single byte.
@@ -70,13 +67,13 @@ fn without_pairs(alloc: Global, field: &str) -> Result<String, OutOfMemory> {
 /// byte with these hexadecimal digits.
 pub fn bytes_of(alloc: Global, field: &str) -> Result<Vec<u8>, OutOfMemory> {
     let text = without_pairs(alloc, field)?;
-    let mut out = Vec::new(alloc);
+    let mut out = Draft::new(alloc);
     let mut pieces = text.as_str().split('\\');
-    out.extend_from_slice(pieces.next().unwrap_or("").as_bytes())?;
+    out.put(pieces.next().unwrap_or("").as_bytes());
     for piece in pieces {
-        put_short(&mut out, piece)?;
+        put_short(&mut out, piece);
     }
-    Ok(out)
+    out.end()
 }
 
 /// Bytes as a row says them.

@@ -1,24 +1,23 @@
 //! Cases that are lines under titles. Some lines stand once, as pieces, and are put in where they are named.
 use crate::again;
-use crate::count::Count;
-use crate::draft::Draft;
+use crate::draft::TextDraft;
 use crate::numbers::number_in;
+use crate::report::Report;
 use mg_bytes::OutOfMemory;
 use std::alloc::Global;
-use std::io;
 use std::net::Net;
 
 // Lines under a name.
 #[derive(Drop)]
-struct Piece {
-    name: String,
+struct Piece<'a> {
+    name: &'a str,
     lines: String,
 }
 
 // The lines of a name, or a line that no script has.
-fn lines_of<'a>(pieces: &'a [Piece], name: &str) -> &'a str {
+fn lines_of<'a>(pieces: &'a [Piece<'_>], name: &str) -> &'a str {
     for piece in pieces {
-        if piece.name.as_str() == name {
+        if piece.name == name {
             return piece.lines.as_str();
         }
     }
@@ -36,7 +35,7 @@ fn filled(alloc: Global, lines: &str, values: &str) -> Result<String, OutOfMemor
 }
 
 // What `do` puts in: the lines of a name, with a value in each place `{1}`, `{2}` and so on.
-fn put_done(alloc: Global, pieces: &[Piece], out: &mut Draft, call: &str) {
+fn put_done(alloc: Global, pieces: &[Piece<'_>], out: &mut TextDraft, call: &str) {
     match call.split_once('|') {
         Some((name, values)) => {
             let lines = lines_of(pieces, name.trim());
@@ -53,7 +52,7 @@ fn numbered(alloc: Global, lines: &str, number: u64) -> Result<String, OutOfMemo
 }
 
 // What `each` puts in: the lines of a name for each number from one to another, which is `{n}`.
-fn put_each(alloc: Global, pieces: &[Piece], out: &mut Draft, call: &str) {
+fn put_each(alloc: Global, pieces: &[Piece<'_>], out: &mut TextDraft, call: &str) {
     let (first, rest) = call.split_once(' ').unwrap_or((call, ""));
     let (last, name) = rest.split_once(' ').unwrap_or((rest, ""));
     let lines = lines_of(pieces, name);
@@ -63,7 +62,7 @@ fn put_each(alloc: Global, pieces: &[Piece], out: &mut Draft, call: &str) {
 }
 
 // A line, or what it puts in.
-fn put_expanded(alloc: Global, pieces: &[Piece], out: &mut Draft, line: &str) {
+fn put_expanded(alloc: Global, pieces: &[Piece<'_>], out: &mut TextDraft, line: &str) {
     match line.split_once(' ') {
         Some(("do", call)) => put_done(alloc, pieces, out, call),
         Some(("each", call)) => put_each(alloc, pieces, out, call),
@@ -72,8 +71,8 @@ fn put_expanded(alloc: Global, pieces: &[Piece], out: &mut Draft, line: &str) {
 }
 
 // The lines with all that they put in.
-fn expanded(alloc: Global, pieces: &[Piece], lines: &str) -> Result<String, OutOfMemory> {
-    let mut out = Draft::new(alloc);
+fn expanded(alloc: Global, pieces: &[Piece<'_>], lines: &str) -> Result<String, OutOfMemory> {
+    let mut out = TextDraft::new(alloc);
     for line in lines.lines() {
         put_expanded(alloc, pieces, &mut out, line);
     }
@@ -82,56 +81,51 @@ fn expanded(alloc: Global, pieces: &[Piece], lines: &str) -> Result<String, OutO
 
 // The lines under a title, with all that they put in; nothing where they are a piece, which is held from now on.
 // After an error the pieces are as they were.
-fn lines_under(
+fn lines_under<'a>(
     alloc: Global,
-    pieces: &mut Vec<Piece>,
-    title: &str,
+    pieces: &mut Vec<Piece<'a>>,
+    title: &'a str,
     lines: &str,
 ) -> Result<Option<String>, OutOfMemory> {
     let lines = expanded(alloc, pieces, lines)?;
     let Some(name) = title.strip_prefix("piece ") else {
         return Ok(Some(lines));
     };
-    let name = name.to_string(alloc)?;
     pieces.push(Piece { name, lines })?;
     Ok(None)
 }
 
 /// A kind of cases that are lines under a title.
 pub trait Titled {
-    /// Tells the lines under a title: how many cases they are. What differs is printed.
-    fn told<R: AllocGlobal + Net + Print>(
-        &mut self,
-        rt: &R,
-        title: &str,
-        lines: &str,
-    ) -> io::Result<Count>;
+    /// Tells the lines under a title.
+    fn told<R: AllocGlobal + Net>(&mut self, rt: &R, title: &str, lines: &str, report: &mut Report);
 }
 
 // Tells the lines under a title, or holds them as a piece.
-fn told_block<T: Titled, R: AllocGlobal + Net + Print>(
+fn told_block<'a, T: Titled, R: AllocGlobal + Net>(
     rt: &R,
     kind: &mut T,
-    pieces: &mut Vec<Piece>,
-    block: &str,
-) -> io::Result<Count> {
+    pieces: &mut Vec<Piece<'a>>,
+    block: &'a str,
+    report: &mut Report,
+) {
     let (title, lines) = block.split_once('\n').unwrap_or((block, ""));
-    match again!(lines_under(rt.alloc(), pieces, title, lines))? {
-        Some(lines) => kind.told(rt, title, lines.as_str()),
-        None => Ok(Count::nothing()),
+    match again!(lines_under(rt.alloc(), pieces, title, lines)) {
+        Ok(Some(lines)) => kind.told(rt, title, lines.as_str(), report),
+        Ok(None) => {}
+        Err(_) => report.refuse(),
     }
 }
 
 /// Tells the cases of a file, with the pieces that its lines put in.
-pub fn told_titled<T: Titled, R: AllocGlobal + Net + Print>(
+pub fn told_titled<T: Titled, R: AllocGlobal + Net>(
     rt: &R,
     kind: &mut T,
     text: &str,
-) -> io::Result<Count> {
+    report: &mut Report,
+) {
     let mut pieces = Vec::new(rt.alloc());
-    let mut count = Count::nothing();
     for block in text.split("\n= ").skip(1) {
-        count.add(told_block(rt, kind, &mut pieces, block)?);
+        told_block(rt, kind, &mut pieces, block, report);
     }
-    Ok(count)
 }

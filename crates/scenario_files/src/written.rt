@@ -1,5 +1,6 @@
 //! A scenario as it is written: its script, and what it says that is printed.
-use crate::texts::{in_full, put_line};
+use crate::draft::TextDraft;
+use crate::texts::in_full;
 use mg_bytes::OutOfMemory;
 use std::alloc::{AllocError, Global};
 
@@ -13,18 +14,19 @@ const MARK: &str = "show 65535";
 
 const MARK_PRINTED: &str = "! 4 NoSuchLine";
 
-/// Lines of the configuration, of the script, and of what is printed; the program's words, if the scenario says any, whether
-/// the script begins at the opening and not at Ready, and whether a mark stands before each cause.
+/// The program's words, if the scenario says any; whether the script begins at the opening and not at Ready; and lines of the
+/// configuration, of the script, and of what is printed.
 #[derive(Drop)]
 pub struct WrittenScenario {
-    pub words: String,
+    pub words: TextDraft,
     pub is_at_opening: bool,
+    pub changes: TextDraft,
+    pub script: TextDraft,
+    pub printed: TextDraft,
+    // A mark stands before each cause.
     is_marked: bool,
-    // Memory was refused.
-    is_refused: bool,
-    pub changes: String,
-    pub script: String,
-    pub printed: String,
+    // Where the next line stands.
+    place: LinePlace,
 }
 
 // Where a line of a scenario stands.
@@ -35,116 +37,111 @@ enum LinePlace {
     InSent,
 }
 
-// The first words of a line that is printed, where it is no datagram.
-const PRINTED: [&str; 7] = [
-    "! ",
-    "line ",
-    "config ",
-    "script line ",
-    "usage: ",
-    "status ",
-    "wire fault",
+// What a line says, by its first word.
+#[derive(Clone, Copy)]
+enum Says {
+    Heard,
+    Sent,
+    Words,
+    Set,
+    Opening,
+    Printed,
+    // A step of the script.
+    Step,
+}
+
+const FIRST_WORDS: [(&str, Says); 13] = [
+    ("<", Says::Heard),
+    ("from", Says::Heard),
+    (">", Says::Sent),
+    ("words", Says::Words),
+    ("set", Says::Set),
+    ("opening", Says::Opening),
+    ("!", Says::Printed),
+    ("line", Says::Printed),
+    ("config", Says::Printed),
+    ("script", Says::Printed),
+    ("usage:", Says::Printed),
+    ("status", Says::Printed),
+    ("wire", Says::Printed),
 ];
 
-fn is_printed(line: &str) -> bool {
-    for first in &PRINTED {
-        if line.starts_with(*first) {
-            return true;
+fn said_by(word: &str) -> Says {
+    for (first, says) in &FIRST_WORDS {
+        if *first == word {
+            return *says;
         }
     }
-    false
+    Says::Step
 }
 
 impl WrittenScenario {
-    // Keeps that memory was refused for what was put.
-    fn keep(&mut self, put: Result<(), OutOfMemory>) {
-        self.is_refused = self.is_refused || put.is_err();
-    }
-
-    // A line of the script.
-    fn put_script(&mut self, line: &str) {
-        let put = put_line(&mut self.script, line);
-        self.keep(put);
-    }
-
-    // A line of what is printed.
-    fn put_printed(&mut self, line: &str) {
-        let put = put_line(&mut self.printed, line);
-        self.keep(put);
-    }
-
     // A mark in the script and in what is printed, which part what the causes before and behind it give.
     fn put_mark(&mut self) {
         if self.is_marked {
-            self.put_script(MARK);
-            self.put_printed(MARK_PRINTED);
+            self.script.put_line(MARK);
+            self.printed.put_line(MARK_PRINTED);
         }
     }
 
-    fn put_heard(&mut self, from: &str) -> LinePlace {
+    // A datagram comes from this address, or from the agent where none is said.
+    fn put_heard(&mut self, from: &str) {
         self.put_mark();
-        let put = self.script.push_str("from ");
-        self.keep(put);
-        self.put_script(from);
-        LinePlace::InHeard
+        self.script.put("from ");
+        self.script
+            .put_line(if from.is_empty() { AGENT } else { from });
+        self.place = LinePlace::InHeard;
     }
 
-    fn put_sent(&mut self, line: &str, rest: &str) -> LinePlace {
-        let put = self.printed.push_str(line);
-        self.keep(put);
-        self.put_printed(if rest.contains(' ') { "" } else { AGENT_BEHIND });
-        LinePlace::InSent
+    fn put_sent(&mut self, line: &str, rest: &str) {
+        self.printed.put(line);
+        self.printed
+            .put_line(if rest.contains(' ') { "" } else { AGENT_BEHIND });
+        self.place = LinePlace::InSent;
     }
 
-    // The program's words.
-    fn put_words(&mut self, words: &str) {
-        self.words.clear();
-        let put = self.words.push_str(words);
-        self.keep(put);
-    }
-
-    // A line of the configuration.
-    fn put_change(&mut self, change: &str) {
-        let put = put_line(&mut self.changes, change);
-        self.keep(put);
-    }
-
-    // A line that is a step of the script, or empty.
+    // A line that is a step of the script, or empty; one for the reader is none.
     fn put_step(&mut self, line: &str) {
+        if line.starts_with('#') {
+            return;
+        }
         if !line.is_empty() {
             self.put_mark();
         }
-        self.put_script(line);
+        self.script.put_line(line);
     }
 
     // A line that stands between datagrams.
-    fn put_between(&mut self, line: &str) -> LinePlace {
-        match line.split_once(' ') {
-            Some(("<", from)) => return self.put_heard(from),
-            Some(("from", from)) => return self.put_heard(from),
-            Some((">", rest)) => return self.put_sent(line, rest),
-            Some(("words", words)) => self.put_words(words),
-            Some(("set", change)) => self.put_change(change),
-            _ if line == "<" => return self.put_heard(AGENT),
-            _ if line == "opening" => self.is_at_opening = true,
-            _ if is_printed(line) => self.put_printed(line),
-            _ if line.starts_with('#') => {}
-            _ => self.put_step(line),
+    fn put_between(&mut self, line: &str) {
+        let (word, rest) = line.split_once(' ').unwrap_or((line, ""));
+        match said_by(word) {
+            Says::Heard => self.put_heard(rest),
+            Says::Sent => self.put_sent(line, rest),
+            Says::Words => self.words.put(rest),
+            Says::Set => self.changes.put_line(rest),
+            Says::Opening => self.is_at_opening = true,
+            Says::Printed => self.printed.put_line(line),
+            Says::Step => self.put_step(line),
         }
-        LinePlace::Between
     }
 
-    fn put(&mut self, place: LinePlace, line: &str) -> LinePlace {
-        match place {
+    fn put(&mut self, line: &str) {
+        match self.place {
             LinePlace::Between => return self.put_between(line),
-            LinePlace::InHeard => self.put_script(line),
-            LinePlace::InSent => self.put_printed(line),
+            LinePlace::InHeard => self.script.put_line(line),
+            LinePlace::InSent => self.printed.put_line(line),
         }
         if line == "--" {
-            LinePlace::Between
-        } else {
-            place
+            self.place = LinePlace::Between;
         }
+    }
+
+    /// Memory was refused for what was put.
+    pub fn is_refused(&self) -> bool {
+        self.words.is_refused
+            || self.changes.is_refused
+            || self.script.is_refused
+            || self.printed.is_refused
     }
 }
 
@@ -156,19 +153,18 @@ pub fn read_scenario(
 ) -> Result<WrittenScenario, OutOfMemory> {
     let whole = in_full(alloc, text)?;
     let mut scenario = WrittenScenario {
-        words: String::new(alloc),
+        words: TextDraft::new(alloc),
         is_at_opening: false,
+        changes: TextDraft::new(alloc),
+        script: TextDraft::new(alloc),
+        printed: TextDraft::new(alloc),
         is_marked,
-        is_refused: false,
-        changes: String::new(alloc),
-        script: String::new(alloc),
-        printed: String::new(alloc),
+        place: LinePlace::Between,
     };
-    let mut place = LinePlace::Between;
     for line in whole.as_str().lines() {
-        place = scenario.put(place, line);
+        scenario.put(line);
     }
-    if scenario.is_refused {
+    if scenario.is_refused() {
         return Err(AllocError);
     }
     Ok(scenario)
