@@ -16,7 +16,8 @@ use mg_bytes::{OutOfMemory, Sequence};
 use rgw_play::{Task, WordFault, asked};
 use rgw_scenes::{flaw_of, read_config, told, told_setup};
 use scenario_files::{
-    Outcome, Row, Scenario, WrittenScenario, input_of, number_in, put_line, read_scenario, value_of,
+    Outcome, Row, Scenario, TextDraft, WrittenScenario, input_of, number_in, read_scenario,
+    value_of,
 };
 use std::alloc::{AllocError, Global};
 
@@ -60,7 +61,7 @@ fn settings_with(alloc: Global, changes: &str) -> Result<String, OutOfMemory> {
     let mut scenario = read_scenario(alloc, "", false)?;
     scenario.is_at_opening = true;
     let changes = changes.replace(alloc, "  ", "\n")?;
-    scenario.changes.push_str(changes.as_str())?;
+    scenario.changes.put(changes.as_str());
     input_of(alloc, &scenario)
 }
 
@@ -98,39 +99,32 @@ fn put_setup(given: &mut Outcome, changes: &str) -> Result<(), OutOfMemory> {
 }
 
 // A scenario of one datagram from the agent.
-fn put_heard(script: &mut String, front: &str, lines: &str) -> Result<(), OutOfMemory> {
-    put_line(script, "from 127.0.0.1:2727")?;
-    script.push_str(front)?;
-    put_line(script, lines)?;
-    put_line(script, "--")
+fn put_heard(script: &mut TextDraft, front: &str, lines: &str) {
+    script.put_line("from 127.0.0.1:2727");
+    script.put(front);
+    script.put_line(lines);
+    script.put_line("--");
 }
 
 // The scenario that a call is, of its values, and of what they say in short forms; no where there is no such call.
-fn put_scenario(
-    alloc: Global,
-    scenario: &mut WrittenScenario,
-    call: &str,
-    lines: &str,
-) -> Result<bool, OutOfMemory> {
-    let text = value_of(alloc, lines)?;
-    let text = text.as_str();
+fn put_scenario(scenario: &mut WrittenScenario, call: &str, lines: &str, text: &str) -> bool {
     scenario.is_at_opening = call == "settings" || call == "script";
-    let put = match call {
-        "settings" => scenario.changes.push_str(lines),
-        "script" => scenario.script.push_str(text),
+    match call {
+        "settings" => scenario.changes.put(lines),
+        "script" => scenario.script.put(text),
         "command" => put_heard(&mut scenario.script, "", text),
         "request" => put_heard(&mut scenario.script, REQUEST, text),
-        _ => return Ok(false),
-    };
-    put?;
-    Ok(true)
+        _ => return false,
+    }
+    true
 }
 
 // What is printed of the scenario that a call is; nothing where there is no such call.
 fn printed_of(alloc: Global, call: &str, fields: &str) -> Result<Option<Vec<u8>>, OutOfMemory> {
     let lines = fields.replace(alloc, "  ", "\n")?;
+    let text = value_of(alloc, lines.as_str())?;
     let mut scenario = read_scenario(alloc, "", false)?;
-    if !put_scenario(alloc, &mut scenario, call, lines.as_str())? {
+    if !put_scenario(&mut scenario, call, lines.as_str(), text.as_str()) {
         return Ok(None);
     }
     Ok(Some(simulated(alloc, &scenario)?))
@@ -173,10 +167,11 @@ impl Scenario for Calls {
         Ok(Calls)
     }
 
-    fn unlike(&mut self, alloc: Global, row: &str) -> Result<Option<String>, OutOfMemory> {
-        let (rest, wanted) = row.rsplit_once("  ").unwrap_or((row, ""));
+    fn turn(&mut self, row: &mut Row<'_>) {
+        row.is_exact = true;
+        let (rest, wanted) = row.left.rsplit_once("  ").unwrap_or((row.left, ""));
         let (call, values) = rest.split_once("  ").unwrap_or((rest, ""));
-        let mut row = Row::of(alloc, wanted);
+        row.left = wanted;
         let given = &mut row.given;
         let done = match call {
             "words" => put_task(given, values),
@@ -185,7 +180,8 @@ impl Scenario for Calls {
             "setup" => put_setup(given, values),
             _ => put_printed(given, call, values),
         };
-        done?;
-        row.unlike_bytes()
+        if done.is_err() {
+            row.given.refuse();
+        }
     }
 }

@@ -14,9 +14,8 @@ use live_agent::{Recorder, Wire, WireSettings, serve_config, wire_over};
 use live_ends::{CommonEnding, SocketWanted, Written};
 use live_gateway::boxed;
 use mg_bytes::OutOfMemory;
-use scenario_files::{Count, Titled};
+use scenario_files::{Report, Titled};
 use std::alloc::{AllocError, Global};
-use std::io;
 use std::net::{Ipv4Addr, Net, SocketAddrV4};
 use surroundings::{Scripted, Surroundings};
 
@@ -174,12 +173,13 @@ impl Program for CallAgent {
 }
 
 impl Titled for CallAgent {
-    fn told<R: AllocGlobal + Net + Print>(
+    fn told<R: AllocGlobal + Net>(
         &mut self,
         rt: &R,
         title: &str,
         lines: &str,
-    ) -> io::Result<Count> {
-        told::<CallAgent, R>(rt, title, lines)
+        report: &mut Report,
+    ) {
+        told::<CallAgent>(rt.alloc(), title, lines, report);
     }
 }

@@ -27,11 +27,11 @@ use live_journal::{Journal, Trace};
 use live_page::HostNames;
 use mg_bytes::OutOfMemory;
 use rgw_scenes::read_config;
-use scenario_files::{Count, Titled, input_of, read_scenario};
+use scenario_files::{Report, Titled, input_of, read_scenario};
 use std::alloc::{AllocError, Global};
 use std::collections::VecDeque;
+use std::mem;
 use std::net::{Ipv4Addr, Net, SocketAddrV4};
-use std::{io, mem};
 use surroundings::{Scripted, Surroundings};
 use traces::{put_verdict, replay};
 
@@ -66,7 +66,7 @@ impl Recorder<Trace> for Records {
 fn config_of(alloc: Global, changes: &str) -> Result<String, OutOfMemory> {
     let mut scenario = read_scenario(alloc, "", false)?;
     scenario.is_at_opening = true;
-    scenario.changes.push_str(changes)?;
+    scenario.changes.put(changes);
     input_of(alloc, &scenario)
 }
 
@@ -270,12 +270,13 @@ impl Program for Live {
 }
 
 impl Titled for Live {
-    fn told<R: AllocGlobal + Net + Print>(
+    fn told<R: AllocGlobal + Net>(
         &mut self,
         rt: &R,
         title: &str,
         lines: &str,
-    ) -> io::Result<Count> {
-        told::<Live, R>(rt, title, lines)
+        report: &mut Report,
+    ) {
+        told::<Live>(rt.alloc(), title, lines, report);
     }
 }

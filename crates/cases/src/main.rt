@@ -26,7 +26,7 @@ use crate::phones::Phones;
 use crate::scripts::Scripts;
 use crate::streams::StreamScenario;
 use rows::Rows;
-use scenario_files::{Count, Kinds, play, told, told_titled};
+use scenario_files::{Kinds, Report, play, told, told_titled};
 use std::io;
 use std::net::Net;
 use std::process::ExitCode;
@@ -36,34 +36,18 @@ use worlds::Ends;
 struct All;
 
 impl Kinds for All {
-    fn told<R: AllocGlobal + Net + Print>(
-        rt: &R,
-        kind: &str,
-        text: &str,
-    ) -> io::Result<Option<Count>> {
-        let told = match kind {
-            "scripts" => told_titled(rt, &mut Scripts, text),
-            "program" => told::<Calls, R>(rt, text),
-            "desk" => told_titled(rt, &mut CallAgent, text),
-            "live" => told_titled(rt, &mut Live, text),
-            "phones" => told_titled(rt, &mut Phones, text),
-            "streams" => told::<StreamScenario, R>(rt, text),
-            _ => return told_below(rt, kind, text),
-        };
-        Ok(Some(told?))
+    fn told<R: AllocGlobal + Net>(rt: &R, kind: &str, text: &str, report: &mut Report) -> bool {
+        match kind {
+            "scripts" => told_titled(rt, &mut Scripts, text, report),
+            "program" => told::<Calls>(rt.alloc(), text, report),
+            "desk" => told_titled(rt, &mut CallAgent, text, report),
+            "live" => told_titled(rt, &mut Live, text, report),
+            "phones" => told_titled(rt, &mut Phones, text, report),
+            "streams" => told::<StreamScenario>(rt.alloc(), text, report),
+            _ => return Rows::told(rt, kind, text, report) || Ends::told(rt, kind, text, report),
+        }
+        true
     }
-}
-
-// Tells a text of a kind that isn't about the program.
-fn told_below<R: AllocGlobal + Net + Print>(
-    rt: &R,
-    kind: &str,
-    text: &str,
-) -> io::Result<Option<Count>> {
-    if let Some(count) = Rows::told(rt, kind, text)? {
-        return Ok(Some(count));
-    }
-    Ends::told(rt, kind, text)
 }
 
 fn main(rt: HostRuntime) -> io::Result<ExitCode> {

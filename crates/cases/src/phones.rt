@@ -12,9 +12,8 @@ use mg_bytes::{OutOfMemory, Text};
 use phone_scripts::{
     Failure, Player, Reader, Script, ScriptFault, Wanted, failure_text, fault_line,
 };
-use scenario_files::{Count, Titled};
+use scenario_files::{Report, Titled};
 use std::alloc::{AllocError, Global};
-use std::io;
 use std::net::{Ipv4Addr, Net, SocketAddrV4};
 use surroundings::Surroundings;
 
@@ -131,12 +130,13 @@ impl Program for Phones {
 }
 
 impl Titled for Phones {
-    fn told<R: AllocGlobal + Net + Print>(
+    fn told<R: AllocGlobal + Net>(
         &mut self,
         rt: &R,
         title: &str,
         lines: &str,
-    ) -> io::Result<Count> {
-        told::<Phones, R>(rt, title, lines)
+        report: &mut Report,
+    ) {
+        told::<Phones>(rt.alloc(), title, lines, report);
     }
 }

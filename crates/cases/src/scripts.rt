@@ -17,26 +17,32 @@
 //!   `! 4 NoSuchLine`. So an output that stands behind another cause differs.
 use crate::played::printed_by;
 use crate::unlike::tell_unlike;
-use scenario_files::{Count, Titled, WrittenScenario, read_scenario};
-use std::io;
+use scenario_files::{Report, Titled, WrittenScenario, read_scenario};
 use std::net::Net;
 
 /// Scripts of the program.
 #[derive(Clone, Copy)]
 pub struct Scripts;
 
-// Whether the program with these words prints what the scenario says. What differs is printed, `! 4 NoSuchLine` before what each step
+// Whether the program with these words prints what the scenario says. What differs is said, `! 4 NoSuchLine` before what each step
 // gives.
-fn is_told_by<R: AllocGlobal + Net + Print>(
+fn is_told_by<R: AllocGlobal + Net>(
     rt: &R,
     title: &str,
     scenario: &WrittenScenario,
     words: &str,
-) -> io::Result<bool> {
-    let printed = printed_by(rt, scenario, words)?;
-    let who = format!(in rt.alloc(); "{words} prints")?;
-    let wanted = scenario.printed.as_bytes();
-    tell_unlike(rt, title, who.as_str(), &printed, wanted)
+    report: &mut Report,
+) -> bool {
+    match printed_by(rt, scenario, words) {
+        Ok(printed) => {
+            let wanted = scenario.printed.as_str().as_bytes();
+            tell_unlike(report, title, words, "prints", &printed, wanted)
+        }
+        Err(_) => {
+            report.refuse();
+            true
+        }
+    }
 }
 
 // Whether a scenario says that its script is played: what can't be played has an exit status.
@@ -50,30 +56,36 @@ fn is_played(text: &str) -> bool {
 }
 
 // Whether each program that a scenario is played by prints what it says.
-fn is_told<R: AllocGlobal + Net + Print>(
+fn is_told<R: AllocGlobal + Net>(
     rt: &R,
     title: &str,
     scenario: &WrittenScenario,
-) -> io::Result<bool> {
-    if !scenario.words.is_empty() {
-        return is_told_by(rt, title, scenario, scenario.words.as_str());
+    report: &mut Report,
+) -> bool {
+    let words = scenario.words.as_str();
+    if !words.is_empty() {
+        return is_told_by(rt, title, scenario, words, report);
     }
-    if !is_told_by(rt, title, scenario, "simulate")? {
-        return Ok(false);
-    }
-    is_told_by(rt, title, scenario, "loopback")
+    is_told_by(rt, title, scenario, "simulate", report)
+        && is_told_by(rt, title, scenario, "loopback", report)
 }
 
 // The scenario's output has to be as it is told, that of each cause behind a mark. What can't be played has no marks: it prints
 // nothing of its causes, and may say a line's number.
 impl Titled for Scripts {
-    fn told<R: AllocGlobal + Net + Print>(
+    fn told<R: AllocGlobal + Net>(
         &mut self,
         rt: &R,
         title: &str,
         lines: &str,
-    ) -> io::Result<Count> {
-        let scenario = read_scenario(rt.alloc(), lines, is_played(lines))?;
-        Ok(Count::of(is_told(rt, title, &scenario)?))
+        report: &mut Report,
+    ) {
+        match read_scenario(rt.alloc(), lines, is_played(lines)) {
+            Ok(scenario) => {
+                let is_right = is_told(rt, title, &scenario, report);
+                report.count(is_right);
+            }
+            Err(_) => report.refuse(),
+        }
     }
 }

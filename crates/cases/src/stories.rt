@@ -17,9 +17,8 @@ pub use crate::stories::transcript::Transcript;
 pub use crate::stories::words::{Words, words_in};
 use crate::unlike::tell_unlike;
 use mg_bytes::OutOfMemory;
-use scenario_files::Count;
+use scenario_files::Report;
 use std::alloc::Global;
-use std::io;
 
 /// A program that stories are about.
 pub trait Program {
@@ -43,18 +42,17 @@ fn texts_of<P: Program>(
     Ok(Some((given.text()?, story.wanted.text()?)))
 }
 
-/// Tells a story of a program. What differs is printed.
-pub fn told<P: Program, R: AllocGlobal + Print>(
-    rt: &R,
-    title: &str,
-    lines: &str,
-) -> io::Result<Count> {
-    let is_right = match texts_of::<P>(rt.alloc(), lines)? {
-        Some((given, wanted)) => tell_unlike(rt, title, "the program gives", &given, &wanted)?,
-        None => {
-            println!(rt; "= {title}\n  it can't be played")?;
-            false
+/// Tells a story of a program.
+pub fn told<P: Program>(alloc: Global, title: &str, lines: &str, report: &mut Report) {
+    match texts_of::<P>(alloc, lines) {
+        Ok(Some((given, wanted))) => {
+            let is_right = tell_unlike(report, title, "the program", "gives", &given, &wanted);
+            report.count(is_right);
         }
-    };
-    Ok(Count::of(is_right))
+        Ok(None) => {
+            report.put(b"= ");
+            report.wrong(title, "\n  it can't be played\n");
+        }
+        Err(_) => report.refuse(),
+    }
 }

@@ -196,14 +196,14 @@ impl StreamScenario {
         for call in first..=last {
             row.given.bytes.clear();
             self.put_failed(&mut row.given, stream, call)?;
-            if row.unlike_bytes()?.is_some() {
+            if row.unlike()?.is_some() {
                 return Ok(());
             }
         }
         Ok(())
     }
 
-    fn turn(&mut self, row: &mut Row<'_>) -> Result<(), OutOfMemory> {
+    fn play(&mut self, row: &mut Row<'_>) -> Result<(), OutOfMemory> {
         let first = row.before("  ");
         let (word, rest) = first.split_once(' ').unwrap_or((first, ""));
         match word {
@@ -228,9 +228,10 @@ impl Scenario for StreamScenario {
         })
     }
 
-    fn unlike(&mut self, alloc: Global, row: &str) -> Result<Option<String>, OutOfMemory> {
-        let mut row = Row::of(alloc, row);
-        self.turn(&mut row)?;
-        row.unlike_bytes()
+    fn turn(&mut self, row: &mut Row<'_>) {
+        row.is_exact = true;
+        if self.play(row).is_err() {
+            row.given.refuse();
+        }
     }
 }

@@ -1,19 +1,28 @@
-//! What differs is printed.
-use std::io;
+//! What differs is said.
+use scenario_files::Report;
 
-/// Whether this is given that is wanted. Where it isn't both are printed, behind the title and who gives it.
-pub fn tell_unlike<R: AllocGlobal + Print>(
-    rt: &R,
+/// Whether this is given that is wanted. Where it isn't both are said, behind the title and who gives it.
+pub fn tell_unlike(
+    report: &mut Report,
     title: &str,
     who: &str,
+    gives: &str,
     given: &[u8],
     wanted: &[u8],
-) -> io::Result<bool> {
+) -> bool {
     if given == wanted {
-        return Ok(true);
+        return true;
     }
-    let given = String::from_utf8_lossy(rt.alloc(), given)?;
-    let wanted = String::from_utf8_lossy(rt.alloc(), wanted)?;
-    println!(rt; "= {title}\n{who} this:\n{given}and not this:\n{wanted}")?;
-    Ok(false)
+    report.put(b"= ");
+    report.put(title.as_bytes());
+    report.put(b"\n");
+    report.put(who.as_bytes());
+    report.put(b" ");
+    report.put(gives.as_bytes());
+    report.put(b" this:\n");
+    report.put(given);
+    report.put(b"and not this:\n");
+    report.put(wanted);
+    report.put(b"\n");
+    false
 }

@@ -14,7 +14,7 @@
 //! - `due 500` when something falls due next; `due none`;
 //! - `answers 1  200  200 1 OK¶` the answer to the command with this id; `answers 2  none`;
 //! - `taken 1  L/hd,D/5` what notifications of a line told; `taken 2  none`.
-use crate::boxing::boxed;
+use crate::boxing::in_box;
 use crate::forms::{
     Command, act_in, address_in, but_refusal, command_in, number_of, put_answer, put_refusal,
     put_taken, text_of,
@@ -26,7 +26,7 @@ use endpoint_names::Route;
 use gateway_core::{Event, OutDatagram, Outputs, Refusal};
 use mg_bytes::{OutOfMemory, Sequence, Text};
 use scenario_files::{Outcome, Row, Scenario, bytes_of, item_at, range_in};
-use std::alloc::{AllocError, Global};
+use std::alloc::Global;
 
 /// An agent, and what it sent.
 #[derive(Drop)]
@@ -40,14 +40,6 @@ pub struct AgentScenario {
     sent: Vec<Outputs>,
     // So many of these datagrams were told.
     told: usize,
-}
-
-// An agent that was made, in a box.
-fn in_box(alloc: Global, made: Result<Agent, OutOfMemory>) -> Result<Box<Agent>, OutOfMemory> {
-    match made {
-        Ok(agent) => boxed(alloc, agent),
-        Err(_) => Err(AllocError),
-    }
 }
 
 // An agent whose ids begin with this one, or with 1 where none begin with it.
@@ -230,8 +222,21 @@ impl AgentScenario {
             }
         }
     }
+}
+
+impl Scenario for AgentScenario {
+    fn begin(alloc: Global) -> Result<AgentScenario, OutOfMemory> {
+        Ok(AgentScenario {
+            agent: agent_from(alloc, 1)?,
+            now: 0,
+            issued: 0,
+            sent: Vec::new(alloc),
+            told: 0,
+        })
+    }
 
     fn turn(&mut self, row: &mut Row<'_>) {
+        row.is_exact = true;
         match row.before(" ") {
             "agent" => self.open(row),
             "issue" => self.issue_in(row),
@@ -251,23 +256,5 @@ impl AgentScenario {
             "taken" => put_taken(row, &self.agent),
             _ => row.given.unread(),
         }
-    }
-}
-
-impl Scenario for AgentScenario {
-    fn begin(alloc: Global) -> Result<AgentScenario, OutOfMemory> {
-        Ok(AgentScenario {
-            agent: agent_from(alloc, 1)?,
-            now: 0,
-            issued: 0,
-            sent: Vec::new(alloc),
-            told: 0,
-        })
-    }
-
-    fn unlike(&mut self, alloc: Global, row: &str) -> Result<Option<String>, OutOfMemory> {
-        let mut row = Row::of(alloc, row);
-        self.turn(&mut row);
-        row.unlike_bytes()
     }
 }

@@ -10,3 +10,12 @@ pub fn boxed<T: Drop>(alloc: Global, value: T) -> Result<Box<T>, OutOfMemory> {
         Err(_) => Err(AllocError),
     }
 }
+
+/// The same of a value that was made, or why it wasn't.
+pub fn in_box<T: Drop, E: From<OutOfMemory> + Drop>(
+    alloc: Global,
+    made: Result<T, E>,
+) -> Result<Box<T>, E> {
+    let value = made?;
+    Ok(boxed(alloc, value)?)
+}

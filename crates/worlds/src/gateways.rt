@@ -1,11 +1,11 @@
 //! The gateway that scenarios are about, its configuration, the addresses of both ends, and what rows ask of a gateway.
-use crate::boxing::boxed;
+use crate::boxing::in_box;
 use endpoint_names::Route;
 use gateway_core::{Config, ConfigFault, Gateway, NamedRoute};
 use mg_bytes::{OutOfMemory, Sequence, Text};
 use mg_line::Hook;
 use scenario_files::Row;
-use std::alloc::{AllocError, Global};
+use std::alloc::Global;
 use std::net::{Ipv4Addr, SocketAddrV4};
 
 /// The entity that a gateway reports to where a scenario says no other.
@@ -64,16 +64,8 @@ pub fn config_with(alloc: Global, lines: u32, entity: &[u8]) -> Result<Config, O
     })
 }
 
-// A gateway that was made, in a box.
-fn in_box(alloc: Global, made: Result<Gateway, ConfigFault>) -> Result<Box<Gateway>, OutOfMemory> {
-    match made {
-        Ok(gateway) => boxed(alloc, gateway),
-        Err(_) => Err(AllocError),
-    }
-}
-
 /// The gateway of the usual settings, to which nothing came yet.
-pub fn usual_gateway(alloc: Global) -> Result<Box<Gateway>, OutOfMemory> {
+pub fn usual_gateway(alloc: Global) -> Result<Box<Gateway>, ConfigFault> {
     let config = config_with(alloc, LINES, ENTITY.as_bytes())?;
     in_box(alloc, Gateway::new(alloc, config))
 }

@@ -1,5 +1,5 @@
 //! What a world is given: its configuration, and the steps that it takes.
-use crate::boxing::boxed;
+use crate::boxing::in_box;
 use crate::forms::{Command, act_in, but_refusal, command_in, number_of};
 use crate::gateways::config_with;
 use agent_core::{Step, World};
@@ -56,14 +56,6 @@ pub fn given_in(row: &mut Row<'_>, word: &str) -> Option<Given> {
         },
         _ => return None,
     })
-}
-
-// A world that was made, in a box.
-fn in_box(alloc: Global, made: Result<World, ConfigFault>) -> Result<Box<World>, ConfigFault> {
-    match made {
-        Ok(world) => Ok(boxed(alloc, world)?),
-        Err(fault) => Err(fault),
-    }
 }
 
 /// A new world with so many lines, whose gateway reports to this entity; all else as it usually is.

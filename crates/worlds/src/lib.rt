@@ -31,27 +31,22 @@ mod worlds;
 use crate::agents::AgentScenario;
 use crate::memory::MemoryScenario;
 use crate::worlds::WorldScenario;
-use scenario_files::{Count, Kinds, told};
-use std::io;
+use scenario_files::{Kinds, Report, told};
 use std::net::Net;
 
 /// The kinds of scenarios of one end, or of both.
 pub struct Ends;
 
 impl Kinds for Ends {
-    fn told<R: AllocGlobal + Net + Print>(
-        rt: &R,
-        kind: &str,
-        text: &str,
-    ) -> io::Result<Option<Count>> {
-        let told = match kind {
-            "refused" => refused::told(rt, text),
-            "sockets" => sockets::told(rt, text),
-            "memory" => told::<MemoryScenario, R>(rt, text),
-            "agents" => told::<AgentScenario, R>(rt, text),
-            "worlds" => told::<WorldScenario, R>(rt, text),
-            _ => return Ok(None),
-        };
-        Ok(Some(told?))
+    fn told<R: AllocGlobal + Net>(rt: &R, kind: &str, text: &str, report: &mut Report) -> bool {
+        match kind {
+            "refused" => refused::told(rt, text, report),
+            "sockets" => sockets::told(rt, text, report),
+            "memory" => told::<MemoryScenario>(rt.alloc(), text, report),
+            "agents" => told::<AgentScenario>(rt.alloc(), text, report),
+            "worlds" => told::<WorldScenario>(rt.alloc(), text, report),
+            _ => return false,
+        }
+        true
     }
 }

@@ -21,7 +21,7 @@ use crate::playing::MemoryWire;
 use gateway_core::{Event, Gateway, Outputs, Served, Wire};
 use mg_bytes::{OutOfMemory, Sequence};
 use scenario_files::{Outcome, Row, Scenario, number_in, range_in};
-use std::alloc::Global;
+use std::alloc::{AllocError, Global};
 use std::mem;
 
 /// A gateway, and the wire over which it is served.
@@ -188,8 +188,24 @@ impl MemoryScenario {
             self.told = self.told.wrapping_add(1);
         }
     }
+}
+
+impl Scenario for MemoryScenario {
+    fn begin(alloc: Global) -> Result<MemoryScenario, OutOfMemory> {
+        let Ok(gateway) = usual_gateway(alloc) else {
+            return Err(AllocError);
+        };
+        Ok(MemoryScenario {
+            gateway,
+            plan: Vec::new(alloc),
+            wire: MemoryWire::new(alloc, Vec::new(alloc), 0),
+            served: NOT_SERVED,
+            told: 0,
+        })
+    }
 
     fn turn(&mut self, row: &mut Row<'_>) {
+        row.is_exact = true;
         match row.before(" ") {
             "gives" => self.plan_more(row),
             "wire" => self.lay(row.given.alloc, number_in(row.rest())),
@@ -202,23 +218,5 @@ impl MemoryScenario {
             "hook" => put_hook(row, &self.gateway),
             _ => row.given.unread(),
         }
-    }
-}
-
-impl Scenario for MemoryScenario {
-    fn begin(alloc: Global) -> Result<MemoryScenario, OutOfMemory> {
-        Ok(MemoryScenario {
-            gateway: usual_gateway(alloc)?,
-            plan: Vec::new(alloc),
-            wire: MemoryWire::new(alloc, Vec::new(alloc), 0),
-            served: NOT_SERVED,
-            told: 0,
-        })
-    }
-
-    fn unlike(&mut self, alloc: Global, row: &str) -> Result<Option<String>, OutOfMemory> {
-        let mut row = Row::of(alloc, row);
-        self.turn(&mut row);
-        row.unlike_bytes()
     }
 }

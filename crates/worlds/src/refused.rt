@@ -10,14 +10,13 @@
 use crate::runs::runs_alike;
 use crate::twins::{Played, Twins, are_events, event_of, scene_again, scene_of};
 use gateway_core::Refusal;
-use mg_bytes::OutOfMemory;
+use mg_bytes::{OutOfMemory, put_decimal};
 use rgw_scripts::ScriptStep;
-use scenario_files::{Count, Titled, again, input_of, read_scenario, told_titled};
+use scenario_files::{Report, Titled, again, input_of, read_scenario, told_titled};
 use std::alloc::Global;
-use std::io;
 use std::net::Net;
 
-// What is said of an input that has no gateway and no steps.
+// What is said of an input that has no gateway and no steps, or for which memory was refused again.
 const UNPLAYED: &str = "it can't be played";
 
 // What comes after a refusal: the same event at once, or other ones first.
@@ -30,7 +29,7 @@ enum Next<'s> {
 // The input that lines are; nothing where they say what is printed.
 fn input_under(alloc: Global, lines: &str) -> Result<Option<String>, OutOfMemory> {
     let scenario = read_scenario(alloc, lines, false)?;
-    if !scenario.printed.is_empty() {
+    if !scenario.printed.as_str().is_empty() {
         return Ok(None);
     }
     Ok(Some(input_of(alloc, &scenario)?))
@@ -57,21 +56,21 @@ fn refused_at(
     twins: &mut Twins,
     next: Next<'_>,
     place: usize,
-) -> Result<Option<&'static str>, OutOfMemory> {
+) -> Option<&'static str> {
     if !twins.are_alike() {
-        return Ok(Some("it was refused, and changed the gateway"));
+        return Some("it was refused, and changed the gateway");
     }
     let Next::Otherwise(steps) = next else {
-        return Ok(None);
+        return None;
     };
     if !twins.go_otherwise(steps) {
-        return Ok(Some("after it was refused the gateway goes on in another way"));
+        return Some("after it was refused the gateway goes on in another way");
     }
-    let Some(anew) = Twins::after(alloc, input, place)? else {
-        return Ok(Some("there are no new twins"));
-    };
-    *twins = anew;
-    Ok(None)
+    match Twins::after(alloc, input, place) {
+        Some(anew) => *twins = anew,
+        None => return Some("there are no new twins"),
+    }
+    None
 }
 
 // What differs at a step.
@@ -82,21 +81,22 @@ fn differing_at(
     step: &ScriptStep,
     next: Next<'_>,
     place: usize,
-) -> Result<Option<&'static str>, OutOfMemory> {
+) -> Option<&'static str> {
     let Some(event) = event_of(step, twins.gateway.now()) else {
-        return Ok(Some("it is no event"));
+        return Some("it is no event");
     };
     let mut given = twins.gateway.step(event);
     if let Err(Refusal::OutOfMemory) = given {
-        if let Some(said) = refused_at(alloc, input, twins, next, place)? {
-            return Ok(Some(said));
+        let said = refused_at(alloc, input, twins, next, place);
+        if said.is_some() {
+            return said;
         }
         given = twins.gateway.step(event);
     }
     if twins.follow(event, given) {
-        return Ok(None);
+        return None;
     }
-    Ok(Some("the gateway and its twin part"))
+    Some("the gateway and its twin part")
 }
 
 // The first of these steps at which something differs, counted from 1, and what.
@@ -106,13 +106,13 @@ fn differing_among(
     twins: &mut Twins,
     steps: &[ScriptStep],
     next: Next<'_>,
-) -> Result<Option<(usize, &'static str)>, OutOfMemory> {
+) -> Option<(usize, &'static str)> {
     for (place, step) in steps.iter().enumerate() {
-        if let Some(said) = differing_at(alloc, input, twins, step, next, place)? {
-            return Ok(Some((place.wrapping_add(1), said)));
+        if let Some(said) = differing_at(alloc, input, twins, step, next, place) {
+            return Some((place.wrapping_add(1), said));
         }
     }
-    Ok(None)
+    None
 }
 
 // The same of an input's twins, which are made here.
@@ -121,10 +121,10 @@ fn differing_twins(
     input: &[u8],
     steps: &[ScriptStep],
     next: Next<'_>,
-) -> Result<Option<(usize, &'static str)>, OutOfMemory> {
-    match Twins::after(alloc, input, 0)? {
+) -> Option<(usize, &'static str)> {
+    match Twins::after(alloc, input, 0) {
         Some(mut twins) => differing_among(alloc, input, &mut twins, steps, next),
-        None => Ok(Some((0, UNPLAYED))),
+        None => Some((0, UNPLAYED)),
     }
 }
 
@@ -133,39 +133,49 @@ fn differing_under(
     alloc: Global,
     input: &[u8],
     otherwise: &[ScriptStep],
-) -> Result<Option<(usize, &'static str)>, OutOfMemory> {
-    let Some(scene) = scene_again(alloc, input)? else {
-        return Ok(Some((0, UNPLAYED)));
+) -> Option<(usize, &'static str)> {
+    let Some(scene) = scene_again(alloc, input) else {
+        return Some((0, UNPLAYED));
     };
     for next in [Next::Again, Next::Otherwise(otherwise)] {
-        let found = differing_twins(alloc, input, &scene.steps, next)?;
+        let found = differing_twins(alloc, input, &scene.steps, next);
         if found.is_some() {
-            return Ok(found);
+            return found;
         }
     }
-    if runs_alike(alloc, input)? {
-        return Ok(None);
+    if runs_alike(alloc, input) {
+        return None;
     }
-    Ok(Some((0, "one run gives something else than the steps")))
+    Some((0, "one run gives something else than the steps"))
+}
+
+// Says at which step of a script something differs, and what.
+fn put_differing(alloc: Global, report: &mut Report, title: &str, step: usize, said: &str) {
+    report.wrong(title, "\n  step ");
+    if put_decimal(alloc, &mut report.said, step as u64).is_err() {
+        report.refuse();
+    }
+    report.put(b": ");
+    report.put(said.as_bytes());
+    report.put(b"\n");
 }
 
 // Tells the script under a title.
-fn told_script<R: AllocGlobal + Print>(
-    rt: &R,
+fn told_script(
+    alloc: Global,
     title: &str,
     lines: &str,
     otherwise: &[ScriptStep],
-) -> io::Result<Count> {
-    let Some(input) = again!(input_under(rt.alloc(), lines))? else {
-        println!(rt; "{title}\n  no script says what is printed")?;
-        return Ok(Count::of(false));
+    report: &mut Report,
+) {
+    let input = match again!(input_under(alloc, lines)) {
+        Ok(Some(input)) => input,
+        Ok(None) => return report.wrong(title, "\n  no script says what is printed\n"),
+        Err(_) => return report.refuse(),
     };
-    match differing_under(rt.alloc(), input.as_bytes(), otherwise)? {
-        None => Ok(Count::of(true)),
-        Some((step, said)) => {
-            println!(rt; "{title}\n  step {step}: {said}")?;
-            Ok(Count::of(false))
-        }
+    match differing_under(alloc, input.as_bytes(), otherwise) {
+        None => report.count(true),
+        Some((step, said)) => put_differing(alloc, report, title, step, said),
     }
 }
 
@@ -176,34 +186,34 @@ struct RefusedScripts {
 }
 
 impl RefusedScripts {
-    // Takes the steps of `otherwise`, which is no case. Where they aren't events alone that is printed.
-    fn take_otherwise<R: AllocGlobal + Print>(&mut self, rt: &R, lines: &str) -> io::Result<Count> {
-        let Some(steps) = again!(steps_of(rt.alloc(), lines))? else {
-            println!(rt; "otherwise\n  it isn't events alone")?;
-            return Ok(Count::of(false));
-        };
-        self.otherwise = steps;
-        Ok(Count::nothing())
+    // Takes the steps of `otherwise`, which is no case. Where they aren't events alone that is said.
+    fn take_otherwise(&mut self, alloc: Global, lines: &str, report: &mut Report) {
+        match again!(steps_of(alloc, lines)) {
+            Ok(Some(steps)) => self.otherwise = steps,
+            Ok(None) => report.wrong("otherwise", "\n  it isn't events alone\n"),
+            Err(_) => report.refuse(),
+        }
     }
 }
 
 impl Titled for RefusedScripts {
-    fn told<R: AllocGlobal + Net + Print>(
+    fn told<R: AllocGlobal + Net>(
         &mut self,
         rt: &R,
         title: &str,
         lines: &str,
-    ) -> io::Result<Count> {
+        report: &mut Report,
+    ) {
         match title {
-            "otherwise" => self.take_otherwise(rt, lines),
-            _ => told_script(rt, title, lines, &self.otherwise),
+            "otherwise" => self.take_otherwise(rt.alloc(), lines, report),
+            _ => told_script(rt.alloc(), title, lines, &self.otherwise, report),
         }
     }
 }
 
 /// Tells the scripts of a file.
-pub fn told<R: AllocGlobal + Net + Print>(rt: &R, text: &str) -> io::Result<Count> {
+pub fn told<R: AllocGlobal + Net>(rt: &R, text: &str, report: &mut Report) {
     let otherwise = Vec::new(rt.alloc());
     let mut scripts = RefusedScripts { otherwise };
-    told_titled(rt, &mut scripts, text)
+    told_titled(rt, &mut scripts, text, report);
 }

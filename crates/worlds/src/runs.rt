@@ -6,94 +6,69 @@ use rgw_scripts::ScriptStep;
 use scenario_files::again;
 use std::alloc::Global;
 
-// The events of steps, and what a gateway gives to each.
+// The events of steps, and what gateways give to them: one that takes them one by one, and one that takes them in one run.
 #[derive(Drop)]
 struct Given<'s> {
     events: Vec<Event<'s>>,
-    outputs: Vec<Outputs>,
+    one_by_one: Vec<Outputs>,
+    in_one_run: Vec<Outputs>,
 }
 
-// So that what was given is kept there is room for it before.
+// There is room for all that is kept before. A run is stopped at most once at each event, and once more for want of memory.
 fn room<'s>(alloc: Global, count: usize) -> Result<Given<'s>, OutOfMemory> {
     Ok(Given {
         events: Vec::with_capacity(alloc, count)?,
-        outputs: Vec::with_capacity(alloc, count)?,
+        one_by_one: Vec::with_capacity(alloc, count)?,
+        in_one_run: Vec::with_capacity(alloc, count.saturating_add(2))?,
     })
 }
 
 impl<'s> Given<'s> {
     // A gateway takes this event.
-    fn take(&mut self, gateway: &mut Gateway, event: Event<'s>) -> Result<(), OutOfMemory> {
-        self.events.push(event)?;
+    fn take(&mut self, gateway: &mut Gateway, event: Event<'s>) {
+        let _ = self.events.push(event);
         if let Ok(outputs) = stepped(gateway, event) {
-            self.outputs.push(outputs)?;
+            let _ = self.one_by_one.push(outputs);
         }
-        Ok(())
     }
 
     // A gateway takes the events of these steps one by one.
-    fn take_all(
-        &mut self,
-        gateway: &mut Gateway,
-        steps: &'s [ScriptStep],
-    ) -> Result<(), OutOfMemory> {
+    fn take_all(&mut self, gateway: &mut Gateway, steps: &'s [ScriptStep]) {
         for step in steps {
             if let Some(event) = event_of(step, gateway.now()) {
-                self.take(gateway, event)?;
+                self.take(gateway, event);
             }
         }
-        Ok(())
     }
-}
 
-// The events of steps, which a gateway takes one by one.
-fn one_by_one<'s>(
-    alloc: Global,
-    gateway: &mut Gateway,
-    steps: &'s [ScriptStep],
-) -> Result<Given<'s>, OutOfMemory> {
-    let mut given = again!(room(alloc, steps.len()))?;
-    given.take_all(gateway, steps)?;
-    Ok(given)
-}
-
-// One run, whose outputs are kept: how many of the events are behind it where it stopped.
-fn run_once(
-    gateway: &mut Gateway,
-    given: &mut Vec<Outputs>,
-    events: &[Event<'_>],
-) -> Result<Option<usize>, OutOfMemory> {
-    match gateway.run(events) {
-        Ok(outputs) => {
-            given.push(outputs)?;
-            Ok(None)
-        }
-        Err(stopped) => {
-            given.push(stopped.outputs)?;
-            Ok(Some(match stopped.refusal {
-                Refusal::OutOfMemory => stopped.place,
-                _ => stopped.place.wrapping_add(1),
-            }))
+    // One run of the events behind this place: how many of these are behind it where it stopped.
+    fn run_once(&mut self, gateway: &mut Gateway, place: usize) -> Option<usize> {
+        let events = self.events.get(place..).unwrap_or(&[]);
+        match gateway.run(events) {
+            Ok(outputs) => {
+                let _ = self.in_one_run.push(outputs);
+                None
+            }
+            Err(stopped) => {
+                let _ = self.in_one_run.push(stopped.outputs);
+                Some(match stopped.refusal {
+                    Refusal::OutOfMemory => stopped.place,
+                    _ => stopped.place.wrapping_add(1),
+                })
+            }
         }
     }
-}
 
-// What a gateway gives to events. A run that stops for want of memory goes on at its place, another one behind it.
-fn in_one_run(
-    alloc: Global,
-    gateway: &mut Gateway,
-    events: &[Event<'_>],
-) -> Result<Vec<Outputs>, OutOfMemory> {
-    let most = events.len().saturating_add(2);
-    let mut given: Vec<Outputs> = again!(Vec::with_capacity(alloc, most))?;
-    let mut rest = events;
-    for _ in 0..most {
-        let Some(passed) = run_once(gateway, &mut given, rest)? else {
-            return Ok(given);
-        };
-        rest = rest.get(passed..).unwrap_or(&[]);
+    // A gateway takes all in one run. One that stops for want of memory goes on at its place, another one behind it.
+    fn run(&mut self, gateway: &mut Gateway) {
+        let mut place = 0usize;
+        for _ in 0..self.events.len().saturating_add(2) {
+            let Some(passed) = self.run_once(gateway, place) else {
+                return;
+            };
+            place = place.saturating_add(passed);
+        }
     }
-    Ok(given)
 }
 
 // Whether a gateway gives to all events of steps in one run what its twin gives to them one by one.
@@ -102,19 +77,22 @@ fn are_runs_alike(
     gateway: &mut Gateway,
     twin: &mut Gateway,
     steps: &[ScriptStep],
-) -> Result<bool, OutOfMemory> {
-    let given = one_by_one(alloc, twin, steps)?;
-    let outputs = in_one_run(alloc, gateway, &given.events)?;
-    Ok(are_same_lists(&outputs, &given.outputs) && are_same(gateway, twin))
+) -> bool {
+    let Ok(mut given) = again!(room(alloc, steps.len())) else {
+        return false;
+    };
+    given.take_all(twin, steps);
+    given.run(gateway);
+    are_same_lists(&given.in_one_run, &given.one_by_one) && are_same(gateway, twin)
 }
 
 /// Whether a gateway that takes all events of an input in one run gives what it gives to them one by one.
-pub fn runs_alike(alloc: Global, input: &[u8]) -> Result<bool, OutOfMemory> {
-    let Some(mut scene) = scene_again(alloc, input)? else {
-        return Ok(false);
+pub fn runs_alike(alloc: Global, input: &[u8]) -> bool {
+    let Some(mut scene) = scene_again(alloc, input) else {
+        return false;
     };
-    let Some(mut twin) = scene_again(alloc, input)? else {
-        return Ok(false);
+    let Some(mut twin) = scene_again(alloc, input) else {
+        return false;
     };
     are_runs_alike(alloc, &mut scene.gateway, &mut twin.gateway, &twin.steps)
 }

@@ -6,12 +6,13 @@
 //! - `AUEP 1200 aaln/1@~¶  200 1200 OK¶` an answer;
 //! - `200 7 OK¶  none` nothing;
 //! - `''  fault: 1 not received, 0 not sent` nothing is sent, so the turn is a fault; so many the socket has counted so far.
-use crate::twins::scene_of;
+use crate::forms::text_of;
+use crate::gateways::usual_gateway;
 use gateway_core::{DATAGRAM_ROOM, Gateway};
+use mg_bytes::OutOfMemory;
 use rgw_play::UdpWire;
-use scenario_files::{Count, Outcome, Row, SETTINGS, Titled, bytes_of, in_full, told_titled};
+use scenario_files::{Outcome, Report, Row, Titled, in_full, told_titled};
 use std::alloc::Global;
-use std::io;
 use std::net::{Ipv4Addr, Net, SocketAddrV4, UdpSocket};
 use std::time::Duration;
 
@@ -26,24 +27,27 @@ struct Ends {
     agent: UdpSocket,
 }
 
-// The gateway of the usual settings, to which nothing came yet.
-fn usual_gateway(alloc: Global) -> io::Result<Box<Gateway>> {
-    match scene_of(alloc, SETTINGS.as_bytes())? {
-        Some(scene) => Ok(scene.gateway),
-        None => Err(io::Error::from(io::ErrorKind::InvalidInput)),
+// Whether the agent's socket hears that of the gateway alone, and waits so long.
+fn is_set(agent: &UdpSocket, wire: &UdpWire, wait: Duration) -> bool {
+    match wire.address() {
+        Ok(address) => {
+            agent.set_read_timeout(Some(wait)).is_ok() && agent.connect(address).is_ok()
+        }
+        Err(_) => false,
     }
 }
 
-// Both ends, each at a free port of this host.
-fn both_ends<R: AllocGlobal + Net>(rt: &R) -> io::Result<Ends> {
+// Both ends, each at a free port of this host; nothing where the host refuses one, or memory.
+fn both_ends<R: AllocGlobal + Net>(rt: &R) -> Option<Ends> {
     let any = SocketAddrV4::new(Ipv4Addr::LOCALHOST, 0);
     let wait = Duration::from_millis(LONGEST_WAIT);
-    let wire = UdpWire::bind(rt, any, wait)?;
-    let agent = UdpSocket::bind(rt, any)?;
-    agent.set_read_timeout(Some(wait))?;
-    agent.connect(wire.address()?)?;
-    let gateway = usual_gateway(rt.alloc())?;
-    Ok(Ends {
+    let gateway = usual_gateway(rt.alloc()).ok()?;
+    let wire = UdpWire::bind(rt, any, wait).ok()?;
+    let agent = UdpSocket::bind(rt, any).ok()?;
+    if !is_set(&agent, &wire, wait) {
+        return None;
+    }
+    Some(Ends {
         gateway,
         wire,
         agent,
@@ -63,40 +67,37 @@ impl Ends {
         }
     }
 
-    // What comes of a datagram of the agent's, and a turn.
-    fn turn(&mut self, row: &mut Row<'_>) -> io::Result<()> {
-        let bytes = bytes_of(row.given.alloc, row.before("  "))?;
-        if !bytes.is_empty() {
-            self.agent.send(&bytes)?;
-        }
+    // What comes of a turn.
+    fn serve(&mut self, given: &mut Outcome) {
         if self.gateway.serve(&mut self.wire, 1).receive_faults == 0 {
-            self.put_received(&mut row.given);
-            return Ok(());
+            return self.put_received(given);
         }
-        row.given.put(b"fault: ");
-        row.given.put_shown(self.wire.receive_faults());
-        row.given.put(b" not received, ");
-        row.given.put_shown(self.wire.send_faults());
-        row.given.put(b" not sent");
-        Ok(())
+        given.put(b"fault: ");
+        given.put_shown(self.wire.receive_faults());
+        given.put(b" not received, ");
+        given.put_shown(self.wire.send_faults());
+        given.put(b" not sent");
     }
-}
 
-// Whether a row is as it is told. What differs is printed.
-fn is_told<R: AllocGlobal + Print>(
-    rt: &R,
-    ends: &mut Ends,
-    title: &str,
-    written: &str,
-) -> io::Result<bool> {
-    let full = in_full(rt.alloc(), written)?;
-    let mut row = Row::of(rt.alloc(), full.as_str());
-    ends.turn(&mut row)?;
-    let Some(given) = row.unlike_bytes()? else {
-        return Ok(true);
-    };
-    println!(rt; "{title}: {written}\n  gives {given}")?;
-    Ok(false)
+    // What comes of a datagram of the agent's, and a turn.
+    fn turn(&mut self, row: &mut Row<'_>) {
+        row.is_exact = true;
+        let field = row.before("  ");
+        let bytes = text_of(&mut row.given, field);
+        let bytes = bytes.as_bytes();
+        if row.given.is_refused || (!bytes.is_empty() && self.agent.send(bytes).is_err()) {
+            return row.given.put(b"it can't be sent");
+        }
+        self.serve(&mut row.given);
+    }
+
+    // What a row gives that it doesn't say.
+    fn unlike(&mut self, alloc: Global, written: &str) -> Result<Option<String>, OutOfMemory> {
+        let full = in_full(alloc, written)?;
+        let mut row = Row::of(alloc, full.as_str());
+        self.turn(&mut row);
+        row.unlike()
+    }
 }
 
 // Rows at two new ends under each title.
@@ -104,24 +105,26 @@ fn is_told<R: AllocGlobal + Print>(
 struct SocketRows;
 
 impl Titled for SocketRows {
-    fn told<R: AllocGlobal + Net + Print>(
+    fn told<R: AllocGlobal + Net>(
         &mut self,
         rt: &R,
         title: &str,
         lines: &str,
-    ) -> io::Result<Count> {
-        let mut ends = both_ends(rt)?;
-        let mut count = Count::nothing();
+        report: &mut Report,
+    ) {
+        let Some(mut ends) = both_ends(rt) else {
+            return report.wrong(title, "\n  there are no sockets\n");
+        };
         for row in lines.lines() {
             if !row.is_empty() && !row.starts_with('#') {
-                count.put(is_told(rt, &mut ends, title, row)?);
+                let unlike = ends.unlike(rt.alloc(), row);
+                report.row(title, row, unlike);
             }
         }
-        Ok(count)
     }
 }
 
 /// Tells the rows of a file.
-pub fn told<R: AllocGlobal + Net + Print>(rt: &R, text: &str) -> io::Result<Count> {
-    told_titled(rt, &mut SocketRows, text)
+pub fn told<R: AllocGlobal + Net>(rt: &R, text: &str, report: &mut Report) {
+    told_titled(rt, &mut SocketRows, text, report);
 }

@@ -2,7 +2,7 @@
 //!
 //! Where the gateway is refused memory it must be as the twin still is: in what can be read of it, and in what it does
 //! next, be that the same event or another.
-use crate::boxing::boxed;
+use crate::boxing::in_box;
 use connections::Connection;
 use gateway_core::{ConfigFault, Event, Gateway, OutDatagram, Outputs, Refusal};
 use mg_bytes::OutOfMemory;
@@ -25,8 +25,8 @@ fn gateway_of(alloc: Global, text: &[u8]) -> Result<Option<Box<Gateway>>, OutOfM
     let Some(config) = read_config(alloc, text)? else {
         return Ok(None);
     };
-    match Gateway::new(alloc, config) {
-        Ok(gateway) => Ok(Some(boxed(alloc, gateway)?)),
+    match in_box(alloc, Gateway::new(alloc, config)) {
+        Ok(gateway) => Ok(Some(gateway)),
         Err(ConfigFault::OutOfMemory) => Err(AllocError),
         Err(_) => Ok(None),
     }
@@ -48,9 +48,9 @@ pub fn scene_of(alloc: Global, input: &[u8]) -> Result<Option<Played>, OutOfMemo
     }
 }
 
-/// The same, read again where memory was refused.
-pub fn scene_again(alloc: Global, input: &[u8]) -> Result<Option<Played>, OutOfMemory> {
-    again!(scene_of(alloc, input))
+/// The same, read again where memory was refused; nothing, too, where it is refused once more.
+pub fn scene_again(alloc: Global, input: &[u8]) -> Option<Played> {
+    again!(scene_of(alloc, input)).unwrap_or(None)
 }
 
 /// The event that a step is at this moment; nothing where it is none or several.
@@ -193,16 +193,10 @@ fn advance(gateway: &mut Gateway, steps: &[ScriptStep], count: usize) {
 }
 
 // The gateway of an input after so many of its steps.
-fn gateway_after(
-    alloc: Global,
-    input: &[u8],
-    count: usize,
-) -> Result<Option<Box<Gateway>>, OutOfMemory> {
-    let Some(mut scene) = scene_again(alloc, input)? else {
-        return Ok(None);
-    };
+fn gateway_after(alloc: Global, input: &[u8], count: usize) -> Option<Box<Gateway>> {
+    let mut scene = scene_again(alloc, input)?;
     advance(&mut scene.gateway, &scene.steps, count);
-    Ok(Some(scene.gateway))
+    Some(scene.gateway)
 }
 
 /// A gateway, and its twin.
@@ -214,14 +208,10 @@ pub struct Twins {
 
 impl Twins {
     /// Two gateways of an input after so many of its steps; nothing where it is refused.
-    pub fn after(alloc: Global, input: &[u8], count: usize) -> Result<Option<Twins>, OutOfMemory> {
-        let Some(gateway) = gateway_after(alloc, input, count)? else {
-            return Ok(None);
-        };
-        let Some(twin) = gateway_after(alloc, input, count)? else {
-            return Ok(None);
-        };
-        Ok(Some(Twins { gateway, twin }))
+    pub fn after(alloc: Global, input: &[u8], count: usize) -> Option<Twins> {
+        let gateway = gateway_after(alloc, input, count)?;
+        let twin = gateway_after(alloc, input, count)?;
+        Some(Twins { gateway, twin })
     }
 
     /// Whether all that can be read of both is the same.

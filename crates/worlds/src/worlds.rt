@@ -164,23 +164,6 @@ impl WorldScenario {
             self.told = self.told.wrapping_add(1);
         }
     }
-
-    fn turn(&mut self, row: &mut Row<'_>) {
-        let word = row.before(" ");
-        match word {
-            "world" => self.open(row),
-            "first" => self.start(row),
-            "posts" => self.put_post(&mut row.given),
-            "answers" => put_answer(row, self.world.agent()),
-            "taken" => put_taken(row, self.world.agent()),
-            "hook" => put_hook(row, self.world.gateway()),
-            "now" => row.given.put_shown(self.world.gateway().now()),
-            _ => match given_in(row, word) {
-                Some(taken) => self.take(&mut row.given, taken),
-                None => row.given.unread(),
-            },
-        }
-    }
 }
 
 impl Scenario for WorldScenario {
@@ -200,12 +183,24 @@ impl Scenario for WorldScenario {
         })
     }
 
-    fn unlike(&mut self, alloc: Global, row: &str) -> Result<Option<String>, OutOfMemory> {
-        if self.spent {
-            again!(self.renew(alloc))?;
+    fn turn(&mut self, row: &mut Row<'_>) {
+        row.is_exact = true;
+        if self.spent && again!(self.renew(row.given.alloc)).is_err() {
+            return row.given.refuse();
         }
-        let mut row = Row::of(alloc, row);
-        self.turn(&mut row);
-        row.unlike_bytes()
+        let word = row.before(" ");
+        match word {
+            "world" => self.open(row),
+            "first" => self.start(row),
+            "posts" => self.put_post(&mut row.given),
+            "answers" => put_answer(row, self.world.agent()),
+            "taken" => put_taken(row, self.world.agent()),
+            "hook" => put_hook(row, self.world.gateway()),
+            "now" => row.given.put_shown(self.world.gateway().now()),
+            _ => match given_in(row, word) {
+                Some(taken) => self.take(&mut row.given, taken),
+                None => row.given.unread(),
+            },
+        }
     }
 }
