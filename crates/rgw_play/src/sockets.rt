@@ -3,8 +3,7 @@ ghost use Rattle.std.specs.Prelude.{◌≡◌, IfOk};
 
 use gateway_core::WireFault;
 use rgw_scripts::Link;
-use std::alloc::{AllocError, Global};
-use std::io;
+use std::alloc::Global;
 use std::net::{Ipv4Addr, Net, SocketAddrV4, UdpSocket};
 use std::time::Duration;
 
@@ -35,22 +34,21 @@ pub enum BindFault {
     Wire,
 }
 
-impl From<AllocError> for BindFault {
-    fn from(_e: AllocError) -> BindFault {
-        BindFault::OutOfMemory
-    }
+// A socket at this port, or any free one where that is 0; nothing where the host refuses one.
+fn bound<R: Net>(rt: &R, port: u16) -> Option<UdpSocket> {
+    let socket = UdpSocket::bind(rt, SocketAddrV4::new(Ipv4Addr::LOCALHOST, port)).ok()?;
+    socket
+        .set_read_timeout(Some(Duration::from_millis(LONGEST_WAIT)))
+        .ok()?;
+    Some(socket)
 }
 
-impl From<io::Error> for BindFault {
-    fn from(_e: io::Error) -> BindFault {
-        BindFault::Wire
+// Whether a socket takes from the other alone from now on.
+fn is_connected(socket: &UdpSocket, other: &UdpSocket) -> bool {
+    match other.local_addr() {
+        Ok(address) => socket.connect(address).is_ok(),
+        Err(_) => false,
     }
-}
-
-fn bound<R: Net>(rt: &R, port: u16) -> io::Result<UdpSocket> {
-    let socket = UdpSocket::bind(rt, SocketAddrV4::new(Ipv4Addr::LOCALHOST, port))?;
-    socket.set_read_timeout(Some(Duration::from_millis(LONGEST_WAIT)))?;
-    Ok(socket)
 }
 
 // Sends bytes from one socket to the other, and gives those that arrive.
@@ -79,11 +77,18 @@ fn carry<'a>(
 impl Sockets {
     /// Binds both; the gateway's has this port, or any free one where it is 0.
     pub fn bind<R: Net>(alloc: Global, rt: &R, port: u16) -> Result<Sockets, BindFault> {
-        let room = vec![in alloc; 0u8; LARGEST_UDP_DATAGRAM]?;
-        let gateway = bound(rt, port)?;
-        let agent = bound(rt, 0)?;
-        agent.connect(gateway.local_addr()?)?;
-        gateway.connect(agent.local_addr()?)?;
+        let Ok(room) = vec![in alloc; 0u8; LARGEST_UDP_DATAGRAM] else {
+            return Err(BindFault::OutOfMemory);
+        };
+        let Some(gateway) = bound(rt, port) else {
+            return Err(BindFault::Wire);
+        };
+        let Some(agent) = bound(rt, 0) else {
+            return Err(BindFault::Wire);
+        };
+        if !is_connected(&agent, &gateway) || !is_connected(&gateway, &agent) {
+            return Err(BindFault::Wire);
+        }
         Ok(Sockets {
             agent,
             gateway,

@@ -16,8 +16,8 @@
 //! - `taken 1  L/hd,D/5` what notifications of a line told; `taken 2  none`.
 use crate::boxing::in_box;
 use crate::forms::{
-    Command, act_in, address_in, but_refusal, command_in, number_of, put_answer, put_refusal,
-    put_taken, text_of,
+    Command, act_in, address_in, but_refusal, command_in, number_of, numbered, put_answer,
+    put_refusal, put_taken, text_of,
 };
 use crate::gateways::{agent_address, gateway_address};
 use crate::outputs::is_just_200;
@@ -190,24 +190,16 @@ impl AgentScenario {
 
     // Whether an announcement with this id is answered by 200.
     fn is_answered(&mut self, given: &mut Outcome, id: u32) -> bool {
-        let text = format!(in given.alloc;
-            "RSIP {id} *@rgw.example.net MGCP 1.0\r\nRM: restart\r\n"
-        );
-        let Ok(text) = text else {
-            given.refuse();
+        let behind = " *@rgw.example.net MGCP 1.0\r\nRM: restart\r\n";
+        let text = numbered(given, "RSIP ", id, behind);
+        if given.is_refused {
             return false;
-        };
-        let event = Event::Datagram {
+        }
+        let sent = self.agent.step(Event::Datagram {
             source: gateway_address(),
             bytes: text.as_bytes(),
-        };
-        match self.agent.step(event) {
-            Ok(outputs) => is_just_200(given, &outputs, gateway_address(), id),
-            Err(_) => {
-                given.refuse();
-                false
-            }
-        }
+        });
+        is_just_200(given, &sent, gateway_address(), id)
     }
 
     // `1-4096`. Where memory is refused the first of them come again, which gives the same answers.

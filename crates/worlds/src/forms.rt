@@ -2,7 +2,7 @@
 use crate::gateways::agent_address;
 use agent_core::Agent;
 use event_values::write_observed;
-use mg_bytes::{OutOfMemory, Text};
+use mg_bytes::{Draft, OutOfMemory, Text};
 use mg_line::Act;
 use rgw_scripts::{ScriptLine, ScriptStep, line_in};
 use scenario_files::{Outcome, Row, bytes_of};
@@ -59,15 +59,27 @@ pub fn number_of(given: &mut Outcome, words: &str) -> u64 {
     number
 }
 
+// A text; nothing where memory is refused, which the row keeps.
+fn kept(given: &mut Outcome, bytes: Result<Vec<u8>, OutOfMemory>) -> Text {
+    let Ok(bytes) = bytes else {
+        given.refuse();
+        return Text::of(Vec::new(given.alloc));
+    };
+    Text::of(bytes)
+}
+
 /// A field as a text; nothing where memory is refused, which the row keeps.
 pub fn text_of(given: &mut Outcome, field: &str) -> Text {
-    Text::of(match bytes_of(given.alloc, field) {
-        Ok(bytes) => bytes,
-        Err(_) => {
-            given.refuse();
-            Vec::new(given.alloc)
-        }
-    })
+    kept(given, bytes_of(given.alloc, field))
+}
+
+/// A number between texts; nothing where memory is refused, which the row keeps.
+pub fn numbered(given: &mut Outcome, before: &str, number: u32, behind: &str) -> Text {
+    let mut text = Draft::new(given.alloc);
+    text.put(before.as_bytes());
+    text.put_decimal(u64::from(number));
+    text.put(behind.as_bytes());
+    kept(given, text.end())
 }
 
 /// `AUEP  aaln/1@rgw.example.net  K: 1¶`, without the last where that is empty.
@@ -82,8 +94,11 @@ pub fn command_in(given: &mut Outcome, fields: &str) -> Command {
 
 // A line of a script.
 fn script_line(alloc: Global, step: &str, words: &str) -> Result<Option<ScriptLine>, OutOfMemory> {
-    let line = format!(in alloc; "{step} {words}")?;
-    line_in(alloc, line.as_bytes())
+    let mut line = Draft::new(alloc);
+    line.put(step.as_bytes());
+    line.put(b" ");
+    line.put(words.as_bytes());
+    line_in(alloc, &line.end()?)
 }
 
 /// `1 off`: the line, and what is done at its telephone; on hook at line 0 where it says something else, and then there is no

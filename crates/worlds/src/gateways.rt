@@ -41,11 +41,18 @@ fn named(alloc: Global, name: &[u8], route: Route<Ipv4Addr>) -> Result<NamedRout
 
 // The usual host, and two with as many addresses as their names say, from 127.0.0.1 on.
 fn hosts(alloc: Global) -> Result<Sequence<NamedRoute>, OutOfMemory> {
+    let routes = [
+        ("ca.example.net", Route::One(local(1))),
+        ("two.example.net", Route::Two(local(1), local(2))),
+        (
+            "four.example.net",
+            Route::Four(local(1), local(2), local(3), local(4)),
+        ),
+    ];
     let mut names = Sequence::new(alloc);
-    let four = Route::Four(local(1), local(2), local(3), local(4));
-    names.push(named(alloc, b"ca.example.net", Route::One(local(1)))?)?;
-    names.push(named(alloc, b"two.example.net", Route::Two(local(1), local(2)))?)?;
-    names.push(named(alloc, b"four.example.net", four)?)?;
+    for (name, route) in &routes {
+        names.push(named(alloc, name.as_bytes(), *route)?)?;
+    }
     Ok(names)
 }
 

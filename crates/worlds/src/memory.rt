@@ -12,7 +12,7 @@
 //! - `sent 200 1200 OK¶` the next datagram that was handed to the wire, which goes to the agent; `sent none`;
 //! - `due 501` when something falls due next; `due none`;
 //! - `hook 1 off` the telephone of a line.
-use crate::forms::put_refusal;
+use crate::forms::{numbered, put_refusal};
 use crate::gateways::{agent_address, put_hook, usual_gateway};
 use crate::outputs::is_just_200;
 use crate::plan::Planned;
@@ -134,22 +134,15 @@ impl MemoryScenario {
 
     // Whether an audit with this id is answered by 200.
     fn is_answered(&mut self, given: &mut Outcome, id: u32) -> bool {
-        let audit = format!(in given.alloc; "AUEP {id} aaln/1@rgw.example.net MGCP 1.0\r\n");
-        let Ok(audit) = audit else {
-            given.refuse();
+        let audit = numbered(given, "AUEP ", id, " aaln/1@rgw.example.net MGCP 1.0\r\n");
+        if given.is_refused {
             return false;
-        };
-        let event = Event::Datagram {
+        }
+        let sent = self.gateway.step(Event::Datagram {
             source: agent_address(),
             bytes: audit.as_bytes(),
-        };
-        match self.gateway.step(event) {
-            Ok(outputs) => is_just_200(given, &outputs, agent_address(), id),
-            Err(_) => {
-                given.refuse();
-                false
-            }
-        }
+        });
+        is_just_200(given, &sent, agent_address(), id)
     }
 
     // It is this moment.
