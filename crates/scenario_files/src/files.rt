@@ -29,13 +29,12 @@ fn unplayed(text: &str) -> Option<&str> {
 fn told<K: Kinds, R: AllocGlobal + Net>(rt: &R, text: &str, report: &mut Report) {
     let kind = text.lines().next().unwrap_or("");
     let rest = text.strip_prefix(kind).unwrap_or("");
-    match unplayed(rest) {
-        Some(line) => report.wrong(line, "\n  stands before the first title\n"),
-        None if K::told(rt, kind, rest, report) => {}
-        None => {
-            report.wrong("there are no scenarios of ", kind);
-            report.put(b"\n");
-        }
+    if let Some(line) = unplayed(rest) {
+        return report.wrong(line, "\n  stands before the first title\n");
+    }
+    if !K::told(rt, kind, rest, report) {
+        report.wrong("there are no scenarios of ", kind);
+        report.put(b"\n");
     }
 }
 
@@ -58,10 +57,7 @@ fn told_all<K: Kinds, R: AllocGlobal + Env + Files + Net + Print>(
     rt: &R,
     report: &mut Report,
 ) -> io::Result<()> {
-    let mut words = again!(env::args(rt))?;
-    // The first is the program's own name.
-    words.next();
-    for name in words {
+    for name in again!(env::args(rt))?.skip(1) {
         told_file::<K, R>(rt, name.as_str(), report)?;
     }
     Ok(())

@@ -50,7 +50,12 @@ impl Report {
     }
 
     /// Counts a row, which is wrong where it gives what it doesn't say.
-    pub fn row(&mut self, title: &str, written: &str, unlike: Result<Option<String>, OutOfMemory>) {
+    pub fn row(
+        &mut self,
+        title: &str,
+        written: &str,
+        unlike: &Result<Option<String>, OutOfMemory>,
+    ) {
         match unlike {
             Ok(None) => self.count(true),
             Ok(Some(given)) => {

@@ -61,7 +61,7 @@ fn told_block<T: Scenario + Drop>(alloc: Global, title: &str, rows: &str, report
     for written in rows.lines() {
         if !written.is_empty() && !written.starts_with('#') {
             let unlike = first_unlike(alloc, &mut scenario, written);
-            report.row(title, written, unlike);
+            report.row(title, written, &unlike);
         }
     }
 }

@@ -118,7 +118,7 @@ impl Titled for SocketRows {
         for row in lines.lines() {
             if !row.is_empty() && !row.starts_with('#') {
                 let unlike = ends.unlike(rt.alloc(), row);
-                report.row(title, row, unlike);
+                report.row(title, row, &unlike);
             }
         }
     }
