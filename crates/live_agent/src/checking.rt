@@ -265,7 +265,7 @@ enum Found {
 // Asks whether the gateway serves; where it doesn't a second passes.
 fn ask<R: Net + Clock>(
     ends: &mut Ends<'_, R>,
-    player: &mut Player<'_>,
+    player: &mut Box<Player<'_>>,
 ) -> Result<Found, CheckFault> {
     ends.play(player)?;
     if !player.has_answer() {
@@ -290,7 +290,7 @@ fn find<R: Net + Clock>(
     let mut silent: u32 = 0;
     for _ in 0..MOST_TRIES {
         checking.begin(&check_of(SERVES), line);
-        match ask(ends, &mut *checking.player) {
+        match ask(ends, &mut checking.player) {
             Ok(Found::Serving) => return Ok(()),
             Ok(Found::NotServing) => {}
             Ok(Found::Silent) => silent = silent.saturating_add(1),
@@ -311,7 +311,7 @@ fn holds<'a, R: Net + Clock>(
     block: &'static str,
 ) -> Result<bool, CheckFault> {
     checking.begin(&check_of(block), line);
-    ends.play(&mut *checking.player)?;
+    ends.play(&mut checking.player)?;
     Ok(matches!(checking.player.verdict(), Verdict::Passed))
 }
 
@@ -367,7 +367,7 @@ fn play_one<R: Net + Clock, F: Write + Drop>(
     ends: &mut Ends<'_, R>,
     check: &Check<'static>,
 ) -> Result<(), CheckFault> {
-    ends.play(&mut *checking.player)?;
+    ends.play(&mut checking.player)?;
     checking.report(out, check, true)?;
     if check.needs_restart() {
         return await_serving(checking, ends);

@@ -160,7 +160,12 @@ impl<'a, R: Net + Clock> Ends<'a, R> {
     }
 
     // Gives the player a datagram that has come to a socket, and answers the gateway's commands in it.
-    fn give(&self, player: &mut Player<'_>, at: Socket, datagram: &[u8]) -> Result<(), CheckFault> {
+    fn give(
+        &self,
+        player: &mut Box<Player<'_>>,
+        at: Socket,
+        datagram: &[u8],
+    ) -> Result<(), CheckFault> {
         let mut responses = String::new(self.alloc);
         player.put_responses(&mut responses, datagram)?;
         if !responses.is_empty() {
@@ -185,7 +190,7 @@ impl<'a, R: Net + Clock> Ends<'a, R> {
     }
 
     // Gives the player what has come to a socket, of the gateway's; whether anything has.
-    fn look(&self, player: &mut Player<'_>, at: Socket) -> Result<bool, CheckFault> {
+    fn look(&self, player: &mut Box<Player<'_>>, at: Socket) -> Result<bool, CheckFault> {
         let mut room = [0u8; ROOM];
         match self.socket(at).recv_from(&mut room) {
             Ok((len, SocketAddr::V4(source)))
@@ -200,7 +205,7 @@ impl<'a, R: Net + Clock> Ends<'a, R> {
     }
 
     // Gives the player what comes next, but waits no longer than until this moment.
-    fn hear(&mut self, player: &mut Player<'_>, until: u64) -> Result<(), CheckFault> {
+    fn hear(&mut self, player: &mut Box<Player<'_>>, until: u64) -> Result<(), CheckFault> {
         for at in SOCKETS.iter() {
             if self.look(player, *at)? {
                 return Ok(());
@@ -226,7 +231,7 @@ impl<'a, R: Net + Clock> Ends<'a, R> {
     fn await_done(
         &mut self,
         telephone: Telephone<'_>,
-        player: &mut Player<'_>,
+        player: &mut Box<Player<'_>>,
         until: u64,
     ) -> Result<bool, CheckFault> {
         for _ in 0..u64::MAX {
@@ -245,7 +250,7 @@ impl<'a, R: Net + Clock> Ends<'a, R> {
     }
 
     // Has what the player asks for done at the line's telephone, or with the gateway; whether it was.
-    fn act(&mut self, player: &mut Player<'_>) -> Result<bool, CheckFault> {
+    fn act(&mut self, player: &mut Box<Player<'_>>) -> Result<bool, CheckFault> {
         let Some(telephone) = self.telephone else {
             return Ok(false);
         };
@@ -262,7 +267,7 @@ impl<'a, R: Net + Clock> Ends<'a, R> {
     }
 
     /// Plays a check to its end.
-    pub(crate) fn play(&mut self, player: &mut Player<'_>) -> Result<(), CheckFault> {
+    pub(crate) fn play(&mut self, player: &mut Box<Player<'_>>) -> Result<(), CheckFault> {
         for _ in 0..u64::MAX {
             let now = self.now()?;
             match player.turn(now)? {
