@@ -50,13 +50,13 @@ abbrev pub code_text : ℕ → List ℕ
 code_text code =
     if nat_lt code 10 then codes "00" ++ decimal code else if nat_lt code 100 then codes "0" ++ decimal code else decimal code
 
-abbrev pub verb_sample : VerbCount → List ℕ
+unfoldable pub verb_sample : VerbCount → List ℕ
 verb_sample count = labelled_sample (codes "rgw_commands_total") (codes "verb") (verb_word count.verb) count.number
 
-abbrev pub code_sample : CodeCount → List ℕ
+unfoldable pub code_sample : CodeCount → List ℕ
 code_sample count = labelled_sample (codes "rgw_answers_total") (codes "code") (code_text count.code) count.number
 
-abbrev pub file_sample : FileCount → List ℕ
+unfoldable pub file_sample : FileCount → List ℕ
 file_sample count = labelled_sample (codes "rgw_write_faults_total") (codes "file") count.file.items count.number
 
 abbrev pub verb_samples : List VerbCount → List ℕ

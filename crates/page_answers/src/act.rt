@@ -2,7 +2,7 @@
 ghost use Rattle.std.specs.Prelude.{◌≡◌, ◌++◌, OnOk, OnErr};
 ghost use Rattle.page_answers.specs.Acting.{act_line as line_of_act, act_word as word_of_act, is_key as is_key_sign, key_named as key_of, act_named as act_of};
 
-use mg_bytes::{OutOfMemory, put_decimal};
+use mg_bytes::{Draft, OutOfMemory};
 use std::alloc::Global;
 
 /// What is done at a telephone.
@@ -57,14 +57,14 @@ pub(crate) fn act_named(word: &[u8]) -> Option<PhoneAct>
     key_named(word)
 }
 
-fn put_act(out: &mut Vec<u8>, act: PhoneAct) -> Result<(), OutOfMemory>
-    ensures { OnOk result (out.new.items ≡ out.old.items ++ word_of_act act) }
+fn put_act(out: &mut Draft, act: PhoneAct)
+    ensures { out.new ≡ out.old ++ word_of_act act }
 {
     match act {
-        PhoneAct::Off => out.extend_from_slice(b"off"),
-        PhoneAct::On => out.extend_from_slice(b"on"),
-        PhoneAct::Flash => out.extend_from_slice(b"flash"),
-        PhoneAct::Key { sign } => out.extend_from_slice(&[sign]),
+        PhoneAct::Off => out.put(b"off"),
+        PhoneAct::On => out.put(b"on"),
+        PhoneAct::Flash => out.put(b"flash"),
+        PhoneAct::Key { sign } => out.put_byte(sign),
     }
 }
 
@@ -73,9 +73,11 @@ impl QueuedAct {
     pub fn put_line(self, alloc: Global, out: &mut Vec<u8>) -> Result<(), OutOfMemory>
         ensures { OnOk result (out.new.items ≡ out.old.items ++ line_of_act self) }
     {
-        out.extend_from_slice(b"phone ")?;
-        put_decimal(alloc, out, u64::from(self.line))?;
-        out.extend_from_slice(b" ")?;
-        put_act(out, self.act)
+        let mut line = Draft::new(alloc);
+        line.put(b"phone ");
+        line.put_decimal(u64::from(self.line));
+        line.put(b" ");
+        put_act(&mut line, self.act);
+        line.append_to(out)
     }
 }

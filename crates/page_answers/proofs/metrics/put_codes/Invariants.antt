@@ -3,4 +3,4 @@ use Rattle.page_answers.specs.Metrics.{code_samples}
 use Rattle.page_answers.proofs.metrics.put_codes.Given as goal
 
 abbrev pub invariant-loop-count : goal.invariant-loop-count
-invariant-loop-count l = l.out.items ++ code_samples (drop l.count-index l.counts) ≡ l.fn.out.items ++ code_samples l.counts
+invariant-loop-count l = l.out ++ code_samples (drop l.count-index l.counts) ≡ l.fn.out ++ code_samples l.counts

@@ -3,4 +3,4 @@ use Rattle.page_answers.specs.Metrics.{escaped}
 use Rattle.page_answers.proofs.metrics.put_escaped.Given as goal
 
 abbrev pub invariant-loop-byte : goal.invariant-loop-byte
-invariant-loop-byte l = l.out.items ++ escaped (drop l.byte-index l.text) ≡ l.fn.out.items ++ escaped l.text
+invariant-loop-byte l = l.out ++ escaped (drop l.byte-index l.text) ≡ l.fn.out ++ escaped l.text

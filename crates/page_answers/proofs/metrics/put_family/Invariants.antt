@@ -5,4 +5,4 @@ use Rattle.page_answers.proofs.metrics.put_family.Given as goal
 
 abbrev pub invariant-loop-value : goal.invariant-loop-value
 invariant-loop-value l =
-    l.out.items ++ flat_map (labelled_of l.metric) (drop l.value-index l.samples) ≡ l.initial.out.items ++ flat_map (labelled_of l.metric) l.samples
+    l.out ++ flat_map (labelled_of l.metric) (drop l.value-index l.samples) ≡ l.initial.out ++ flat_map (labelled_of l.metric) l.samples

@@ -17,4 +17,4 @@ goes_on counts place count out next whole within is put so_far =
 
 pub loop-count-preserved : goal.loop-count-preserved
 loop-count-preserved c =
-    goes_on _ _ _ _ _ _ c.loop-count-test.true c.count-item.is c.in_ok-put_file.ensures c.loop-count.invariant
+    goes_on _ _ _ _ _ _ c.loop-count-test.true c.count-item.is c.put_file.ensures c.loop-count.invariant

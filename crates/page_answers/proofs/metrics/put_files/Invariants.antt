@@ -3,4 +3,4 @@ use Rattle.page_answers.specs.Metrics.{file_samples}
 use Rattle.page_answers.proofs.metrics.put_files.Given as goal
 
 abbrev pub invariant-loop-count : goal.invariant-loop-count
-invariant-loop-count l = l.out.items ++ file_samples (drop l.count-index l.counts) ≡ l.fn.out.items ++ file_samples l.counts
+invariant-loop-count l = l.out ++ file_samples (drop l.count-index l.counts) ≡ l.fn.out ++ file_samples l.counts

@@ -4,4 +4,4 @@ use Rattle.page_answers.specs.Samples.{single_of}
 use Rattle.page_answers.proofs.metrics.put_singles.Given as goal
 
 abbrev pub invariant-loop-metric : goal.invariant-loop-metric
-invariant-loop-metric l = l.out.items ++ flat_map single_of (drop l.metric-index l.singles) ≡ l.fn.out.items ++ flat_map single_of l.singles
+invariant-loop-metric l = l.out ++ flat_map single_of (drop l.metric-index l.singles) ≡ l.fn.out ++ flat_map single_of l.singles
