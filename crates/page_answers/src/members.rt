@@ -1,10 +1,10 @@
 //! The members of objects.
-ghost use Rattle.std.specs.Prelude.{◌≡◌, OnOk};
+ghost use Rattle.std.specs.Prelude.{◌≡◌, codes, OnOk};
 ghost use Rattle.serde_json.specs.Data.{string, put as with_member};
 ghost use Rattle.serde_json.specs.View.{members_view};
 ghost use Rattle.std.specs.Prelude.{fold, map, [], ◌∷◌, ◌++◌};
 ghost use Rattle.serde_json.specs.View.{view};
-ghost use Rattle.page_answers.specs.Texts.{put_shown as with_shown, with_number, name_data};
+ghost use Rattle.page_answers.specs.Texts.{put_number, put_shown as with_shown, with_number, name_data};
 
 use serde_json::{Map, Value, put};
 use std::alloc::{AllocError, Global};
@@ -57,15 +57,17 @@ pub(crate) fn put_numbers(
     Ok(())
 }
 
-/// Puts under which number the lines are shown, and the gateway's clock, in ms.
+/// Puts under which number the lines are shown, the gateway's clock, in ms, and a first number.
 pub(crate) fn put_shown(
     alloc: Global,
     map: &mut Map<String, Value>,
     version: u64,
     clock: u64,
+    first: u64,
 ) -> Result<(), AllocError>
-    ensures { OnOk result (members_view map.new.entries ≡ with_shown version clock (members_view map.old.entries)) }
+    ensures { OnOk result (members_view map.new.entries
+        ≡ put_number (codes "first") first (with_shown version clock (members_view map.old.entries))) }
 {
-    put(map, alloc, "version", Value::from(version))?;
-    put(map, alloc, "clock", Value::from(clock))
+    let numbers = [("version", version), ("clock", clock), ("first", first)];
+    put_numbers(alloc, map, &numbers)
 }

@@ -187,13 +187,8 @@ fn state_value(alloc: Global, picture: &Picture, version: u64) -> Result<Value, 
         (lines_data picture.now.lines.items) (counts_data picture.now.counts)) }
 {
     let mut map = Map::new(alloc);
-    put_shown(alloc, &mut map, version, picture.clock)?;
-    put(
-        &mut map,
-        alloc,
-        "first",
-        Value::from(u64::from(picture.first)),
-    )?;
+    let first = u64::from(picture.first);
+    put_shown(alloc, &mut map, version, picture.clock, first)?;
     put(&mut map, alloc, "serving", Value::from(picture.is_serving))?;
     put(&mut map, alloc, "lost", Value::from(picture.totals().lost))?;
     let lines = lines_value(alloc, picture.lines.as_slice())?;

@@ -94,8 +94,7 @@ fn events_value(
     let mut list = Vec::new(alloc);
     let next = put_told(alloc, &mut list, ring, after)?;
     let more = next < ring.last() && !list.is_empty();
-    put_shown(alloc, &mut map, version, clock)?;
-    put(&mut map, alloc, "first", Value::from(first_of(ring)))?;
+    put_shown(alloc, &mut map, version, clock, first_of(ring))?;
     put(&mut map, alloc, "events", Value::from(list))?;
     put(&mut map, alloc, "next", Value::from(next))?;
     put(&mut map, alloc, "more", Value::from(more))?;
