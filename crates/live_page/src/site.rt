@@ -10,7 +10,7 @@ use crate::visitor::Visitor;
 use live_ends::{MOST_VISITORS, Readiness};
 use mio::net::{TcpListener, TcpStream};
 use page_answers::Board;
-use std::alloc::Global;
+use std::alloc::{AllocError, Global};
 use std::hash::RandomState;
 use std::io;
 use std::net::{Ipv4Addr, Net, SocketAddr, SocketAddrV4};
@@ -131,6 +131,15 @@ fn turn_behind(places: &[Option<Box<Visitor>>], last: Option<usize>) -> Option<u
     None
 }
 
+// Nobody has any of the places.
+fn free_places(alloc: Global) -> Result<Vec<Option<Box<Visitor>>>, AllocError> {
+    let mut places = Vec::with_capacity(alloc, MOST_VISITORS)?;
+    for _ in 0..MOST_VISITORS {
+        places.push(None)?;
+    }
+    Ok(places)
+}
+
 impl Site {
     /// A site at this address, and under these further names, whose sockets are watched from now on.
     pub fn open<R: Net>(
@@ -140,10 +149,7 @@ impl Site {
         names: HostNames,
         ready: &Readiness,
     ) -> io::Result<Site> {
-        let mut places = Vec::with_capacity(alloc, MOST_VISITORS)?;
-        for _ in 0..MOST_VISITORS {
-            places.push(None)?;
-        }
+        let places = free_places(alloc)?;
         let mut listener = TcpListener::bind(rt, SocketAddr::V4(address))?;
         ready.watch_listener(&mut listener)?;
         let address = match listener.local_addr() {
@@ -218,6 +224,11 @@ impl Site {
         seats
     }
 
+    // The place of somebody who comes from this address.
+    fn place_for(&self, host: Ipv4Addr) -> Option<usize> {
+        place_for(&self.seats(), host)
+    }
+
     // Serves somebody who came from this address; who has the place gives way, and their connection is closed.
     fn welcome<R: RandomSource>(
         &mut self,
@@ -227,8 +238,7 @@ impl Site {
         mut stream: TcpStream,
         host: Ipv4Addr,
     ) -> io::Result<()> {
-        let seats = self.seats();
-        let Some(place) = place_for(&seats, host) else {
+        let Some(place) = self.place_for(host) else {
             return Ok(());
         };
         ready.watch_visitor(&mut stream, place)?;
