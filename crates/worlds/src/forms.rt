@@ -70,7 +70,8 @@ fn kept(given: &mut Outcome, bytes: Result<Vec<u8>, OutOfMemory>) -> Text {
 
 /// A field as a text; nothing where memory is refused, which the row keeps.
 pub fn text_of(given: &mut Outcome, field: &str) -> Text {
-    kept(given, bytes_of(given.alloc, field))
+    let bytes = bytes_of(given.alloc, field);
+    kept(given, bytes)
 }
 
 /// A number between texts; nothing where memory is refused, which the row keeps.
