@@ -16,8 +16,8 @@ pub struct Check<'a> {
     pub(crate) undo: &'a str,
 }
 
-// What stands before and behind the first of these separators; all before it where there is none.
-fn parted<'a>(text: &'a str, separator: &str) -> (&'a str, &'a str) {
+/// What stands before and behind the first of these separators; all before it where there is none.
+pub(crate) fn parted<'a>(text: &'a str, separator: &str) -> (&'a str, &'a str) {
     text.split_once(separator).unwrap_or((text, ""))
 }
 
@@ -52,7 +52,9 @@ pub const ALL_CHECKS: [&str; 3] = [CHECKS, NOTICES, TELEPHONES];
 
 // The check with this name among those of a text.
 fn named_in(text: &'static str, name: &str) -> Option<Check<'static>> {
-    for block in text.split("\n= ").skip(1) {
+    let mut blocks = text.split("\n= ");
+    let _ = blocks.next();
+    for block in blocks {
         let check = check_of(block);
         if check.name == name {
             return Some(check);
@@ -72,6 +74,11 @@ pub fn check_named(name: &str) -> Option<Check<'static>> {
 }
 
 impl<'a> Check<'a> {
+    // Whether this stands in its steps.
+    fn has(&self, text: &str) -> bool {
+        self.steps.contains(text)
+    }
+
     /// Whether RFC 3435 leaves open what is right, so that a gateway that does otherwise isn't at fault.
     pub fn is_open(&self) -> bool {
         self.sections.contains("profile")
@@ -79,31 +86,31 @@ impl<'a> Check<'a> {
 
     /// Whether it takes half a minute.
     pub fn is_slow(&self) -> bool {
-        self.steps.contains("wait ")
+        self.has("wait ")
     }
 
     /// Whether it needs a second line.
     pub fn needs_other_line(&self) -> bool {
-        self.steps.contains("{other}")
+        self.has("{other}")
     }
 
     /// Whether its steps answer what the gateway notifies: that needs the address of the gateway's call agent.
     pub fn hears(&self) -> bool {
-        self.steps.contains("notified") || self.steps.contains("quiet ") || self.announces()
+        self.has("notified") || self.has("quiet ") || self.announces()
     }
 
     /// Whether its steps answer what the gateway announces.
     pub fn announces(&self) -> bool {
-        self.steps.contains("announced ")
+        self.has("announced ")
     }
 
     /// Whether it needs someone at the line's telephone.
     pub fn needs_telephone(&self) -> bool {
-        self.steps.contains("act ")
+        self.has("act ")
     }
 
     /// Whether it needs someone who starts the gateway anew.
     pub fn needs_restart(&self) -> bool {
-        self.steps.contains("restart\n")
+        self.has("restart\n")
     }
 }

@@ -2,6 +2,7 @@
 ghost use Rattle.std.specs.Prelude.{◌≡◌};
 ghost use Rattle.gateway_checks.specs.Hearing.{is_own};
 
+use crate::check::parted;
 use crate::texts::text_of;
 use mg_bytes::{Draft, OutOfMemory};
 use std::alloc::Global;
@@ -179,7 +180,7 @@ impl<'a> Names<'a> {
         let mut pieces = text.split('{');
         out.put(pieces.next().unwrap_or("").as_bytes());
         for piece in pieces {
-            let (name, after) = piece.split_once('}').unwrap_or((piece, ""));
+            let (name, after) = parted(piece, "}");
             self.put(&mut out, name);
             out.put(after.as_bytes());
         }

@@ -5,7 +5,7 @@ ghost use Rattle.gateway_checks.specs.Hearing.{came_as, awaits_answer, kept_of, 
 ghost use Rattle.gateway_checks.specs.Judging.{judged, settled, verdict_of};
 ghost use Rattle.gateway_checks.specs.Waiting.{waited_until};
 
-use crate::check::Check;
+use crate::check::{Check, parted};
 use crate::dialogue::put_said;
 use crate::hearing::{Heard, hear_text, put_response, value_of};
 use crate::inbox::{Arrived, Inbox};
@@ -318,7 +318,7 @@ impl<'a> Player<'a> {
         if self.lines.is_empty() {
             return None;
         }
-        let (line, lines) = self.lines.split_once('\n').unwrap_or((self.lines, ""));
+        let (line, lines) = parted(self.lines, "\n");
         self.lines = lines;
         self.line = line;
         self.begun = None;
@@ -560,8 +560,8 @@ impl<'a> Player<'a> {
         let Ok(due) = self.names.filled(due) else {
             return self.refused();
         };
-        let (endpoint, rest) = due.as_str().split_once(' ').unwrap_or((due.as_str(), ""));
-        let (x, events) = rest.split_once(' ').unwrap_or((rest, ""));
+        let (endpoint, rest) = parted(due.as_str(), " ");
+        let (x, events) = parted(rest, " ");
         let expected = Expected::Notification {
             name: endpoint.as_bytes(),
             x: x.as_bytes(),

@@ -1,4 +1,5 @@
 //! A step of a check, as a line of its text says it. The heads of `checks.rt` and `notices.rt` have them all.
+use crate::check::parted;
 use crate::socket::Socket;
 
 /// A step.
@@ -194,8 +195,8 @@ fn unasked_step<'a>(line: &'a str, word: Word, first: &'a str, second: &'a str) 
 
 /// The step that a line is.
 pub(crate) fn step_of(line: &str) -> Step<'_> {
-    let (word, rest) = line.split_once(' ').unwrap_or((line, ""));
-    let (first, second) = rest.split_once(' ').unwrap_or((rest, ""));
+    let (word, rest) = parted(line, " ");
+    let (first, second) = parted(rest, " ");
     let word = word_of(word);
     match word {
         Word::Send => sent(Socket::First, rest),
