@@ -112,18 +112,13 @@ fn put_answer(held: &LineScenario, given: &mut Outcome, question: &str) {
     }
 }
 
-// The line as it opens.
-fn open(held: &mut LineScenario, given: &mut Outcome) {
-    match LineScenario::opening(given.alloc) {
-        Ok(new) => *held = new,
-        Err(_) => given.refuse(),
-    }
-}
-
 // A row without a moment.
 fn put_shown(held: &mut LineScenario, row: &mut Row<'_>) {
     match row.before("  ") {
-        "opening" => open(held, &mut row.given),
+        "opening" => match LineScenario::opening(row.given.alloc) {
+            Ok(new) => *held = new,
+            Err(_) => row.given.refuse(),
+        },
         "is" => {
             put_state(&mut row.given, held);
             unless_fields(row);

@@ -7,18 +7,15 @@ use mg_packages::{Hook, signal_name};
 use scenario_files::Outcome;
 use timers::LineDue;
 
-// Its X, a blank and its O.
-fn put_told(given: &mut Outcome, notice: &Notice) {
-    given.put(b"tells ");
-    given.put(notice.identifier().as_slice());
-    given.put(b" ");
-    given.put_text(write_observed(given.alloc, notice.observed()));
-}
-
-/// Puts the notification that a line gives, where it gives one.
+/// Puts the notification that a line gives, where it gives one: its X, a blank and its O.
 pub fn put_notice(given: &mut Outcome, notice: Result<Option<Notice>, OutOfMemory>) {
     match notice {
-        Ok(Some(notice)) => put_told(given, &notice),
+        Ok(Some(notice)) => {
+            given.put(b"tells ");
+            given.put(notice.identifier().as_slice());
+            given.put(b" ");
+            given.put_text(write_observed(given.alloc, notice.observed()));
+        }
         Ok(None) => {}
         Err(_) => given.refuse(),
     }

@@ -55,11 +55,17 @@ pub fn change_of(alloc: Global, fields: &str) -> Result<Change, CodeFault> {
 
 /// What is to be created.
 pub fn creation_of(alloc: Global, fields: &str) -> Result<Creation, CodeFault> {
+    let call = identifier_in(fields, "C: ")?;
+    let Change {
+        mode,
+        options,
+        remote,
+    } = change_of(alloc, fields)?;
     Ok(Creation {
-        call: identifier_in(fields, "C: ")?,
-        mode: mode_in(fields)?.ok_or(UNREAD)?,
-        options: options_in(fields)?.unwrap_or(Options::none()),
-        remote: remote_in(alloc, fields)?,
+        call,
+        mode: mode.ok_or(UNREAD)?,
+        options: options.unwrap_or(Options::none()),
+        remote,
     })
 }
 

@@ -23,19 +23,16 @@ pub fn number_of(given: &mut Outcome, digits: &[u8]) -> u64 {
     number
 }
 
-// The address that `10.0.0.7:2727` spells.
-fn address_in(text: &[u8]) -> Option<SocketAddrV4> {
-    let (host, port) = split_once(text, b':')?;
-    Some(SocketAddrV4::new(ipv4_address(host)?, port_number(port)?))
-}
-
-/// The same. Where it spells none there is no such row.
+/// The address that `10.0.0.7:2727` spells. Where it spells none there is no such row.
 pub fn address_of(given: &mut Outcome, text: &[u8]) -> SocketAddrV4 {
-    let Some(address) = address_in(text) else {
-        given.unread();
-        return SocketAddrV4::new(Ipv4Addr::UNSPECIFIED, 0);
-    };
-    address
+    let (host, port) = split_once(text, b':').unwrap_or((text, b""));
+    match (ipv4_address(host), port_number(port)) {
+        (Some(host), Some(port)) => SocketAddrV4::new(host, port),
+        _ => {
+            given.unread();
+            SocketAddrV4::new(Ipv4Addr::UNSPECIFIED, 0)
+        }
+    }
 }
 
 fn put_hex(given: &mut Outcome, bytes: &[u8]) {

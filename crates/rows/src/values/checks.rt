@@ -28,14 +28,6 @@ const PLACES: Places<'static> = Places {
 // No check has more turns.
 const MOST_TURNS: u32 = 100;
 
-// Where a datagram comes, and its bytes.
-fn arrival_of(item: &[u8]) -> (Socket, &[u8]) {
-    match item.strip_prefix(b"B ") {
-        Some(datagram) => (Socket::Second, datagram),
-        None => (Socket::First, item),
-    }
-}
-
 // So long passes, in ms, where an item says that.
 fn wait_in(item: &[u8]) -> Option<u64> {
     decimal(item.strip_prefix(b"W ")?)
@@ -46,7 +38,10 @@ fn come(player: &mut Player<'_>, item: &[u8], now: u64) -> Result<u64, OutOfMemo
     if let Some(ms) = wait_in(item) {
         return Ok(now.saturating_add(ms));
     }
-    let (at, datagram) = arrival_of(item);
+    let (at, datagram) = match item.strip_prefix(b"B ") {
+        Some(datagram) => (Socket::Second, datagram),
+        None => (Socket::First, item),
+    };
     player.take(at, datagram, now)?;
     Ok(now)
 }

@@ -147,35 +147,21 @@ fn put_asks(given: &mut Outcome, call: &str, asks: &Asks<'_>) {
     put_pattern(given, pattern);
 }
 
-// The names of a gateway of 16 lines that knows no host.
-fn names(alloc: Global) -> Result<Names, OutOfMemory> {
-    Ok(Names {
+// What a message asks for on a gateway of 16 lines that knows no host.
+fn asked<'m>(alloc: Global, message: &'m Message<'_>) -> Result<Asks<'m>, CodeFault> {
+    let confirms = read_k(alloc, message)?;
+    let names = Names {
         domain: Text::of(Vec::from_slice(alloc, DOMAIN)?),
         lines: 16,
         table: Table::new(),
-    })
-}
-
-// What a message asks for there.
-fn asked<'m>(alloc: Global, message: &'m Message<'_>) -> Result<Asks<'m>, CodeFault> {
-    let confirms = read_k(alloc, message)?;
-    let names = names(alloc)?;
+    };
     form(alloc, message, &confirms, &names)
 }
 
-/// Whether a call is about what a command asks for.
-pub fn is_known(call: &str) -> bool {
-    call == "command on" || call == "asks" || call == "becomes"
-}
-
-/// Puts what a call gives of a message: a return code where the command is refused. No where there is no such call here.
-pub fn put_answer(given: &mut Outcome, call: &str, message: &Message<'_>) -> bool {
-    if !is_known(call) {
-        return false;
-    }
+/// Puts what one of these calls gives of a message: a return code where the command is refused.
+pub fn put_answer(given: &mut Outcome, call: &str, message: &Message<'_>) {
     match asked(given.alloc, message) {
         Ok(asks) => put_asks(given, call, &asks),
         Err(fault) => given.put_code(fault),
     }
-    true
 }

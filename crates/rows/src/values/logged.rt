@@ -35,24 +35,6 @@ fn put_told(given: &mut Outcome, stamp: Stamp, way: Way, value: &[u8]) -> Result
     )
 }
 
-// `1207 WHY`.
-fn put_why(given: &mut Outcome, stamp: Stamp, value: &[u8]) -> Result<(), OutOfMemory> {
-    let (id, why) = parted(given, value);
-    let id = id_of(given, id);
-    put_refused(given.alloc, &mut given.bytes, stamp, id, why)
-}
-
-// `1234`: so many lines. What is noted of the program itself has no other end.
-fn put_dropped(given: &mut Outcome, stamp: Stamp, value: &[u8]) -> Result<(), OutOfMemory> {
-    let lines = number_of(given, value);
-    put_notice(
-        given.alloc,
-        &mut given.bytes,
-        stamp.moment,
-        Notice::Dropped { lines },
-    )
-}
-
 // `1207 401`: the command, and the code by which it is refused.
 fn refused_by(given: &mut Outcome, value: &[u8]) -> Note {
     let (id, code) = parted(given, value);
@@ -105,8 +87,19 @@ fn put_line(
         "log came" => put_told(given, stamp, Way::Came, value),
         "log sent" => put_told(given, stamp, Way::Sent, value),
         "log given up" => put_given_up(given.alloc, &mut given.bytes, DOMAIN, stamp, value),
-        "log refused" => put_why(given, stamp, value),
-        "log dropped" => put_dropped(given, stamp, value),
+        // `1207 WHY`.
+        "log refused" => {
+            let (id, why) = parted(given, value);
+            let id = id_of(given, id);
+            put_refused(given.alloc, &mut given.bytes, stamp, id, why)
+        }
+        // `1234`: so many lines. What is noted of the program itself has no other end.
+        "log dropped" => {
+            let dropped = Notice::Dropped {
+                lines: number_of(given, value),
+            };
+            put_notice(given.alloc, &mut given.bytes, stamp.moment, dropped)
+        }
         _ => {
             let note = note_of(given, call, value);
             put_note(given.alloc, &mut given.bytes, stamp, note)

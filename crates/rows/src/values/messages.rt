@@ -11,7 +11,7 @@ use scenario_files::Outcome;
 fn put_fault(given: &mut Outcome, fault: TextFault) {
     given.put_shown(fault.number());
     match fault {
-        TextFault::OutOfMemory => given.refuse(),
+        TextFault::OutOfMemory => {}
         TextFault::NoHeader => given.put(b" no header"),
         TextFault::BadVersion { id } => {
             given.put(b" bad version ");
@@ -54,14 +54,6 @@ fn put_first(given: &mut Outcome, message: &Message<'_>, code: &str) {
     given.put(param.value.as_slice());
 }
 
-// The ids of a range that is confirmed.
-fn put_range(given: &mut Outcome, first: TransactionId, last: TransactionId) {
-    given.put_shown(first.number());
-    given.put(b"-");
-    given.put_shown(last.number());
-    given.put(b"|");
-}
-
 // The ids that a message confirms.
 fn put_confirmed(given: &mut Outcome, message: &Message<'_>) {
     match read_k(given.alloc, message) {
@@ -69,7 +61,10 @@ fn put_confirmed(given: &mut Outcome, message: &Message<'_>) {
         Ok(KValue::Unreadable) => given.put(b"unreadable"),
         Ok(KValue::Items(ranges)) => {
             for range in ranges.as_slice() {
-                put_range(given, range.first, range.last);
+                given.put_shown(range.first.number());
+                given.put(b"-");
+                given.put_shown(range.last.number());
+                given.put(b"|");
             }
         }
         Err(_) => given.refuse(),
@@ -94,9 +89,10 @@ fn put_of_message(given: &mut Outcome, call: &str, message: &Message<'_>) -> boo
         "written message" => put_again(given, message),
         "parameters" => given.put_shown(message.params().len()),
         "confirms" => put_confirmed(given, message),
+        "command on" | "asks" | "becomes" => commands::put_answer(given, call, message),
         _ => match call.strip_prefix("first ") {
             Some(code) => put_first(given, message, code),
-            None => return commands::put_answer(given, call, message),
+            None => return false,
         },
     }
     true
@@ -104,14 +100,13 @@ fn put_of_message(given: &mut Outcome, call: &str, message: &Message<'_>) -> boo
 
 // Puts what a call gives of a text that is no message; no where there is no such call.
 fn put_of_other(given: &mut Outcome, call: &str, fault: TextFault) -> bool {
-    if call == "message" {
-        put_fault(given, fault);
-    } else if let TextFault::OutOfMemory = fault {
+    if let TextFault::OutOfMemory = fault {
         given.refuse();
-    } else if commands::is_known(call) {
-        given.put(b"no message");
-    } else {
-        return false;
+    }
+    match call {
+        "message" => put_fault(given, fault),
+        "command on" | "asks" | "becomes" => given.put(b"no message"),
+        _ => return given.is_refused,
     }
     true
 }

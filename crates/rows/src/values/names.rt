@@ -134,16 +134,7 @@ fn put_of_host(given: &mut Outcome, call: &str, name: &[u8], count: u16) {
     }
 }
 
-// Where the entity is that a text names, by a table of hosts.
-fn put_entity(given: &mut Outcome, text: &[u8], table: &Table) {
-    match read_entity(text, table) {
-        Some(entity) if entity.text.as_bytes() != text => given.put(b"another text"),
-        Some(entity) => put_route(given, Some(entity.route)),
-        None => given.put(b"none"),
-    }
-}
-
-// The same where ca.example.net has so many addresses; there is no host where that is 0.
+// Where the entity is that a text names, where ca.example.net has so many addresses; there is no host where that is 0.
 fn put_place(given: &mut Outcome, text: &[u8], hosts: u16) {
     let mut table = Table::new();
     if hosts > 0
@@ -153,7 +144,11 @@ fn put_place(given: &mut Outcome, text: &[u8], hosts: u16) {
     {
         return given.unread();
     }
-    put_entity(given, text, &table);
+    match read_entity(text, &table) {
+        Some(entity) if entity.text.as_bytes() != text => given.put(b"another text"),
+        Some(entity) => put_route(given, Some(entity.route)),
+        None => given.put(b"none"),
+    }
 }
 
 /// Puts what a call gives; no where there is no such call here.

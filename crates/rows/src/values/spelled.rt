@@ -9,7 +9,7 @@ use event_syntax::{
     read_detect, read_events, read_handling, read_observed, read_signals, write_detect,
     write_events, write_handling, write_observed, write_signals,
 };
-use mg_bytes::{CodeFault, OutOfMemory, Text};
+use mg_bytes::{CodeFault, Text};
 use scenario_files::Outcome;
 use std::alloc::Global;
 
@@ -21,13 +21,12 @@ fn events_text(alloc: Global, call: &str, value: &[u8]) -> Result<Text, CodeFaul
         "S" => write_signals(alloc, read_signals(value)?.as_slice()),
         "Q" => write_handling(alloc, read_handling(value)?),
         "O" => write_observed(alloc, read_observed(alloc, value)?.as_slice()),
-        _ => map_text(alloc, read_map(alloc, value)?.as_bytes()),
+        _ => {
+            let map = Vec::from_slice(alloc, read_map(alloc, value)?.as_bytes())?;
+            Ok(Text::of(map))
+        }
     };
     Ok(written?)
-}
-
-fn map_text(alloc: Global, map: &[u8]) -> Result<Text, OutOfMemory> {
-    Ok(Text::of(Vec::from_slice(alloc, map)?))
 }
 
 // A value of one of these, or a code.
