@@ -177,14 +177,6 @@ fn put_run(held: &mut HistoryScenario, row: &mut Row<'_>) {
     }
 }
 
-// `7 at 30999 again`: what commands with these ids are.
-fn put_look(held: &HistoryScenario, row: &mut Row<'_>, ids: &str) {
-    let ids = ids_of(&mut row.given, ids);
-    let now = u64::from(row.number_behind("at"));
-    let wanted = row.rest();
-    put_unlike(held, &mut row.given, ids, now, wanted);
-}
-
 impl Scenario for HistoryScenario {
     fn begin(alloc: Global) -> Result<HistoryScenario, OutOfMemory> {
         let history = boxed(alloc, History::new(alloc))?;
@@ -199,7 +191,13 @@ impl Scenario for HistoryScenario {
             "undo" => self.history.undo(),
             "run" => put_run(self, row),
             "holds" => row.given.put_shown(self.history.len()),
-            ids => put_look(self, row, ids),
+            // `7 at 30999 again`: what commands with these ids are.
+            ids => {
+                let ids = ids_of(&mut row.given, ids);
+                let now = u64::from(row.number_behind("at"));
+                let wanted = row.rest();
+                put_unlike(self, &mut row.given, ids, now, wanted);
+            }
         }
     }
 }

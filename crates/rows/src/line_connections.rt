@@ -16,7 +16,7 @@ mod asked;
 use crate::keeping::{Kept, boxed};
 use crate::texts::{unless_fields, words_of};
 use asked::{change_of, creation_of, deletion_of, identifier_in};
-use connections::{Audited, Connections, Created, Encoding, mode_text, read_encoding};
+use connections::{Connections, Encoding, mode_text, read_encoding};
 use mg_bytes::{CodeFault, OutOfMemory};
 use scenario_files::{Outcome, Row, Scenario};
 use sdp_subset::{Session, write_sdp};
@@ -35,28 +35,6 @@ fn put_description(given: &mut Outcome, description: &Session) {
     }
 }
 
-// What can be read of a connection, and its description.
-fn put_audited(given: &mut Outcome, audited: &Audited) {
-    let connection = &audited.connection;
-    given.put(b"C ");
-    given.put(connection.call.as_slice());
-    given.put(b"  M ");
-    given.put(mode_text(connection.mode));
-    given.put(match &connection.remote {
-        Some(_) => b"  RTP known  ".as_slice(),
-        None => b"  RTP unknown  ".as_slice(),
-    });
-    put_description(given, &audited.description);
-}
-
-// The number of a connection, and its description.
-fn put_created(given: &mut Outcome, created: &Created) {
-    given.put(b"I ");
-    given.put_shown(created.number);
-    given.put(b"  ");
-    put_description(given, &created.description);
-}
-
 /// The connections of a line, its encoding, and the last answer.
 #[derive(Drop)]
 pub struct ConnectionsScenario {
@@ -66,9 +44,14 @@ pub struct ConnectionsScenario {
 }
 
 impl ConnectionsScenario {
+    // The number of the connection, and its description.
     fn create(&mut self, given: &mut Outcome, fields: &str) -> Result<(), CodeFault> {
         let creation = creation_of(given.alloc, fields)?;
-        put_created(given, &self.line.create(self.encoding, creation)?);
+        let created = self.line.create(self.encoding, creation)?;
+        given.put(b"I ");
+        given.put_shown(created.number);
+        given.put(b"  ");
+        put_description(given, &created.description);
         Ok(())
     }
 
@@ -82,8 +65,18 @@ impl ConnectionsScenario {
         Ok(())
     }
 
+    // What can be read of a connection, and its description.
     fn audit(&self, given: &mut Outcome, fields: &str) -> Result<(), CodeFault> {
-        put_audited(given, &self.line.audit(&identifier_in(fields, "I: ")?)?);
+        let audited = self.line.audit(&identifier_in(fields, "I: ")?)?;
+        given.put(b"C ");
+        given.put(audited.connection.call.as_slice());
+        given.put(b"  M ");
+        given.put(mode_text(audited.connection.mode));
+        given.put(match &audited.connection.remote {
+            Some(_) => b"  RTP known  ".as_slice(),
+            None => b"  RTP unknown  ".as_slice(),
+        });
+        put_description(given, &audited.description);
         Ok(())
     }
 
@@ -129,13 +122,6 @@ impl ConnectionsScenario {
             });
         }
     }
-
-    fn set_encoding(&mut self, row: &mut Row<'_>) {
-        match read_encoding(row.rest().as_bytes()) {
-            Some(encoding) => self.encoding = encoding,
-            None => row.given.unread(),
-        }
-    }
 }
 
 impl Scenario for ConnectionsScenario {
@@ -151,14 +137,18 @@ impl Scenario for ConnectionsScenario {
     fn turn(&mut self, row: &mut Row<'_>) {
         let word = row.before(" ");
         match word {
-            "encoding" => return self.set_encoding(row),
-            "answer" => return row.given.put(&self.answer),
-            "places" => return self.put_places(&mut row.given),
-            _ => {}
+            "encoding" => match read_encoding(row.rest().as_bytes()) {
+                Some(encoding) => self.encoding = encoding,
+                None => row.given.unread(),
+            },
+            "answer" => row.given.put(&self.answer),
+            "places" => self.put_places(&mut row.given),
+            _ => {
+                let fields = row.parameters();
+                self.command(&mut row.given, word, fields);
+                self.answer(row);
+            }
         }
-        let fields = row.parameters();
-        self.command(&mut row.given, word, fields);
-        self.answer(row);
     }
 }
 

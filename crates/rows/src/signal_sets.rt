@@ -79,14 +79,6 @@ fn apply(held: &mut SignalScenario, row: &mut Row<'_>, moment: u32) {
     }
 }
 
-// `L/dl`.
-fn expire(held: &mut SignalScenario, row: &mut Row<'_>) {
-    match signal_of(row.rest().as_bytes()) {
-        Ok(signal) => held.set.expire(signal),
-        Err(_) => row.given.unread(),
-    }
-}
-
 impl Scenario for SignalScenario {
     fn begin(alloc: Global) -> Result<SignalScenario, OutOfMemory> {
         let set = boxed(alloc, SignalSet::new())?;
@@ -96,7 +88,10 @@ impl Scenario for SignalScenario {
     fn turn(&mut self, row: &mut Row<'_>) {
         match row.before(" ") {
             "hook" => self.set.hook_changed(hook_of(row)),
-            "expire" => expire(self, row),
+            "expire" => match signal_of(row.rest().as_bytes()) {
+                Ok(signal) => self.set.expire(signal),
+                Err(_) => row.given.unread(),
+            },
             "stop" => self.set.stop_timeouts(),
             "due" => put_due(&mut row.given, self),
             "active" => put_active(&mut row.given, self),
