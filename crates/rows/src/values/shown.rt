@@ -3,53 +3,132 @@
 //! A value has a word for each thing that isn't 0: `refused:3`, `verb:6:2` for two commands of the verb at this place,
 //! `code:200:4`; `off:1` and `on:0` for a line on which so many events were lost, and behind it `tone:2000` and `tone:-`
 //! for a signal and its end, and `connection:26`; `file:trace:1` for a file that couldn't be written so often.
-use crate::keeping::boxed;
 use crate::texts::words_of;
 use crate::values::capturing::number_of;
-use mg_bytes::{OutOfMemory, decimal, split_once};
+use mg_bytes::{decimal, split_once};
 use page_answers::{
-    CodeCount, ConnectionView, FileCount, LineView, Picture, SignalView, VerbCount, metrics_text,
-    state_text,
+    CodeCount, ConnectionView, Counts, FileCount, LineView, Picture, SignalView, VerbCount,
+    metrics_text, state_text,
 };
 use scenario_files::Outcome;
 use std::alloc::Global;
 
+// The words of numbers, each in the place that its number has in what is told.
+const NUMBERS: [&str; 24] = [
+    "clock",
+    "serving",
+    "first",
+    "transactions",
+    "in",
+    "out",
+    "responses",
+    "unreadable",
+    "answers-again",
+    "notifications",
+    "notifications-again",
+    "announcements",
+    "announcements-again",
+    "given-up",
+    "gateway-given-up",
+    "sends",
+    "second-sends",
+    "other-sends",
+    "strangers",
+    "lost-commands",
+    "refused",
+    "receive-faults",
+    "send-faults",
+    "dropped",
+];
+
 // What words tell so far.
-#[derive(Drop)]
 struct Told {
-    picture: Box<Picture>,
+    numbers: [u64; 24],
+    commands: Vec<VerbCount>,
+    answers: Vec<CodeCount>,
+    write_faults: Vec<FileCount>,
+    lines: Vec<LineView>,
 }
 
 // Sets the number that a word names, the clock, the first of ids or a count, and says whether it names one.
 fn set_number(told: &mut Told, key: &str, number: u64) -> bool {
-    match key {
-        "clock" => told.picture.clock = number,
-        "first" => told.picture.first = u32::try_from(number).unwrap_or(u32::MAX),
-        "in" => told.picture.counts.datagrams_in = number,
-        "out" => told.picture.counts.datagrams_out = number,
-        "responses" => told.picture.counts.responses = number,
-        "unreadable" => told.picture.counts.unreadable = number,
-        "answers-again" => told.picture.counts.answers_again = number,
-        "notifications" => told.picture.counts.notifications = number,
-        "notifications-again" => told.picture.counts.notifications_again = number,
-        "announcements" => told.picture.counts.announcements = number,
-        "announcements-again" => told.picture.counts.announcements_again = number,
-        "given-up" => told.picture.counts.given_up_by_lines = number,
-        "gateway-given-up" => told.picture.counts.given_up_by_gateway = number,
-        "sends" => told.picture.counts.sends[0] = number,
-        "second-sends" => told.picture.counts.sends[1] = number,
-        "other-sends" => told.picture.counts.sends[4] = number,
-        "strangers" => told.picture.counts.strangers = number,
-        "lost-commands" => told.picture.counts.lost_commands = number,
-        "serving" => told.picture.is_serving = number > 0,
-        "refused" => told.picture.counts.refused = number,
-        "receive-faults" => told.picture.counts.receive_faults = number,
-        "send-faults" => told.picture.counts.send_faults = number,
-        "dropped" => told.picture.counts.dropped_lines = number,
-        "transactions" => told.picture.counts.transactions = number,
-        _ => return false,
+    for (place, word) in NUMBERS.iter().enumerate() {
+        if *word == key {
+            if let Some(held) = told.numbers.get_mut(place) {
+                *held = number;
+            }
+            return true;
+        }
     }
-    true
+    false
+}
+
+// The picture of what words told.
+fn picture_of(told: Told) -> Picture {
+    let Told {
+        numbers,
+        commands,
+        answers,
+        write_faults,
+        lines,
+    } = told;
+    let [
+        clock,
+        serving,
+        first,
+        transactions,
+        datagrams_in,
+        datagrams_out,
+        responses,
+        unreadable,
+        answers_again,
+        notifications,
+        notifications_again,
+        announcements,
+        announcements_again,
+        given_up_by_lines,
+        given_up_by_gateway,
+        sends,
+        second_sends,
+        other_sends,
+        strangers,
+        lost_commands,
+        refused,
+        receive_faults,
+        send_faults,
+        dropped_lines,
+    ] = numbers;
+    Picture {
+        clock,
+        behind: 0,
+        is_serving: serving > 0,
+        first: u32::try_from(first).unwrap_or(u32::MAX),
+        lines,
+        counts: Counts {
+            datagrams_in,
+            datagrams_out,
+            commands,
+            responses,
+            unreadable,
+            answers,
+            answers_again,
+            notifications,
+            notifications_again,
+            announcements,
+            announcements_again,
+            given_up_by_gateway,
+            given_up_by_lines,
+            sends: [sends, second_sends, 0, 0, other_sends],
+            refused,
+            strangers,
+            lost_commands,
+            receive_faults,
+            send_faults,
+            dropped_lines,
+            write_faults,
+            transactions,
+        },
+    }
 }
 
 // A code, a verb's place or a connection's number, which is below 1,000 here.
@@ -131,36 +210,28 @@ fn begun(alloc: Global, is_off_hook: bool, lost: u64) -> LineView {
     }
 }
 
-// What a word tells of a list of the picture.
+// What a word tells of a list.
 fn tell_list(given: &mut Outcome, told: &mut Told, key: &str, value: &[u8]) {
     let is_told = match key {
         "verb" => {
             let (place, number) = pair_of(given, value);
             let verb = place.min(255) as u8;
-            told.picture
-                .counts
-                .commands
-                .push(VerbCount { verb, number })
-                .is_ok()
+            told.commands.push(VerbCount { verb, number }).is_ok()
         }
         "code" => {
             let (code, number) = pair_of(given, value);
-            told.picture
-                .counts
-                .answers
-                .push(CodeCount { code, number })
-                .is_ok()
+            told.answers.push(CodeCount { code, number }).is_ok()
         }
         "file" => match file_of(given, value) {
-            Some(file) => told.picture.counts.write_faults.push(file).is_ok(),
+            Some(file) => told.write_faults.push(file).is_ok(),
             None => false,
         },
         "off" | "on" => {
             let lost = number_of(given, value);
             let line = begun(given.alloc, key == "off", lost);
-            told.picture.lines.push(line).is_ok()
+            told.lines.push(line).is_ok()
         }
-        _ => match told.picture.lines.last_mut() {
+        _ => match told.lines.last_mut() {
             Some(line) => return tell_line(given, line, key, value),
             None => return given.unread(),
         },
@@ -179,17 +250,22 @@ fn tell(given: &mut Outcome, told: &mut Told, key: &str, value: &[u8]) {
     }
 }
 
-// The picture that these words tell.
-fn told_by(given: &mut Outcome, value: &[u8]) -> Result<Told, OutOfMemory> {
-    let picture = boxed(given.alloc, Picture::new(given.alloc))?;
-    let mut told = Told { picture };
+// What these words tell.
+fn told_by(given: &mut Outcome, value: &[u8]) -> Told {
+    let mut told = Told {
+        numbers: [0; 24],
+        commands: Vec::new(given.alloc),
+        answers: Vec::new(given.alloc),
+        write_faults: Vec::new(given.alloc),
+        lines: Vec::new(given.alloc),
+    };
     for word in words_of(value).split(' ') {
         match word.split_once(':') {
             Some((key, value)) => tell(given, &mut told, key, value.as_bytes()),
             None => given.unread(),
         }
     }
-    Ok(told)
+    told
 }
 
 // Puts a text with `<` and `>` in place of braces, which are short forms in rows.
@@ -205,20 +281,16 @@ fn put_unbraced(given: &mut Outcome, text: &[u8]) {
 }
 
 fn put_metrics(given: &mut Outcome, value: &[u8]) {
-    let Ok(told) = told_by(given, value) else {
-        return given.refuse();
-    };
-    match metrics_text(given.alloc, &told.picture) {
+    let picture = picture_of(told_by(given, value));
+    match metrics_text(given.alloc, &picture) {
         Ok(text) => put_unbraced(given, &text),
         Err(_) => given.refuse(),
     }
 }
 
 fn put_state(given: &mut Outcome, value: &[u8]) {
-    let Ok(told) = told_by(given, value) else {
-        return given.refuse();
-    };
-    match state_text(given.alloc, &told.picture, 1) {
+    let picture = picture_of(told_by(given, value));
+    match state_text(given.alloc, &picture, 1) {
         Ok(text) => put_unbraced(given, text.as_bytes()),
         Err(_) => given.refuse(),
     }
