@@ -13,28 +13,31 @@ use mg_bytes::{CodeFault, Text};
 use scenario_files::Outcome;
 use std::alloc::Global;
 
-// A value of R, T, S, Q, O or D, as it is written again; D without its blanks.
-fn events_text(alloc: Global, call: &str, value: &[u8]) -> Result<Text, CodeFault> {
+// A value of R, T, S, Q, O or D, as it is written again; D without its blanks. Nothing where there is no such call.
+fn events_text(alloc: Global, call: &str, value: &[u8]) -> Result<Option<Text>, CodeFault> {
     let written = match call {
         "R" => write_events(alloc, read_events(alloc, value)?.as_slice()),
         "T" => write_detect(alloc, read_detect(value)?.as_slice()),
         "S" => write_signals(alloc, read_signals(value)?.as_slice()),
         "Q" => write_handling(alloc, read_handling(value)?),
         "O" => write_observed(alloc, read_observed(alloc, value)?.as_slice()),
-        _ => {
+        "D" => {
             let map = Vec::from_slice(alloc, read_map(alloc, value)?.as_bytes())?;
             Ok(Text::of(map))
         }
+        _ => return Ok(None),
     };
-    Ok(written?)
+    Ok(Some(written?))
 }
 
-// A value of one of these, or a code.
-fn put_spelled(given: &mut Outcome, call: &str, value: &[u8]) {
+// A value of one of these, or a code; no where there is no such call.
+fn put_spelled(given: &mut Outcome, call: &str, value: &[u8]) -> bool {
     match events_text(given.alloc, call, value) {
-        Ok(text) => given.put(text.as_bytes()),
+        Ok(Some(text)) => given.put(text.as_bytes()),
+        Ok(None) => return false,
         Err(fault) => given.put_code(fault),
     }
+    true
 }
 
 // What L asks for, as it is written again where it names codecs.
@@ -65,7 +68,6 @@ fn put_identifier(given: &mut Outcome, value: &[u8]) {
 /// Puts what a call gives; no where there is no such call here.
 pub fn put_answer(given: &mut Outcome, call: &str, value: &[u8]) -> bool {
     match call {
-        "R" | "T" | "S" | "Q" | "O" | "D" => put_spelled(given, call, value),
         "L" => put_options(given, value),
         "M" => given.put(match read_mode(value) {
             Some(mode) => mode_text(mode),
@@ -76,7 +78,7 @@ pub fn put_answer(given: &mut Outcome, call: &str, value: &[u8]) -> bool {
             None => b"none".as_slice(),
         }),
         "I" => put_identifier(given, value),
-        _ => return false,
+        _ => return put_spelled(given, call, value),
     }
     true
 }
