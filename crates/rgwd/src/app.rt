@@ -1,5 +1,5 @@
 //! The program: reads its words and its configuration, opens its sockets, and serves.
-use crate::behind::Behind;
+use crate::behind::put_behind;
 use crate::ending::Ending;
 use crate::help::of_program;
 use crate::opening::{Opened, open};
@@ -8,6 +8,7 @@ use crate::replaying::{REPLAY, replay_trace};
 use crate::starting::{Begun, Start};
 use crate::telling::{TELL, tell_line};
 use crate::words::{Settings, read_words};
+use exchange_log::put_peer;
 use gateway_core::Gateway;
 use live_ends::{
     CaptureFiles, CommonEnding, Live, Outlets, Parting, SystemFault, begin, end, open_capture,
@@ -16,13 +17,13 @@ use live_ends::{
 use live_gateway::{agents_line, boxed};
 use live_journal::{Journal, Trace};
 use live_page::{PageProgram, Reception};
-use mg_bytes::OutOfMemory;
+use mg_bytes::{Draft, OutOfMemory};
 use rgw_scenes::{flaw_of, read_config, told, told_setup};
 use rgw_scripts::LIMIT;
 use std::alloc::{AllocError, Global};
 use std::io;
 use std::io::Write;
-use std::net::Net;
+use std::net::{Net, SocketAddr};
 use std::os::fd::AsRawFd;
 use std::random::RandomSource;
 use std::rt::{Clock, Env, Files};
@@ -34,22 +35,31 @@ fn start_line<R: Net + Clock, P: Reception>(
     alloc: Global,
     opened: &Opened<'_, R, P>,
     begun: Begun,
-) -> Result<String, AllocError> {
-    let Ok((listen, phones)) = opened.desk.exchange.around.addresses() else {
-        return Ok(String::new(alloc));
+) -> Result<Vec<u8>, AllocError> {
+    let Ok((SocketAddr::V4(listen), SocketAddr::V4(phones))) = opened
+        .desk
+        .exchange
+        .around
+        .addresses()
+    else {
+        return Ok(Vec::new(alloc));
     };
     let page = match &opened.visitors {
         Some(reception) => reception.site.address(),
         None => None,
     };
     if opened.visitors.is_some() && page.is_none() {
-        return Ok(String::new(alloc));
+        return Ok(Vec::new(alloc));
     }
-    let page = Behind {
-        word: " http ",
-        address: page,
-    };
-    format!(in alloc; "listen {listen} phones {phones}{page} {begun}\n")
+    let mut line = Draft::new(alloc);
+    line.put(b"listen ");
+    put_peer(&mut line, listen);
+    line.put(b" phones ");
+    put_peer(&mut line, phones);
+    put_behind(&mut line, b" http ", page);
+    begun.put(&mut line);
+    line.put(b"\n");
+    line.end()
 }
 
 // Says on standard error where the sockets are, and how it starts.
@@ -61,7 +71,7 @@ fn tell_start<R: Net + Clock, P: Reception, F: Write + Drop>(
 ) {
     // For want of memory that line alone isn't said.
     if let Ok(line) = start_line(alloc, opened, begun) {
-        outlets.error.say(line.as_bytes());
+        outlets.error.say(line.as_slice());
     }
     outlets.offer();
 }
@@ -123,15 +133,17 @@ fn check_gateway<F: Write + Drop>(
 ) -> Result<(), AllocError> {
     let lines = told_setup(alloc, gateway.setup())?;
     let agents = agents_line(alloc, settings.sockets.agents, gateway.setup())?;
-    let (listen, phones) = (settings.sockets.listen, settings.sockets.phones);
-    let page = Behind {
-        word: " --http ",
-        address: settings.sockets.http,
-    };
-    let sockets = format!(in alloc; "sockets: --listen {listen} --phones {phones}{page}\n")?;
+    let mut sockets = Draft::new(alloc);
+    sockets.put(b"sockets: --listen ");
+    put_peer(&mut sockets, settings.sockets.listen);
+    sockets.put(b" --phones ");
+    put_peer(&mut sockets, settings.sockets.phones);
+    put_behind(&mut sockets, b" --http ", settings.sockets.http);
+    sockets.put(b"\n");
+    let sockets = sockets.end()?;
     outlets.output.say(lines.as_slice());
     outlets.output.say(agents.as_slice());
-    outlets.output.say(sockets.as_bytes());
+    outlets.output.say(sockets.as_slice());
     Ok(())
 }
 

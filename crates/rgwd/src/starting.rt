@@ -4,8 +4,8 @@ ghost use Rattle.new_start.specs.Waiting.{waited};
 
 use crate::words::Settings;
 use live_ends::time_of_day;
+use mg_bytes::Draft;
 use new_start::{FirstNumber, waited};
-use std::fmt;
 use std::rt::Clock;
 
 // So many microseconds are a ms.
@@ -71,11 +71,15 @@ impl Start {
     }
 }
 
-impl fmt::Display for Begun {
-    fn fmt<W: fmt::Write>(&self, f: &mut fmt::Formatter<W>) -> fmt::Result {
-        match self.waits {
-            Some(waits) => write!(f, "first {} waits {} ms", self.first, waits),
-            None => write!(f, "first {}", self.first),
+impl Begun {
+    /// Puts it behind the addresses of its sockets, as ` first 4711 waits 250 ms`.
+    pub(crate) fn put(self, out: &mut Draft) {
+        out.put(b" first ");
+        out.put_decimal(u64::from(self.first));
+        if let Some(waits) = self.waits {
+            out.put(b" waits ");
+            out.put_decimal(waits);
+            out.put(b" ms");
         }
     }
 }
