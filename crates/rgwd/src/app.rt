@@ -23,6 +23,7 @@ use rgw_scripts::LIMIT;
 use std::alloc::{AllocError, Global};
 use std::io;
 use std::io::Write;
+use std::mem::replace;
 use std::net::{Net, SocketAddr};
 use std::os::fd::AsRawFd;
 use std::random::RandomSource;
@@ -108,7 +109,7 @@ fn serve_to_end<'w, R: Files + Net + Clock + RandomSource, P: Reception>(
         return Ending::Common(CommonEnding::OutOfMemory);
     };
     let exchange = &opened.desk.exchange;
-    let outlets = &mut recording.outlets;
+    let outlets = &mut recording.begun.outlets;
     outlets.finish(rt, counts.as_slice(), exchange.now.time);
     served_ending(&exchange.journal, &opened.desk.play.teller, outlets)
 }
@@ -194,7 +195,7 @@ fn open_files<'w, R: Files + Alloc + Clone + Drop>(
     settings: &Settings<'w>,
     recording: &mut Recording<R>,
 ) -> Result<(), Ending<'w>> {
-    let outlets = &mut recording.outlets;
+    let outlets = &mut recording.begun.outlets;
     if let (Some(name), Some(parting)) = (settings.capture, settings.parting) {
         recording.files = Some(open_parted(rt, alloc, settings, name, parting, outlets)?);
         return Ok(());
@@ -228,7 +229,7 @@ fn serve_with<'w, R: Files + Net + Clock + RandomSource + Alloc + Clone + Drop, 
         Ok(()) => {}
         Err(ending) => return ending,
     }
-    tell_start(alloc, &mut recording.outlets, &opened, begun);
+    tell_start(alloc, &mut recording.begun.outlets, &opened, begun);
     if wait_first(rt, &mut opened.desk.exchange.around, begun).is_err() {
         return Ending::Common(CommonEnding::Clock);
     }
@@ -253,7 +254,7 @@ fn serve_config<'w, R: Files + Net + Clock + RandomSource + Alloc + Clone + Drop
         Err(refused) => return Ending::from(refused),
     };
     if settings.check {
-        if check_gateway(alloc, settings, &gateway, &mut recording.outlets).is_err() {
+        if check_gateway(alloc, settings, &gateway, &mut recording.begun.outlets).is_err() {
             return Ending::Common(CommonEnding::OutOfMemory);
         }
         return Ending::Checked;
@@ -291,7 +292,7 @@ fn perform<'w, R: Files + Net + Clock + RandomSource + Alloc + Clone + Drop, P: 
         Ok(text) => text,
         Err(ending) => return Ending::Common(ending),
     };
-    let has_flaw = match tell_flaw(alloc, file, text.as_slice(), &mut recording.outlets) {
+    let has_flaw = match tell_flaw(alloc, file, text.as_slice(), &mut recording.begun.outlets) {
         Ok(has_flaw) => has_flaw,
         Err(refused) => return Ending::from(refused),
     };
@@ -323,12 +324,12 @@ fn ending_by<'w, R: AllocGlobal + Files + Net + Clock + RandomSource + Clone + D
     recording: &mut Recording<R>,
 ) -> Ending<'w> {
     if let Some(asked) = words_behind(TELL, words) {
-        return either(tell_line(rt, asked, &mut recording.outlets.output));
+        return either(tell_line(rt, asked, &mut recording.begun.outlets.output));
     }
     if let Some(asked) = words_behind(REPLAY, words) {
-        return either(replay_trace(rt, asked, &mut recording.outlets));
+        return either(replay_trace(rt, asked, &mut recording.begun.outlets));
     }
-    let settings = match read_words(rt.alloc(), words, &mut recording.outlets.error) {
+    let settings = match read_words(rt.alloc(), words, &mut recording.begun.outlets.error) {
         Ok(settings) => settings,
         Err(ending) => return ending,
     };
@@ -360,10 +361,10 @@ fn run_with<R: AllocGlobal + Files + Net + Clock + RandomSource + Clone + Drop, 
 ) -> u8 {
     let words = match words {
         Ok(words) => words,
-        Err(ending) => return tell(rt, &mut recording.outlets, Ending::Common(*ending)),
+        Err(ending) => return tell(rt, &mut recording.begun.outlets, Ending::Common(*ending)),
     };
     let ending = ending_by::<R, P>(rt, words.as_slice(), recording);
-    tell(rt, &mut recording.outlets, ending)
+    tell(rt, &mut recording.begun.outlets, ending)
 }
 
 /// Runs the program, whose page's visitors are received so, and gives its exit status.
@@ -376,17 +377,17 @@ where
     let Some(begun) = begin(rt) else {
         return CommonEnding::OutOfMemory.status();
     };
-    let live_ends::Begun {
-        words,
-        outlets,
-        held: _held,
-    } = begun;
+    let Ok(mut begun) = boxed(rt.alloc(), begun) else {
+        return CommonEnding::OutOfMemory.status();
+    };
+    // So they can be lent beside the outlets.
+    let words = replace(&mut begun.words, Err(CommonEnding::Usage));
     let Ok(runtime) = rt.clone() else {
         return CommonEnding::OutOfMemory.status();
     };
     let mut recording = Recording {
         rt: runtime,
-        outlets,
+        begun,
         files: None,
     };
     run_with::<R, P>(rt, &words, &mut recording)
