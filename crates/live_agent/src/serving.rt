@@ -155,15 +155,14 @@ fn serve_over<'w, R: Net + Clock, F: Write + Drop>(
     outlets: &mut Outlets<F>,
 ) -> CommonEnding<'w> {
     let time = wire.now.time / MICROSECONDS;
-    match Switchboard::of(alloc, config, is_routed, time) {
-        Ok(mut board) => {
-            tell_addresses(alloc, &wire.around, outlets);
-            let served = serve_to_end(rt, alloc, &mut board, wire, outlets);
-            board.close();
-            served
-        }
-        Err(_) => CommonEnding::OutOfMemory,
-    }
+    let mut board = match Switchboard::of(alloc, config, is_routed, time) {
+        Ok(board) => board,
+        Err(_) => return CommonEnding::OutOfMemory,
+    };
+    tell_addresses(alloc, &wire.around, outlets);
+    let served = serve_to_end(rt, alloc, &mut board, wire, outlets);
+    board.close();
+    served
 }
 
 // Makes the file of a capture, if one is asked for, once the sockets are had, and serves.
@@ -181,10 +180,10 @@ fn serve_captured<'w, R: Files + Net + Clock>(
         Ok(opened) => opened,
         Err(fault) => return CommonEnding::unwritable(file, fault),
     };
-    match wire.journal.name_capture(file) {
-        Ok(()) => serve_over(rt, alloc, config, is_routed, wire, outlets),
-        Err(_) => CommonEnding::OutOfMemory,
+    if wire.journal.name_capture(file).is_err() {
+        return CommonEnding::OutOfMemory;
     }
+    serve_over(rt, alloc, config, is_routed, wire, outlets)
 }
 
 /// Serves the gateways of a configuration until the end, and routes calls between their lines where that is asked for. What happens
@@ -199,10 +198,9 @@ pub fn serve_agent<'w, R: Files + Net + Clock>(
     capture: Option<&'w str>,
     outlets: &mut Outlets<R::File>,
 ) -> CommonEnding<'w> {
-    match open_wire(rt, alloc, settings) {
-        Ok(mut wire) => {
-            serve_captured(rt, alloc, config, is_routed, &mut wire, capture, outlets)
-        }
-        Err(ending) => ending,
-    }
+    let mut wire = match open_wire(rt, alloc, settings) {
+        Ok(wire) => wire,
+        Err(ending) => return ending,
+    };
+    serve_captured(rt, alloc, config, is_routed, &mut wire, capture, outlets)
 }
