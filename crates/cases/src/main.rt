@@ -27,7 +27,6 @@ use crate::scripts::Scripts;
 use crate::streams::StreamScenario;
 use rows::Rows;
 use scenario_files::{Kinds, Report, play, told, told_titled};
-use std::io;
 use std::net::Net;
 use std::process::ExitCode;
 use worlds::Ends;
@@ -50,6 +49,6 @@ impl Kinds for All {
     }
 }
 
-fn main(rt: HostRuntime) -> io::Result<ExitCode> {
+fn main(rt: HostRuntime) -> ExitCode {
     play::<All, HostRuntime>(&rt)
 }

@@ -38,50 +38,75 @@ fn told<K: Kinds, R: AllocGlobal + Net>(rt: &R, text: &str, report: &mut Report)
     }
 }
 
-// Tells the file of this name. Prints what is said of it, and how many cases it has.
+// The text of the file of this name; nothing where it can't be read. What is read and printed is asked for by a function a call, since
+// a check pays for all that an error of std's holds inline at each step of a function that has one.
+fn text_of<R: AllocGlobal + Files>(rt: &R, name: &str) -> Option<String> {
+    again!(fs::read_to_string(rt, name)).ok()
+}
+
+// Prints what is said of a file: whether it is printed.
+fn is_printed<R: Print>(rt: &R, said: &[u8]) -> bool {
+    io::writer(rt).write_all(said).is_ok()
+}
+
+// Prints how many cases a file has.
+fn is_counted<R: Print>(rt: &R, name: &str, cases: u32) -> bool {
+    println!(rt; "{name}: {cases}").is_ok()
+}
+
+// Prints how many cases the files have, and whether they are as they are told.
+fn is_summed<R: Print>(rt: &R, cases: u32, wrong: u32) -> bool {
+    let printed = if wrong > 0 {
+        println!(rt; "{wrong} of {cases} cases aren't told as they happen")
+    } else {
+        println!(rt; "{cases} cases, all as told")
+    };
+    printed.is_ok()
+}
+
+// Tells the file of this name. Prints what is said of it, and how many cases it has: whether that is printed.
 fn told_file<K: Kinds, R: AllocGlobal + Files + Net + Print>(
     rt: &R,
     name: &str,
     report: &mut Report,
-) -> io::Result<()> {
-    let text = again!(fs::read_to_string(rt, name))?;
+) -> bool {
     let before = report.cases;
-    told::<K, R>(rt, text.as_str(), report);
-    io::writer(rt).write_all(&report.said)?;
+    match text_of(rt, name) {
+        Some(text) => told::<K, R>(rt, text.as_str(), report),
+        None => report.wrong(name, " can't be read\n"),
+    }
+    if report.is_refused {
+        report.is_refused = false;
+        report.wrong(name, ": memory was refused\n");
+    }
+    let is_said = is_printed(rt, &report.said);
     report.said.clear();
-    println!(rt; "{name}: {}", report.cases.wrapping_sub(before))
+    is_said && is_counted(rt, name, report.cases.wrapping_sub(before))
 }
 
-// Tells the files.
+// Tells the files: whether all that is said of them is printed.
 fn told_all<K: Kinds, R: AllocGlobal + Env + Files + Net + Print>(
     rt: &R,
     report: &mut Report,
-) -> io::Result<()> {
-    for name in again!(env::args(rt))?.skip(1) {
-        told_file::<K, R>(rt, name.as_str(), report)?;
+) -> bool {
+    let Ok(words) = again!(env::args(rt)) else {
+        return false;
+    };
+    for name in words.skip(1) {
+        if !told_file::<K, R>(rt, name.as_str(), report) {
+            return false;
+        }
     }
-    Ok(())
-}
-
-// Prints how many cases the files have, and whether they are as they are told.
-fn print_sum<R: Print>(rt: &R, cases: u32, wrong: u32) -> io::Result<()> {
-    if wrong > 0 {
-        return println!(rt; "{wrong} of {cases} cases aren't told as they happen");
-    }
-    println!(rt; "{cases} cases, all as told")
+    true
 }
 
 /// Tells the files that the program's words name, and says at the end how many cases they have.
-pub fn play<K: Kinds, R: AllocGlobal + Env + Files + Net + Print>(rt: &R) -> io::Result<ExitCode> {
+pub fn play<K: Kinds, R: AllocGlobal + Env + Files + Net + Print>(rt: &R) -> ExitCode {
     let mut report = Report::nothing(rt.alloc());
-    told_all::<K, R>(rt, &mut report)?;
-    if report.is_refused {
-        return Err(io::Error::from(io::ErrorKind::OutOfMemory));
-    }
-    print_sum(rt, report.cases, report.wrong)?;
-    Ok(if report.wrong > 0 {
-        ExitCode::FAILURE
-    } else {
+    let is_told = told_all::<K, R>(rt, &mut report);
+    if is_told && is_summed(rt, report.cases, report.wrong) && report.wrong == 0 {
         ExitCode::SUCCESS
-    })
+    } else {
+        ExitCode::FAILURE
+    }
 }

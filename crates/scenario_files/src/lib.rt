@@ -5,7 +5,7 @@
 //! request for memory in turn (`./refusals`). So a kind of row changes its state last. `docs/SCENARIOS.md` says how
 //! scenarios are written.
 //!
-//! Want of memory, which is told by no answer, is the one error that there is, but where something is printed or a file is read.
+//! Want of memory, which is told by no answer, is the one error that there is.
 #![tactic(auto)]
 
 mod again;

@@ -4,7 +4,7 @@ use std::alloc::Global;
 
 /// How many cases there are, how many of them aren't as they are told, and what is to be printed of those.
 ///
-/// Nothing that tells cases prints, nor can it fail: that memory was refused is kept, and ends the program behind the last file.
+/// Nothing that tells cases prints, nor can it fail: that memory was refused is kept, and makes its file wrong.
 #[derive(Drop)]
 pub struct Report {
     pub cases: u32,
