@@ -58,13 +58,8 @@ pub fn given_in(row: &mut Row<'_>, word: &str) -> Option<Given> {
     })
 }
 
-/// A new world with so many lines, whose gateway reports to this entity; all else as it usually is.
-pub fn world_of(alloc: Global, lines: u32, entity: &[u8]) -> Result<Box<World>, ConfigFault> {
-    let config = config_with(alloc, lines, entity)?;
-    in_box(alloc, World::new(alloc, config))
-}
-
-/// The same, whose gateway's ids begin with this number.
+/// A new world with so many lines, whose gateway reports to this entity and whose ids begin with this number, 0 as they usually do; all
+/// else as it usually is.
 pub fn world_from(
     alloc: Global,
     lines: u32,

@@ -13,7 +13,7 @@
 //! - `hook 1 off` the telephone of a line; `now 1000` the moment that it is.
 use crate::forms::{put_answer, put_refusal, put_taken, text_of};
 use crate::gateways::{ENTITY, LINES, put_hook};
-use crate::given::{Given, given_in, world_from, world_of};
+use crate::given::{Given, given_in, world_from};
 use agent_core::{Step, StepRefusal, World, WorldStopped, world_run};
 use gateway_core::ConfigFault;
 use mg_bytes::{OutOfMemory, Text};
@@ -75,7 +75,7 @@ impl WorldScenario {
         let Ok(lines) = lines else {
             return row.given.unread();
         };
-        match world_of(row.given.alloc, lines, entity.as_bytes()) {
+        match world_from(row.given.alloc, lines, entity.as_bytes(), 0) {
             Ok(world) => self.begin_with(row.given.alloc, world, lines, entity),
             Err(ConfigFault::OutOfMemory) => row.given.refuse(),
             Err(fault) => put_refusal(&mut row.given, fault.number(), fault.name()),
@@ -169,7 +169,7 @@ impl WorldScenario {
 impl Scenario for WorldScenario {
     fn begin(alloc: Global) -> Result<WorldScenario, OutOfMemory> {
         let entity = Text::of(bytes_of(alloc, ENTITY)?);
-        let Ok(world) = world_of(alloc, LINES, entity.as_bytes()) else {
+        let Ok(world) = world_from(alloc, LINES, entity.as_bytes(), 0) else {
             return Err(AllocError);
         };
         Ok(WorldScenario {
