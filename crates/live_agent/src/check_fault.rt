@@ -1,23 +1,18 @@
 //! Why a gateway can't be checked.
 use mg_bytes::OutOfMemory;
-use std::net::SocketAddrV4;
 
-/// Why a gateway can't be checked. A reason is what `live_ends::reason_of` makes of the system's error.
+/// Why a gateway can't be checked, by the settings: those have the addresses. A reason is what `live_ends::reason_of` makes of the
+/// system's error.
 #[derive(Clone, Copy)]
 pub enum CheckFault {
-    /// No socket can be had there.
+    /// No socket can be had at the address of its own.
     Unbound {
-        address: SocketAddrV4,
         reason: &'static str,
     },
     /// Nothing can be sent to the gateway, or it doesn't answer.
-    NoAnswer {
-        address: SocketAddrV4,
-    },
+    NoAnswer,
     /// It refuses with 405: no call agent has answered its announcement yet.
-    NotServing {
-        address: SocketAddrV4,
-    },
+    NotServing,
     /// It knows no such line, or no such other one.
     NoSuchLine {
         is_other: bool,

@@ -285,7 +285,6 @@ fn find<R: Net + Clock>(
     checking: &mut Checking<'_>,
     ends: &mut Ends<'_, R>,
 ) -> Result<(), CheckFault> {
-    let address = checking.settings.gateway;
     let line = checking.settings.line;
     let mut silent: u32 = 0;
     for _ in 0..MOST_TRIES {
@@ -297,10 +296,10 @@ fn find<R: Net + Clock>(
             Err(fault) => return Err(fault),
         }
         if silent == MOST_SILENT {
-            return Err(CheckFault::NoAnswer { address });
+            return Err(CheckFault::NoAnswer);
         }
     }
-    Err(CheckFault::NotServing { address })
+    Err(CheckFault::NotServing)
 }
 
 // Whether this holds of a line, as far as the gateway tells.
@@ -355,7 +354,7 @@ fn await_serving<R: Net + Clock>(
 ) -> Result<(), CheckFault> {
     match find(checking, ends) {
         Ok(()) => Ok(()),
-        Err(CheckFault::NoAnswer { .. } | CheckFault::NotServing { .. }) => Ok(()),
+        Err(CheckFault::NoAnswer | CheckFault::NotServing) => Ok(()),
         Err(fault) => Err(fault),
     }
 }

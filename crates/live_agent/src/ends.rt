@@ -88,11 +88,11 @@ fn is_done(answer: &[u8]) -> bool {
     answer.strip_suffix(b"\n").unwrap_or(answer) == b"done".as_slice()
 }
 
-// Why there is no socket at this address.
-fn unbound(address: SocketAddrV4, kind: io::ErrorKind) -> CheckFault {
+// Why there is no socket.
+fn unbound(kind: io::ErrorKind) -> CheckFault {
     match SystemFault::of(kind) {
         SystemFault::OutOfMemory => CheckFault::OutOfMemory,
-        SystemFault::Refused { reason } => CheckFault::Unbound { address, reason },
+        SystemFault::Refused { reason } => CheckFault::Unbound { reason },
     }
 }
 
@@ -107,7 +107,7 @@ impl<'a, R: Net + Clock> Ends<'a, R> {
     ) -> Result<Ends<'a, R>, CheckFault> {
         let sockets = match opened(rt, alloc, own) {
             Ok(sockets) => sockets,
-            Err(e) => return Err(unbound(own, e.kind())),
+            Err(e) => return Err(unbound(e.kind())),
         };
         let Ok(start) = Instant::now(rt) else {
             return Err(CheckFault::System);
@@ -153,9 +153,7 @@ impl<'a, R: Net + Clock> Ends<'a, R> {
         {
             Ok(_) => Ok(()),
             Err(e) if e.kind() == io::ErrorKind::WouldBlock => Ok(()),
-            Err(_) => Err(CheckFault::NoAnswer {
-                address: self.gateway,
-            }),
+            Err(_) => Err(CheckFault::NoAnswer),
         }
     }
 

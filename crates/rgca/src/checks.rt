@@ -1,6 +1,6 @@
 //! Checks a gateway as words ask, or tells which checks there are.
 use crate::check_words::{CheckWords, read_check_words};
-use crate::ending::{Ending, check_words_ending};
+use crate::ending::{Ending, check_words_ending, unchecked_ending};
 use crate::help::of_all;
 use live_agent::{check_gateway, check_list, fault_text};
 use live_ends::{CommonEnding, Outlet, Outlets, SystemFault};
@@ -60,7 +60,10 @@ fn check_by<'w, R: AllocGlobal + Files + Net + Clock, F: Write + Drop>(
     let is_json = settings.is_json;
     let checked = match check_gateway(rt, settings, out) {
         Ok(checked) => checked,
-        Err(fault) => return failed(rt.alloc(), out, Ending::from(fault), is_json),
+        Err(fault) => {
+            let ending = unchecked_ending(fault, settings.gateway, settings.own);
+            return failed(rt.alloc(), out, ending, is_json);
+        }
     };
     let status = checked.status;
     match junit {

@@ -205,26 +205,29 @@ fn line_word(is_other: bool) -> &'static str {
     if is_other { "--more-lines" } else { "--line" }
 }
 
-impl<'a> From<CheckFault> for Ending<'a> {
-    fn from(fault: CheckFault) -> Ending<'a> {
-        match fault {
-            CheckFault::Unbound { address, reason } => Ending::Common(CommonEnding::Unbound {
-                word: "--own",
-                address,
-                reason,
-            }),
-            CheckFault::NoSuchLine { is_other } => Ending::NoSuchLine {
-                word: line_word(is_other),
-            },
-            CheckFault::InUse { is_other } => Ending::InUse {
-                word: line_word(is_other),
-            },
-            CheckFault::NoAnswer { address } => Ending::NoAnswer { address },
-            CheckFault::NotServing { address } => Ending::NotServing { address },
-            CheckFault::System => Ending::System,
-            CheckFault::Write => Ending::Common(CommonEnding::Write),
-            CheckFault::OutOfMemory => Ending::Common(CommonEnding::OutOfMemory),
-        }
+/// How the program ends where the gateway at this address can't be checked from that one.
+pub(crate) fn unchecked_ending<'a>(
+    fault: CheckFault,
+    gateway: SocketAddrV4,
+    own: SocketAddrV4,
+) -> Ending<'a> {
+    match fault {
+        CheckFault::Unbound { reason } => Ending::Common(CommonEnding::Unbound {
+            word: "--own",
+            address: own,
+            reason,
+        }),
+        CheckFault::NoSuchLine { is_other } => Ending::NoSuchLine {
+            word: line_word(is_other),
+        },
+        CheckFault::InUse { is_other } => Ending::InUse {
+            word: line_word(is_other),
+        },
+        CheckFault::NoAnswer => Ending::NoAnswer { address: gateway },
+        CheckFault::NotServing => Ending::NotServing { address: gateway },
+        CheckFault::System => Ending::System,
+        CheckFault::Write => Ending::Common(CommonEnding::Write),
+        CheckFault::OutOfMemory => Ending::Common(CommonEnding::OutOfMemory),
     }
 }
 
