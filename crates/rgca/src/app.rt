@@ -10,6 +10,7 @@ use live_ends::{Begun, CommonEnding, Outlets, SocketWanted, begin, end, read_fil
 use rgw_scripts::LIMIT;
 use std::alloc::Global;
 use std::io::Write;
+use std::mem::replace;
 use std::net::Net;
 use std::os::fd::AsRawFd;
 use std::rt::{Clock, Env, Files};
@@ -120,18 +121,15 @@ fn ending_by<'w, R: AllocGlobal + Files + Net + Clock>(
     }
 }
 
-// Runs the program with these words, or without them, and gives its exit status.
-fn run_with<R: AllocGlobal + Files + Net + Clock>(
-    rt: &R,
-    words: &Result<Vec<String>, CommonEnding<'static>>,
-    outlets: &mut Outlets<R::File>,
-) -> u8 {
-    let words = match words {
+// Runs the program that has begun so, and gives its exit status.
+fn run_with<R: AllocGlobal + Files + Net + Clock>(rt: &R, begun: &mut Begun<R::File>) -> u8 {
+    // The words are taken out, to be lent beside the outlets.
+    let words = match replace(&mut begun.words, Err(CommonEnding::Usage)) {
         Ok(words) => words,
-        Err(ending) => return tell(rt, outlets, &Ending::Common(*ending)),
+        Err(ending) => return tell(rt, &mut begun.outlets, &Ending::Common(ending)),
     };
-    let ending = ending_by(rt, words.as_slice(), outlets);
-    tell(rt, outlets, &ending)
+    let ending = ending_by(rt, words.as_slice(), &mut begun.outlets);
+    tell(rt, &mut begun.outlets, &ending)
 }
 
 /// Runs the program, and gives its exit status.
@@ -139,13 +137,8 @@ pub fn run<R: AllocGlobal + Env + Files + Net + Clock>(rt: &R) -> u8
 where
     R::File: AsRawFd,
 {
-    let Some(begun) = begin(rt) else {
-        return CommonEnding::OutOfMemory.status();
-    };
-    let Begun {
-        held: _held,
-        words,
-        mut outlets,
-    } = begun;
-    run_with(rt, &words, &mut outlets)
+    match begin(rt) {
+        Some(mut begun) => run_with(rt, &mut begun),
+        None => CommonEnding::OutOfMemory.status(),
+    }
 }
