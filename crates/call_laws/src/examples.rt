@@ -17,70 +17,158 @@ ghost use Rattle.call_laws.specs.Example.{opened, all_sent, driven, coded, accep
 
 use call_routing::{Asked, Command, Leg, Phase, Side, Told, Tone};
 
-/// At the opening each line rests, and is asked for off hook. Once it is, nothing more is to be sent.
-pub fn lines_are_asked_for_off_hook_first()
-    ensures first { commands_in opened all_sent ≡ (0, Command.Ask Asked.Rest) ∷ (1, Command.Ask Asked.Rest)
+/// Each sentence at an example.
+pub fn each_sentence_has_an_example()
+    // At the opening each line rests, and is asked for off hook. Once it is, nothing more is to be sent.
+    ensures lines_are_asked_for_off_hook_first_first { commands_in opened all_sent
+        ≡ (0, Command.Ask Asked.Rest) ∷ (1, Command.Ask Asked.Rest)
         ∷ (2, Command.Ask Asked.Rest) ∷ [] }
     ensures then_none { commands_in ready all_sent ≡ [] }
-    ensures phase { phase_of ready 2 ≡ Some Phase.Resting }
+    ensures lines_are_asked_for_off_hook_first_phase { phase_of ready 2 ≡ Some Phase.Resting }
     ensures no_more { phase_of ready 3 ≡ None }
-    ensures no_line { due ready 3 ≡ None }
-    ensures given_up { commands_in opened (all_sent ++ given_up 1 ∷ all_sent) ≡ (0, Command.Ask Asked.Rest)
+    ensures lines_are_asked_for_off_hook_first_no_line { due ready 3 ≡ None }
+    ensures lines_are_asked_for_off_hook_first_given_up { commands_in opened (all_sent ++ given_up 1 ∷ all_sent)
+        ≡ (0, Command.Ask Asked.Rest)
         ∷ (1, Command.Ask Asked.Rest) ∷ (2, Command.Ask Asked.Rest) ∷ (1, Command.Ask Asked.Rest) ∷ [] }
-    ensures refused { commands_in opened (all_sent ++ coded 1 401 ∷ all_sent) ≡ (0, Command.Ask Asked.Rest)
+    ensures lines_are_asked_for_off_hook_first_refused { commands_in opened (all_sent ++ coded 1 401 ∷ all_sent)
+        ≡ (0, Command.Ask Asked.Rest)
         ∷ (1, Command.Ask Asked.Rest) ∷ (2, Command.Ask Asked.Rest) ∷ [] }
-{}
-
-/// A whole call: off hook asks for digits; the number of a line that rests rings it, and its caller hears that.
-pub fn a_call_rings()
-    ensures off_hook { sent_at [] (tells 0 Told.OffHook) ≡ (0, Command.Ask Asked.Digits) ∷ [] }
-    ensures waits { sent_at (tells 0 Told.OffHook ∷ []) (tells 0 (Told.Dialled (Some 1)))
+    // A whole call: off hook asks for digits; the number of a line that rests rings it, and its caller hears that.
+    ensures a_call_rings_off_hook { sent_at [] (tells 0 Told.OffHook) ≡ (0, Command.Ask Asked.Digits) ∷ [] }
+    ensures a_call_rings_waits { sent_at (tells 0 Told.OffHook ∷ []) (tells 0 (Told.Dialled (Some 1)))
         ≡ (1, Command.Ask Asked.Ring) ∷ [] }
-    ensures dialled { sent_at (tells 0 Told.OffHook ∷ accepted 0 ∷ []) (tells 0 (Told.Dialled (Some 1)))
+    ensures a_call_rings_dialled { sent_at (tells 0 Told.OffHook ∷ accepted 0 ∷ []) (tells 0 (Told.Dialled (Some 1)))
         ≡ (0, Command.Ask Asked.Ringback) ∷ (1, Command.Ask Asked.Ring) ∷ [] }
-    ensures caller { phase_then 0 ring ≡ Some (Phase.InCall (caller_of 1 1)) }
-    ensures called { phase_then 1 ring ≡ Some (Phase.InCall (other_end 0 (caller_of 1 1))) }
+    ensures a_call_rings_caller { phase_then 0 ring ≡ Some (Phase.InCall (caller_of 1 1)) }
+    ensures a_call_rings_called { phase_then 1 ring ≡ Some (Phase.InCall (other_end 0 (caller_of 1 1))) }
     ensures side { other_end 0 (caller_of 7 1)
         ≡ record { call = 7; other = 0; side = Side.Called; answered = false } }
     ensures third { phase_then 2 ring ≡ Some Phase.Resting }
-{}
-
-/// The called line answers: the caller's connection comes first, then the called line's with the caller's description, then the
-/// caller's is given that of the called line. Requests follow where a line isn't waited for.
-pub fn an_answer_connects_both()
-    ensures off_hook { sent_at ring (tells 1 Told.OffHook)
+    // The called line answers: the caller's connection comes first, then the called line's with the caller's description, then the
+    // caller's is given that of the called line. Requests follow where a line isn't waited for.
+    ensures an_answer_connects_both_off_hook { sent_at ring (tells 1 Told.OffHook)
         ≡ (0, Command.Create 1 false) ∷ (1, Command.Ask Asked.Talk) ∷ [] }
-    ensures first { sent_at pick_up created_first
+    ensures an_answer_connects_both_first { sent_at pick_up created_first
         ≡ (0, Command.Ask Asked.Talk) ∷ (1, Command.Create 1 true) ∷ [] }
     ensures second { sent_at (pick_up ++ created_first ∷ accepted 0 ∷ []) created_second
         ≡ (0, Command.Modify 1) ∷ [] }
     ensures done { sent_at (pick_up ++ created_first ∷ accepted 0 ∷ created_second ∷ []) (accepted 0) ≡ [] }
-    ensures waits { sent_at (ring ++ tells 1 Told.OffHook ∷ []) created_first ≡ (0, Command.Ask Asked.Talk) ∷ [] }
+    ensures an_answer_connects_both_waits { sent_at (ring ++ tells 1 Told.OffHook ∷ []) created_first ≡ (0, Command.Ask Asked.Talk) ∷ [] }
     ensures talks { phase_then 1 connect ≡ Some (Phase.InCall (record { call = 1; other = 0; side = Side.Called; answered = true })) }
-    ensures flash { sent_at connect (tells 0 Told.Flash) ≡ (0, Command.Ask Asked.Talk) ∷ [] }
-{}
-
-/// One end hangs up: both connections are deleted; the other end hears the busy tone until it hangs up, too.
-pub fn on_hook_ends_a_call()
-    ensures first { sent_at connect (tells 0 Told.OnHook) ≡ (0, Command.Delete 1) ∷ (1, Command.Delete 1) ∷ [] }
+    ensures an_answer_connects_both_flash { sent_at connect (tells 0 Told.Flash) ≡ (0, Command.Ask Asked.Talk) ∷ [] }
+    // One end hangs up: both connections are deleted; the other end hears the busy tone until it hangs up, too.
+    ensures on_hook_ends_a_call_first { sent_at connect (tells 0 Told.OnHook) ≡ (0, Command.Delete 1) ∷ (1, Command.Delete 1) ∷ [] }
     ensures rests { sent_at (connect ++ tells 0 Told.OnHook ∷ []) (coded 0 250) ≡ (0, Command.Ask Asked.Rest) ∷ [] }
     ensures hears { sent_at (connect ++ tells 0 Told.OnHook ∷ []) (coded 1 250) ≡ (1, Command.Ask Asked.BusyTone) ∷ [] }
-    ensures phase { phase_then 1 (connect ++ tells 0 Told.OnHook ∷ []) ≡ Some (Phase.Hearing Tone.Busy) }
-    ensures called { phase_then 0 (connect ++ tells 1 Told.OnHook ∷ []) ≡ Some (Phase.Hearing Tone.Busy) }
+    ensures on_hook_ends_a_call_phase { phase_then 1 (connect ++ tells 0 Told.OnHook ∷ []) ≡ Some (Phase.Hearing Tone.Busy) }
+    ensures on_hook_ends_a_call_called { phase_then 0 (connect ++ tells 1 Told.OnHook ∷ []) ≡ Some (Phase.Hearing Tone.Busy) }
     ensures both { phase_then 1 hang_up ≡ Some Phase.Resting }
     ensures none { sent_at hang_up (tells 2 Told.Flash) ≡ (2, Command.Ask Asked.Rest) ∷ [] }
-    ensures refused { sent_at (connect ++ tells 0 Told.OnHook ∷ []) (coded 0 516) ≡ (0, Command.Ask Asked.Rest) ∷ [] }
+    ensures on_hook_ends_a_call_refused { sent_at (connect ++ tells 0 Told.OnHook ∷ []) (coded 0 516) ≡ (0, Command.Ask Asked.Rest) ∷ [] }
     ensures lost { sent_at (connect ++ tells 0 Told.OnHook ∷ []) (given_up 0) ≡ (0, Command.Delete 1) ∷ [] }
-{}
-
-/// Both ends hang up at once: both rest.
-pub fn both_ends_hang_up_at_once()
-    ensures caller { phase_then 0 (connect ++ tells 0 Told.OnHook ∷ tells 1 Told.OnHook ∷ []) ≡ Some Phase.Resting }
-    ensures called { phase_then 1 (connect ++ tells 0 Told.OnHook ∷ tells 1 Told.OnHook ∷ []) ≡ Some Phase.Resting }
-    ensures commands { commands_in (then_is connect) (tells 1 Told.OnHook ∷ tells 0 Told.OnHook ∷ all_sent)
+    // Both ends hang up at once: both rest.
+    ensures both_ends_hang_up_at_once_caller { phase_then 0 (connect ++ tells 0 Told.OnHook ∷ tells 1 Told.OnHook ∷ [])
+        ≡ Some Phase.Resting }
+    ensures both_ends_hang_up_at_once_called { phase_then 1 (connect ++ tells 0 Told.OnHook ∷ tells 1 Told.OnHook ∷ [])
+        ≡ Some Phase.Resting }
+    ensures both_ends_hang_up_at_once_commands { commands_in (then_is connect) (tells 1 Told.OnHook ∷ tells 0 Told.OnHook ∷ all_sent)
         ≡ (0, Command.Delete 1) ∷ (1, Command.Delete 1) ∷ [] }
-    ensures rest { sent_at (connect ++ tells 0 Told.OnHook ∷ tells 1 Told.OnHook ∷ coded 0 250 ∷ []) (coded 1 250)
+    ensures both_ends_hang_up_at_once_rest { sent_at (connect ++ tells 0 Told.OnHook ∷ tells 1 Told.OnHook ∷ coded 0 250 ∷ []) (coded 1 250)
         ≡ (1, Command.Ask Asked.Rest) ∷ [] }
+    // A caller that hangs up while the other line rings: both rest, and the ringing is stopped. A line that rings and answers then
+    // begins to dial.
+    ensures a_call_is_abandoned_while_it_rings_commands { sent_at ring (tells 0 Told.OnHook)
+        ≡ (0, Command.Ask Asked.Rest) ∷ (1, Command.Ask Asked.Rest) ∷ [] }
+    ensures a_call_is_abandoned_while_it_rings_phase { phase_then 1 (ring ++ tells 0 Told.OnHook ∷ []) ≡ Some Phase.Resting }
+    ensures late { phase_then 1 (ring ++ tells 0 Told.OnHook ∷ tells 1 Told.OffHook ∷ []) ≡ Some Phase.Dialling }
+    ensures a_call_is_abandoned_while_it_rings_called { phase_then 0 (ring ++ tells 1 Told.OnHook ∷ []) ≡ Some (Phase.Hearing Tone.Busy) }
+    // On hook is lost, and off hook comes: the call is over for the other end, and the line begins to dial.
+    ensures dials { phase_then 0 (connect ++ tells 0 Told.OffHook ∷ []) ≡ Some Phase.Dialling }
+    ensures off_hook_means_that_it_was_on_hook_other { phase_then 1 (connect ++ tells 0 Told.OffHook ∷ [])
+        ≡ Some (Phase.Hearing Tone.Busy) }
+    ensures off_hook_means_that_it_was_on_hook_caller { phase_then 1 (ring ++ tells 0 Told.OffHook ∷ []) ≡ Some Phase.Resting }
+    ensures tone { phase_then 0 (tells 0 Told.OffHook ∷ tells 0 (Told.Dialled None) ∷ tells 0 Told.OffHook ∷ [])
+        ≡ Some Phase.Dialling }
+    // What a line tells uses its request up, also one that is in flight then: the line is asked anew once that is answered.
+    ensures anew { sent_at [] (tells 0 Told.Flash) ≡ (0, Command.Ask Asked.Rest) ∷ [] }
+    ensures crossing { sent_at (tells 0 Told.Flash ∷ []) (tells 0 Told.Flash) ≡ [] }
+    ensures a_request_is_used_up_answered { sent_at (tells 0 Told.Flash ∷ tells 0 Told.Flash ∷ []) (accepted 0)
+        ≡ (0, Command.Ask Asked.Rest) ∷ [] }
+    ensures once { sent_at (tells 0 Told.Flash ∷ []) (accepted 0) ≡ [] }
+    ensures nothing_in_flight { sent_at [] (accepted 0) ≡ [] }
+    // Return codes from 200 to 299 say that a command was executed.
+    ensures below { is_success 199 ≡ false }
+    ensures return_codes_of_200_to_299_are_success_first { is_success 200 ≡ true }
+    ensures deleted { is_success 250 ≡ true }
+    ensures last { is_success 299 ≡ true }
+    ensures above { is_success 300 ≡ false }
+    // Commands as they are written.
+    ensures verbs { verb_of (Command.Ask Asked.Rest) ++ verb_of (Command.Create 1 false) ++ verb_of (Command.Modify 1)
+        ++ verb_of (Command.Delete 1) ≡ codes "RQNTCRCXMDCXDLCX" }
+    ensures commands_are_written_rest { request_lines Asked.Rest (codes "xxx") ≡ codes "X: 1\r\nR: L/hd(N)\r\n" }
+    ensures digits { request_lines Asked.Digits (codes "xxx")
+        ≡ codes "X: 2\r\nR: L/hu(N),L/oc(N),D/[0-9ABCD*#T](D)\r\nS: L/dl\r\nD: xxx\r\n" }
+    ensures rings { request_lines Asked.Ring [] ≡ codes "X: 3\r\nR: L/hd(N),L/oc(N)\r\nS: L/rg\r\n" }
+    ensures ringback { request_lines Asked.Ringback [] ≡ codes "X: 4\r\nR: L/hu(N),G/oc(N)\r\nS: G/rt\r\n" }
+    ensures busy { request_lines Asked.BusyTone [] ≡ codes "X: 5\r\nR: L/hu(N)\r\nS: L/bz\r\n" }
+    ensures reorder { request_lines Asked.ReorderTone [] ≡ codes "X: 6\r\nR: L/hu(N)\r\nS: L/ro\r\n" }
+    ensures talk { request_lines Asked.Talk [] ≡ codes "X: 7\r\nR: L/hu(N)\r\n" }
+    ensures create { creation_lines 12 false (codes "v=0\r\n") ≡ codes "C: 12\r\nM: recvonly\r\n" }
+    ensures towards { creation_lines 12 true (codes "v=0\r\n") ≡ codes "C: 12\r\nM: sendrecv\r\n\r\nv=0\r\n" }
+    ensures modify { change_lines 12 (Leg.Standing 12 (codes "A") (codes "v=1\r\n")) (codes "v=0\r\n")
+        ≡ codes "C: 12\r\nI: A\r\nM: sendrecv\r\n\r\nv=0\r\n" }
+    ensures delete { deletion_lines 12 (Leg.Standing 12 (codes "A") (codes "v=1\r\n")) ≡ codes "C: 12\r\nI: A\r\n" }
+    ensures delete_all { deletion_lines 12 (Leg.Unknown 12) ≡ codes "C: 12\r\n" }
+    // Each end is given the description of the other end, with the number of their call.
+    ensures each_end_is_given_the_others_description_called { parameters_of (then_is (pick_up ++ created_first ∷ [])) 1 []
+        ≡ codes "C: 1\r\nM: sendrecv\r\n\r\nv=first\r\n" }
+    ensures each_end_is_given_the_others_description_caller { parameters_of
+        (then_is (pick_up ++ created_first ∷ accepted 0 ∷ created_second ∷ [])) 0 []
+        ≡ codes "C: 1\r\nI: A\r\nM: sendrecv\r\n\r\nv=second\r\n" }
+    ensures each_end_is_given_the_others_description_first { parameters_of (then_is pick_up) 0 [] ≡ codes "C: 1\r\nM: recvonly\r\n" }
+    ensures asked { parameters_of (then_is (tells 0 Told.OffHook ∷ [])) 0 (codes "xx.T")
+        ≡ codes "X: 2\r\nR: L/hu(N),L/oc(N),D/[0-9ABCD*#T](D)\r\nS: L/dl\r\nD: xx.T\r\n" }
+    ensures idle { parameters_of ready 0 (codes "xx.T") ≡ [] }
+    // What the events of a notification tell.
+    ensures a_notification_tells_what_came_last_off_hook { told_in [] (observed.Happened events.OffHook ∷ []) ≡ Some Told.OffHook }
+    ensures on_hook { told_in [] (observed.Happened events.OnHook ∷ []) ≡ Some Told.OnHook }
+    ensures a_notification_tells_what_came_last_flash { told_in [] (observed.Happened events.Flash ∷ []) ≡ Some Told.Flash }
+    ensures a_notification_tells_what_came_last_dialled { told_in (codes "11" ∷ codes "12" ∷ []) (key keys.One ∷ key keys.Two ∷ [])
+        ≡ Some (Told.Dialled (Some 1)) }
+    ensures timer { told_in (codes "11" ∷ codes "12" ∷ []) (key keys.One ∷ key keys.One ∷ key keys.Timer ∷ [])
+        ≡ Some (Told.Dialled (Some 0)) }
+    ensures longer { told_in (codes "11" ∷ codes "12" ∷ []) (key keys.One ∷ []) ≡ Some (Told.Dialled None) }
+    ensures twice { line_called (codes "1") (codes "2" ∷ codes "1" ∷ codes "1" ∷ []) ≡ Some 1 }
+    ensures hung_up { told_in (codes "1" ∷ []) (key keys.One ∷ observed.Happened events.OnHook ∷ []) ≡ Some Told.OnHook }
+    ensures keys_behind { told_in (codes "1" ∷ []) (observed.Happened events.OffHook ∷ key keys.One ∷ []) ≡ Some (Told.Dialled (Some 0)) }
+    ensures ended { told_in [] (observed.Ended DialTone ∷ []) ≡ Some Told.TimedOut }
+    ensures nothing { told_in [] [] ≡ None }
+    // What the laws count: commands sent and answered, and what leaves a line alone.
+    ensures sent { is_sent 1 opened (sends 1) ≡ true }
+    ensures not_sent { is_sent 1 ready (sends 1) ≡ false }
+    ensures of_another { is_sent 0 opened (sends 1) ≡ false }
+    ensures turns_are_counted_answered { is_answered 1 (after opened all_sent) (given_up 1) ≡ true }
+    ensures by_code { is_coded 1 (after opened all_sent) (coded 1 510) ≡ true }
+    ensures turns_are_counted_given_up { is_coded 1 (after opened all_sent) (given_up 1) ≡ false }
+    ensures stray { is_answered 1 ready (accepted 1) ≡ false }
+    ensures stray_code { is_coded 1 ready (accepted 1) ≡ false }
+    ensures anothers { is_coded 0 (after opened all_sent) (accepted 1) ≡ false }
+    ensures count { count_turns (is_sent 0) ready (driven hang_up) ≡ 7 }
+    ensures own { leaves_alone 0 (tells 0 Told.Flash) ≡ false }
+    ensures turns_are_counted_dialled { leaves_alone 0 (tells 1 (Told.Dialled (Some 0))) ≡ false }
+    ensures turns_are_counted_other { leaves_alone 0 (tells 1 (Told.Dialled (Some 1))) ≡ true }
+    ensures wrong { leaves_alone 0 (tells 1 (Told.Dialled None)) ≡ true }
+    ensures turns_are_counted_off_hook { leaves_alone 0 (tells 1 Told.OffHook) ≡ true }
+    ensures restart { leaves_alone 0 (tells 1 Told.Restarted) ≡ true }
+    ensures disconnected { leaves_alone 0 (tells 1 Told.Disconnected) ≡ true }
+    ensures command { leaves_alone 0 (sends 0) ≡ true }
+    // Whom what happens to a line concerns besides.
+    ensures a_call_has_another_end_caller { named_by (phase_then 0 ring) ≡ Some 1 }
+    ensures a_call_has_another_end_called { named_by (phase_then 1 ring) ≡ Some 0 }
+    ensures resting { named_by (phase_then 2 ring) ≡ None }
+    ensures dialling { named_by (phase_then 0 (tells 0 Told.OffHook ∷ [])) ≡ None }
+    ensures hearing { named_by (phase_then 0 (tells 0 Told.OffHook ∷ tells 0 (Told.Dialled None) ∷ [])) ≡ None }
+    ensures a_call_has_another_end_no_line { named_by (phase_then 7 ring) ≡ None }
 {}
 
 /// A line that isn't free is busy, and so is one's own; a number that no line has is wrong. Then digits mean nothing more.
@@ -102,15 +190,6 @@ pub fn busy_and_wrong_numbers_get_their_tones()
     ensures numbers { (put_through (all_resting 2 18446744073709551614) 0 1).last ≡ greatest_call }
     ensures no_number { put_through (all_resting 2 greatest_call) 0 1
         ≡ record { last = greatest_call; phases = Phase.Hearing Tone.Reorder ∷ Phase.Resting ∷ [] } }
-{}
-
-/// A caller that hangs up while the other line rings: both rest, and the ringing is stopped. A line that rings and answers then
-/// begins to dial.
-pub fn a_call_is_abandoned_while_it_rings()
-    ensures commands { sent_at ring (tells 0 Told.OnHook) ≡ (0, Command.Ask Asked.Rest) ∷ (1, Command.Ask Asked.Rest) ∷ [] }
-    ensures phase { phase_then 1 (ring ++ tells 0 Told.OnHook ∷ []) ≡ Some Phase.Resting }
-    ensures late { phase_then 1 (ring ++ tells 0 Told.OnHook ∷ tells 1 Told.OffHook ∷ []) ≡ Some Phase.Dialling }
-    ensures called { phase_then 0 (ring ++ tells 1 Told.OnHook ∷ []) ≡ Some (Phase.Hearing Tone.Busy) }
 {}
 
 /// Nobody answers, or nothing is dialled, for so long that the signal ends: reorder tone for the caller, and the called line
@@ -149,15 +228,6 @@ pub fn a_lost_answer_ends_the_call()
         ∷ given_up 0 ∷ []) ≡ Some (Phase.InCall (caller_of 2 2)) }
 {}
 
-/// On hook is lost, and off hook comes: the call is over for the other end, and the line begins to dial.
-pub fn off_hook_means_that_it_was_on_hook()
-    ensures dials { phase_then 0 (connect ++ tells 0 Told.OffHook ∷ []) ≡ Some Phase.Dialling }
-    ensures other { phase_then 1 (connect ++ tells 0 Told.OffHook ∷ []) ≡ Some (Phase.Hearing Tone.Busy) }
-    ensures caller { phase_then 1 (ring ++ tells 0 Told.OffHook ∷ []) ≡ Some Phase.Resting }
-    ensures tone { phase_then 0 (tells 0 Told.OffHook ∷ tells 0 (Told.Dialled None) ∷ tells 0 Told.OffHook ∷ [])
-        ≡ Some Phase.Dialling }
-{}
-
 /// A request that the hook state rules out tells it: the handset was put back before a tone was asked for, or lifted before the
 /// ringing was.
 pub fn a_refused_request_tells_the_hook_state()
@@ -184,102 +254,4 @@ pub fn a_restart_begins_anew()
     ensures rests { sent_at [] (tells 2 Told.Restarted) ≡ (2, Command.Ask Asked.Rest) ∷ [] }
     ensures disconnected { sent_at connect (tells 0 Told.Disconnected) ≡ (0, Command.Ask Asked.Talk) ∷ [] }
     ensures goes_on { phase_then 0 (connect ++ tells 0 Told.Disconnected ∷ []) ≡ phase_then 0 connect }
-{}
-
-/// What a line tells uses its request up, also one that is in flight then: the line is asked anew once that is answered.
-pub fn a_request_is_used_up()
-    ensures anew { sent_at [] (tells 0 Told.Flash) ≡ (0, Command.Ask Asked.Rest) ∷ [] }
-    ensures crossing { sent_at (tells 0 Told.Flash ∷ []) (tells 0 Told.Flash) ≡ [] }
-    ensures answered { sent_at (tells 0 Told.Flash ∷ tells 0 Told.Flash ∷ []) (accepted 0) ≡ (0, Command.Ask Asked.Rest) ∷ [] }
-    ensures once { sent_at (tells 0 Told.Flash ∷ []) (accepted 0) ≡ [] }
-    ensures nothing_in_flight { sent_at [] (accepted 0) ≡ [] }
-{}
-
-/// Return codes from 200 to 299 say that a command was executed.
-pub fn return_codes_of_200_to_299_are_success()
-    ensures below { is_success 199 ≡ false }
-    ensures first { is_success 200 ≡ true }
-    ensures deleted { is_success 250 ≡ true }
-    ensures last { is_success 299 ≡ true }
-    ensures above { is_success 300 ≡ false }
-{}
-
-/// Commands as they are written.
-pub fn commands_are_written()
-    ensures verbs { verb_of (Command.Ask Asked.Rest) ++ verb_of (Command.Create 1 false) ++ verb_of (Command.Modify 1)
-        ++ verb_of (Command.Delete 1) ≡ codes "RQNTCRCXMDCXDLCX" }
-    ensures rest { request_lines Asked.Rest (codes "xxx") ≡ codes "X: 1\r\nR: L/hd(N)\r\n" }
-    ensures digits { request_lines Asked.Digits (codes "xxx")
-        ≡ codes "X: 2\r\nR: L/hu(N),L/oc(N),D/[0-9ABCD*#T](D)\r\nS: L/dl\r\nD: xxx\r\n" }
-    ensures rings { request_lines Asked.Ring [] ≡ codes "X: 3\r\nR: L/hd(N),L/oc(N)\r\nS: L/rg\r\n" }
-    ensures ringback { request_lines Asked.Ringback [] ≡ codes "X: 4\r\nR: L/hu(N),G/oc(N)\r\nS: G/rt\r\n" }
-    ensures busy { request_lines Asked.BusyTone [] ≡ codes "X: 5\r\nR: L/hu(N)\r\nS: L/bz\r\n" }
-    ensures reorder { request_lines Asked.ReorderTone [] ≡ codes "X: 6\r\nR: L/hu(N)\r\nS: L/ro\r\n" }
-    ensures talk { request_lines Asked.Talk [] ≡ codes "X: 7\r\nR: L/hu(N)\r\n" }
-    ensures create { creation_lines 12 false (codes "v=0\r\n") ≡ codes "C: 12\r\nM: recvonly\r\n" }
-    ensures towards { creation_lines 12 true (codes "v=0\r\n") ≡ codes "C: 12\r\nM: sendrecv\r\n\r\nv=0\r\n" }
-    ensures modify { change_lines 12 (Leg.Standing 12 (codes "A") (codes "v=1\r\n")) (codes "v=0\r\n")
-        ≡ codes "C: 12\r\nI: A\r\nM: sendrecv\r\n\r\nv=0\r\n" }
-    ensures delete { deletion_lines 12 (Leg.Standing 12 (codes "A") (codes "v=1\r\n")) ≡ codes "C: 12\r\nI: A\r\n" }
-    ensures delete_all { deletion_lines 12 (Leg.Unknown 12) ≡ codes "C: 12\r\n" }
-{}
-
-/// Each end is given the description of the other end, with the number of their call.
-pub fn each_end_is_given_the_others_description()
-    ensures called { parameters_of (then_is (pick_up ++ created_first ∷ [])) 1 []
-        ≡ codes "C: 1\r\nM: sendrecv\r\n\r\nv=first\r\n" }
-    ensures caller { parameters_of (then_is (pick_up ++ created_first ∷ accepted 0 ∷ created_second ∷ [])) 0 []
-        ≡ codes "C: 1\r\nI: A\r\nM: sendrecv\r\n\r\nv=second\r\n" }
-    ensures first { parameters_of (then_is pick_up) 0 [] ≡ codes "C: 1\r\nM: recvonly\r\n" }
-    ensures asked { parameters_of (then_is (tells 0 Told.OffHook ∷ [])) 0 (codes "xx.T")
-        ≡ codes "X: 2\r\nR: L/hu(N),L/oc(N),D/[0-9ABCD*#T](D)\r\nS: L/dl\r\nD: xx.T\r\n" }
-    ensures idle { parameters_of ready 0 (codes "xx.T") ≡ [] }
-{}
-
-/// What the events of a notification tell.
-pub fn a_notification_tells_what_came_last()
-    ensures off_hook { told_in [] (observed.Happened events.OffHook ∷ []) ≡ Some Told.OffHook }
-    ensures on_hook { told_in [] (observed.Happened events.OnHook ∷ []) ≡ Some Told.OnHook }
-    ensures flash { told_in [] (observed.Happened events.Flash ∷ []) ≡ Some Told.Flash }
-    ensures dialled { told_in (codes "11" ∷ codes "12" ∷ []) (key keys.One ∷ key keys.Two ∷ []) ≡ Some (Told.Dialled (Some 1)) }
-    ensures timer { told_in (codes "11" ∷ codes "12" ∷ []) (key keys.One ∷ key keys.One ∷ key keys.Timer ∷ [])
-        ≡ Some (Told.Dialled (Some 0)) }
-    ensures longer { told_in (codes "11" ∷ codes "12" ∷ []) (key keys.One ∷ []) ≡ Some (Told.Dialled None) }
-    ensures twice { line_called (codes "1") (codes "2" ∷ codes "1" ∷ codes "1" ∷ []) ≡ Some 1 }
-    ensures hung_up { told_in (codes "1" ∷ []) (key keys.One ∷ observed.Happened events.OnHook ∷ []) ≡ Some Told.OnHook }
-    ensures keys_behind { told_in (codes "1" ∷ []) (observed.Happened events.OffHook ∷ key keys.One ∷ []) ≡ Some (Told.Dialled (Some 0)) }
-    ensures ended { told_in [] (observed.Ended DialTone ∷ []) ≡ Some Told.TimedOut }
-    ensures nothing { told_in [] [] ≡ None }
-{}
-
-/// What the laws count: commands sent and answered, and what leaves a line alone.
-pub fn turns_are_counted()
-    ensures sent { is_sent 1 opened (sends 1) ≡ true }
-    ensures not_sent { is_sent 1 ready (sends 1) ≡ false }
-    ensures of_another { is_sent 0 opened (sends 1) ≡ false }
-    ensures answered { is_answered 1 (after opened all_sent) (given_up 1) ≡ true }
-    ensures by_code { is_coded 1 (after opened all_sent) (coded 1 510) ≡ true }
-    ensures given_up { is_coded 1 (after opened all_sent) (given_up 1) ≡ false }
-    ensures stray { is_answered 1 ready (accepted 1) ≡ false }
-    ensures stray_code { is_coded 1 ready (accepted 1) ≡ false }
-    ensures anothers { is_coded 0 (after opened all_sent) (accepted 1) ≡ false }
-    ensures count { count_turns (is_sent 0) ready (driven hang_up) ≡ 7 }
-    ensures own { leaves_alone 0 (tells 0 Told.Flash) ≡ false }
-    ensures dialled { leaves_alone 0 (tells 1 (Told.Dialled (Some 0))) ≡ false }
-    ensures other { leaves_alone 0 (tells 1 (Told.Dialled (Some 1))) ≡ true }
-    ensures wrong { leaves_alone 0 (tells 1 (Told.Dialled None)) ≡ true }
-    ensures off_hook { leaves_alone 0 (tells 1 Told.OffHook) ≡ true }
-    ensures restart { leaves_alone 0 (tells 1 Told.Restarted) ≡ true }
-    ensures disconnected { leaves_alone 0 (tells 1 Told.Disconnected) ≡ true }
-    ensures command { leaves_alone 0 (sends 0) ≡ true }
-{}
-
-/// Whom what happens to a line concerns besides.
-pub fn a_call_has_another_end()
-    ensures caller { named_by (phase_then 0 ring) ≡ Some 1 }
-    ensures called { named_by (phase_then 1 ring) ≡ Some 0 }
-    ensures resting { named_by (phase_then 2 ring) ≡ None }
-    ensures dialling { named_by (phase_then 0 (tells 0 Told.OffHook ∷ [])) ≡ None }
-    ensures hearing { named_by (phase_then 0 (tells 0 Told.OffHook ∷ tells 0 (Told.Dialled None) ∷ [])) ≡ None }
-    ensures no_line { named_by (phase_then 7 ring) ≡ None }
 {}

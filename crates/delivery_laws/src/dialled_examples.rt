@@ -23,8 +23,9 @@ ghost use Rattle.delivery_laws.specs.OnceExample.{lifted as off_hook, five};
 ghost use Rattle.delivery_laws.specs.Untaken.{has_taken, untaken};
 ghost use Rattle.delivery_laws.specs.DialledExample.{told_by, reporting, flying, taken_as, given_up_at, lifted, dialled, taken, answered, up_to_the_request, since_the_request, given_up, repeated, world, endpoint_then, done_then, told_then, untaken_then, left_then};
 
-/// A notification tells what its O says, and no other text tells anything.
-pub fn notifications_alone_tell()
+/// Each sentence at an example.
+pub fn each_sentence_has_an_example()
+    // A notification tells what its O says, and no other text tells anything.
     ensures notification { told_by (reporting (codes "NTFY") 5) ≡ off_hook ∷ [] }
     ensures no_o { told_by (codes "NTFY 5 aaln/1@rgw.example.net MGCP 1.0\r\nX: 0\r\n") ≡ [] }
     ensures announcement { told_by (reporting (codes "RSIP") 5) ≡ [] }
@@ -32,20 +33,14 @@ pub fn notifications_alone_tell()
     ensures response { told_by (codes "200 5 OK\r\nO: L/hd\r\n") ≡ [] }
     ensures version { told_by (codes "NTFY 5 aaln/1@rgw.example.net MGCP 0.1\r\nO: L/hd\r\n") ≡ [] }
     ensures nothing { told_by (codes "O: L/hd\r\n") ≡ [] }
-{}
-
-/// What is in flight is on its way until a command with its id is taken.
-pub fn what_is_in_flight_is_on_its_way()
+    // What is in flight is on its way until a command with its id is taken.
     ensures none { untaken [] None ≡ [] }
     ensures on_its_way { untaken [] (Some (flying 10000000)) ≡ off_hook ∷ [] }
     ensures taken { untaken (taken_as 10000000 ∷ []) (Some (flying 10000000)) ≡ [] }
     ensures before { untaken (taken_as 10000000 ∷ []) (Some (flying 10000001)) ≡ off_hook ∷ [] }
     ensures later { untaken (taken_as 10000000 ∷ taken_as 10000001 ∷ []) (Some (flying 10000001)) ≡ [] }
     ensures by_id { has_taken 10000001 (taken_as 10000000 ∷ []) ≡ false }
-{}
-
-/// RestartInProgress alone announces, where it is sent for the first time.
-pub fn announcements_alone_announce()
+    // RestartInProgress alone announces, where it is sent for the first time.
     ensures verb { is_restart Rsip ≡ true }
     ensures verbs { map is_restart (Epcf ∷ Rqnt ∷ Ntfy ∷ Crcx ∷ Mdcx ∷ Dlcx ∷ Auep ∷ Aucx ∷ Other ∷ []) ≡ replicate 9 false }
     ensures first { announces (command (messages.Command Rsip 1 [] [] [])) ≡ true }

@@ -15,70 +15,69 @@ ghost use Rattle.rgca.specs.Statuses.{status_of, is_asked};
 ghost use Rattle.rgca.specs.Endings.{word_ending, check_ending, phone_ending};
 ghost use Rattle.rgca.specs.Texts.{ending_text};
 
-/// What was asked was done, or words or a script are refused, or the system failed, or a gateway can't be checked or its telephones worked,
-/// or a telephone wasn't as was expected.
-pub fn statuses_tell_what_came_of_it()
+/// Each sentence at an example.
+pub fn each_sentence_has_an_example()
+    // What was asked was done, or words or a script are refused, or the system failed, or a gateway can't be checked or its telephones worked,
+    // or a telephone wasn't as was expected.
     ensures common { (ending : CommonEnding) → status_of (Common ending) ≡ common_status ending }
-    ensures of_check { (ending : CommonEnding) → status_of (OfCheck ending) ≡ common_status ending }
-    ensures of_phones { (ending : CommonEnding) → status_of (OfPhones ending) ≡ common_status ending }
-    ensures checked { map status_of (Checked 0 ∷ Checked 1 ∷ []) ≡ 0 ∷ 1 ∷ [] }
-    ensures played { status_of Played ≡ 0 }
-    ensures unexpected { (text : List ℕ) → status_of (Unexpected text) ≡ 1 }
-    ensures unplayed { (text : List ℕ) → status_of (Unplayed text) ≡ 3 }
-    ensures bad_script { (text : List ℕ) → status_of (BadScript text) ≡ 2 }
-    ensures bad_gateway { (word : _) → status_of (BadGateway word) ≡ 2 }
-    ensures same { status_of SameLine ≡ 2 }
-    ensures no_check { status_of NoCheck ≡ 2 }
-    ensures line { (word : _) → status_of (BadLine word) ≡ 2 }
+    ensures statuses_tell_what_came_of_it_of_check { (ending : CommonEnding) → status_of (OfCheck ending) ≡ common_status ending }
+    ensures statuses_tell_what_came_of_it_of_phones { (ending : CommonEnding) → status_of (OfPhones ending) ≡ common_status ending }
+    ensures statuses_tell_what_came_of_it_checked { map status_of (Checked 0 ∷ Checked 1 ∷ []) ≡ 0 ∷ 1 ∷ [] }
+    ensures statuses_tell_what_came_of_it_played { status_of Played ≡ 0 }
+    ensures statuses_tell_what_came_of_it_unexpected { (text : List ℕ) → status_of (Unexpected text) ≡ 1 }
+    ensures statuses_tell_what_came_of_it_unplayed { (text : List ℕ) → status_of (Unplayed text) ≡ 3 }
+    ensures statuses_tell_what_came_of_it_bad_script { (text : List ℕ) → status_of (BadScript text) ≡ 2 }
+    ensures statuses_tell_what_came_of_it_bad_gateway { (word : _) → status_of (BadGateway word) ≡ 2 }
+    ensures statuses_tell_what_came_of_it_same { status_of SameLine ≡ 2 }
+    ensures statuses_tell_what_came_of_it_no_check { status_of NoCheck ≡ 2 }
+    ensures statuses_tell_what_came_of_it_line { (word : _) → status_of (BadLine word) ≡ 2 }
     ensures config { (file line : _) → status_of (Config file line) ≡ 2 }
-    ensures system { status_of System ≡ 3 }
-    ensures silent { (address : _) → status_of (NoAnswer address) ≡ 3 }
-    ensures unserved { (address : _) → status_of (NotServing address) ≡ 3 }
-    ensures no_line { (word : _) → status_of (NoSuchLine word) ≡ 3 }
-    ensures in_use { (word : _) → status_of (InUse word) ≡ 3 }
+    ensures statuses_tell_what_came_of_it_system { status_of System ≡ 3 }
+    ensures statuses_tell_what_came_of_it_silent { (address : _) → status_of (NoAnswer address) ≡ 3 }
+    ensures statuses_tell_what_came_of_it_unserved { (address : _) → status_of (NotServing address) ≡ 3 }
+    ensures statuses_tell_what_came_of_it_no_line { (word : _) → status_of (NoSuchLine word) ≡ 3 }
+    ensures statuses_tell_what_came_of_it_in_use { (word : _) → status_of (InUse word) ≡ 3 }
     ensures asked { (ending : CommonEnding) → is_asked (Common ending) ≡ is_commonly_asked ending }
     ensures asked_of_check { (ending : CommonEnding) → is_asked (OfCheck ending) ≡ is_commonly_asked ending }
     ensures asked_of_phones { (ending : CommonEnding) → is_asked (OfPhones ending) ≡ is_commonly_asked ending }
     ensures own { map is_asked (Checked 0 ∷ Played ∷ SameLine ∷ NoCheck ∷ System ∷ []) ≡ false ∷ false ∷ false ∷ false ∷ false ∷ [] }
     ensures told { map is_asked (Unexpected [] ∷ Unplayed [] ∷ BadScript [] ∷ []) ≡ false ∷ false ∷ false ∷ [] }
-{}
-
-/// Words behind `check` have a usage and a help of their own, and so have those behind `phones`; else they are refused as all words are.
-pub fn a_check_and_a_script_have_their_own_usage()
+    // Words behind `check` have a usage and a help of their own, and so have those behind `phones`; else they are refused as all words are.
     ensures words { (ending : CommonEnding) → word_ending (faults.Common ending) ≡ Common ending }
-    ensures of_check { (ending : CommonEnding) → check_ending (faults.Common ending) ≡ OfCheck ending }
-    ensures of_phones { (ending : CommonEnding) → phone_ending (phone_faults.Common ending) ≡ OfPhones ending }
+    ensures a_check_and_a_script_have_their_own_usage_of_check { (ending : CommonEnding) → check_ending (faults.Common ending)
+        ≡ OfCheck ending }
+    ensures a_check_and_a_script_have_their_own_usage_of_phones { (ending : CommonEnding) → phone_ending (phone_faults.Common ending)
+        ≡ OfPhones ending }
     ensures usage { (about : Abouts) (ending : CommonEnding) → ending_text about (Common ending) ≡ common_text about.program ending }
     ensures check_usage { (about : Abouts) (ending : CommonEnding) → ending_text about (OfCheck ending) ≡ common_text about.checks ending }
-    ensures phones_usage { (about : Abouts) (ending : CommonEnding) → ending_text about (OfPhones ending) ≡ common_text about.phones ending }
-    ensures same { check_ending faults.SameLine ≡ word_ending faults.SameLine }
-    ensures no_check { check_ending faults.NoCheck ≡ word_ending faults.NoCheck }
+    ensures phones_usage { (about : Abouts) (ending : CommonEnding) → ending_text about (OfPhones ending)
+        ≡ common_text about.phones ending }
+    ensures a_check_and_a_script_have_their_own_usage_same { check_ending faults.SameLine ≡ word_ending faults.SameLine }
+    ensures a_check_and_a_script_have_their_own_usage_no_check { check_ending faults.NoCheck ≡ word_ending faults.NoCheck }
     ensures unnamed { word_ending faults.NoCheck ≡ NoCheck }
-    ensures line { (word : _) → check_ending (faults.BadLine word) ≡ word_ending (faults.BadLine word) }
+    ensures a_check_and_a_script_have_their_own_usage_line { (word : _) → check_ending (faults.BadLine word)
+        ≡ word_ending (faults.BadLine word) }
     ensures gateway { (word : _) → phone_ending (phone_faults.BadGateway word) ≡ BadGateway word }
-{}
-
-/// An ending says why, in a line or those that are told; nothing where a gateway was checked, or where all was as a script expects.
-pub fn an_ending_says_why()
-    ensures checked { (about : Abouts) → ending_text about (Checked 0) ≡ [] }
-    ensures played { (about : Abouts) → ending_text about Played ≡ [] }
-    ensures unexpected { (about : Abouts) (text : List ℕ) → ending_text about (Unexpected text) ≡ text }
-    ensures unplayed { (about : Abouts) (text : List ℕ) → ending_text about (Unplayed text) ≡ text }
-    ensures bad_script { (about : Abouts) (text : List ℕ) → ending_text about (BadScript text) ≡ text }
-    ensures bad_gateway { (about : Abouts) (word : Bor (List ℕ)) → ending_text about (BadGateway word)
+    // An ending says why, in a line or those that are told; nothing where a gateway was checked, or where all was as a script expects.
+    ensures an_ending_says_why_checked { (about : Abouts) → ending_text about (Checked 0) ≡ [] }
+    ensures an_ending_says_why_played { (about : Abouts) → ending_text about Played ≡ [] }
+    ensures an_ending_says_why_unexpected { (about : Abouts) (text : List ℕ) → ending_text about (Unexpected text) ≡ text }
+    ensures an_ending_says_why_unplayed { (about : Abouts) (text : List ℕ) → ending_text about (Unplayed text) ≡ text }
+    ensures an_ending_says_why_bad_script { (about : Abouts) (text : List ℕ) → ending_text about (BadScript text) ≡ text }
+    ensures an_ending_says_why_bad_gateway { (about : Abouts) (word : Bor (List ℕ)) → ending_text about (BadGateway word)
         ≡ word.now ++ codes ": wanted NAME=ADDRESS, each name and each address once\n" }
-    ensures line { (about : Abouts) (word : Bor (List ℕ)) → ending_text about (BadLine word)
+    ensures an_ending_says_why_line { (about : Abouts) (word : Bor (List ℕ)) → ending_text about (BadLine word)
         ≡ word.now ++ codes ": not the name of one line, as aaln/1: 1 to 64 characters, no blank, *, $ or @\n" }
-    ensures same { (about : Abouts) → ending_text about SameLine ≡ codes "--more-lines: the same line as --line\n" }
-    ensures no_check { (about : Abouts) → ending_text about NoCheck
+    ensures an_ending_says_why_same { (about : Abouts) → ending_text about SameLine ≡ codes "--more-lines: the same line as --line\n" }
+    ensures an_ending_says_why_no_check { (about : Abouts) → ending_text about NoCheck
         ≡ codes "--only: no check has this name; rgca check --list has them\n" }
-    ensures silent { (about : Abouts) (address : SocketAddrV4) → ending_text about (NoAnswer address)
+    ensures an_ending_says_why_silent { (about : Abouts) (address : SocketAddrV4) → ending_text about (NoAnswer address)
         ≡ socket_v4_text address ++ codes ": no answer\n" }
-    ensures unserved { (about : Abouts) (address : SocketAddrV4) → ending_text about (NotServing address)
+    ensures an_ending_says_why_unserved { (about : Abouts) (address : SocketAddrV4) → ending_text about (NotServing address)
         ≡ socket_v4_text address ++ codes ": 405, it waits for its call agent (--own answers for that)\n" }
-    ensures no_line { (about : Abouts) (word : Bor (List ℕ)) → ending_text about (NoSuchLine word)
+    ensures an_ending_says_why_no_line { (about : Abouts) (word : Bor (List ℕ)) → ending_text about (NoSuchLine word)
         ≡ word.now ++ codes ": 500, no such line there, or not in --domain\n" }
-    ensures in_use { (about : Abouts) (word : Bor (List ℕ)) → ending_text about (InUse word)
+    ensures an_ending_says_why_in_use { (about : Abouts) (word : Bor (List ℕ)) → ending_text about (InUse word)
         ≡ word.now ++ codes ": in use, off hook or with a connection\n" }
-    ensures system { (about : Abouts) → ending_text about System ≡ codes "clock or socket fault\n" }
+    ensures an_ending_says_why_system { (about : Abouts) → ending_text about System ≡ codes "clock or socket fault\n" }
 {}

@@ -24,15 +24,16 @@ ghost use Rattle.rgw_c.specs.Opening.{unread_number};
 ghost use Rattle.rgw_c.specs.Stepping.{source_at, PassesOver};
 ghost use Rattle.rgw_c.specs.Telling.{open_number, line_number, room_number, found_number, due_number};
 
-/// A refusal has its own number, and the fault of a configuration one that is ten higher.
-pub fn numbers_say_why()
+/// Each sentence at an example.
+pub fn each_sentence_has_an_example()
+    // A refusal has its own number, and the fault of a configuration one that is ten higher.
     ensures well { refusal_in 0 ≡ None }
     ensures memory { refusal_in 1 ≡ Some refusals.OutOfMemory }
     ensures far { refusal_in 2 ≡ Some refusals.TickTooFar }
     ensures back { refusal_in 3 ≡ Some refusals.ClockBack }
     ensures line { refusal_in 4 ≡ Some refusals.NoSuchLine }
     ensures phone { refusal_in 5 ≡ Some refusals.PhoneState }
-    ensures closed { refusal_in 20 ≡ None }
+    ensures numbers_say_why_closed { refusal_in 20 ≡ None }
     ensures before_faults { config_fault_in 11 ≡ None }
     ensures domain { config_fault_in 12 ≡ Some 2 }
     ensures lines { config_fault_in 13 ≡ Some 3 }
@@ -41,10 +42,7 @@ pub fn numbers_say_why()
     ensures media { config_fault_in 16 ≡ Some 6 }
     ensures toml { config_fault_in 17 ≡ Some 7 }
     ensures behind_faults { config_fault_in 18 ≡ None }
-{}
-
-/// The hook has three acts, and a key is its sign in ASCII.
-pub fn acts_have_numbers()
+    // The hook has three acts, and a key is its sign in ASCII.
     ensures off { act_in 1 ≡ Some acts.OffHook }
     ensures on { act_in 2 ≡ Some acts.OnHook }
     ensures flash { act_in 3 ≡ Some acts.Flash }
@@ -53,53 +51,23 @@ pub fn acts_have_numbers()
     ensures hash { act_in 35 ≡ Some (acts.Key keys.Hash) }
     ensures letter { act_in 68 ≡ Some (acts.Key keys.D) }
     ensures small_letter { act_in 100 ≡ None }
-    ensures none { act_in 0 ≡ None }
+    ensures acts_have_numbers_none { act_in 0 ≡ None }
     ensures no_key { act_in 5 ≡ None }
     ensures past { act_in 309 ≡ None }
-{}
-
-/// What is open, how ids begin and how long a text is are looked at before it is read, in this order; and each call has its answers.
-pub fn a_text_is_read_last()
-    ensures bad_first { (text : List ℕ) → unread_number None text 9999999 ≡ Some BAD_FIRST }
-    ensures last_first { unread_number None [] 9999998 ≡ None }
-    ensures long { (text : List ℕ) → length text ≡ 1048577 → unread_number None text 0 ≡ Some TOO_LONG }
-    ensures longest { (text : List ℕ) → length text ≡ 1048576 → unread_number None text 0 ≡ None }
-    ensures opened { is_read_number OK ≡ true }
-    ensures memory { is_read_number OUT_OF_MEMORY ≡ true }
-    ensures fault { is_read_number 17 ≡ true }
-    ensures no_fault { is_read_number TOO_LONG ≡ false }
-    ensures told { is_told_number HAS_FLAW ≡ true }
-    ensures small { is_told_number SMALL_BUFFER ≡ true }
-    ensures refused { is_told_number OUT_OF_MEMORY ≡ true }
-    ensures no_flaw { is_told_number OK ≡ false }
-    ensures checked { is_checked_number OK ≡ true }
-    ensures nothing_else { is_checked_number NOT_OPEN ≡ false }
-{}
-
-/// A closed handle takes no datagram, also none that is too long.
-pub fn a_closed_handle_takes_nothing()
-    ensures { PassesOver None NOT_OPEN None }
-{}
-
-/// Each place of a line has its port, up to the last of the last line where ports begin highest.
-pub fn a_place_has_its_port()
-    ensures first { local_port example 1 0 ≡ 3000 }
+    // A closed handle takes no datagram, also none that is too long.
+    ensures a_closed_handle_takes_nothing { PassesOver None NOT_OPEN None }
+    // Each place of a line has its port, up to the last of the last line where ports begin highest.
+    ensures a_place_has_its_port_first { local_port example 1 0 ≡ 3000 }
     ensures last { local_port example 16 3 ≡ 3126 }
     ensures highest { local_port elsewhere 96 3 ≡ 64766 }
     ensures held { place_number None ≡ NO_SUCH_PLACE }
     ensures empty { place_number (Some None) ≡ NO_CONNECTION }
-{}
-
-/// A host is a number whose highest octet is the first.
-pub fn a_host_is_a_number()
-    ensures none { source_at 0 0 ≡ record { ip = record { octets = 0 ∷ 0 ∷ 0 ∷ 0 ∷ [] }; port = 0 } }
+    // A host is a number whose highest octet is the first.
+    ensures a_host_is_a_number_none { source_at 0 0 ≡ record { ip = record { octets = 0 ∷ 0 ∷ 0 ∷ 0 ∷ [] }; port = 0 } }
     ensures greatest { source_at 4294967295 65535 ≡ record { ip = record { octets = 255 ∷ 255 ∷ 255 ∷ 255 ∷ [] }; port = 65535 } }
     ensures local { source_at 2130706433 2427 ≡ record { ip = record { octets = 127 ∷ 0 ∷ 0 ∷ 1 ∷ [] }; port = 2427 } }
-{}
-
-/// What is asked of nothing that is open, of no line, of no place, or with too little room has its number.
-pub fn what_is_asked_in_vain_has_a_number()
-    ensures closed { open_number None ≡ NOT_OPEN }
+    // What is asked of nothing that is open, of no line, of no place, or with too little room has its number.
+    ensures what_is_asked_in_vain_has_a_number_closed { open_number None ≡ NOT_OPEN }
     ensures closed_first { line_number None 0 ≡ NOT_OPEN }
     ensures place { found_number (Some acts.OffHook) ≡ OK }
     ensures no_place { message_number None 0 ≡ NOT_OPEN }
@@ -107,10 +75,7 @@ pub fn what_is_asked_in_vain_has_a_number()
     ensures no_room { room_number (7 ∷ 8 ∷ []) 1 ≡ SMALL_BUFFER }
     ensures due { due_number (Some 0) ≡ OK }
     ensures none_due { due_number None ≡ NOTHING_DUE }
-{}
-
-/// A message is told by what it is, and an answer to no line and the gateway's own have line 0.
-pub fn messages_are_told_in_numbers()
+    // A message is told by what it is, and an answer to no line and the gateway's own have line 0.
     ensures nobody { whose_number whose.Nobody ≡ 0 }
     ensures answer_of { whose_number (whose.AnswerOf (Some 3)) ≡ 1 }
     ensures own_of { whose_number (whose.OwnOf 3) ≡ 2 }
@@ -130,10 +95,7 @@ pub fn messages_are_told_in_numbers()
     ensures no_verb { verb_of (whats.Answer 200) ≡ 0 }
     ensures first_verb { verb_number verbs.Epcf ≡ 1 }
     ensures other_verb { verb_number verbs.Other ≡ 0 }
-{}
-
-/// A line's signals and modes are numbered in the order of their tables.
-pub fn lines_are_told_in_numbers()
+    // A line's signals and modes are numbered in the order of their tables.
     ensures on_hook { hook_number hooks.OnHook ≡ 0 }
     ensures off_hook { hook_number hooks.OffHook ≡ 1 }
     ensures first_signal { signal_number signals.DialTone ≡ 1 }
@@ -144,6 +106,24 @@ pub fn lines_are_told_in_numbers()
     ensures last_mode { mode_number modes.Inactive ≡ 5 }
     ensures one { first_payload (Only Pcma) ≡ 8 }
     ensures same { last_payload (Only Pcma) ≡ 8 }
-    ensures first { first_payload (Both Pcma) ≡ 8 }
+    ensures lines_are_told_in_numbers_first { first_payload (Both Pcma) ≡ 8 }
     ensures other { last_payload (Both Pcma) ≡ 0 }
+{}
+
+/// What is open, how ids begin and how long a text is are looked at before it is read, in this order; and each call has its answers.
+pub fn a_text_is_read_last()
+    ensures bad_first { (text : List ℕ) → unread_number None text 9999999 ≡ Some BAD_FIRST }
+    ensures last_first { unread_number None [] 9999998 ≡ None }
+    ensures long { (text : List ℕ) → length text ≡ 1048577 → unread_number None text 0 ≡ Some TOO_LONG }
+    ensures longest { (text : List ℕ) → length text ≡ 1048576 → unread_number None text 0 ≡ None }
+    ensures opened { is_read_number OK ≡ true }
+    ensures memory { is_read_number OUT_OF_MEMORY ≡ true }
+    ensures fault { is_read_number 17 ≡ true }
+    ensures no_fault { is_read_number TOO_LONG ≡ false }
+    ensures told { is_told_number HAS_FLAW ≡ true }
+    ensures small { is_told_number SMALL_BUFFER ≡ true }
+    ensures refused { is_told_number OUT_OF_MEMORY ≡ true }
+    ensures no_flaw { is_told_number OK ≡ false }
+    ensures checked { is_checked_number OK ≡ true }
+    ensures nothing_else { is_checked_number NOT_OPEN ≡ false }
 {}
