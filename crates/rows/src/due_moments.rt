@@ -12,7 +12,7 @@ use mg_bytes::OutOfMemory;
 use mg_packages::SIGNALS;
 use scenario_files::{Outcome, Row, Scenario, range_in};
 use std::alloc::Global;
-use timers::{Due, DueKind, LineDue, comes_before};
+use timers::{Due, DueItem, DueKind, LineDue, comes_before};
 
 // How many lines the table has beside the gateway itself.
 const LINES: u16 = 96;
@@ -53,15 +53,22 @@ fn put_least(given: &mut Outcome, due: &Due) {
     }
 }
 
+// Whether it falls due behind the last one, if there was one.
+fn is_behind(item: DueItem, last: Option<DueItem>) -> bool {
+    match last {
+        None => true,
+        Some(last) => comes_before(last, item),
+    }
+}
+
 // How many fall due one behind the other, of so many at most; these are cleared.
 fn fallen(due: &mut Due, most: u32) -> u32 {
     let mut last = None;
     for count in 0..most {
         let least = due.least();
-        match (last, least) {
-            (Some(last), Some(item)) if !comes_before(last, item) => return count,
-            (_, Some(item)) => due.clear(item.line, item.kind),
-            (_, None) => return count,
+        match least {
+            Some(item) if is_behind(item, last) => due.clear(item.line, item.kind),
+            _ => return count,
         }
         last = least;
     }
