@@ -16,7 +16,7 @@ use live_ends::{
 };
 use live_gateway::{agents_line, boxed};
 use live_journal::{Journal, Trace};
-use live_page::{PageProgram, Reception};
+use live_page::{PageProgram, Reception, run_with_site};
 use mg_bytes::{Draft, OutOfMemory};
 use rgw_scenes::{flaw_of, read_config, told, told_setup};
 use rgw_scripts::LIMIT;
@@ -109,7 +109,7 @@ fn serve_to_end<'w, R: Files + Net + Clock + RandomSource, P: Reception>(
         return Ending::Common(CommonEnding::OutOfMemory);
     };
     let exchange = &opened.desk.exchange;
-    let outlets = &mut recording.begun.outlets;
+    let outlets = &mut recording.outlets;
     outlets.finish(rt, counts.as_slice(), exchange.now.time);
     served_ending(&exchange.journal, &opened.desk.play.teller, outlets)
 }
@@ -195,7 +195,7 @@ fn open_files<'w, R: Files + Alloc + Clone + Drop>(
     settings: &Settings<'w>,
     recording: &mut Recording<R>,
 ) -> Result<(), Ending<'w>> {
-    let outlets = &mut recording.begun.outlets;
+    let outlets = &mut recording.outlets;
     if let (Some(name), Some(parting)) = (settings.capture, settings.parting) {
         recording.files = Some(open_parted(rt, alloc, settings, name, parting, outlets)?);
         return Ok(());
@@ -229,7 +229,7 @@ fn serve_with<'w, R: Files + Net + Clock + RandomSource + Alloc + Clone + Drop, 
         Ok(()) => {}
         Err(ending) => return ending,
     }
-    tell_start(alloc, &mut recording.begun.outlets, &opened, begun);
+    tell_start(alloc, &mut recording.outlets, &opened, begun);
     if wait_first(rt, &mut opened.desk.exchange.around, begun).is_err() {
         return Ending::Common(CommonEnding::Clock);
     }
@@ -254,7 +254,7 @@ fn serve_config<'w, R: Files + Net + Clock + RandomSource + Alloc + Clone + Drop
         Err(refused) => return Ending::from(refused),
     };
     if settings.check {
-        if check_gateway(alloc, settings, &gateway, &mut recording.begun.outlets).is_err() {
+        if check_gateway(alloc, settings, &gateway, &mut recording.outlets).is_err() {
             return Ending::Common(CommonEnding::OutOfMemory);
         }
         return Ending::Checked;
@@ -292,7 +292,7 @@ fn perform<'w, R: Files + Net + Clock + RandomSource + Alloc + Clone + Drop, P: 
         Ok(text) => text,
         Err(ending) => return Ending::Common(ending),
     };
-    let has_flaw = match tell_flaw(alloc, file, text.as_slice(), &mut recording.begun.outlets) {
+    let has_flaw = match tell_flaw(alloc, file, text.as_slice(), &mut recording.outlets) {
         Ok(has_flaw) => has_flaw,
         Err(refused) => return Ending::from(refused),
     };
@@ -324,12 +324,12 @@ fn ending_by<'w, R: AllocGlobal + Files + Net + Clock + RandomSource + Clone + D
     recording: &mut Recording<R>,
 ) -> Ending<'w> {
     if let Some(asked) = words_behind(TELL, words) {
-        return either(tell_line(rt, asked, &mut recording.begun.outlets.output));
+        return either(tell_line(rt, asked, &mut recording.outlets.output));
     }
     if let Some(asked) = words_behind(REPLAY, words) {
-        return either(replay_trace(rt, asked, &mut recording.begun.outlets));
+        return either(replay_trace(rt, asked, &mut recording.outlets));
     }
-    let settings = match read_words(rt.alloc(), words, &mut recording.begun.outlets.error) {
+    let settings = match read_words(rt.alloc(), words, &mut recording.outlets.error) {
         Ok(settings) => settings,
         Err(ending) => return ending,
     };
@@ -361,10 +361,10 @@ fn run_with<R: AllocGlobal + Files + Net + Clock + RandomSource + Clone + Drop, 
 ) -> u8 {
     let words = match words {
         Ok(words) => words,
-        Err(ending) => return tell(rt, &mut recording.begun.outlets, Ending::Common(*ending)),
+        Err(ending) => return tell(rt, &mut recording.outlets, Ending::Common(*ending)),
     };
     let ending = ending_by::<R, P>(rt, words.as_slice(), recording);
-    tell(rt, &mut recording.begun.outlets, ending)
+    tell(rt, &mut recording.outlets, ending)
 }
 
 /// Runs the program, whose page's visitors are received so, and gives its exit status.
@@ -374,20 +374,20 @@ pub fn run<R: AllocGlobal + Env + Files + Net + Clock + RandomSource + Clone + D
 where
     R::File: AsRawFd,
 {
-    let Some(begun) = begin(rt) else {
+    let Some(mut begun) = begin(rt) else {
         return CommonEnding::OutOfMemory.status();
     };
-    let Ok(mut begun) = boxed(rt.alloc(), begun) else {
-        return CommonEnding::OutOfMemory.status();
-    };
-    // So they can be lent beside the outlets.
     let words = replace(&mut begun.words, Err(CommonEnding::Usage));
+    // What is recorded has outlets of its own: what it began with can't be taken apart here.
+    let Ok(outlets) = Outlets::open(rt, rt.alloc()) else {
+        return CommonEnding::OutOfMemory.status();
+    };
     let Ok(runtime) = rt.clone() else {
         return CommonEnding::OutOfMemory.status();
     };
     let mut recording = Recording {
         rt: runtime,
-        begun,
+        outlets,
         files: None,
     };
     run_with::<R, P>(rt, &words, &mut recording)
@@ -395,8 +395,8 @@ where
 
 /// The program, over what its machine gives it.
 #[derive(Drop)]
-pub struct Program<'r, R> {
-    pub rt: &'r R,
+struct Program<'r, R> {
+    rt: &'r R,
 }
 
 impl<R: AllocGlobal + Env + Files + Net + Clock + RandomSource + Clone + Drop> PageProgram
@@ -407,4 +407,15 @@ where
     fn run<P: Reception>(&self) -> u8 {
         run::<R, P>(self.rt)
     }
+}
+
+/// Runs the program with a page at a socket of this machine, and gives its exit status.
+pub(crate) fn run_on_site<R: AllocGlobal + Env + Files + Net + Clock + RandomSource + Clone + Drop>(
+    rt: &R,
+) -> u8
+where
+    R::File: AsRawFd,
+{
+    let program = Program { rt };
+    run_with_site(&program)
 }

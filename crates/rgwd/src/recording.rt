@@ -1,15 +1,15 @@
 //! What a gateway's records go to: its outlets, and the files of its capture, of which the next is made where one is full.
-use live_ends::{Begun, CaptureFiles, Outlets};
+use live_ends::{CaptureFiles, Outlets};
 use live_gateway::Recorder;
 use live_journal::{Journal, Trace};
 use std::io::Write;
 use std::rt::Files;
 
-/// The outlets of a program, in what it began with, and the files of its gateway's capture, where that is parted; and what makes these.
+/// The outlets of a program, and the files of its gateway's capture, where that is parted; and what makes these.
 #[derive(Drop)]
 pub struct Recording<R: Files> {
     pub rt: R,
-    pub begun: Box<Begun<R::File>>,
+    pub outlets: Outlets<R::File>,
     pub files: Option<Box<CaptureFiles>>,
 }
 
@@ -65,12 +65,12 @@ impl<R: Files> Recorder<Trace> for Recording<R> {
 
     fn write(&mut self, journal: &mut Journal, trace: &mut Trace, time: u64) {
         if let Some(files) = &mut self.files {
-            turn_over(&self.rt, files, &mut self.begun.outlets, journal);
+            turn_over(&self.rt, files, &mut self.outlets, journal);
         }
-        journal.write(trace, &mut self.begun.outlets, time);
+        journal.write(trace, &mut self.outlets, time);
     }
 
     fn is_offering(&self) -> bool {
-        !self.begun.outlets.are_taken()
+        !self.outlets.are_taken()
     }
 }
