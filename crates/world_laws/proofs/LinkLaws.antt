@@ -288,8 +288,8 @@ pub record Linked (setup : Setup) (w : World) : Type 0 where
   pub sound : Sound setup w
   pub links : Links setup w (own_in setup w) (gateway_in setup w) (agent_in setup w)
 
-log_commands : (until : ℕ) (log : List Begun) → Logged until log → Each IsCommand log
-log_commands until log logged = each_weaker (WasBegun until) IsCommand (λ b w. record { name = w.name; reads = w.reads }) log logged.begun
+log_commands : (setup : Setup) (until : ℕ) (log : List Begun) → Logged setup until log → Each IsCommand log
+log_commands setup until log logged = each_weaker (WasBegun until) IsCommand (λ b w. record { name = w.name; reads = w.reads }) log logged.begun
 
 -- the gateway takes an event
 
@@ -436,7 +436,7 @@ delivered_links setup w post l late from_agent from_gateway = by_end post.end po
   by_gateway false packet late sends = l.links
 
   commands : Each IsCommand (own_in setup w)
-  commands = log_commands (now_in setup w) (own_in setup w) l.links.gateway.stands.logged
+  commands = log_commands setup (now_in setup w) (own_in setup w) l.links.gateway.stands.logged
 
   by_agent : (b : Bool) (packet : Packet) → now_in setup w - packet.moment ≤ oldest_packet → GatewayPosts (own_in setup w) (firsts_in (gateway_in setup w).history) (now_in setup w) gateway_end packet
       → LinksIn setup (if b then to_agent setup w (hears (datagram packet.sender packet.bytes)) else w)
