@@ -1,5 +1,5 @@
 -- The lives of the worked examples: the gateway of two lines is announced and starts again.
-use Rattle.std.specs.Prelude.{ℕ, List, [], ◌∷◌, ◌++◌, map, codes, Bool, Option}
+use Rattle.std.specs.Prelude.{ℕ, List, [], ◌∷◌, ◌++◌, map, codes, Bool, Option, ◌+◌}
 use Rattle.event_values.specs.declared.observed.Observed.{Observed}
 use Rattle.mg_line.specs.declared.phone.Act.TheVariants.{OffHook}
 use Rattle.mgcp_text.specs.Reading.{bad_body}
