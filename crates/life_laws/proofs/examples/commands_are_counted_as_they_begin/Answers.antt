@@ -1,4 +1,4 @@
-use Rattle.std.proofs.Common.{◌≡◌, ℕ, ◌+◌, ◌<◌, ◌≤◌, true, false, List, [], ◌∷◌, inl, inr, refl, ap, arith}
+use Rattle.std.proofs.Common.{◌≡◌, ℕ, ◌+◌, ◌-◌, ◌<◌, ◌≤◌, true, false, List, [], ◌∷◌, inl, inr, refl, ap, arith}
 use Rattle.plain_machine.specs.Posting.{first_number, id_on, numbers}
 use Rattle.machine_laws.specs.Numbering.{IsBehind}
 use Rattle.machine_laws.specs.Saying.{Begun}
