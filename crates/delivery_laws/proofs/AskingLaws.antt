@@ -76,10 +76,11 @@ own_later setup now later past log own s = (
   soon_later setup now later 0 own past s.1,
 )
 
-logged_later : (now later : ℕ) → now ≤ later → (log : List Begun) → Logged setup now log → Logged setup later log
-logged_later now later past log logged = record {
+logged_later : (setup : Setup) (now later : ℕ) → now ≤ later → (log : List Begun) → Logged setup now log → Logged setup later log
+logged_later setup now later past log logged = record {
   begun = each_weaker (WasBegun now) (WasBegun later) (λ b was. record { name = was.name; reads = was.reads; past = omega (arith, past, was.past) }) log logged.begun;
   apart = logged.apart;
+  turns = logged.turns;
 }
 
 module _ (setup : Setup) (set_up : IsSetUp setup) where
@@ -98,7 +99,7 @@ module _ (setup : Setup) (set_up : IsSetUp setup) where
   stands_later now later past endpoints s = (
     s.0,
     record {
-      log_holds = logged_later now later past s.0 s.1.log_holds;
+      log_holds = logged_later setup now later past s.0 s.1.log_holds;
       list = on_later (LineSoon setup now s.0) (LineSoon setup later s.0) 1 endpoints.list (λ i endpoint low is. endpoint_later setup now later past s.0 i endpoint is) s.1.list;
       own = own_later setup now later past s.0 endpoints.own s.1.own;
     },

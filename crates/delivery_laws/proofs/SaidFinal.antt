@@ -70,8 +70,8 @@ command_asks id name (message (messages.Response code other params body)) is = a
 command_final : (b : Begun) → IsCommand b → IsSaid b.text
 command_final b is = (λ code id params body reads. absurd (no_response b.id is.name (read_text b.text) code id params body is.reads reads), command_asks b.id is.name (read_text b.text) is.reads)
 
-own_final : (until : ℕ) (log : List Begun) (sent : List Sent) → Logged setup until log → Each (Own until log) sent → Each SaysFinal sent
-own_final until log sent logged own =
+own_final : (setup : Setup) (until : ℕ) (log : List Begun) (sent : List Sent) → Logged setup until log → Each (Own until log) sent → Each SaysFinal sent
+own_final setup until log sent logged own =
     let commands : Each IsCommand log = each_weaker (WasBegun until) IsCommand (λ b w. record { name = w.name; reads = w.reads }) log logged.begun in
     each_weaker (Own until log) SaysFinal
     (λ one is. one_to (λ (b : Begun). IsCommand b × Carries (text_of one.said) one.moment b) (SaysFinal one) (λ b both. subst IsSaid (sym both.1.text) (command_final b both.0)) log
@@ -87,7 +87,7 @@ told_final : (setup : Setup) (until : ℕ) (set_up : IsSetUp setup) (log : List 
     → Goes setup until (LineStands setup until) (OwnStands setup until) (Own until) (Logged setup until) (log_turns setup until set_up) log is → ToldFinal setup until log is
 told_final setup until set_up log is goes = record {
   stands = record { logged = goes.stands.log_holds; list = goes.stands.list; own = goes.stands.own };
-  says = own_final until (log ++ begun_in is.sent) is.sent goes.stands.log_holds goes.sent;
+  says = own_final setup until (log ++ begun_in is.sent) is.sent goes.stands.log_holds goes.sent;
 }
 
 as_stands : (setup : Setup) (until : ℕ) (set_up : IsSetUp setup) (log : List Begun) (endpoints : Endpoints) → EndpointsStand setup until log endpoints
@@ -196,6 +196,7 @@ stands_later setup now later past log endpoints s = record {
   logged = record {
     begun = each_weaker (WasBegun now) (WasBegun later) (λ b w. record { name = w.name; reads = w.reads; past = omega (arith, past, w.past) }) log s.logged.begun;
     apart = s.logged.apart;
+    turns = s.logged.turns;
   };
   list = on_later (LineStands setup now log) (LineStands setup later log) 1 endpoints.list
       (λ i endpoint low is. record { sound = is.sound; post = record { below = is.post.below; counts = is.post.counts; flight = flight_later now later past log endpoint.post.pending is.post.flight } })
