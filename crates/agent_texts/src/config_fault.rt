@@ -216,11 +216,7 @@ pub(crate) fn miscounted(
 }
 
 /// A key may not be so.
-pub(crate) fn misnamed(
-    alloc: Global,
-    place: Place<'_>,
-    fault: ValueFault,
-) -> ConfigRefusal
+pub(crate) fn misnamed(alloc: Global, place: Place<'_>, fault: ValueFault) -> ConfigRefusal
     ensures { IsTold (name_line (place_text place.entry) fault) result }
 {
     let mut line = place_line(alloc, "", place);

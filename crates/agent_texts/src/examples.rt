@@ -16,85 +16,68 @@ ghost use Rattle.agent_texts.specs.Stations.{number_at};
 ghost use Rattle.agent_texts.specs.Telling.{plain, change_told};
 ghost use Rattle.agent_texts.specs.Example.{leg_in, rings_other, calls, exchange_with, answered_with, each_counted, station, two_stations};
 
-/// Numbers are told behind what they are the number of, and a count stays at its greatest value.
-pub fn counts_are_told_in_a_row()
+/// Each sentence at an example.
+pub fn each_sentence_has_an_example()
+    // Numbers are told behind what they are the number of, and a count stays at its greatest value.
     ensures row { told ((codes "calls ", 3) ∷ (codes " busy ", 12) ∷ []) ≡ codes "calls 3 busy 12" }
-    ensures none { told [] ≡ [] }
+    ensures counts_are_told_in_a_row_none { told [] ≡ [] }
     ensures more { one_more 4 ≡ 5 }
     ensures most { one_more greatest_count ≡ greatest_count }
     ensures last { one_more 18446744073709551614 ≡ greatest_count }
-{}
-
-/// Each count stands behind its own words, a kind a line.
-pub fn each_count_has_its_words()
-    ensures { counts_text each_counted
+    // Each count stands behind its own words, a kind a line.
+    ensures each_count_has_its_words { counts_text each_counted
         ≡ codes "calls 1 set up 2 abandoned 3 failed 4 busy 5 wrong number 6\ndatagrams in 7 strange 8 out 9 again 10\n"
         ++ codes "commands 11 answered 12 given up 13\nnotifications 14 announcements 15 strange 16\n"
         ++ codes "network lost 17 copied 18 late 19\nfaults memory 20 receive 21 send 22\n" }
-{}
-
-/// A fault is told with its key, what stands there, and what may.
-pub fn faults_are_told_by_key_and_value()
-    ensures own { place_by None (codes "own") ≡ codes "own" }
+    // A fault is told with its key, what stands there, and what may.
+    ensures faults_are_told_by_key_and_value_own { place_by None (codes "own") ≡ codes "own" }
     ensures of_gateway { place_by (Some (codes "gw1")) (codes "address") ≡ codes "gateways.\"gw1\".address" }
-    ensures gateway { place_by (Some (codes "gw\n")) [] ≡ codes "gateways.\"gw\\x0a\"" }
+    ensures faults_are_told_by_key_and_value_gateway { place_by (Some (codes "gw\n")) [] ≡ codes "gateways.\"gw\\x0a\"" }
     ensures text { value_text (string (codes "a\n")) ≡ codes "\"a\\x0a\"" }
     ensures kind { value_text (integer (pos 7)) ≡ codes "integer" }
     ensures missing { missing_line (codes "own") ≡ codes "missing: own" }
-    ensures unknown { unknown_line (codes "map") ≡ codes "unknown key map" }
+    ensures faults_are_told_by_key_and_value_unknown { unknown_line (codes "map") ≡ codes "unknown key map" }
     ensures value { value_line (codes "own") (string (codes "x")) faults.NoAddress
         ≡ codes "own: \"x\", wanted an address a.b.c.d:port, with a port from 1 on" }
     ensures count { count_line (codes "gateways") 1025 faults.NoGateways ≡ codes "gateways: 1,025, wanted 1 to 1,024 tables" }
     ensures name { name_line (codes "gateways.\"-\"") faults.NoDomain
         ≡ codes "gateways.\"-\", wanted 1 to 64 letters, digits, \"-\" and \".\"" }
     ensures limit { limit_line 1048576 ≡ codes "over 1,048,576 bytes" }
-{}
-
-/// What may stand at a key.
-pub fn what_may_stand_at_a_key()
+    // What may stand at a key.
     ensures map { fault_text faults.NoDigitMap ≡ codes ", wanted a digit map, as \"(2xx|0)\"" }
-    ensures gateway { fault_text faults.NoGateway ≡ codes ", wanted a table with address and numbers" }
+    ensures what_may_stand_at_a_key_gateway { fault_text faults.NoGateway ≡ codes ", wanted a table with address and numbers" }
     ensures number { fault_text faults.NoNumber ≡ codes ", wanted 1 to 32 of 0 to 9, A to D, * and #, in quotes" }
     ensures numbers { fault_text faults.NoNumbers ≡ codes ", wanted 1 to 96 numbers in a list" }
     ensures twice { fault_text faults.Twice ≡ codes " stands twice" }
-{}
-
-/// A line stands as its phase is; a call is connected once both ends were given the description of the other's.
-pub fn a_line_stands_as_its_phase_is()
+    // A line stands as its phase is; a call is connected once both ends were given the description of the other's.
     ensures rest { standing_of (exchange_with phases.Resting) 0 ≡ Rest }
-    ensures dials { standing_of (exchange_with phases.Dialling) 0 ≡ Dialling }
-    ensures busy { standing_of (exchange_with (phases.Hearing tones.Busy)) 0 ≡ Busy }
+    ensures a_line_stands_as_its_phase_is_dials { standing_of (exchange_with phases.Dialling) 0 ≡ Dialling }
+    ensures a_line_stands_as_its_phase_is_busy { standing_of (exchange_with (phases.Hearing tones.Busy)) 0 ≡ Busy }
     ensures reorder { standing_of (exchange_with (phases.Hearing tones.Reorder)) 0 ≡ Reorder }
-    ensures called { standing_of (answered_with false false) 1 ≡ Called }
-    ensures rings { standing_of (exchange_with (phases.InCall rings_other)) 0 ≡ calls Ringing }
+    ensures a_line_stands_as_its_phase_is_called { standing_of (answered_with false false) 1 ≡ Called }
+    ensures a_line_stands_as_its_phase_is_rings { standing_of (exchange_with (phases.InCall rings_other)) 0 ≡ calls Ringing }
     ensures neither { standing_of (answered_with false false) 0 ≡ calls Answered }
     ensures one { standing_of (answered_with true false) 0 ≡ calls Answered }
     ensures other { standing_of (answered_with false true) 0 ≡ calls Answered }
     ensures both { standing_of (answered_with true true) 0 ≡ calls Connected }
     ensures no_line { standing_of (exchange_with phases.Dialling) 7 ≡ Rest }
-{}
-
-/// A connection stands for the call that it was made for, once its answer names it.
-pub fn a_connection_stands_for_its_call()
-    ensures own { stands_for (leg_in 3) 3 ≡ true }
-    ensures another { stands_for (leg_in 2) 3 ≡ false }
-    ensures unknown { stands_for (legs.Unknown 3) 3 ≡ false }
-    ensures none { stands_for legs.Absent 3 ≡ false }
-{}
-
-/// A call is counted when it rings, when it is connected, and when it ends before that; and a number that led to none.
-pub fn calls_are_counted_as_they_come()
-    ensures rings { (with_change Dialling (calls Ringing) nothing_counted).calls ≡ 1 }
-    ensures answered { with_change (calls Ringing) (calls Answered) nothing_counted ≡ nothing_counted }
-    ensures connected { (with_change (calls Answered) (calls Connected) nothing_counted).set_up ≡ 1 }
+    // A connection stands for the call that it was made for, once its answer names it.
+    ensures a_connection_stands_for_its_call_own { stands_for (leg_in 3) 3 ≡ true }
+    ensures a_connection_stands_for_its_call_another { stands_for (leg_in 2) 3 ≡ false }
+    ensures a_connection_stands_for_its_call_unknown { stands_for (legs.Unknown 3) 3 ≡ false }
+    ensures a_connection_stands_for_its_call_none { stands_for legs.Absent 3 ≡ false }
+    // A call is counted when it rings, when it is connected, and when it ends before that; and a number that led to none.
+    ensures calls_are_counted_as_they_come_rings { (with_change Dialling (calls Ringing) nothing_counted).calls ≡ 1 }
+    ensures calls_are_counted_as_they_come_answered { with_change (calls Ringing) (calls Answered) nothing_counted ≡ nothing_counted }
+    ensures calls_are_counted_as_they_come_connected { (with_change (calls Answered) (calls Connected) nothing_counted).set_up ≡ 1 }
     ensures ended { with_change (calls Connected) Busy nothing_counted ≡ nothing_counted }
-    ensures failed { (with_change (calls Ringing) Reorder nothing_counted).failed ≡ 1 }
+    ensures calls_are_counted_as_they_come_failed { (with_change (calls Ringing) Reorder nothing_counted).failed ≡ 1 }
     ensures failed_later { (with_change (calls Answered) Reorder nothing_counted).failed ≡ 1 }
     ensures abandoned { (with_change (calls Ringing) Rest nothing_counted).abandoned ≡ 1 }
     ensures hung_up { (with_change (calls Answered) Busy nothing_counted).abandoned ≡ 1 }
-    ensures busy { (with_change Dialling Busy nothing_counted).busy ≡ 1 }
+    ensures calls_are_counted_as_they_come_busy { (with_change Dialling Busy nothing_counted).busy ≡ 1 }
     ensures wrong { (with_change Dialling Reorder nothing_counted).wrong_number ≡ 1 }
-    ensures dials { with_change Rest Dialling nothing_counted ≡ nothing_counted }
+    ensures calls_are_counted_as_they_come_dials { with_change Rest Dialling nothing_counted ≡ nothing_counted }
     ensures hears { with_change Called Busy nothing_counted ≡ nothing_counted }
     ensures dials_again { (with_change (calls Ringing) Dialling nothing_counted).abandoned ≡ 1 }
     ensures is_called { (with_change (calls Ringing) Called nothing_counted).abandoned ≡ 1 }
@@ -103,28 +86,26 @@ pub fn calls_are_counted_as_they_come()
     ensures called_first { with_change Dialling Called nothing_counted ≡ nothing_counted }
     ensures other_tone { with_change Busy Reorder nothing_counted ≡ nothing_counted }
     ensures busy_later { with_change Reorder Busy nothing_counted ≡ nothing_counted }
-    ensures called_before { with_change Called Rest nothing_counted ≡ nothing_counted }
-{}
-
-/// What becomes of a line is told in lines of printable ASCII: a call that is over, and how the line stands now.
-pub fn changes_are_told_in_lines()
+    ensures calls_are_counted_as_they_come_called_before { with_change Called Rest nothing_counted ≡ nothing_counted }
+    // What becomes of a line is told in lines of printable ASCII: a call that is over, and how the line stands now.
     ensures plain { plain (31 ∷ 32 ∷ 126 ∷ 127 ∷ []) ≡ 46 ∷ 32 ∷ 126 ∷ 46 ∷ [] }
-    ensures dials { change_told two_stations 1 Rest Dialling ≡ codes "line 202: dialling\n" }
+    ensures changes_are_told_in_lines_dials { change_told two_stations 1 Rest Dialling ≡ codes "line 202: dialling\n" }
     ensures rests { change_told two_stations 1 Busy Rest ≡ codes "line 202: at rest\n" }
-    ensures rings { change_told two_stations 0 Dialling (calls Ringing) ≡ codes "call 3: 201 -> 202 ringing\n" }
-    ensures answered { change_told two_stations 0 (calls Ringing) (calls Answered) ≡ codes "call 3: 201 -> 202 answered\n" }
-    ensures connected { change_told two_stations 0 (calls Answered) (calls Connected) ≡ codes "call 3: 201 -> 202 connected\n" }
+    ensures changes_are_told_in_lines_rings { change_told two_stations 0 Dialling (calls Ringing) ≡ codes "call 3: 201 -> 202 ringing\n" }
+    ensures changes_are_told_in_lines_answered { change_told two_stations 0 (calls Ringing) (calls Answered)
+        ≡ codes "call 3: 201 -> 202 answered\n" }
+    ensures changes_are_told_in_lines_connected { change_told two_stations 0 (calls Answered) (calls Connected)
+        ≡ codes "call 3: 201 -> 202 connected\n" }
     ensures over { change_told two_stations 0 (calls Connected) Busy ≡ codes "call 3: 201 -> 202 over\nline 201: busy tone\n" }
-    ensures failed { change_told two_stations 0 (calls Ringing) Reorder ≡ codes "call 3: 201 -> 202 over\nline 201: reorder tone\n" }
-    ensures another { change_told two_stations 0 (calls Ringing) (Caller 4 1 Ringing)
+    ensures changes_are_told_in_lines_failed { change_told two_stations 0 (calls Ringing) Reorder
+        ≡ codes "call 3: 201 -> 202 over\nline 201: reorder tone\n" }
+    ensures changes_are_told_in_lines_another { change_told two_stations 0 (calls Ringing) (Caller 4 1 Ringing)
         ≡ codes "call 3: 201 -> 202 over\ncall 4: 201 -> 202 ringing\n" }
-    ensures called { change_told two_stations 1 Rest Called ≡ [] }
-    ensures called_before { change_told two_stations 0 (calls Ringing) Called ≡ codes "call 3: 201 -> 202 over\n" }
+    ensures changes_are_told_in_lines_called { change_told two_stations 1 Rest Called ≡ [] }
+    ensures changes_are_told_in_lines_called_before { change_told two_stations 0 (calls Ringing) Called
+        ≡ codes "call 3: 201 -> 202 over\n" }
     ensures no_number { change_told [] 1 Rest Dialling ≡ codes "line ?: dialling\n" }
-{}
-
-/// A station has the number by which it is dialled; a place without one has none.
-pub fn a_station_has_a_number()
+    // A station has the number by which it is dialled; a place without one has none.
     ensures second { number_at (station (codes "201") ∷ station (codes "202") ∷ []) 1 ≡ codes "202" }
-    ensures none { number_at [] 3 ≡ codes "?" }
+    ensures a_station_has_a_number_none { number_at [] 3 ≡ codes "?" }
 {}

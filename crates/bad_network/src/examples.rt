@@ -12,30 +12,26 @@ ghost use Rattle.bad_network.specs.Fates.{fate_of, lateness};
 ghost use Rattle.bad_network.specs.Waiting.{packet_of, copies_of, put_in, put_all, first_due, taken};
 ghost use Rattle.bad_network.specs.Example.{rough, drawn, peer, packet};
 
-/// A percentage is a number up to 100 before its sign, and a span two numbers up to 10,000 in their order.
-pub fn numbers_have_their_bounds()
-    ensures none { percent_of (codes "0%") ≡ Some 0 }
+/// Each sentence at an example.
+pub fn each_sentence_has_an_example()
+    // A percentage is a number up to 100 before its sign, and a span two numbers up to 10,000 in their order.
+    ensures numbers_have_their_bounds_none { percent_of (codes "0%") ≡ Some 0 }
     ensures all { percent_of (codes "100%") ≡ Some 100 }
     ensures more { percent_of (codes "101%") ≡ None }
     ensures no_sign { percent_of (codes "10") ≡ None }
-    ensures behind { percent_of (codes "10%%") ≡ None }
+    ensures numbers_have_their_bounds_behind { percent_of (codes "10%%") ≡ None }
     ensures no_number { percent_of (codes "%") ≡ None }
     ensures span { span_of (codes "100-10000") ≡ Some (100, 10000) }
     ensures equal { span_of (codes "5-5") ≡ Some (5, 5) }
-    ensures turned { span_of (codes "6-5") ≡ None }
+    ensures numbers_have_their_bounds_turned { span_of (codes "6-5") ≡ None }
     ensures too_late { span_of (codes "0-10001") ≡ None }
-    ensures one { span_of (codes "5") ≡ None }
-{}
-
-/// Parts stand in any order, and where one is missing nothing is spoilt, with the seed 1.
-pub fn a_text_says_how_a_network_spoils()
+    ensures numbers_have_their_bounds_one { span_of (codes "5") ≡ None }
+    // Parts stand in any order, and where one is missing nothing is spoilt, with the seed 1.
     ensures whole { spoiling_of (codes "lose 10%, copy 5%, late 100-3000, seed 7") ≡ Ok rough }
-    ensures turned { spoiling_of (codes "seed 7,late 100-3000,copy  5%,lose 10%") ≡ Ok rough }
-    ensures one { spoiling_of (codes "late 0-20") ≡ Ok (record { lose = 0; copy = 0; least = 0; most = 20; seed = 1 }) }
-{}
-
-/// The first part that is wrong is the fault.
-pub fn the_first_wrong_part_is_the_fault()
+    ensures a_text_says_how_a_network_spoils_turned { spoiling_of (codes "seed 7,late 100-3000,copy  5%,lose 10%") ≡ Ok rough }
+    ensures a_text_says_how_a_network_spoils_one { spoiling_of (codes "late 0-20")
+        ≡ Ok (record { lose = 0; copy = 0; least = 0; most = 20; seed = 1 }) }
+    // The first part that is wrong is the fault.
     ensures lose { spoiling_of (codes "lose 101%, copy 101%") ≡ Err faults.Lose }
     ensures copy { spoiling_of (codes "lose 1%, copy") ≡ Err faults.Other }
     ensures percentage { spoiling_of (codes "copy x") ≡ Err faults.Copy }
@@ -47,42 +43,31 @@ pub fn the_first_wrong_part_is_the_fault()
     ensures copy_twice { spoiling_of (codes "copy 1%, copy 1%") ≡ Err faults.Copy }
     ensures late_twice { spoiling_of (codes "late 1-1, late 1-1") ≡ Err faults.Late }
     ensures seed_twice { spoiling_of (codes "seed 1, seed 1") ≡ Err faults.Seed }
-{}
-
-/// A seed is mixed with a name as FNV-1a is reckoned, which begins at 14,695,981,039,346,656,037 by itself. Nothing else of the
-/// network is changed, and without a name its seed isn't either.
-pub fn seeds_are_mixed_with_names()
+    // A seed is mixed with a name as FNV-1a is reckoned, which begins at 14,695,981,039,346,656,037 by itself. Nothing else of the
+    // network is changed, and without a name its seed isn't either.
     ensures letter { mixed 14695981039346656037 (codes "a") ≡ 12638187200555641996 }
     ensures word { mixed 14695981039346656037 (codes "foobar") ≡ 9625390261332436968 }
     ensures short { mixed 7 (codes "a") ≡ 112150186077522 }
     ensures domain { mixed 7 (codes "rgw.example.net") ≡ 4552955192935780764 }
-    ensures none { named rough [] ≡ rough }
+    ensures seeds_are_mixed_with_names_none { named rough [] ≡ rough }
     ensures seed_alone { named rough (codes "b") ≡ record { lose = 10; copy = 5; least = 100; most = 3000; seed = 111050674449311 } }
-{}
-
-/// The draw for loss goes before that for a copy, and each copy has a lateness of its own.
-pub fn fates_are_drawn()
-    ensures lost { fate_of rough (drawn 109 0 0 0) ≡ Lost }
+    // The draw for loss goes before that for a copy, and each copy has a lateness of its own.
+    ensures fates_are_drawn_lost { fate_of rough (drawn 109 0 0 0) ≡ Lost }
     ensures just_not { fate_of rough (drawn 110 5 0 0) ≡ Once 100 }
-    ensures twice { fate_of rough (drawn 10 204 1 2900) ≡ Twice 101 3000 }
+    ensures fates_are_drawn_twice { fate_of rough (drawn 10 204 1 2900) ≡ Twice 101 3000 }
     ensures from_the_least { lateness rough 2901 ≡ 100 }
     ensures to_the_most { lateness rough 2900 ≡ 3000 }
     ensures never_later { lateness (record { lose = 0; copy = 0; least = 9999; most = 20000; seed = 1 }) 3 ≡ 10000 }
-{}
-
-/// A copy is due so much later than its packet is offered.
-pub fn copies_are_due_later()
-    ensures lost { copies_of Lost Out peer (7 ∷ []) 50 ≡ [] }
+    // A copy is due so much later than its packet is offered.
+    ensures copies_are_due_later_lost { copies_of Lost Out peer (7 ∷ []) 50 ≡ [] }
     ensures once { copies_of (Once 20) Out peer (7 ∷ []) 50
         ≡ record { way = Out; peer = peer; offered = 50; due = 70; bytes = 7 ∷ [] } ∷ [] }
-    ensures twice { copies_of (Twice 20 10) In peer [] 50 ≡ packet_of In peer [] 50 20 ∷ packet_of In peer [] 50 10 ∷ [] }
+    ensures copies_are_due_later_twice { copies_of (Twice 20 10) In peer [] 50
+        ≡ packet_of In peer [] 50 20 ∷ packet_of In peer [] 50 10 ∷ [] }
     ensures end { (packet_of In peer [] 18446744073709551610 20).due ≡ 18446744073709551615 }
-{}
-
-/// What is due first stands first, and of those due at one moment what was offered first; it is handed out where it is due.
-pub fn packets_wait_in_order()
+    // What is due first stands first, and of those due at one moment what was offered first; it is handed out where it is due.
     ensures front { put_in (packet 1 5) (packet 2 7 ∷ []) ≡ packet 1 5 ∷ packet 2 7 ∷ [] }
-    ensures behind { put_in (packet 1 7) (packet 2 7 ∷ packet 3 8 ∷ []) ≡ packet 2 7 ∷ packet 1 7 ∷ packet 3 8 ∷ [] }
+    ensures packets_wait_in_order_behind { put_in (packet 1 7) (packet 2 7 ∷ packet 3 8 ∷ []) ≡ packet 2 7 ∷ packet 1 7 ∷ packet 3 8 ∷ [] }
     ensures several { put_all (packet 1 7 ∷ packet 2 5 ∷ []) [] ≡ packet 2 5 ∷ packet 1 7 ∷ [] }
     ensures next { first_due (packet 1 7 ∷ packet 2 8 ∷ []) ≡ Some 7 }
     ensures early { taken 6 (packet 1 7 ∷ []) ≡ (None, packet 1 7 ∷ []) }

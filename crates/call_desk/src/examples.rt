@@ -27,11 +27,12 @@ ghost use Rattle.call_desk.specs.Example.{cleared, audited, found_off, param, pa
 use agent_texts::Standing;
 use call_routing::{Asked, Command, Outcome, Phase, Side, Told, Tone};
 
-/// A line is cleared first, then audited, and then the exchange says what it is sent; one command at a time.
-pub fn a_line_is_cleared_audited_and_routed()
+/// Each sentence at an example.
+pub fn each_sentence_has_an_example()
+    // A line is cleared first, then audited, and then the exchange says what it is sent; one command at a time.
     ensures nothing_told { new_care.has_told ≡ false }
     ensures nothing_found { new_care.is_found_off ≡ false }
-    ensures not_outlived { new_care.is_outlived ≡ false }
+    ensures a_line_is_cleared_audited_and_routed_not_outlived { new_care.is_outlived ≡ false }
     ensures at_rest { new_care.shown ≡ Standing.Rest }
     ensures first { duty_begun new_care ≡ Some Clear }
     ensures second { duty_begun cleared ≡ Some Audit }
@@ -40,65 +41,44 @@ pub fn a_line_is_cleared_audited_and_routed()
     ensures none_meanwhile { duty_begun (begun cleared) ≡ None }
     ensures stays { begun (begun cleared) ≡ begun cleared }
     ensures flies { (begun cleared).flight ≡ Some Audit }
-{}
-
-/// What a line told before it was audited is older than that; what it tells from then on is newer.
-pub fn an_audit_asks_for_what_is_told_since()
-    ensures older { (begun (told_care cleared)).has_told ≡ false }
+    // What a line told before it was audited is older than that; what it tells from then on is newer.
+    ensures an_audit_asks_for_what_is_told_since_older { (begun (told_care cleared)).has_told ≡ false }
     ensures newer { (told_care (begun cleared)).has_told ≡ true }
-    ensures clearing { (begun (told_care new_care)).has_told ≡ true }
+    ensures an_audit_asks_for_what_is_told_since_clearing { (begun (told_care new_care)).has_told ≡ true }
     ensures routing { (begun (told_care audited)).has_told ≡ true }
-    ensures found { found_off.is_found_off ≡ true }
+    ensures an_audit_asks_for_what_is_told_since_found { found_off.is_found_off ≡ true }
     ensures found_no_more { (told_care found_off).is_found_off ≡ false }
-{}
-
-/// A line that isn't cleared yet is cleared, whatever is owed; another is audited, or cleared again.
-pub fn what_is_owed_comes_next()
-    ensures uncleared { (owed new_care Audit).next ≡ Clear }
-    ensures audit { (owed audited Audit).next ≡ Audit }
-    ensures clearing { (owed audited Clear).next ≡ Clear }
+    // A line that isn't cleared yet is cleared, whatever is owed; another is audited, or cleared again.
+    ensures what_is_owed_comes_next_uncleared { (owed new_care Audit).next ≡ Clear }
+    ensures what_is_owed_comes_next_audit { (owed audited Audit).next ≡ Audit }
+    ensures what_is_owed_comes_next_clearing { (owed audited Clear).next ≡ Clear }
     ensures cleared_again { (owed cleared Clear).next ≡ Clear }
-{}
-
-/// What was given up is owed again, where the exchange doesn't know of it.
-pub fn what_was_given_up_is_owed_again()
-    ensures clearing { (lost (begun new_care)).next ≡ Clear }
-    ensures audit { (lost (begun cleared)).next ≡ Audit }
-    ensures route { (lost (begun audited)).next ≡ Route }
+    // What was given up is owed again, where the exchange doesn't know of it.
+    ensures what_was_given_up_is_owed_again_clearing { (lost (begun new_care)).next ≡ Clear }
+    ensures what_was_given_up_is_owed_again_audit { (lost (begun cleared)).next ≡ Audit }
+    ensures what_was_given_up_is_owed_again_route { (lost (begun audited)).next ≡ Route }
     ensures lands { (lost (begun audited)).flight ≡ None }
-{}
-
-/// What a gateway is answered that has started again since isn't believed.
-pub fn a_restart_outlives_what_is_in_flight()
-    ensures in_flight { (outlived (begun new_care)).is_outlived ≡ true }
+    // What a gateway is answered that has started again since isn't believed.
+    ensures a_restart_outlives_what_is_in_flight_in_flight { (outlived (begun new_care)).is_outlived ≡ true }
     ensures none { (outlived new_care).is_outlived ≡ false }
     ensures next_one { (begun (landed (outlived (begun new_care)))).is_outlived ≡ false }
-    ensures found { (outlived (found true new_care)).is_found_off ≡ false }
-{}
-
-/// A line that is announced is asked for its hook; what is in flight to one that has started again isn't believed.
-pub fn a_line_that_is_announced_is_audited()
-    ensures audit { (announced false audited).next ≡ Audit }
-    ensures uncleared { (announced true new_care).next ≡ Clear }
+    ensures a_restart_outlives_what_is_in_flight_found { (outlived (found true new_care)).is_found_off ≡ false }
+    // A line that is announced is asked for its hook; what is in flight to one that has started again isn't believed.
+    ensures a_line_that_is_announced_is_audited_audit { (announced false audited).next ≡ Audit }
+    ensures a_line_that_is_announced_is_audited_uncleared { (announced true new_care).next ≡ Clear }
     ensures restart { (announced true (begun audited)).is_outlived ≡ true }
-    ensures disconnected { (announced false (begun audited)).is_outlived ≡ false }
+    ensures a_line_that_is_announced_is_audited_disconnected { (announced false (begun audited)).is_outlived ≡ false }
     ensures found_before { (announced true (found true audited)).is_found_off ≡ false }
     ensures found_still { (announced false (found true audited)).is_found_off ≡ true }
-    ensures found { (found true audited).is_found_off ≡ true }
+    ensures a_line_that_is_announced_is_audited_found { (found true audited).is_found_off ≡ true }
     ensures shown { (told_of Standing.Busy audited).shown ≡ Standing.Busy }
-{}
-
-/// The commands that the exchange doesn't know of.
-pub fn orders_beside_the_exchange()
-    ensures clear { fixed_order Clear ≡ Some (codes "DLCX", []) }
-    ensures audit { fixed_order Audit ≡ Some (codes "AUEP", codes "F: ES\r\n") }
-    ensures route { fixed_order Route ≡ None }
-{}
-
-/// What is kept of one line changes, and what is known of it is told; of a line that there isn't nothing is.
-pub fn what_is_kept_of_a_line_changes()
+    // The commands that the exchange doesn't know of.
+    ensures orders_beside_the_exchange_clear { fixed_order Clear ≡ Some (codes "DLCX", []) }
+    ensures orders_beside_the_exchange_audit { fixed_order Audit ≡ Some (codes "AUEP", codes "F: ES\r\n") }
+    ensures orders_beside_the_exchange_route { fixed_order Route ≡ None }
+    // What is kept of one line changes, and what is known of it is told; of a line that there isn't nothing is.
     ensures one { cared begun (new_care ∷ audited ∷ cleared ∷ []) 1 ≡ new_care ∷ begun audited ∷ cleared ∷ [] }
-    ensures no_line { cared begun (new_care ∷ []) 1 ≡ new_care ∷ [] }
+    ensures what_is_kept_of_a_line_changes_no_line { cared begun (new_care ∷ []) 1 ≡ new_care ∷ [] }
     ensures duty { duty_of (Some cleared) ≡ Some Audit }
     ensures no_duty { duty_of None ≡ None }
     ensures flight { flight_of (Some (begun cleared)) ≡ Some Audit }
@@ -107,56 +87,50 @@ pub fn what_is_kept_of_a_line_changes()
     ensures lifted { was_found_off (Some found_off) ≡ true }
     ensures not_found { was_found_off (Some audited) ≡ false }
     ensures not_there { was_found_off None ≡ false }
-{}
-
-/// A line is sent what is next: the exchange's command with its parameters as they are once it is sent.
-pub fn a_line_is_sent_what_is_next()
-    ensures clear { (exchange line map : _) → ordered (Some new_care) exchange line map ≡ Some (codes "DLCX", []) }
-    ensures audit { (exchange line map : _) → ordered (Some cleared) exchange line map ≡ Some (codes "AUEP", codes "F: ES\r\n") }
-    ensures route { ordered (Some audited) (opening 2 0) 1 (codes "x") ≡ Some (codes "RQNT", codes "X: 1\r\nR: L/hd(N)\r\n") }
+    // A line is sent what is next: the exchange's command with its parameters as they are once it is sent.
+    ensures a_line_is_sent_what_is_next_clear { (exchange line map : _) → ordered (Some new_care) exchange line map
+        ≡ Some (codes "DLCX", []) }
+    ensures a_line_is_sent_what_is_next_audit { (exchange line map : _) → ordered (Some cleared) exchange line map
+        ≡ Some (codes "AUEP", codes "F: ES\r\n") }
+    ensures a_line_is_sent_what_is_next_route { ordered (Some audited) (opening 2 0) 1 (codes "x")
+        ≡ Some (codes "RQNT", codes "X: 1\r\nR: L/hd(N)\r\n") }
     ensures nothing_due { ordered (Some audited) (sent_to (opening 2 0) 1) 1 (codes "x") ≡ None }
-    ensures in_flight { (exchange line map : _) → ordered (Some (begun cleared)) exchange line map ≡ None }
-    ensures no_line { (exchange line map : _) → ordered None exchange line map ≡ None }
-{}
-
-/// What happens to a line is a turn of the exchange, or none.
-pub fn what_happens_to_a_line_is_a_turn()
+    ensures a_line_is_sent_what_is_next_in_flight { (exchange line map : _) → ordered (Some (begun cleared)) exchange line map ≡ None }
+    ensures a_line_is_sent_what_is_next_no_line { (exchange line map : _) → ordered None exchange line map ≡ None }
+    // What happens to a line is a turn of the exchange, or none.
     ensures none_given_up { (exchange line : _) → forsaken exchange line None ≡ exchange }
     ensures clearing_given_up { (exchange line : _) → forsaken exchange line (Some Clear) ≡ exchange }
     ensures audit_given_up { (exchange line : _) → forsaken exchange line (Some Audit) ≡ exchange }
-    ensures given_up { (exchange line : _) → forsaken exchange line (Some Route) ≡ answered exchange line Outcome.GivenUp }
+    ensures what_happens_to_a_line_is_a_turn_given_up { (exchange line : _) → forsaken exchange line (Some Route)
+        ≡ answered exchange line Outcome.GivenUp }
     ensures nothing_heard { (exchange line : _) → heard_by exchange line None ≡ exchange }
     ensures heard { (exchange line : _) → heard_by exchange line (Some Told.OffHook) ≡ told exchange line Told.OffHook }
     ensures restarted { (exchange line : _) → announced_by true exchange line ≡ told exchange line Told.Restarted }
-    ensures disconnected { (exchange line : _) → announced_by false exchange line ≡ exchange }
+    ensures what_happens_to_a_line_is_a_turn_disconnected { (exchange line : _) → announced_by false exchange line ≡ exchange }
     ensures created { answered_with creating 1 200 (codes "200 7 OK\r\nI: 1F\r\n\r\nv=0\r\n")
         ≡ answered creating 1 (Outcome.Created (codes "1F") (codes "v=0\r\n")) }
     ensures refused { (text : _) → answered_with creating 1 500 text ≡ answered creating 1 (Outcome.Answered 500) }
-    ensures audited { told_by_audit creating 1 (codes "200 7 OK\r\nES: L/hu\r\n") ≡ Told.OnHook }
-{}
-
-/// What an answer is to a line is by what its command was for: one that is older than what the line told is nothing, nor is one to a
-/// command that cleared it.
-pub fn a_response_is_taken_by_what_was_asked()
+    ensures what_happens_to_a_line_is_a_turn_audited { told_by_audit creating 1 (codes "200 7 OK\r\nES: L/hu\r\n") ≡ Told.OnHook }
+    // What an answer is to a line is by what its command was for: one that is older than what the line told is nothing, nor is one to a
+    // command that cleared it.
     ensures outlived { is_outlived (Some (outlived (begun new_care))) ≡ true }
-    ensures not_outlived { is_outlived (Some new_care) ≡ false }
+    ensures a_response_is_taken_by_what_was_asked_not_outlived { is_outlived (Some new_care) ≡ false }
     ensures never_outlived { is_outlived None ≡ false }
     ensures has_told { has_told (Some (told_care audited)) ≡ true }
     ensures has_not { has_told (Some audited) ≡ false }
-    ensures no_line { has_told None ≡ true }
+    ensures a_response_is_taken_by_what_was_asked_no_line { has_told None ≡ true }
     ensures nothing { (text : _) → TakesResponse None 1 200 text creating [] creating [] }
-    ensures clearing { (text : _) → TakesResponse (Some Clear) 1 200 text creating [] creating [] }
-    ensures older { (text : _) → TakesResponse (Some Audit) 1 200 text creating [] creating [] }
-    ensures audited { TakesResponse (Some Audit) 1 200 (codes "200 7 OK\r\nES: L/hu\r\n") creating (cleared ∷ audited ∷ [])
+    ensures a_response_is_taken_by_what_was_asked_clearing { (text : _) → TakesResponse (Some Clear) 1 200 text creating [] creating [] }
+    ensures a_response_is_taken_by_what_was_asked_older { (text : _) → TakesResponse (Some Audit) 1 200 text creating [] creating [] }
+    ensures a_response_is_taken_by_what_was_asked_audited { TakesResponse (Some Audit) 1 200 (codes "200 7 OK\r\nES: L/hu\r\n") creating
+        (cleared ∷ audited ∷ [])
         (told creating 1 Told.OnHook) (cleared ∷ found false audited ∷ []) }
     ensures unread { (text : _) → TakesResponse (Some Audit) 1 200 text creating (cleared ∷ audited ∷ [])
         (told creating 1 Told.Flash) (cleared ∷ found false audited ∷ []) }
     ensures routed { (text : _) → TakesResponse (Some Route) 1 500 text creating [] (answered creating 1 (Outcome.Answered 500)) [] }
-    ensures given_up { (text : _) → TakesResponse (Some Route) 1 500 text creating [] (answered creating 1 Outcome.GivenUp) [] }
-{}
-
-/// An exchange settles its own lines; a gateway's lines are taken where there is one.
-pub fn lines_of_an_exchange_and_of_a_gateway()
+    ensures a_response_is_taken_by_what_was_asked_given_up { (text : _) → TakesResponse (Some Route) 1 500 text creating []
+        (answered creating 1 Outcome.GivenUp) [] }
+    // An exchange settles its own lines; a gateway's lines are taken where there is one.
     ensures no_exchange { settling_in None ≡ 0 }
     ensures all { (office : Box Office) → office.value.worklist.settles_all ≡ true
         → settling_in (Some office) ≡ length office.value.cares.items }
@@ -169,22 +143,20 @@ pub fn lines_of_an_exchange_and_of_a_gateway()
         → taking_in (Some gateway) notifying ≡ length notifying.settled.items }
 {}
 
-/// An event state tells a hook with its package or without, in any case, and the first that tells it counts.
-pub fn event_states_tell_a_hook()
+/// Each sentence at an example.
+pub fn further_sentences_have_examples()
+    // An event state tells a hook with its package or without, in any case, and the first that tells it counts.
     ensures off { hook_of (codes "L/hd") ≡ Some true }
     ensures bare_off { hook_of (codes "hd") ≡ Some true }
     ensures on { hook_of (codes "l/HU") ≡ Some false }
     ensures bare_on { hook_of (codes "hu") ≡ Some false }
-    ensures another { hook_of (codes "L/hf") ≡ None }
+    ensures event_states_tell_a_hook_another { hook_of (codes "L/hf") ≡ None }
     ensures behind { hook_among (items_of (codes "L/wt, L/hd")) ≡ Some true }
-    ensures first { hook_among (items_of (codes "hu,hd")) ≡ Some false }
-    ensures none { hook_among (items_of (codes "")) ≡ None }
+    ensures event_states_tell_a_hook_first { hook_among (items_of (codes "hu,hd")) ≡ Some false }
+    ensures event_states_tell_a_hook_none { hook_among (items_of (codes "")) ≡ None }
     ensures told { hook_told (param (codes "I") [] ∷ param (codes "es") (codes "L/hd") ∷ []) ≡ Some true }
     ensures not_told { hook_told (param (codes "I") (codes "hd") ∷ []) ≡ None }
-{}
-
-/// The exchange is told what is new of a hook.
-pub fn what_is_new_of_a_hook_is_told()
+    // The exchange is told what is new of a hook.
     ensures lifted { told_by_hook (Some true) (was_off (Some Phase.Resting)) ≡ Told.OffHook }
     ensures lifted_still { told_by_hook (Some true) (was_off (Some Phase.Dialling)) ≡ Told.Flash }
     ensures put_back { told_by_hook (Some false) (was_off (Some (Phase.Hearing Tone.Busy))) ≡ Told.OnHook }
@@ -193,10 +165,7 @@ pub fn what_is_new_of_a_hook_is_told()
     ensures caller { is_off (Phase.InCall (part Side.Caller)) ≡ true }
     ensures rings { is_off (Phase.InCall (part Side.Called)) ≡ false }
     ensures talks { is_off (Phase.InCall (answered_part Side.Called)) ≡ true }
-{}
-
-/// The notification of what an audit found is no news.
-pub fn a_notification_of_what_was_found_is_no_news()
+    // The notification of what an audit found is no news.
     ensures found { notified true (Some Told.OffHook) ≡ Some Told.Flash }
     ensures new { notified false (Some Told.OffHook) ≡ Some Told.OffHook }
     ensures on_hook { notified true (Some Told.OnHook) ≡ Some Told.OnHook }
@@ -205,12 +174,10 @@ pub fn a_notification_of_what_was_found_is_no_news()
     ensures flash { notified true (Some Told.Flash) ≡ Some Told.Flash }
     ensures restarted { notified true (Some Told.Restarted) ≡ Some Told.Restarted }
     ensures disconnected { notified true (Some Told.Disconnected) ≡ Some Told.Disconnected }
-    ensures nothing { notified true None ≡ None }
-{}
-
-/// What CRCX created is known where its answer names a connection and describes it.
-pub fn a_connection_was_created()
-    ensures whole { created 200 (Some (codes "A")) (codes "v=0\r\n") ≡ Outcome.Created (codes "A") (codes "v=0\r\n") }
+    ensures a_notification_of_what_was_found_is_no_news_nothing { notified true None ≡ None }
+    // What CRCX created is known where its answer names a connection and describes it.
+    ensures a_connection_was_created_whole { created 200 (Some (codes "A")) (codes "v=0\r\n")
+        ≡ Outcome.Created (codes "A") (codes "v=0\r\n") }
     ensures undescribed { created 200 (Some (codes "A")) [] ≡ Outcome.Answered 200 }
     ensures unnamed { created 200 None (codes "v=0\r\n") ≡ Outcome.Answered 200 }
     ensures named { connection_in (param (codes "K") [] ∷ param (codes "i") (codes "1F") ∷ []) ≡ Some (codes "1F") }
@@ -221,91 +188,70 @@ pub fn a_connection_was_created()
     ensures change { creates (Some (Command.Modify 1)) ≡ false }
     ensures deletion { creates (Some (Command.Delete 1)) ≡ false }
     ensures request { creates (Some (Command.Ask Asked.Rest)) ≡ false }
-    ensures none { creates None ≡ false }
+    ensures a_connection_was_created_none { creates None ≡ false }
     ensures read { outcome_by 200 (Some (Command.Create 1 true)) (codes "200 7 OK\r\nI: 1F\r\n\r\nv=0\r\n")
         ≡ Outcome.Created (codes "1F") (codes "v=0\r\n") }
     ensures unreadable { outcome_by 200 (Some (Command.Create 1 true)) (codes "200") ≡ Outcome.GivenUp }
-    ensures another { (text : _) → outcome_by 200 (Some (Command.Modify 1)) text ≡ Outcome.Answered 200 }
+    ensures a_connection_was_created_another { (text : _) → outcome_by 200 (Some (Command.Modify 1)) text ≡ Outcome.Answered 200 }
     ensures refusal { (text : _) → outcome_by 500 (Some (Command.Create 1 true)) text ≡ Outcome.Answered 500 }
     ensures no_response { (verb id name params body : _) → created_by 200 (message (messages.Command verb id name params body))
         ≡ Outcome.Answered 200 }
     ensures bad_version { (id : _) → created_by 200 (bad_version id) ≡ Outcome.GivenUp }
     ensures bad_body { (id : _) → created_by 200 (bad_body id) ≡ Outcome.GivenUp }
-{}
-
-/// What happens to a line in a call concerns the other end.
-pub fn a_call_has_another_end()
+    // What happens to a line in a call concerns the other end.
     ensures call { named_by (Some (Phase.InCall (part Side.Caller))) ≡ Some 3 }
     ensures rest { named_by (Some Phase.Resting) ≡ None }
     ensures dials { named_by (Some Phase.Dialling) ≡ None }
     ensures hears { named_by (Some (Phase.Hearing Tone.Busy)) ≡ None }
     ensures no_line { named_by None ≡ None }
-{}
-
-/// What is typed has the line ends of a message.
-pub fn what_is_typed_becomes_a_message()
+    // What is typed has the line ends of a message.
     ensures escaped { typed_from false (codes "K: 1\\nX: 2") ≡ codes "K: 1\r\nX: 2" }
     ensures feed { typed_from false (codes "K: 1\nX: 2") ≡ codes "K: 1\r\nX: 2" }
-    ensures whole { typed_from false (codes "K: 1\r\nX: 2") ≡ codes "K: 1\r\nX: 2" }
+    ensures what_is_typed_becomes_a_message_whole { typed_from false (codes "K: 1\r\nX: 2") ≡ codes "K: 1\r\nX: 2" }
     ensures other { typed_from false (codes "a\\b") ≡ codes "a\\b" }
     ensures bare { typed_from false (codes "n") ≡ codes "n" }
     ensures two { typed_from false (codes "a\\\\b") ≡ codes "a\\\\b" }
     ensures last_of_two { typed_from false (codes "a\\\\nb") ≡ codes "a\\\r\nb" }
-    ensures last { typed_from false (codes "a\\") ≡ codes "a\\" }
+    ensures what_is_typed_becomes_a_message_last { typed_from false (codes "a\\") ≡ codes "a\\" }
     ensures feed_behind { typed_from true (codes "\n") ≡ codes "\\\r\n" }
     ensures return_behind { typed_from true (codes "\r\n") ≡ codes "\\\r\n" }
-    ensures alone { typed_text (codes "AUEP aaln/1") [] ≡ codes "AUEP aaln/1\r\n" }
+    ensures what_is_typed_becomes_a_message_alone { typed_text (codes "AUEP aaln/1") [] ≡ codes "AUEP aaln/1\r\n" }
     ensures open_line { typed_text (codes "RQNT aaln/1") (codes "X: 1") ≡ codes "RQNT aaln/1\r\nX: 1\r\n" }
     ensures whole_lines { typed_text (codes "RQNT aaln/1") (codes "X: 1\n") ≡ codes "RQNT aaln/1\r\nX: 1\r\n" }
-{}
-
-/// A command begins with a verb and a name alone.
-pub fn a_command_is_a_verb_and_a_name()
-    ensures alone { typed_in (codes "AUEP aaln/1") ≡ Some (codes "AUEP", (codes "aaln/1", [])) }
+    // A command begins with a verb and a name alone.
+    ensures a_command_is_a_verb_and_a_name_alone { typed_in (codes "AUEP aaln/1") ≡ Some (codes "AUEP", (codes "aaln/1", [])) }
     ensures with_lines { typed_in (codes "RQNT aaln/1\r\nX: 1\r\n") ≡ Some (codes "RQNT", (codes "aaln/1", codes "X: 1\r\n")) }
     ensures verb_alone { typed_in (codes "AUEP\r\n") ≡ None }
     ensures more { typed_in (codes "AUEP 1 aaln/1") ≡ None }
-    ensures nothing { typed_in [] ≡ None }
+    ensures a_command_is_a_verb_and_a_name_nothing { typed_in [] ≡ None }
     ensures empty { typed_in (codes "\r\nAUEP aaln/1") ≡ None }
-{}
-
-/// A line waits that was put there, and where all do.
-pub fn a_line_waits_until_it_is_settled()
+    // A line waits that was put there, and where all do.
     ensures put { waits (3 ∷ 5 ∷ []) false 5 ≡ true }
     ensures not_put { waits (3 ∷ 5 ∷ []) false 4 ≡ false }
-    ensures all { waits [] true 4 ≡ true }
-    ensures none { waits [] false 4 ≡ false }
-{}
-
-/// Of those that wait each is settled in its turn, or all lines are.
-pub fn lines_are_settled_one_by_one()
+    ensures a_line_waits_until_it_is_settled_all { waits [] true 4 ≡ true }
+    ensures a_line_waits_until_it_is_settled_none { waits [] false 4 ≡ false }
+    // Of those that wait each is settled in its turn, or all lines are.
     ensures some { settling (3 ∷ 5 ∷ []) false 9 ≡ 2 }
-    ensures all { settling (3 ∷ 5 ∷ []) true 9 ≡ 9 }
+    ensures lines_are_settled_one_by_one_all { settling (3 ∷ 5 ∷ []) true 9 ≡ 9 }
     ensures second { settled_at (3 ∷ 5 ∷ []) false 40 1 ≡ Some 5 }
     ensures past { settled_at (3 ∷ 5 ∷ []) false 40 2 ≡ None }
     ensures of_all { settled_at (3 ∷ 5 ∷ []) true 40 2 ≡ Some 42 }
-{}
-
-/// A command is repeated by the rules of its agent, and given up behind its seventh repeat; a final response under its id ends it.
-pub fn a_command_is_over_as_its_agent_has_it()
+    // A command is repeated by the rules of its agent, and given up behind its seventh repeat; a final response under its id ends it.
     ensures not_due { (falls most_steps issued 499) ≡ (false, issued) }
-    ensures first { (falls most_steps issued 500).1.repeats ≡ 1 }
+    ensures a_command_is_over_as_its_agent_has_it_first { (falls most_steps issued 500).1.repeats ≡ 1 }
     ensures several { (falls most_steps issued 7500).1.repeats ≡ 4 }
     ensures in_flight { (falls most_steps issued 23499).0 ≡ false }
     ensures given_up { (falls most_steps issued 23500).0 ≡ true }
     ensures waits { over_by None issued 499 ≡ (false, issued) }
     ensures answered { over_by (Some (7, 200)) issued 100 ≡ (true, issued) }
-    ensures another { over_by (Some (8, 200)) issued 100 ≡ (false, issued) }
+    ensures a_command_is_over_as_its_agent_has_it_another { over_by (Some (8, 200)) issued 100 ≡ (false, issued) }
     ensures provisional { (over_by (Some (7, 100)) issued 100).1.due ≡ 5100 }
     ensures not_over { (over_by (Some (7, 100)) issued 100).0 ≡ false }
     ensures too_late { over_by (Some (7, 200)) issued end_of_time ≡ (false, issued) }
-{}
-
-/// A clock goes on by a second at most, and an agent's first id is one of the first 900 million.
-pub fn clocks_go_on_by_a_second()
+    // A clock goes on by a second at most, and an agent's first id is one of the first 900 million.
     ensures here { tick_to 100 700 ≡ 700 }
     ensures far { tick_to 100 5000 ≡ 1100 }
-    ensures first { first_id 0 ≡ 1 }
-    ensures last { first_id 899999999 ≡ 900000000 }
+    ensures clocks_go_on_by_a_second_first { first_id 0 ≡ 1 }
+    ensures clocks_go_on_by_a_second_last { first_id 899999999 ≡ 900000000 }
     ensures again { first_id 900000000 ≡ 1 }
 {}

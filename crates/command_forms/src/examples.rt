@@ -85,23 +85,34 @@ pub fn audits_are_read()
     ensures last_line { audit_on (codes "aaln/16") [] ≡ audit_of (audits.One 16) [] }
 {}
 
-/// The verbs without a row are 504, and so is a message that is no command.
-pub fn other_verbs_are_not_served()
+/// Each sentence at an example.
+pub fn each_sentence_has_an_example()
+    // The verbs without a row are 504, and so is a message that is no command.
     ensures ntfy { command_on (codes "NTFY") (codes "aaln/1") (codes "X: 1\r\n") ≡ refused 504 }
     ensures rsip { command_on (codes "RSIP") (codes "aaln/1") [] ≡ refused 504 }
     ensures unknown { command_on (codes "PING") (codes "aaln/1") [] ≡ refused 504 }
     ensures response { form_in (messages.Response 200 2001 [] []) Absent gateway ≡ Err 504 }
     ensures response_means_nothing { meant_in (messages.Response 200 2001 [] []) gateway ≡ Err (refusal places.Verb 504) }
-{}
-
-/// A name that no endpoint has is 500; a wildcard in another place is 503.
-pub fn names_are_of_endpoints()
+    // A name that no endpoint has is 500; a wildcard in another place is 503.
     ensures beyond { request_on (codes "aaln/17") (codes "X: 1\r\n") ≡ refused 500 }
     ensures audit_beyond { audit_on (codes "aaln/17") [] ≡ refused 500 }
     ensures no_wildcard { audit_on (codes "aaln/*x") [] ≡ refused 500 }
     ensures other_domain { reply_to (codes "AUEP 2001 aaln/1@ca.example.net MGCP 1.0\r\n") ≡ refused 500 }
     ensures complicated { request_on (codes "aaln/*/1") (codes "X: 1\r\n") ≡ refused 503 }
     ensures audit_complicated { audit_on (codes "*/aaln") [] ≡ refused 503 }
+    // A command for one line is for that line and no other; one for all lines is for each; one for any one line is for none
+    // before it is chosen.
+    ensures one { is_for (targets.One 2) 2 ≡ true }
+    ensures lesser { is_for (targets.One 2) 1 ≡ false }
+    ensures greater { is_for (targets.One 2) 3 ≡ false }
+    ensures first { is_for targets.All 1 ≡ true }
+    ensures last { is_for targets.All 16 ≡ true }
+    ensures any { is_for targets.Any 1 ≡ false }
+    // The parameters are checked from top to bottom.
+    ensures foreign_first { request (codes "M: x\r\nX+Y: 1\r\nX: 1\r\n") ≡ refused 539 }
+    ensures critical_first { request (codes "X+Y: 1\r\nM: x\r\nX: 1\r\n") ≡ refused 511 }
+    ensures second_first { request (codes "X: 1\r\nX: 1\r\nM: x\r\n") ≡ refused 510 }
+    ensures foreign_before_second { request (codes "X: 1\r\nM: x\r\nX: 1\r\n") ≡ refused 539 }
 {}
 
 /// A request may be on all lines; an audit may where it asks for no items. Neither may be on any one line.
@@ -119,17 +130,6 @@ pub fn some_names_may_mean_all_lines()
     // The first F counts here, and a second one is found later.
     ensures first_empty { audit_on (codes "*") (codes "F:\r\nF: ES\r\n") ≡ refused 510 }
     ensures first_full { audit_on (codes "*") (codes "F: ES\r\nF:\r\n") ≡ refused 503 }
-{}
-
-/// A command for one line is for that line and no other; one for all lines is for each; one for any one line is for none
-/// before it is chosen.
-pub fn a_target_is_for_its_lines()
-    ensures one { is_for (targets.One 2) 2 ≡ true }
-    ensures lesser { is_for (targets.One 2) 1 ≡ false }
-    ensures greater { is_for (targets.One 2) 3 ≡ false }
-    ensures first { is_for targets.All 1 ≡ true }
-    ensures last { is_for targets.All 16 ≡ true }
-    ensures any { is_for targets.Any 1 ≡ false }
 {}
 
 /// An extension `X+..` or with a `/` isn't understood, and `X-..` is ignored, both in either case.
@@ -257,14 +257,6 @@ pub fn a_command_is_checked_in_order()
     ensures missing_before_requested { request (codes "R: Q/a\r\n") ≡ refused 510 }
     ensures missing_before_detected { request (codes "T: Q/a\r\n") ≡ refused 510 }
     ensures missing_before_signals { request (codes "S: Q/a\r\n") ≡ refused 510 }
-{}
-
-/// The parameters are checked from top to bottom.
-pub fn the_first_faulty_line_counts()
-    ensures foreign_first { request (codes "M: x\r\nX+Y: 1\r\nX: 1\r\n") ≡ refused 539 }
-    ensures critical_first { request (codes "X+Y: 1\r\nM: x\r\nX: 1\r\n") ≡ refused 511 }
-    ensures second_first { request (codes "X: 1\r\nX: 1\r\nM: x\r\n") ≡ refused 510 }
-    ensures foreign_before_second { request (codes "X: 1\r\nM: x\r\nX: 1\r\n") ≡ refused 539 }
 {}
 
 /// The values of a request are judged in the order K, N, B, X, Q, D, R, T, S, wherever their lines stand.

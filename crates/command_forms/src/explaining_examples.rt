@@ -13,15 +13,13 @@ ghost use Rattle.command_forms.specs.Explaining.{explanation_of, explained_in};
 
 use crate::refused::FaultyPart;
 
-/// The letters of parameters stand for what is written.
-pub fn letters_have_names()
-    ensures first { codes "BCDIKL" ≡ letter_b ∷ letter_c ∷ letter_d ∷ letter_i ∷ letter_k ∷ letter_l ∷ [] }
+/// Each sentence at an example.
+pub fn each_sentence_has_an_example()
+    // The letters of parameters stand for what is written.
+    ensures letters_have_names_first { codes "BCDIKL" ≡ letter_b ∷ letter_c ∷ letter_d ∷ letter_i ∷ letter_k ∷ letter_l ∷ [] }
     ensures others { codes "MNQRSTX"
         ≡ letter_m ∷ letter_n ∷ letter_q ∷ letter_r ∷ letter_s ∷ letter_t ∷ letter_x ∷ [] }
-{}
-
-/// A verb that isn't served is at fault itself, and so is a message that is no command; else the name is.
-pub fn the_verb_or_the_name_is_at_fault()
+    // A verb that isn't served is at fault itself, and so is a message that is no command; else the name is.
     ensures verb { why_on (codes "RSIP") (codes "aaln/17") []
         ≡ Some (codes "504 unknown or unsupported command: verb") }
     ensures response { explained_in (messages.Response 200 2001 [] []) Absent gateway ≡ Some (refusal FaultyPart.Verb 504) }
@@ -31,11 +29,8 @@ pub fn the_verb_or_the_name_is_at_fault()
         ≡ Some (codes "503 wildcard too complicated: endpoint name") }
     ensures items { why_on (codes "AUEP") (codes "*") (codes "F: ES\r\n")
         ≡ Some (codes "503 wildcard too complicated: endpoint name") }
-{}
-
-/// Parameter lines are numbered from 1, and the first at fault counts.
-pub fn the_first_faulty_line_is_named()
-    ensures first { why_request (codes "X+Y: 1\r\nX: 1\r\nM: x\r\n")
+    // Parameter lines are numbered from 1, and the first at fault counts.
+    ensures the_first_faulty_line_is_named_first { why_request (codes "X+Y: 1\r\nX: 1\r\nM: x\r\n")
         ≡ Some (codes "511 unrecognized extension: parameter line 1") }
     ensures second { why_request (codes "X: 1\r\nM: x\r\nX+Y: 1\r\n")
         ≡ Some (codes "539 invalid or unsupported command parameter: parameter line 2") }
@@ -43,6 +38,8 @@ pub fn the_first_faulty_line_is_named()
         ≡ Some (codes "510 protocol error: parameter line 4") }
     ensures before_missing { why_request (codes "M: x\r\n")
         ≡ Some (codes "539 invalid or unsupported command parameter: parameter line 1") }
+    // A code that this gateway doesn't have is shown without words.
+    ensures other_codes_have_no_words { explanation_of (refusal FaultyPart.Verb 999) ≡ codes "999 : verb" }
 {}
 
 /// What is missing is named by its letter, before the values are read: the first that the verb must have, as I of an
@@ -125,9 +122,4 @@ pub fn a_faulty_value_of_a_connection_is_named()
         ≡ Some (codes "509 error in remote connection descriptor: remote description") }
     ensures ignored { why_delete (codes "\r\nv=0\r\n") ≡ None }
     ensures taken { why_modify (codes "C: 1a\r\nI: 1\r\nM: sendrecv\r\n") ≡ None }
-{}
-
-/// A code that this gateway doesn't have is shown without words.
-pub fn other_codes_have_no_words()
-    ensures { explanation_of (refusal FaultyPart.Verb 999) ≡ codes "999 : verb" }
 {}

@@ -11,80 +11,63 @@ use event_syntax::{Action, Observed};
 use mg_bytes::Letter;
 use mg_packages::{LineEvent, Signal};
 
-/// `L/all` names the events of L, one name one event, and a range of D the letters in it.
-pub fn entries_name_events()
-    ensures off_hook { is_named_by (codes "L/all") LineEvent.OffHook ≡ true }
-    ensures on_hook { is_named_by (codes "L/all") LineEvent.OnHook ≡ true }
-    ensures flash { is_named_by (codes "L/all") LineEvent.Flash ≡ true }
+/// Each sentence at an example.
+pub fn each_sentence_has_an_example()
+    // `L/all` names the events of L, one name one event, and a range of D the letters in it.
+    ensures entries_name_events_off_hook { is_named_by (codes "L/all") LineEvent.OffHook ≡ true }
+    ensures entries_name_events_on_hook { is_named_by (codes "L/all") LineEvent.OnHook ≡ true }
+    ensures entries_name_events_flash { is_named_by (codes "L/all") LineEvent.Flash ≡ true }
     ensures line_complete { is_named_by (codes "L/all") LineEvent.LineComplete ≡ true }
     ensures generic_complete { is_named_by (codes "L/all") LineEvent.GenericComplete ≡ false }
     ensures no_letter { is_named_by (codes "L/all") (LineEvent.Letter Letter.Zero) ≡ false }
-    ensures generic { is_named_by (codes "G/all") LineEvent.GenericComplete ≡ true }
+    ensures entries_name_events_generic { is_named_by (codes "G/all") LineEvent.GenericComplete ≡ true }
     ensures generic_alone { is_named_by (codes "G/all") LineEvent.LineComplete ≡ false }
     ensures one { is_named_by (codes "hd") LineEvent.OffHook ≡ true }
-    ensures other { is_named_by (codes "hd") LineEvent.OnHook ≡ false }
+    ensures entries_name_events_other { is_named_by (codes "hd") LineEvent.OnHook ≡ false }
     ensures letter { is_named_by (codes "D/5") (LineEvent.Letter Letter.Five) ≡ true }
     ensures other_letter { is_named_by (codes "D/5") (LineEvent.Letter Letter.Six) ≡ false }
     ensures first_of_range { is_named_by (codes "D/[0-9*#A-DT]") (LineEvent.Letter Letter.Zero) ≡ false }
-    ensures range { is_named_by (codes "D/[0-9*#ABCDT]") (LineEvent.Letter Letter.Zero) ≡ true }
+    ensures entries_name_events_range { is_named_by (codes "D/[0-9*#ABCDT]") (LineEvent.Letter Letter.Zero) ≡ true }
     ensures last_of_range { is_named_by (codes "D/[0-9*#ABCDT]") (LineEvent.Letter Letter.Timer) ≡ true }
     ensures keys { is_named_by (codes "D/all") (LineEvent.Letter Letter.D) ≡ true }
     ensures no_timer { is_named_by (codes "D/all") (LineEvent.Letter Letter.Timer) ≡ false }
     ensures no_hook { is_named_by (codes "D/all") LineEvent.OffHook ≡ false }
-{}
-
-/// The end of a signal is `oc` of its package.
-pub fn ends_are_events()
+    // The end of a signal is `oc` of its package.
     ensures line { event_of (Observed.Ended Signal.DialTone) ≡ LineEvent.LineComplete }
-    ensures generic { event_of (Observed.Ended Signal.Ringback) ≡ LineEvent.GenericComplete }
+    ensures ends_are_events_generic { event_of (Observed.Ended Signal.Ringback) ≡ LineEvent.GenericComplete }
     ensures happened { event_of (Observed.Happened LineEvent.Flash) ≡ LineEvent.Flash }
-{}
-
-/// The first entry that names an event says what is done.
-pub fn the_first_entry_counts()
+    // The first entry that names an event says what is done.
     ensures first { at (codes "L/hd(A),L/hd(N)") LineEvent.OffHook ≡ does Action.Accumulate }
     ensures all { at (codes "L/all(I),L/hd(N)") LineEvent.OffHook ≡ does Action.Ignore }
     ensures later { at (codes "L/hd(A),L/hu(I),D/5") LineEvent.OnHook ≡ does Action.Ignore }
-    ensures range { at (codes "D/[0-9T](D),D/5(N)") (LineEvent.Letter Letter.Five) ≡ does Action.Dial }
+    ensures the_first_entry_counts_range { at (codes "D/[0-9T](D),D/5(N)") (LineEvent.Letter Letter.Five) ≡ does Action.Dial }
     ensures timer { at (codes "D/[0-9T](D)") (LineEvent.Letter Letter.Timer) ≡ does Action.Dial }
     ensures keep { at (codes "D/5(A,K)") (LineEvent.Letter Letter.Five) ≡ does_keeping Action.Accumulate }
     ensures keep_first { at (codes "D/5(A),D/5(A,K)") (LineEvent.Letter Letter.Five) ≡ does Action.Accumulate }
-{}
-
-/// An event that no entry names is notified where it is persistent, and the time-out signals stop; at another nothing is
-/// done.
-pub fn events_without_an_entry()
-    ensures off_hook { at [] LineEvent.OffHook ≡ does Action.Notify }
-    ensures on_hook { at (codes "L/hd(K),L/hf(A)") LineEvent.OnHook ≡ does Action.Notify }
-    ensures flash { at (codes "D/all(A)") LineEvent.Flash ≡ does Action.Notify }
+    // An event that no entry names is notified where it is persistent, and the time-out signals stop; at another nothing is
+    // done.
+    ensures events_without_an_entry_off_hook { at [] LineEvent.OffHook ≡ does Action.Notify }
+    ensures events_without_an_entry_on_hook { at (codes "L/hd(K),L/hf(A)") LineEvent.OnHook ≡ does Action.Notify }
+    ensures events_without_an_entry_flash { at (codes "D/all(A)") LineEvent.Flash ≡ does Action.Notify }
     ensures complete { at (codes "L/hd,G/oc") LineEvent.LineComplete ≡ does Action.Ignore }
-    ensures generic { at (codes "L/oc") LineEvent.GenericComplete ≡ does Action.Ignore }
+    ensures events_without_an_entry_generic { at (codes "L/oc") LineEvent.GenericComplete ≡ does Action.Ignore }
     ensures key { at (codes "D/[0-8]") (LineEvent.Letter Letter.Nine) ≡ does Action.Ignore }
-{}
-
-/// What can't occur is kept where R or T names it, or where it is persistent.
-pub fn some_events_are_kept()
+    // What can't occur is kept where R or T names it, or where it is persistent.
     ensures by_r { is_kept (asked (codes "D/5(I)") []) (Observed.Happened (LineEvent.Letter Letter.Five)) ≡ true }
     ensures by_t { is_kept (asked [] (codes "D/5")) (Observed.Happened (LineEvent.Letter Letter.Five)) ≡ true }
     ensures persistent { is_kept (asked [] []) (Observed.Happened LineEvent.Flash) ≡ true }
     ensures neither { is_kept (asked (codes "D/4") (codes "D/6")) (Observed.Happened (LineEvent.Letter Letter.Five)) ≡ false }
     ensures end_of_a_signal { is_kept (asked [] (codes "G/oc")) (Observed.Ended Signal.Congestion) ≡ true }
     ensures end_of_another { is_kept (asked [] (codes "G/oc")) (Observed.Ended Signal.DialTone) ≡ false }
-{}
-
-/// An embedded request replaces R and leaves T. Its R may be empty.
-pub fn an_embedded_request_replaces_r()
+    // An embedded request replaces R and leaves T. Its R may be empty.
     ensures replaced { with_embedded (asked (codes "L/hd(E(R(L/hu(N),D/5(A,K))))") (codes "D/7"))
         (embedded_in_first (codes "L/hd(E(R(L/hu(N),D/5(A,K))))")) ≡ asked (codes "L/hu(N),D/5(A,K)") (codes "D/7") }
     ensures empty { with_embedded (asked (codes "L/hd(E(S(L/dl)))") (codes "D/7"))
         (embedded_in_first (codes "L/hd(E(S(L/dl)))")) ≡ asked [] (codes "D/7") }
-{}
-
-/// The action D wants a digit map: one that is known, or in an embedded request that which is given there.
-pub fn the_action_d_wants_a_digit_map()
+    // The action D wants a digit map: one that is known, or in an embedded request that which is given there.
     ensures known { wants_map true (codes "D/5(D)") ≡ false }
     ensures none { wants_map false (codes "L/hd,D/5(D)") ≡ true }
-    ensures other { wants_map false (codes "L/hd(A),D/5(N)") ≡ false }
+    ensures the_action_d_wants_a_digit_map_other { wants_map false (codes "L/hd(A),D/5(N)") ≡ false }
     ensures ignored { wants_map false (codes "D/5(I)") ≡ false }
     ensures embedded { wants_map false (codes "L/hd(E(R(D/5(D))))") ≡ true }
     ensures accumulated { wants_map false (codes "L/hd(A,E(R(D/5(D))))") ≡ true }

@@ -38,9 +38,7 @@ pub use crate::now::Now;
 pub use crate::outlet::{Outlet, OutletState};
 pub use crate::outlets::{NEXT_OFFER, Outlets};
 pub use crate::parting::{CaptureFiles, Parting};
-pub use crate::program::{
-    Begun, OUT_OF_MEMORY, SystemFault, begin, end, open_capture, say_last,
-};
+pub use crate::program::{Begun, OUT_OF_MEMORY, SystemFault, begin, end, open_capture, say_last};
 pub use crate::readiness::{MOST_VISITORS, Readiness, Visit};
 pub use crate::reasons::reason_of;
 pub use crate::record::{Record, RecordState};

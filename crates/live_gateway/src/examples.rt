@@ -31,20 +31,21 @@ ghost use Rattle.live_gateway.specs.declared.spoilt_way.SpoiltWay.{SpoiltWay};
 ghost use Rattle.live_gateway.specs.Offering.{came_from, came_over, brought};
 ghost use Rattle.live_gateway.specs.Exchanging.{faultless, received_by, refusals, with_refused, with_unreceived, IsSameTurn};
 
-/// A line has one of six words, or asks for nothing that can be done: other steps of a script can't be asked for.
-pub fn lines_ask_for_this()
+/// Each sentence at an example.
+pub fn each_sentence_has_an_example()
+    // A line has one of six words, or asks for nothing that can be done: other steps of a script can't be asked for.
     ensures act { request_in Elsewhere (codes "phone 1 off") ≡ Act 1 OffHook }
     ensures show { request_in Elsewhere (codes "show 2") ≡ Show 2 }
     ensures counts { request_in Elsewhere (codes "counts") ≡ Counts }
     ensures stop { request_in Here (codes "stop") ≡ Stop }
-    ensures afar { request_in Elsewhere (codes "stop") ≡ StopFromAfar }
+    ensures lines_ask_for_this_afar { request_in Elsewhere (codes "stop") ≡ StopFromAfar }
     ensures longer { request_in Here (codes "counts ") ≡ Unknown }
     ensures tick { request_in Here (codes "tick 10") ≡ Unknown }
     ensures moment { request_in Here (codes "at 10") ≡ Unknown }
     ensures wait { request_in Here (codes "wait 10") ≡ Unknown }
     ensures raw { request_in Here (codes "raw 10.0.0.1:2427 30") ≡ Unknown }
     ensures sender { request_in Here (codes "from 10.0.0.1:2427") ≡ Unknown }
-    ensures nothing { request_in Here [] ≡ Unknown }
+    ensures lines_ask_for_this_nothing { request_in Here [] ≡ Unknown }
     ensures all { request_in Elsewhere (codes "show *") ≡ ShowAll }
     ensures watch { request_in Elsewhere (codes "watch 60") ≡ Watch 60 }
     ensures watch_no_more { request_in Here (codes "watch  0") ≡ Watch 0 }
@@ -52,119 +53,83 @@ pub fn lines_ask_for_this()
     ensures no_time { request_in Here (codes "watch") ≡ Unknown }
     ensures no_number { request_in Here (codes "watch 1s") ≡ Unknown }
     ensures more { request_in Here (codes "watch 60 1") ≡ Unknown }
-    ensures other { request_in Here (codes "watches 60") ≡ Unknown }
+    ensures lines_ask_for_this_other { request_in Here (codes "watches 60") ≡ Unknown }
     ensures all_and_more { request_in Here (codes "show *1") ≡ Unknown }
     ensures stranger { request_in Stranger (codes "counts") ≡ Refused }
     ensures stranger_watches { request_in Stranger (codes "watch 60") ≡ Refused }
     ensures stranger_shows { request_in Stranger (codes "show *") ≡ Refused }
-{}
-
-/// Who wants to watch where eight do is told that.
-pub fn a_ninth_is_told()
-    ensures { full_text ≡ codes "! 8 watch already\n" }
-{}
-
-/// Inputs that were refused are counted, and no other ones.
-pub fn refused_inputs_are_counted()
+    // Who wants to watch where eight do is told that.
+    ensures a_ninth_is_told { full_text ≡ codes "! 8 watch already\n" }
+    // Inputs that were refused are counted, and no other ones.
     ensures refused { (faults : Faults) → with_refused true (record faults { refused = 4 }) ≡ record faults { refused = 5 } }
     ensures taken { (faults : Faults) → with_refused false faults ≡ faults }
     ensures one_more { refusals true 4 ≡ 5 }
     ensures no_more { refusals false 4 ≡ 4 }
-{}
-
-/// Nothing failed at the start; what can't be received is counted, and nothing else.
-pub fn what_isnt_received_is_counted()
-    ensures none { faultless ≡ record { refused = 0; receive = 0; send = 0 } }
+    // Nothing failed at the start; what can't be received is counted, and nothing else.
+    ensures what_isnt_received_is_counted_none { faultless ≡ record { refused = 0; receive = 0; send = 0 } }
     ensures unreceived { (faults : Faults) → with_unreceived (record faults { receive = 4 }) ≡ record faults { receive = 5 } }
-{}
-
-/// A turn is the same where clocks said the same, and as much waits to be taken.
-pub fn a_turn_is_the_same_by_its_clocks()
+    // A turn is the same where clocks said the same, and as much waits to be taken.
     ensures now { (was is : Exchange ℕ) → IsSameTurn was is → is.now ≡ was.now }
     ensures waits { (was is : Exchange ℕ) → IsSameTurn was is → is.is_offering ≡ was.is_offering }
-{}
-
-/// Each address of a host may speak, and no other; of an agent its port doesn't matter.
-pub fn each_address_of_a_host_may_speak()
-    ensures first { may_speak (with_hosts nobody (host 7 ∷ host 8 ∷ [])) (host 7) ≡ true }
-    ensures second { may_speak (with_hosts nobody (host 7 ∷ host 8 ∷ [])) (host 8) ≡ true }
-    ensures other { may_speak (with_hosts nobody (host 7 ∷ host 8 ∷ [])) (host 9) ≡ false }
-    ensures none { may_speak (with_hosts nobody []) (host 7) ≡ false }
-    ensures named { may_speak (with_named (with_hosts nobody (host 7 ∷ [])) (record { name = []; route = Two (host 8) (host 9) })) (host 9) ≡ true }
+    // Each address of a host may speak, and no other; of an agent its port doesn't matter.
+    ensures each_address_of_a_host_may_speak_first { may_speak (with_hosts nobody (host 7 ∷ host 8 ∷ [])) (host 7) ≡ true }
+    ensures each_address_of_a_host_may_speak_second { may_speak (with_hosts nobody (host 7 ∷ host 8 ∷ [])) (host 8) ≡ true }
+    ensures each_address_of_a_host_may_speak_other { may_speak (with_hosts nobody (host 7 ∷ host 8 ∷ [])) (host 9) ≡ false }
+    ensures each_address_of_a_host_may_speak_none { may_speak (with_hosts nobody []) (host 7) ≡ false }
+    ensures named { may_speak (with_named (with_hosts nobody (host 7 ∷ [])) (record { name = []; route = Two (host 8) (host 9) }))
+        (host 9) ≡ true }
     ensures still { may_speak (with_named (with_hosts nobody (host 7 ∷ [])) (record { name = []; route = One (host 8) })) (host 7) ≡ true }
-    ensures portless { hosts_of (Two (at_port 7 2727) (at_port 8 2728)) ≡ Two (host 7) (host 8) }
-{}
-
-/// A gateway never hears itself: what has the address and the port of one of its sockets came from there. Of others it hears who may
-/// speak, and has a port.
-pub fn a_gateway_never_hears_itself()
+    ensures each_address_of_a_host_may_speak_portless { hosts_of (Two (at_port 7 2727) (at_port 8 2728)) ≡ Two (host 7) (host 8) }
+    // A gateway never hears itself: what has the address and the port of one of its sockets came from there. Of others it hears who may
+    // speak, and has a port.
     ensures itself { (admission : Admission) → is_heard (record admission { own = sockets }) (at_port 5 2427) ≡ false }
     ensures telephones { (admission : Admission) → is_heard (record admission { own = sockets }) (at_port 5 2428) ≡ false }
-    ensures other_port { (admission : Admission) → is_heard (record admission { own = sockets }) (at_port 5 2727)
+    ensures a_gateway_never_hears_itself_other_port { (admission : Admission) →
+        is_heard (record admission { own = sockets }) (at_port 5 2727)
         ≡ may_speak (admitted_by admission.speakers) (host 5) }
     ensures other_host { (admission : Admission) → is_heard (record admission { own = sockets }) (at_port 7 2427)
         ≡ may_speak (admitted_by admission.speakers) (host 7) }
-    ensures nothing { is_its_own [] (at_port 5 2427) ≡ false }
-    ensures portless { (admission : Admission) → is_heard (record admission { own = sockets }) (at_port 7 0) ≡ false }
-    ensures none { (admission : Admission) → heard_of (record admission { own = sockets })
+    ensures a_gateway_never_hears_itself_nothing { is_its_own [] (at_port 5 2427) ≡ false }
+    ensures a_gateway_never_hears_itself_portless { (admission : Admission) →
+        is_heard (record admission { own = sockets }) (at_port 7 0) ≡ false }
+    ensures a_gateway_never_hears_itself_none { (admission : Admission) → heard_of (record admission { own = sockets })
         (record { source = at_port 5 2427; bytes = 1 ∷ [] } ∷ record { source = at_port 7 0; bytes = 2 ∷ [] } ∷ []) ≡ [] }
-{}
-
-/// Datagrams come in at entries that say so, in their order, and at no other ones.
-pub fn datagrams_come_in_at_their_entries()
+    // Datagrams come in at entries that say so, in their order, and at no other ones.
     ensures arrived { (move : Move) (shown : Shown) → arrived_in (showed (arrived (at_port 7 2727) (1 ∷ 2 ∷ [])) move shown
         ∷ showed (typed (codes "show 1")) move shown ∷ showed (arrived (at_port 8 2728) []) move shown ∷ [])
         ≡ record { source = at_port 7 2727; bytes = 1 ∷ 2 ∷ [] } ∷ record { source = at_port 8 2728; bytes = [] } ∷ [] }
     ensures passed { (move : Move) (shown : Shown) → arrived_in (showed (passed 10) move shown ∷ []) ≡ [] }
     ensures became { (mark : Mark) → arrived_in (became mark 1 ∷ []) ≡ [] }
-{}
-
-/// What came is what the socket received, or where a bad network is before it, what that hands over.
-pub fn what_a_socket_receives_has_come()
+    // What came is what the socket received, or where a bad network is before it, what that hands over.
     ensures direct { (received : Option (List Received)) → received_by None received ≡ received }
     ensures spoilt { (way : Box SpoiltWay) (received : Option (List Received)) → received_by (Some way) received ≡ came_over way.value }
     ensures unkept { (way : SpoiltWay) → came_over (record way { came = None }) ≡ None }
     ensures source { came_from (record { to = at_port 7 2727; bytes = 1 ∷ [] }) ≡ record { source = at_port 7 2727; bytes = 1 ∷ [] } }
-{}
-
-/// A packet that comes in brings so much of its bytes as was put for it; one that goes out brings nothing.
-pub fn packets_that_come_in_bring_datagrams()
+    // A packet that comes in brings so much of its bytes as was put for it; one that goes out brings nothing.
     ensures incoming { (p : Packet) → brought (Some (record p { way = In; peer = at_port 7 2727 }, 2)) (1 ∷ 2 ∷ 3 ∷ [])
         ≡ record { source = at_port 7 2727; bytes = 1 ∷ 2 ∷ [] } ∷ [] }
     ensures outgoing { (p : Packet) → brought (Some (record p { way = Out }, 2)) (1 ∷ 2 ∷ 3 ∷ []) ≡ [] }
-    ensures none { brought None (1 ∷ []) ≡ [] }
-{}
-
-/// A socket at each address of a machine has sent what has its port and an address that no other machine has; who has another address
-/// may be an agent at the same port.
-pub fn a_socket_at_each_address_sends_from_the_loopback()
-    ensures first { is_its_own (anywhere 2427 ∷ []) (looped 1 2427) ≡ true }
+    ensures packets_that_come_in_bring_datagrams_none { brought None (1 ∷ []) ≡ [] }
+    // A socket at each address of a machine has sent what has its port and an address that no other machine has; who has another address
+    // may be an agent at the same port.
+    ensures a_socket_at_each_address_sends_from_the_loopback_first { is_its_own (anywhere 2427 ∷ []) (looped 1 2427) ≡ true }
     ensures another { is_its_own (anywhere 2427 ∷ []) (looped 9 2427) ≡ true }
-    ensures other_port { is_its_own (anywhere 2427 ∷ []) (looped 1 2727) ≡ false }
+    ensures a_socket_at_each_address_sends_from_the_loopback_other_port { is_its_own (anywhere 2427 ∷ []) (looped 1 2727) ≡ false }
     ensures an_agent { is_its_own (anywhere 2427 ∷ []) (at_port 7 2427) ≡ false }
     ensures at_one { is_its_own sockets (looped 1 2427) ≡ false }
-{}
-
-/// Who is at this machine may type anything; who isn't is a stranger, unless the telephones are open; nobody is the page.
-pub fn who_types_is_known_by_the_address()
+    // Who is at this machine may type anything; who isn't is a stranger, unless the telephones are open; nobody is the page.
     ensures here { typist_of true false false ≡ Here }
     ensures here_where_open { typist_of true false true ≡ Here }
-    ensures afar { typist_of false true false ≡ Stranger }
+    ensures who_types_is_known_by_the_address_afar { typist_of false true false ≡ Stranger }
     ensures afar_where_open { typist_of false true true ≡ Elsewhere }
     ensures page { typist_of false false false ≡ Elsewhere }
-{}
-
-/// A word names each address once, in the order in which they come, and commas part them.
-pub fn a_word_names_each_address_once()
-    ensures first { listed [] (codes "10.0.0.7") ≡ codes "10.0.0.7" }
-    ensures second { listed (codes "10.0.0.7") (codes "10.0.0.8") ≡ codes "10.0.0.7,10.0.0.8" }
+    // A word names each address once, in the order in which they come, and commas part them.
+    ensures a_word_names_each_address_once_first { listed [] (codes "10.0.0.7") ≡ codes "10.0.0.7" }
+    ensures a_word_names_each_address_once_second { listed (codes "10.0.0.7") (codes "10.0.0.8") ≡ codes "10.0.0.7,10.0.0.8" }
     ensures again { (with_all no_word (host 7 ∷ host 8 ∷ host 7 ∷ [])).text ≡ codes "10.0.0.7,10.0.0.8" }
     ensures route { (with_each no_word (record { name = []; route = Two (host 8) (host 9) })).text ≡ codes "10.0.0.8,10.0.0.9" }
-    ensures none { (with_all no_word []).text ≡ [] }
-{}
-
-/// The page is shown each count as it is kept.
-pub fn the_page_is_shown_what_is_counted()
+    ensures a_word_names_each_address_once_none { (with_all no_word []).text ≡ [] }
+    // The page is shown each count as it is kept.
     ensures traffic { (counts : Counted) (tally : MessageTally) → (with_traffic counts (record tally {
       datagrams_in = 1;
       datagrams_out = 2;
@@ -198,6 +163,7 @@ pub fn the_page_is_shown_what_is_counted()
       sends = 1 ∷ 2 ∷ 3 ∷ 4 ∷ 5 ∷ [];
     } }
     ensures faults { (counts : Counted) (journal : Journal) →
-        with_faults counts (record { refused = 8; receive = 9; send = 10 }) (record journal { written = record journal.written { dropped = 11 } })
+        with_faults counts (record { refused = 8; receive = 9; send = 10 })
+        (record journal { written = record journal.written { dropped = 11 } })
         ≡ record counts { refused = 8; receive_faults = 9; send_faults = 10; dropped_lines = 11 } }
 {}

@@ -19,10 +19,11 @@ ghost use Rattle.live_page.specs.Example.{here, at_port, elsewhere, anywhere, on
 ghost use Rattle.live_page.specs.declared.asked.Asked.TheVariants.{Strange, Reading, Acting, Forbidden, Unsuited, Missing};
 ghost use Rattle.live_page.specs.declared.route.Route.TheVariants.{Page, Style, Script, State, Metrics, Health, Ready, Events, Phone, Nothing};
 
-/// A host is known by the address and the port that the page listens at, and on the loopback by the name localhost.
-pub fn a_host_is_known_by_its_address()
-    ensures address { is_known_host here (codes "127.0.0.1:8080") ≡ true }
-    ensures name { is_known_host here (codes "localhost:8080") ≡ true }
+/// Each sentence at an example.
+pub fn each_sentence_has_an_example()
+    // A host is known by the address and the port that the page listens at, and on the loopback by the name localhost.
+    ensures a_host_is_known_by_its_address_address { is_known_host here (codes "127.0.0.1:8080") ≡ true }
+    ensures a_host_is_known_by_its_address_name { is_known_host here (codes "localhost:8080") ≡ true }
     ensures other_address { is_known_host here (codes "127.0.0.2:8080") ≡ false }
     ensures other_port { is_known_host here (codes "127.0.0.1:8081") ≡ false }
     ensures no_port { is_known_host here (codes "127.0.0.1") ≡ false }
@@ -30,25 +31,21 @@ pub fn a_host_is_known_by_its_address()
     ensures other_name { is_known_host here (codes "rgw.example.net:8080") ≡ false }
     ensures within_a_name { is_known_host here (codes "127.0.0.1.example.net:8080") ≡ false }
     ensures within_localhost { is_known_host here (codes "localhost.example.net:8080") ≡ false }
-    ensures nothing { is_known_host here [] ≡ false }
+    ensures a_host_is_known_by_its_address_nothing { is_known_host here [] ≡ false }
     ensures another { is_known_host elsewhere (codes "192.168.1.5:8080") ≡ true }
     ensures not_its_loopback { is_known_host elsewhere (codes "localhost:8080") ≡ false }
     ensures everywhere { is_known_host anywhere (codes "0.0.0.0:8080") ≡ false }
     ensures everywhere_by_name { is_known_host anywhere (codes "localhost:8080") ≡ false }
-{}
-
-/// Where no port stands it is 80.
-pub fn the_port_is_80_where_none_stands()
-    ensures address { is_known_host (at_port 80) (codes "127.0.0.1") ≡ true }
-    ensures name { is_known_host (at_port 80) (codes "localhost") ≡ true }
+    // Where no port stands it is 80.
+    ensures the_port_is_80_where_none_stands_address { is_known_host (at_port 80) (codes "127.0.0.1") ≡ true }
+    ensures the_port_is_80_where_none_stands_name { is_known_host (at_port 80) (codes "localhost") ≡ true }
     ensures both { is_known_host (at_port 80) (codes "127.0.0.1:80") ≡ true }
-    ensures other { is_known_host (at_port 81) (codes "127.0.0.1") ≡ false }
-{}
-
-/// An origin is that of a page at this address, where it is the known host's own.
-pub fn an_origin_is_the_known_hosts_own()
-    ensures address { is_same_origin here (once (codes "127.0.0.1:8080")) (once (codes "http://127.0.0.1:8080")) ≡ true }
-    ensures name { is_same_origin here (once (codes "localhost:8080")) (once (codes "http://localhost:8080")) ≡ true }
+    ensures the_port_is_80_where_none_stands_other { is_known_host (at_port 81) (codes "127.0.0.1") ≡ false }
+    // An origin is that of a page at this address, where it is the known host's own.
+    ensures an_origin_is_the_known_hosts_own_address { is_same_origin here (once (codes "127.0.0.1:8080"))
+        (once (codes "http://127.0.0.1:8080")) ≡ true }
+    ensures an_origin_is_the_known_hosts_own_name { is_same_origin here (once (codes "localhost:8080"))
+        (once (codes "http://localhost:8080")) ≡ true }
     ensures of_another_name { is_same_origin here (once (codes "127.0.0.1:8080")) (once (codes "http://localhost:8080")) ≡ false }
     ensures of_another_page { is_same_origin here (once (codes "127.0.0.1:8080")) (once (codes "http://evil.example")) ≡ false }
     ensures of_another_port { is_same_origin here (once (codes "127.0.0.1:8080")) (once (codes "http://127.0.0.1:80801")) ≡ false }
@@ -56,137 +53,105 @@ pub fn an_origin_is_the_known_hosts_own()
     ensures of_another_scheme { is_same_origin here (once (codes "127.0.0.1:8080")) (once (codes "https://127.0.0.1:8080")) ≡ false }
     ensures without_a_scheme { is_same_origin here (once (codes "127.0.0.1:8080")) (once (codes "127.0.0.1:8080")) ≡ false }
     ensures hidden { is_same_origin here (once (codes "127.0.0.1:8080")) (once (codes "null")) ≡ false }
-    ensures none { is_same_origin here (once (codes "127.0.0.1:8080")) None ≡ false }
+    ensures an_origin_is_the_known_hosts_own_none { is_same_origin here (once (codes "127.0.0.1:8080")) None ≡ false }
     ensures no_host { is_same_origin here None (once (codes "http://127.0.0.1:8080")) ≡ false }
     ensures rebound { is_same_origin here (once (codes "evil.example:8080")) (once (codes "http://evil.example:8080")) ≡ false }
-{}
-
-/// A field counts where it stands there once.
-pub fn a_field_counts_where_it_stands_once()
-    ensures none { only (codes "") ≡ None }
+    // A field counts where it stands there once.
+    ensures a_field_counts_where_it_stands_once_none { only (codes "") ≡ None }
     ensures one { only (codes "a") ≡ Some 97 }
-    ensures two { only (codes "aa") ≡ None }
-{}
-
-/// Content is JSON where it says just so.
-pub fn content_is_json_where_it_says_so()
+    ensures a_field_counts_where_it_stands_once_two { only (codes "aa") ≡ None }
+    // Content is JSON where it says just so.
     ensures json { is_json (once (codes "application/json")) ≡ true }
     ensures form { is_json (once (codes "application/x-www-form-urlencoded")) ≡ false }
     ensures parts { is_json (once (codes "multipart/form-data")) ≡ false }
     ensures text { is_json (once (codes "text/plain")) ≡ false }
     ensures more { is_json (once (codes "application/json; charset=utf-8")) ≡ false }
-    ensures none { is_json None ≡ false }
-{}
-
-/// What stands at each path.
-pub fn paths_lead_somewhere()
+    ensures content_is_json_where_it_says_so_none { is_json None ≡ false }
+    // What stands at each path.
     ensures page { route_of (codes "/") None ≡ Page }
     ensures style { route_of (codes "/page.css") None ≡ Style }
     ensures script { route_of (codes "/page.js") None ≡ Script }
-    ensures state { route_of (codes "/state") None ≡ State }
-    ensures metrics { route_of (codes "/metrics") None ≡ Metrics }
+    ensures paths_lead_somewhere_state { route_of (codes "/state") None ≡ State }
+    ensures paths_lead_somewhere_metrics { route_of (codes "/metrics") None ≡ Metrics }
     ensures health { route_of (codes "/healthz") None ≡ Health }
-    ensures ready { route_of (codes "/readyz") None ≡ Ready }
+    ensures paths_lead_somewhere_ready { route_of (codes "/readyz") None ≡ Ready }
     ensures phone { route_of (codes "/phone") None ≡ Phone }
     ensures all { route_of (codes "/events") None ≡ Events 0 }
     ensures some { route_of (codes "/events") (Some (codes "after=12")) ≡ Events 12 }
     ensures no_number { route_of (codes "/events") (Some (codes "after=")) ≡ Nothing }
     ensures no_digit { route_of (codes "/events") (Some (codes "after=x")) ≡ Nothing }
-    ensures other { route_of (codes "/events") (Some (codes "before=1")) ≡ Nothing }
+    ensures paths_lead_somewhere_other { route_of (codes "/events") (Some (codes "before=1")) ≡ Nothing }
     ensures below { route_of (codes "/page.js/") None ≡ Nothing }
-    ensures nothing { route_of [] None ≡ Nothing }
-{}
-
-/// Further names are of letters, digits, `-` and `.`, in any case, and any port is theirs.
-pub fn further_names_are_known()
-    ensures two { names_in (codes "rgw, 10.0.0.5") ≡ Some (codes "rgw" ∷ codes "10.0.0.5" ∷ []) }
+    ensures paths_lead_somewhere_nothing { route_of [] None ≡ Nothing }
+    // Further names are of letters, digits, `-` and `.`, in any case, and any port is theirs.
+    ensures further_names_are_known_two { names_in (codes "rgw, 10.0.0.5") ≡ Some (codes "rgw" ∷ codes "10.0.0.5" ∷ []) }
     ensures hyphen { names_in (codes "rgw-0.rgw") ≡ Some (codes "rgw-0.rgw" ∷ []) }
     ensures empty { names_in (codes "") ≡ None }
     ensures no_second { names_in (codes "rgw,") ≡ None }
     ensures with_a_port { names_in (codes "rgw:8080") ≡ None }
-    ensures other_byte { names_in (codes "rgw_0") ≡ None }
+    ensures further_names_are_known_other_byte { names_in (codes "rgw_0") ≡ None }
     ensures known { is_named (codes "a" ∷ codes "rgw" ∷ []) (codes "RGW:80") ≡ true }
     ensures portless { is_named (codes "rgw" ∷ []) (codes "rgw") ≡ true }
-    ensures other { is_named (codes "rgw" ∷ []) (codes "rgw.example:80") ≡ false }
-    ensures none { is_named [] (codes "rgw") ≡ false }
-{}
-
-/// Whether it is well is told in a line.
-pub fn wellness_is_told_in_a_line()
+    ensures further_names_are_known_other { is_named (codes "rgw" ∷ []) (codes "rgw.example:80") ≡ false }
+    ensures further_names_are_known_none { is_named [] (codes "rgw") ≡ false }
+    // Whether it is well is told in a line.
     ensures alive { alive_text true ≡ codes "ok\n" }
-    ensures behind { alive_text false ≡ codes "the clock is behind\n" }
-    ensures ready { ready_text true ≡ codes "ready\n" }
+    ensures wellness_is_told_in_a_line_behind { alive_text false ≡ codes "the clock is behind\n" }
+    ensures wellness_is_told_in_a_line_ready { ready_text true ≡ codes "ready\n" }
     ensures not_ready { ready_text false ≡ codes "no agent has answered yet\n" }
-{}
-
-/// What is read, refused and done has its status, and who asks by the wrong method is told the right one.
-pub fn answers_have_their_status()
-    ensures read { map (reading_status false false) (Page ∷ Style ∷ Script ∷ State ∷ Metrics ∷ Events 5 ∷ []) ≡ 200 ∷ 200 ∷ 200 ∷ 200 ∷ 200 ∷ 200 ∷ [] }
+    // What is read, refused and done has its status, and who asks by the wrong method is told the right one.
+    ensures read { map (reading_status false false) (Page ∷ Style ∷ Script ∷ State ∷ Metrics ∷ Events 5 ∷ [])
+        ≡ 200 ∷ 200 ∷ 200 ∷ 200 ∷ 200 ∷ 200 ∷ [] }
     ensures not_there { map (reading_status true true) (Phone ∷ Nothing ∷ []) ≡ 404 ∷ 404 ∷ [] }
     ensures well { map (reading_status true true) (Health ∷ Ready ∷ []) ≡ 200 ∷ 200 ∷ [] }
     ensures not_serving { map (reading_status true false) (Health ∷ Ready ∷ []) ≡ 200 ∷ 503 ∷ [] }
-    ensures behind { map (reading_status false true) (Health ∷ Ready ∷ []) ≡ 503 ∷ 200 ∷ [] }
+    ensures answers_have_their_status_behind { map (reading_status false true) (Health ∷ Ready ∷ []) ≡ 503 ∷ 200 ∷ [] }
     ensures refused { map refusal_status (Strange ∷ Forbidden ∷ Unsuited true ∷ Missing ∷ []) ≡ 421 ∷ 403 ∷ 405 ∷ 404 ∷ [] }
     ensures refusals { map is_refused (Strange ∷ Forbidden ∷ Unsuited true ∷ Missing ∷ []) ≡ true ∷ true ∷ true ∷ true ∷ [] }
-    ensures others { map is_refused (Reading Page ∷ Acting ∷ []) ≡ false ∷ false ∷ [] }
+    ensures answers_have_their_status_others { map is_refused (Reading Page ∷ Acting ∷ []) ≡ false ∷ false ∷ [] }
     ensures posts { refusal_fields (Unsuited true) ≡ (codes "allow", codes "POST") ∷ [] }
     ensures gets { refusal_fields (Unsuited false) ≡ (codes "allow", codes "GET") ∷ [] }
     ensures bare { map refusal_fields (Strange ∷ Forbidden ∷ Missing ∷ []) ≡ [] ∷ [] ∷ [] ∷ [] }
     ensures done { map outcome_status (Queued ∷ NoRoom ∷ Unreadable ∷ []) ≡ 202 ∷ 503 ∷ 400 ∷ [] }
-{}
-
-/// Who comes gets the first free place; where none is free whoever was idle longest gives way, and of two alike the first.
-pub fn who_was_idle_longest_gives_way()
-    ensures free { place_for (mine 5 ∷ None ∷ None ∷ []) other_host ≡ Some 1 }
+    // Who comes gets the first free place; where none is free whoever was idle longest gives way, and of two alike the first.
+    ensures who_was_idle_longest_gives_way_free { place_for (mine 5 ∷ None ∷ None ∷ []) other_host ≡ Some 1 }
     ensures longest { place_for (mine 30 ∷ theirs 10 ∷ mine 20 ∷ []) this_host ≡ Some 1 }
     ensures at_once { place_for (mine 10 ∷ theirs 30 ∷ mine 20 ∷ []) third_host ≡ Some 0 }
     ensures alike { place_for (mine 30 ∷ theirs 10 ∷ mine 10 ∷ []) third_host ≡ Some 1 }
     ensures last { place_for (mine 30 ∷ theirs 20 ∷ mine 10 ∷ []) third_host ≡ Some 2 }
     ensures sixteen { place_for (eight ++ other_eight) third_host ≡ Some 11 }
     ensures no_place { place_for [] this_host ≡ None }
-{}
-
-/// Eight of one address: one more of them takes the place of its own who was idle longest, though another place is free or
-/// another visitor was idle longer.
-pub fn an_address_has_at_most_eight()
+    // Eight of one address: one more of them takes the place of its own who was idle longest, though another place is free or
+    // another visitor was idle longer.
     ensures seventh { place_for (None ∷ seven) this_host ≡ Some 0 }
     ensures own { place_for (None ∷ eight) this_host ≡ Some 1 }
     ensures own_idlest { place_for (eight ++ theirs 1 ∷ None ∷ []) this_host ≡ Some 0 }
     ensures of_another { place_for (eight ++ None ∷ []) other_host ≡ Some 8 }
-    ensures others { place_for (eight ++ other_eight) other_host ≡ Some 11 }
-    ensures other_byte { place_for (other_eight ++ None ∷ []) third_host ≡ Some 8 }
+    ensures an_address_has_at_most_eight_others { place_for (eight ++ other_eight) other_host ≡ Some 11 }
+    ensures an_address_has_at_most_eight_other_byte { place_for (other_eight ++ None ∷ []) third_host ≡ Some 8 }
     ensures room { room_from 8 this_host (mine 1 ∷ theirs 2 ∷ None ∷ mine 3 ∷ []) ≡ 6 }
     ensures none_left { room_from 8 this_host (mine 1 ∷ eight) ≡ 0 }
-    ensures nobody { idlest (Some other_host) seven ≡ None }
+    ensures an_address_has_at_most_eight_nobody { idlest (Some other_host) seven ≡ None }
     // Who comes sits there from that moment on, and the others where they sat.
     ensures seated { seated (mine 5 ∷ None ∷ theirs 2 ∷ []) other_host 70 ≡ mine 5 ∷ theirs 70 ∷ theirs 2 ∷ [] }
     ensures unseated { seated [] this_host 70 ≡ [] }
     ensures held { held_by this_host (mine 1 ∷ theirs 2 ∷ None ∷ mine 3 ∷ []) ≡ 2 }
     ensures places { MOST_VISITORS ≡ 16 }
-{}
-
-/// Of those who are waited for it is the first whose time is over.
-pub fn the_first_is_waited_for()
-    ensures first { sooner (Some 20) (Some 10) ≡ Some 10 }
+    // Of those who are waited for it is the first whose time is over.
+    ensures the_first_is_waited_for_first { sooner (Some 20) (Some 10) ≡ Some 10 }
     ensures before { sooner (Some 10) (Some 20) ≡ Some 10 }
     ensures nobody_before { sooner None (Some 20) ≡ Some 20 }
-    ensures free { sooner (Some 20) None ≡ Some 20 }
-    ensures nobody { soonest_from None (None ∷ None ∷ []) ≡ None }
-{}
-
-/// Whose time is over at this very ms goes, and nobody before.
-pub fn who_is_late_goes()
+    ensures the_first_is_waited_for_free { sooner (Some 20) None ≡ Some 20 }
+    ensures the_first_is_waited_for_nobody { soonest_from None (None ∷ None ∷ []) ≡ None }
+    // Whose time is over at this very ms goes, and nobody before.
     ensures late { (visitor : Box Visitor) → visitor.value.deadline ≡ 15000 → is_late 15000 (Some visitor) ≡ true }
     ensures not_yet { (visitor : Box Visitor) → visitor.value.deadline ≡ 15000 → is_late 14999 (Some visitor) ≡ false }
-    ensures nobody { is_late 15000 None ≡ false }
+    ensures who_is_late_goes_nobody { is_late 15000 None ≡ false }
     ensures goes { (visitor : Box Visitor) → visitor.value.deadline ≡ 15000 → stays_at 15000 (Some visitor) ≡ None }
     ensures stays { (visitor : Box Visitor) → visitor.value.deadline ≡ 15000 → stays_at 14999 (Some visitor) ≡ Some visitor }
-    ensures first { (one other : Box Visitor) → one.value.deadline ≡ 20 → other.value.deadline ≡ 10 →
+    ensures who_is_late_goes_first { (one other : Box Visitor) → one.value.deadline ≡ 20 → other.value.deadline ≡ 10 →
         soonest_from None (Some one ∷ None ∷ Some other ∷ []) ≡ Some 10 }
-{}
-
-/// Of those who have more to do the first behind the last has its turn; behind all of them the first, and at last the same again.
-pub fn visitors_have_their_turns()
+    // Of those who have more to do the first behind the last has its turn; behind all of them the first, and at last the same again.
     ensures next { (one two three : Box Visitor) → two.value.has_turn ≡ true →
         next_turn 0 (Some one ∷ Some two ∷ Some three ∷ []) ≡ Some 1 }
     ensures passed_over { (one two three : Box Visitor) → two.value.has_turn ≡ false → three.value.has_turn ≡ true →
@@ -194,11 +159,9 @@ pub fn visitors_have_their_turns()
     ensures again { (one two three : Box Visitor) → one.value.has_turn ≡ true →
         next_turn 2 (Some one ∷ Some two ∷ Some three ∷ []) ≡ Some 0 }
     ensures itself { (one : Box Visitor) → one.value.has_turn ≡ true → next_turn 1 (None ∷ Some one ∷ None ∷ []) ≡ Some 1 }
-    ensures nobody { (one : Box Visitor) → one.value.has_turn ≡ false → next_turn 0 (None ∷ Some one ∷ []) ≡ None }
-{}
-
-/// What is read says of what kind it is, and what a browser may make of it; what isn't there says nothing.
-pub fn what_is_read_says_its_kind()
+    ensures visitors_have_their_turns_nobody { (one : Box Visitor) → one.value.has_turn ≡ false → next_turn 0 (None ∷ Some one ∷ [])
+        ≡ None }
+    // What is read says of what kind it is, and what a browser may make of it; what isn't there says nothing.
     ensures kinds { map kind_of (contents.Page ∷ contents.Style ∷ contents.Script ∷ contents.Json ∷ contents.Metrics ∷ [])
         ≡ codes "text/html; charset=utf-8" ∷ codes "text/css; charset=utf-8" ∷ codes "text/javascript; charset=utf-8"
         ∷ codes "application/json" ∷ codes "text/plain; version=0.0.4; charset=utf-8" ∷ [] }
@@ -206,12 +169,12 @@ pub fn what_is_read_says_its_kind()
         ∷ (codes "cache-control", codes "no-store") ∷ (codes "x-content-type-options", codes "nosniff")
         ∷ (codes "x-frame-options", codes "DENY") ∷ (codes "referrer-policy", codes "no-referrer")
         ∷ (codes "content-security-policy", policy) ∷ [] }
-    ensures state { fields_at State ≡ kind_fields contents.Json }
+    ensures what_is_read_says_its_kind_state { fields_at State ≡ kind_fields contents.Json }
     ensures events { fields_at (Events 5) ≡ kind_fields contents.Json }
-    ensures metrics { fields_at Metrics ≡ kind_fields contents.Metrics }
+    ensures what_is_read_says_its_kind_metrics { fields_at Metrics ≡ kind_fields contents.Metrics }
     ensures wellness { map fields_at (Health ∷ Ready ∷ []) ≡ kind_fields contents.Plain ∷ kind_fields contents.Plain ∷ [] }
     ensures plain { kind_of contents.Plain ≡ codes "text/plain; charset=utf-8" }
     ensures files { map fields_at (Page ∷ Style ∷ Script ∷ [])
         ≡ kind_fields contents.Page ∷ kind_fields contents.Style ∷ kind_fields contents.Script ∷ [] }
-    ensures none { map fields_at (Phone ∷ Nothing ∷ []) ≡ [] ∷ [] ∷ [] }
+    ensures what_is_read_says_its_kind_none { map fields_at (Phone ∷ Nothing ∷ []) ≡ [] ∷ [] ∷ [] }
 {}

@@ -25,23 +25,21 @@ use digit_map::MapChange;
 use mg_packages::{Hook, Signal};
 use timers::LineDue;
 
-/// On hook the handset can only be lifted; off hook it can do all else.
-pub fn the_hook_state_allows_acts()
+/// Each sentence at an example.
+pub fn each_sentence_has_an_example()
+    // On hook the handset can only be lifted; off hook it can do all else.
     ensures lift { is_possible Hook.OnHook Act.OffHook ≡ true }
     ensures put_back_twice { is_possible Hook.OnHook Act.OnHook ≡ false }
     ensures flash_on_hook { is_possible Hook.OnHook Act.Flash ≡ false }
     ensures key_on_hook { is_possible Hook.OnHook (Act.Key Key.Zero) ≡ false }
     ensures lift_twice { is_possible Hook.OffHook Act.OffHook ≡ false }
     ensures put_back { is_possible Hook.OffHook Act.OnHook ≡ true }
-    ensures flash { is_possible Hook.OffHook Act.Flash ≡ true }
-    ensures key { is_possible Hook.OffHook (Act.Key Key.D) ≡ true }
-{}
-
-/// Each act is an event; that of a key is its letter.
-pub fn acts_are_events()
-    ensures off { observed_at Act.OffHook ≡ Happened event.OffHook }
-    ensures on { observed_at Act.OnHook ≡ Happened event.OnHook }
-    ensures flash { observed_at Act.Flash ≡ Happened event.Flash }
+    ensures the_hook_state_allows_acts_flash { is_possible Hook.OffHook Act.Flash ≡ true }
+    ensures the_hook_state_allows_acts_key { is_possible Hook.OffHook (Act.Key Key.D) ≡ true }
+    // Each act is an event; that of a key is its letter.
+    ensures acts_are_events_off { observed_at Act.OffHook ≡ Happened event.OffHook }
+    ensures acts_are_events_on { observed_at Act.OnHook ≡ Happened event.OnHook }
+    ensures acts_are_events_flash { observed_at Act.Flash ≡ Happened event.Flash }
     ensures zero { observed_at (Act.Key Key.Zero) ≡ Happened (event.Letter letter.Zero) }
     ensures one { observed_at (Act.Key Key.One) ≡ Happened (event.Letter letter.One) }
     ensures two { observed_at (Act.Key Key.Two) ≡ Happened (event.Letter letter.Two) }
@@ -58,49 +56,38 @@ pub fn acts_are_events()
     ensures b { observed_at (Act.Key Key.B) ≡ Happened (event.Letter letter.B) }
     ensures c { observed_at (Act.Key Key.C) ≡ Happened (event.Letter letter.C) }
     ensures d { observed_at (Act.Key Key.D) ≡ Happened (event.Letter letter.D) }
-{}
-
-/// First the hook state changes, and the signals stop that can't be asked for in it; then the event is detected. A flash
-/// and a key leave both.
-pub fn an_act_changes_the_hook_first()
-    ensures off { phoned (record ready_line { signals = until 181000 Signal.Ringing ∷ endless Signal.MessageWaiting ∷ [] }) Act.OffHook 1000
+    // First the hook state changes, and the signals stop that can't be asked for in it; then the event is detected. A flash
+    // and a key leave both.
+    ensures an_act_changes_the_hook_first_off { phoned (record ready_line
+        { signals = until 181000 Signal.Ringing ∷ endless Signal.MessageWaiting ∷ [] }) Act.OffHook 1000
         ≡ detected (record ready_line { hook = Hook.OffHook; signals = one_signal }) lifted 1000 }
-    ensures on { phoned busy Act.OnHook 1000
+    ensures an_act_changes_the_hook_first_on { phoned busy Act.OnHook 1000
         ≡ detected (record busy { hook = Hook.OnHook; signals = one_signal }) put_back 1000 }
-    ensures flash { phoned busy Act.Flash 1000 ≡ detected busy flashed 1000 }
-    ensures key { phoned busy (Act.Key Key.One) 1000 ≡ detected busy one_pressed 1000 }
+    ensures an_act_changes_the_hook_first_flash { phoned busy Act.Flash 1000 ≡ detected busy flashed 1000 }
+    ensures an_act_changes_the_hook_first_key { phoned busy (Act.Key Key.One) 1000 ≡ detected busy one_pressed 1000 }
     ensures quarantined { (phoned (record busy { state = State.Lockstep }) Act.OnHook 1000).line.signals ≡ one_signal }
-{}
-
-/// An act is heeded whose event does something, where events occur.
-pub fn acts_that_matter_are_heeded()
-    ensures off { is_heeded ready_line Act.OffHook ≡ true }
-    ensures on { is_heeded busy Act.OnHook ≡ true }
+    // An act is heeded whose event does something, where events occur.
+    ensures acts_that_matter_are_heeded_off { is_heeded ready_line Act.OffHook ≡ true }
+    ensures acts_that_matter_are_heeded_on { is_heeded busy Act.OnHook ≡ true }
     ensures ignored_on { is_heeded (busy_with (codes "L/hu(I)")) Act.OnHook ≡ false }
-    ensures flash { is_heeded busy Act.Flash ≡ true }
+    ensures acts_that_matter_are_heeded_flash { is_heeded busy Act.Flash ≡ true }
     ensures ignored_flash { is_heeded (busy_with (codes "L/hf(I)")) Act.Flash ≡ false }
-    ensures key { is_heeded busy (Act.Key Key.One) ≡ true }
+    ensures acts_that_matter_are_heeded_key { is_heeded busy (Act.Key Key.One) ≡ true }
     ensures unnamed_key { is_heeded (busy_with (codes "D/2(N)")) (Act.Key Key.One) ≡ false }
     ensures key_by_t { is_heeded (record busy { requests = in_force [] (codes "D/1") }) (Act.Key Key.One) ≡ false }
     ensures quarantined_key { is_heeded (record busy { state = State.Notification }) (Act.Key Key.One) ≡ false }
     ensures quarantined_hook { is_heeded (record busy { state = State.Lockstep }) Act.OnHook ≡ false }
-    ensures opening { is_heeded opening_line Act.OffHook ≡ false }
-{}
-
-/// Without D the digit map stays, an empty D removes it, and another D replaces it.
-pub fn a_request_changes_the_digit_map()
+    ensures acts_that_matter_are_heeded_opening { is_heeded opening_line Act.OffHook ≡ false }
+    // Without D the digit map stays, an empty D removes it, and another D replaces it.
     ensures keep { map_after MapChange.Keep (Some (codes "1x")) ≡ Some (codes "1x") }
     ensures keep_none { map_after MapChange.Keep None ≡ None }
     ensures remove { map_after MapChange.Remove (Some (codes "1x")) ≡ None }
     ensures replace { map_after (MapChange.Replace (codes "2x")) (Some (codes "1x")) ≡ Some (codes "2x") }
-    ensures first { map_after (MapChange.Replace (codes "2x")) None ≡ Some (codes "2x") }
-{}
-
-/// The action D without a digit map is 519, in an embedded request too; only then comes the first signal that the hook
-/// state forbids: 401 off hook, and 402 on hook.
-pub fn a_line_refuses_requests()
+    ensures a_request_changes_the_digit_map_first { map_after (MapChange.Replace (codes "2x")) None ≡ Some (codes "2x") }
+    // The action D without a digit map is 519, in an embedded request too; only then comes the first signal that the hook
+    // state forbids: 401 off hook, and 402 on hook.
     ensures no_map { refusal_of ready_line (requests (codes "A1") (codes "D/X(D)")) ≡ Some 519 }
-    ensures map { refusal_of ready_line (with_map (codes "1x") (requests (codes "A1") (codes "D/X(D)"))) ≡ None }
+    ensures a_line_refuses_requests_map { refusal_of ready_line (with_map (codes "1x") (requests (codes "A1") (codes "D/X(D)"))) ≡ None }
     ensures map_before { refusal_of busy (requests (codes "A1") (codes "D/X(D)")) ≡ None }
     ensures map_removed { refusal_of busy (without_map (requests (codes "A1") (codes "D/X(D)"))) ≡ Some 519 }
     ensures no_dial { refusal_of ready_line (requests (codes "A1") (codes "D/X(N)")) ≡ None }
@@ -112,12 +99,9 @@ pub fn a_line_refuses_requests()
     ensures second { refusal_of busy (with_signals (codes "L/dl,L/rg") (requests (codes "A1") [])) ≡ Some 401 }
     ensures map_first { refusal_of ready_line (with_signals (codes "L/dl") (requests (codes "A1") (codes "D/X(D)")))
         ≡ Some 519 }
-    ensures nothing { refusal_of ready_line (requests (codes "A1") []) ≡ None }
-{}
-
-/// A request replaces what was asked for, and what was accumulated and dialled is dropped. Quarantined events are kept, or
-/// with discard dropped; the count of the lost stays.
-pub fn a_request_replaces_what_was_asked_for()
+    ensures a_line_refuses_requests_nothing { refusal_of ready_line (requests (codes "A1") []) ≡ None }
+    // A request replaces what was asked for, and what was accumulated and dialled is dropped. Quarantined events are kept, or
+    // with discard dropped; the count of the lost stays.
     ensures all { replaced busy (with_signals (codes "L/bz") (with_detected (codes "L/hf") (requests (codes "B2") (codes "L/hu(A)")))) 1000
         ≡ record busy {
           identifier = codes "B2";
@@ -128,7 +112,7 @@ pub fn a_request_replaces_what_was_asked_for()
           timer = None;
           signals = until 31000 Signal.Busy ∷ endless Signal.MessageWaiting ∷ [];
         } }
-    ensures map { replaced busy (with_map (codes "5x") (requests (codes "B2") [])) 1000
+    ensures a_request_replaces_what_was_asked_for_map { replaced busy (with_map (codes "5x") (requests (codes "B2") [])) 1000
         ≡ record (replaced busy (requests (codes "B2") []) 1000) { digit_map = Some (codes "5x") } }
     ensures discard { replaced busy (with_handling (codes "discard") (requests (codes "B2") [])) 1000
         ≡ record (replaced busy (requests (codes "B2") []) 1000) {
@@ -137,10 +121,7 @@ pub fn a_request_replaces_what_was_asked_for()
         } }
     ensures named { (replaced busy (with_signals (codes "L/dl(to=5)") (requests (codes "B2") [])) 2000).signals
         ≡ two_signals }
-{}
-
-/// During a notification it is remembered that a request came; else events occur from now on, the quarantined ones first.
-pub fn a_request_lets_events_occur()
+    // During a notification it is remembered that a request came; else events occur from now on, the quarantined ones first.
     ensures notification { asked (record busy { state = State.Notification; renewed = false })
         (requests (codes "B2") (codes "L/all(A)")) 1000
         ≡ still (record (replaced busy (requests (codes "B2") (codes "L/all(A)")) 1000) { state = State.Notification; renewed = true }) }
@@ -148,11 +129,8 @@ pub fn a_request_lets_events_occur()
         ≡ drained (replaced busy (requests (codes "B2") (codes "L/all(A)")) 1000) 1000 }
     ensures normal { asked busy (requests (codes "B2") (codes "L/all(A)")) 1000
         ≡ drained (replaced busy (requests (codes "B2") (codes "L/all(A)")) 1000) 1000 }
-{}
-
-/// After the answer events occur in loop, and in step where a request came since the notification began; else the line
-/// waits for a request.
-pub fn an_answer_lets_events_occur()
+    // After the answer events occur in loop, and in step where a request came since the notification began; else the line
+    // waits for a request.
     ensures loop_alone { answered (record busy { state = State.Notification; renewed = false }) 1000
         ≡ drained (record busy { renewed = false }) 1000 }
     ensures renewed { answered (record busy {
@@ -170,25 +148,20 @@ pub fn an_answer_lets_events_occur()
           state = State.Lockstep;
           renewed = false;
         }) }
-{}
-
-/// The earliest end falls due first, and timer T at one moment with a signal; of signals the first of the table.
-pub fn the_earliest_end_falls_due()
-    ensures opening { due_of opening_line ≡ None }
-    ensures nothing { due_of ready_line ≡ None }
+    // The earliest end falls due first, and timer T at one moment with a signal; of signals the first of the table.
+    ensures the_earliest_end_falls_due_opening { due_of opening_line ≡ None }
+    ensures the_earliest_end_falls_due_nothing { due_of ready_line ≡ None }
     ensures endless_one { due_of (record busy { timer = None; signals = one_signal }) ≡ None }
-    ensures timer { due_of busy ≡ Some (12000, LineDue.DigitTimer) }
+    ensures the_earliest_end_falls_due_timer { due_of busy ≡ Some (12000, LineDue.DigitTimer) }
     ensures timer_alone { due_of (record busy { signals = [] }) ≡ Some (12000, LineDue.DigitTimer) }
     ensures both { due_of (record busy { timer = Some 17000 }) ≡ Some (17000, LineDue.DigitTimer) }
     ensures signal { due_of (record busy { timer = Some 17001 }) ≡ Some (17000, LineDue.SignalEnd Signal.DialTone) }
     ensures signal_alone { due_of (record busy { timer = None }) ≡ Some (17000, LineDue.SignalEnd Signal.DialTone) }
-    ensures first { due_of (record busy { timer = None; signals = until 17000 Signal.DialTone ∷ until 17000 Signal.Ringback ∷ [] })
+    ensures the_earliest_end_falls_due_first { due_of (record busy
+        { timer = None; signals = until 17000 Signal.DialTone ∷ until 17000 Signal.Ringback ∷ [] })
         ≡ Some (17000, LineDue.SignalEnd Signal.DialTone) }
-{}
-
-/// Timer T ends, and that is the event D/T. A signal stops, and that is an event of a time-out signal alone.
-pub fn what_falls_due_happens()
-    ensures timer { fired busy LineDue.DigitTimer 12000 ≡ detected (record busy { timer = None }) timer_ended 12000 }
+    // Timer T ends, and that is the event D/T. A signal stops, and that is an event of a time-out signal alone.
+    ensures what_falls_due_happens_timer { fired busy LineDue.DigitTimer 12000 ≡ detected (record busy { timer = None }) timer_ended 12000 }
     ensures timer_stops { fired (record busy { digit_map = Some (codes "1T2") }) LineDue.DigitTimer 12000 ≡ still (record busy {
       digit_map = Some (codes "1T2");
       dialled = letter.One ∷ letter.Timer ∷ [];

@@ -5,31 +5,26 @@ ghost use Rattle.std.specs.Prelude.{◌≡◌, codes, [], Some, None};
 ghost use Rattle.new_start.specs.Words.{first_in, spread_in};
 ghost use Rattle.new_start.specs.Waiting.{waited};
 
-/// Ids may begin with 0 to 9,999,998, as a word spells that in digits and nothing else.
-pub fn a_word_says_the_first_number()
-    ensures none { first_in (codes "0") ≡ Some 0 }
-    ensures some { first_in (codes "4711") ≡ Some 4711 }
+/// Each sentence at an example.
+pub fn each_sentence_has_an_example()
+    // Ids may begin with 0 to 9,999,998, as a word spells that in digits and nothing else.
+    ensures a_word_says_the_first_number_none { first_in (codes "0") ≡ Some 0 }
+    ensures a_word_says_the_first_number_some { first_in (codes "4711") ≡ Some 4711 }
     ensures last { first_in (codes "9999998") ≡ Some 9999998 }
-    ensures past { first_in (codes "9999999") ≡ None }
+    ensures a_word_says_the_first_number_past { first_in (codes "9999999") ≡ None }
     ensures sign { first_in (codes "-1") ≡ None }
     ensures letters { first_in (codes "now") ≡ None }
-    ensures empty { first_in [] ≡ None }
-{}
-
-/// A spread is 0 to 600,000 ms.
-pub fn a_word_says_the_spread()
-    ensures none { spread_in (codes "0") ≡ Some 0 }
+    ensures a_word_says_the_first_number_empty { first_in [] ≡ None }
+    // A spread is 0 to 600,000 ms.
+    ensures a_word_says_the_spread_none { spread_in (codes "0") ≡ Some 0 }
     ensures longest { spread_in (codes "600000") ≡ Some 600000 }
-    ensures past { spread_in (codes "600001") ≡ None }
+    ensures a_word_says_the_spread_past { spread_in (codes "600001") ≡ None }
     ensures unit { spread_in (codes "2s") ≡ None }
-    ensures empty { spread_in [] ≡ None }
-{}
-
-/// A start waits for any time up to the spread, that itself too; without a spread it doesn't. Another time of day and another
-/// domain have another.
-pub fn a_start_waits_up_to_its_spread()
-    ensures none { waited 0 7 (codes "rgw.example.net") ≡ 0 }
-    ensures some { waited 1000 7 (codes "rgw.example.net") ≡ 133 }
+    ensures a_word_says_the_spread_empty { spread_in [] ≡ None }
+    // A start waits for any time up to the spread, that itself too; without a spread it doesn't. Another time of day and another
+    // domain have another.
+    ensures a_start_waits_up_to_its_spread_none { waited 0 7 (codes "rgw.example.net") ≡ 0 }
+    ensures a_start_waits_up_to_its_spread_some { waited 1000 7 (codes "rgw.example.net") ≡ 133 }
     ensures that_too { waited 22 20 (codes "a") ≡ 22 }
     ensures day { waited 100 8 (codes "a") ≡ 66 }
     ensures domain { waited 100 7 (codes "b") ≡ 0 }

@@ -15,28 +15,24 @@ ghost use Rattle.page_answers.specs.Metrics.{escaped, labelled_sample, code_text
 ghost use Rattle.page_answers.specs.Health.{is_alive};
 ghost use Rattle.page_answers.specs.declared.act.PhoneAct.TheVariants.{Off, On, Flash, Key};
 
-/// The oldest gives way where no more are kept.
-pub fn the_oldest_gives_way()
+/// Each sentence at an example.
+pub fn each_sentence_has_an_example()
+    // The oldest gives way where no more are kept.
     ensures room { kept_with 3 (codes "ab") 99 ≡ codes "abc" }
     ensures full { kept_with 2 (codes "ab") 99 ≡ codes "bc" }
-    ensures first { kept_with 2 [] 99 ≡ codes "c" }
-{}
-
-/// What happens has the next number, and is kept behind the others as far as its text is; else its number alone is taken.
-pub fn what_happens_is_numbered()
-    ensures first { noted nothing_yet 5020 Told agent (codes "ok") ≡ ring_at 1 (event_at 1 5020 Told agent (codes "ok") ∷ []) }
+    ensures the_oldest_gives_way_first { kept_with 2 [] 99 ≡ codes "c" }
+    // What happens has the next number, and is kept behind the others as far as its text is; else its number alone is taken.
+    ensures what_happens_is_numbered_first { noted nothing_yet 5020 Told agent (codes "ok")
+        ≡ ring_at 1 (event_at 1 5020 Told agent (codes "ok") ∷ []) }
     ensures second { noted (ring_at 7 (lifted ∷ [])) 5020 Told agent (codes "ok") ≡ ring_at 8 (lifted ∷ answered ∷ []) }
     ensures cut { map (λ e. length e.text) (noted nothing_yet 0 Sent agent (replicate 4097 65)).events ≡ 4096 ∷ [] }
     ensures counted { counted (ring_at 7 (lifted ∷ [])) ≡ ring_at 8 (lifted ∷ []) }
-    ensures last { next_number 18446744073709551615 ≡ 18446744073709551615 }
+    ensures what_happens_is_numbered_last { next_number 18446744073709551615 ≡ 18446744073709551615 }
     ensures last_but_one { next_number 18446744073709551614 ≡ 18446744073709551615 }
     ensures sum { sum_within 2 3 ≡ 5 }
-{}
-
-/// What happened behind a number is told from the oldest, at most so much at once, and then the number behind which to go on.
-pub fn what_happened_is_told_behind_a_number()
+    // What happened behind a number is told from the oldest, at most so much at once, and then the number behind which to go on.
     ensures all { told_after 128 0 (lifted ∷ answered ∷ []) ≡ lifted ∷ answered ∷ [] }
-    ensures behind { told_after 128 7 (lifted ∷ answered ∷ []) ≡ answered ∷ [] }
+    ensures what_happened_is_told_behind_a_number_behind { told_after 128 7 (lifted ∷ answered ∷ []) ≡ answered ∷ [] }
     ensures oldest { told_after 1 0 (lifted ∷ answered ∷ []) ≡ lifted ∷ [] }
     ensures next { next_after 0 (ring_at 9 (lifted ∷ answered ∷ [])) ≡ 8 }
     ensures more { has_more 0 (ring_at 9 (lifted ∷ answered ∷ [])) ≡ true }
@@ -44,12 +40,9 @@ pub fn what_happened_is_told_behind_a_number()
     ensures nothing { next_after 8 (ring_at 9 (lifted ∷ answered ∷ [])) ≡ 8 }
     ensures nothing_more { has_more 8 (ring_at 9 (lifted ∷ answered ∷ [])) ≡ false }
     ensures ahead { next_after 12 (ring_at 9 (lifted ∷ answered ∷ [])) ≡ 9 }
-    ensures first { first_number 8 (lifted ∷ answered ∷ []) ≡ 7 }
+    ensures what_happened_is_told_behind_a_number_first { first_number 8 (lifted ∷ answered ∷ []) ≡ 7 }
     ensures first_to_come { first_number 8 [] ≡ 9 }
-{}
-
-/// What is told is JSON: what happened, under which number the lines are shown, and the clock.
-pub fn what_is_told_is_json()
+    // What is told is JSON: what happened, under which number the lines are shown, and the clock.
     ensures shown { put_shown 3 2000 no_members
         ≡ member (codes "clock") (number (unsigned 2000)) (member (codes "version") (number (unsigned 3)) no_members) }
     ensures state { state_data 3 2000 4711 false 1 (boolean true) null ≡ object (member (codes "clock") (number (unsigned 2000))
@@ -59,14 +52,11 @@ pub fn what_is_told_is_json()
     ensures act { compact_text (event_data lifted)
         ≡ codes "{\"at\":5000,\"hex\":\"70686f6e652031206f6666\",\"kind\":\"act\",\"n\":7,\"peer\":\"192.168.1.5:2727\"}" }
     ensures kinds { map kind_word (Received ∷ Sent ∷ Act ∷ Told ∷ []) ≡ codes "in" ∷ codes "out" ∷ codes "act" ∷ codes "told" ∷ [] }
-    ensures some { events_text (ring_at 8 (lifted ∷ [])) 0 3 2000
+    ensures what_is_told_is_json_some { events_text (ring_at 8 (lifted ∷ [])) 0 3 2000
         ≡ codes "{\"clock\":2000,\"events\":[{\"at\":5000,\"hex\":\"70686f6e652031206f6666\",\"kind\":\"act\",\"n\":7,\"peer\":\"192.168.1.5:2727\"}],\"first\":7,\"more\":true,\"next\":7,\"version\":3}" }
-    ensures none { events_text nothing_yet 0 3 2000
+    ensures what_is_told_is_json_none { events_text nothing_yet 0 3 2000
         ≡ codes "{\"clock\":2000,\"events\":[],\"first\":1,\"more\":false,\"next\":0,\"version\":3}" }
-{}
-
-/// Samples are lines, and a label's value hides its backslashes, quotes and line ends.
-pub fn samples_are_lines()
+    // Samples are lines, and a label's value hides its backslashes, quotes and line ends.
     ensures labelled { labelled_sample (codes "rgw_commands_total") (codes "verb") (codes "RQNT") 12
         ≡ codes "rgw_commands_total{verb=\"RQNT\"} 12\n" }
     ensures plain { single (codes "rgw_lines") (codes "gauge") (codes "Lines.") 96
@@ -74,20 +64,14 @@ pub fn samples_are_lines()
     ensures quote { escaped (codes "a\"b") ≡ codes "a\\\"b" }
     ensures backslash { escaped (codes "a\\b") ≡ codes "a\\\\b" }
     ensures line_end { escaped (codes "a\nb") ≡ codes "a\\nb" }
-{}
-
-/// A gateway is well whose clock is behind by a second at most; whether it serves is told by a number.
-pub fn who_is_behind_isnt_well()
+    // A gateway is well whose clock is behind by a second at most; whether it serves is told by a number.
     ensures just { is_alive 1000 ≡ true }
-    ensures behind { is_alive 1001 ≡ false }
+    ensures who_is_behind_isnt_well_behind { is_alive 1001 ≡ false }
     ensures at_once { is_alive 0 ≡ true }
     ensures serving { number_if true ≡ 1 }
     ensures not_serving { number_if false ≡ 0 }
-{}
-
-/// Verbs have their places.
-pub fn verbs_have_places()
-    ensures first { verb_word 0 ≡ codes "EPCF" }
+    // Verbs have their places.
+    ensures verbs_have_places_first { verb_word 0 ≡ codes "EPCF" }
     ensures request { verb_word 1 ≡ codes "RQNT" }
     ensures notification { verb_word 2 ≡ codes "NTFY" }
     ensures creation { verb_word 3 ≡ codes "CRCX" }
@@ -97,51 +81,39 @@ pub fn verbs_have_places()
     ensures audit_of_connection { verb_word 7 ≡ codes "AUCX" }
     ensures announcement { verb_word 8 ≡ codes "RSIP" }
     ensures other { verb_word 9 ≡ codes "other" }
-{}
-
-/// A code is told in three digits.
-pub fn codes_have_three_digits()
+    // A code is told in three digits.
     ensures acknowledgement { code_text 0 ≡ codes "000" }
-    ensures nine { code_text 9 ≡ codes "009" }
+    ensures codes_have_three_digits_nine { code_text 9 ≡ codes "009" }
     ensures ten { code_text 10 ≡ codes "010" }
     ensures ninety_nine { code_text 99 ≡ codes "099" }
     ensures hundred { code_text 100 ≡ codes "100" }
     ensures fault { code_text 510 ≡ codes "510" }
-{}
-
-/// An act is `off`, `on`, `flash` or a key.
-pub fn acts_have_words()
-    ensures off { act_named (codes "off") ≡ Some Off }
-    ensures on { act_named (codes "on") ≡ Some On }
-    ensures flash { act_named (codes "flash") ≡ Some Flash }
-    ensures zero { act_named (codes "0") ≡ Some (Key 48) }
-    ensures nine { act_named (codes "9") ≡ Some (Key 57) }
+    // An act is `off`, `on`, `flash` or a key.
+    ensures acts_have_words_off { act_named (codes "off") ≡ Some Off }
+    ensures acts_have_words_on { act_named (codes "on") ≡ Some On }
+    ensures acts_have_words_flash { act_named (codes "flash") ≡ Some Flash }
+    ensures acts_have_words_zero { act_named (codes "0") ≡ Some (Key 48) }
+    ensures acts_have_words_nine { act_named (codes "9") ≡ Some (Key 57) }
     ensures star { act_named (codes "*") ≡ Some (Key 42) }
     ensures hash { act_named (codes "#") ≡ Some (Key 35) }
-    ensures first { act_named (codes "A") ≡ Some (Key 65) }
-    ensures last { act_named (codes "D") ≡ Some (Key 68) }
+    ensures acts_have_words_first { act_named (codes "A") ≡ Some (Key 65) }
+    ensures acts_have_words_last { act_named (codes "D") ≡ Some (Key 68) }
     ensures below_zero { act_named (codes "/") ≡ None }
     ensures above_nine { act_named (codes ":") ≡ None }
     ensures below_a { act_named (codes "@") ≡ None }
     ensures above_d { act_named (codes "E") ≡ None }
     ensures small { act_named (codes "a") ≡ None }
     ensures two { act_named (codes "12") ≡ None }
-    ensures none { act_named [] ≡ None }
-{}
-
-/// An act is done as a line of the telephones' socket does it.
-pub fn an_act_is_a_line()
-    ensures off { act_line (queued 1 Off) ≡ codes "phone 1 off" }
-    ensures on { act_line (queued 96 On) ≡ codes "phone 96 on" }
-    ensures flash { act_line (queued 2 Flash) ≡ codes "phone 2 flash" }
+    ensures acts_have_words_none { act_named [] ≡ None }
+    // An act is done as a line of the telephones' socket does it.
+    ensures an_act_is_a_line_off { act_line (queued 1 Off) ≡ codes "phone 1 off" }
+    ensures an_act_is_a_line_on { act_line (queued 96 On) ≡ codes "phone 96 on" }
+    ensures an_act_is_a_line_flash { act_line (queued 2 Flash) ≡ codes "phone 2 flash" }
     ensures key { act_line (queued 10 (Key 35)) ≡ codes "phone 10 #" }
-{}
-
-/// A body asks for an act by a line from 1 to 65,535, and a word.
-pub fn a_body_asks_by_line_and_word()
-    ensures some { queued_in (asks (codes "off") 1) ≡ Some (queued 1 Off) }
-    ensures last { queued_in (asks (codes "5") 65535) ≡ Some (queued 65535 (Key 53)) }
-    ensures zero { queued_in (asks (codes "off") 0) ≡ None }
+    // A body asks for an act by a line from 1 to 65,535, and a word.
+    ensures a_body_asks_by_line_and_word_some { queued_in (asks (codes "off") 1) ≡ Some (queued 1 Off) }
+    ensures a_body_asks_by_line_and_word_last { queued_in (asks (codes "5") 65535) ≡ Some (queued 65535 (Key 53)) }
+    ensures a_body_asks_by_line_and_word_zero { queued_in (asks (codes "off") 0) ≡ None }
     ensures too_many { queued_in (asks (codes "off") 65536) ≡ None }
     ensures no_word { queued_in (asks (codes "ring") 1) ≡ None }
     ensures empty { queued_in (object no_members) ≡ None }

@@ -12,40 +12,36 @@ ghost use Rattle.rgwd.specs.Parting.{parting_of};
 ghost use Rattle.rgwd.specs.Statuses.{status_of, is_asked};
 ghost use Rattle.rgwd.specs.Texts.{ending_text};
 
-/// What was asked was done, or nobody answered, or words are refused, or the system failed.
-pub fn statuses_tell_what_came_of_it()
-    ensures common { (ending : CommonEnding) → status_of (Common ending) ≡ common_status ending }
+/// Each sentence at an example.
+pub fn each_sentence_has_an_example()
+    // What was asked was done, or nobody answered, or words are refused, or the system failed.
+    ensures statuses_tell_what_came_of_it_common { (ending : CommonEnding) → status_of (Common ending) ≡ common_status ending }
     ensures done { map status_of (Checked ∷ Replayed ∷ Answered ∷ []) ≡ 0 ∷ 0 ∷ 0 ∷ [] }
     ensures unlike { status_of Differs ≡ 1 }
-    ensures silent { (address : SocketAddrV4) → status_of (NoAnswer address) ≡ 1 }
+    ensures statuses_tell_what_came_of_it_silent { (address : SocketAddrV4) → status_of (NoAnswer address) ≡ 1 }
     ensures words { map status_of (AnyAddress ∷ BadFirst ∷ BadSpread ∷ NoTrace ∷ []) ≡ 2 ∷ 2 ∷ 2 ∷ 2 ∷ [] }
     ensures admission { map status_of (BadAgents ∷ BadHosts ∷ BadSize ∷ BadFiles ∷ []) ≡ 2 ∷ 2 ∷ 2 ∷ 2 ∷ [] }
     ensures system { status_of NoTimeOfDay ≡ 3 }
     ensures asked { (ending : CommonEnding) → is_asked (Common ending) ≡ is_commonly_asked ending }
     ensures own { map is_asked (Checked ∷ BadSize ∷ NoTrace ∷ Answered ∷ []) ≡ false ∷ false ∷ false ∷ false ∷ [] }
-{}
-
-/// An ending says why, in a line; nothing where what was asked for is printed, or where all was said.
-pub fn an_ending_says_why()
-    ensures common { (about : About) (ending : CommonEnding) → ending_text about (Common ending) ≡ common_text about ending }
-    ensures nothing { (about : About) →
+    // An ending says why, in a line; nothing where what was asked for is printed, or where all was said.
+    ensures an_ending_says_why_common { (about : About) (ending : CommonEnding) → ending_text about (Common ending)
+        ≡ common_text about ending }
+    ensures an_ending_says_why_nothing { (about : About) →
         map (ending_text about) (Checked ∷ Answered ∷ Replayed ∷ Differs ∷ NoTrace ∷ []) ≡ [] ∷ [] ∷ [] ∷ [] ∷ [] ∷ [] }
     ensures size { (about : About) → ending_text about BadSize ≡ codes "--capture-size: wanted 1 to 100000 MB, beside --capture\n" }
     ensures files { (about : About) → ending_text about BadFiles ≡ codes "--capture-files: wanted 1 to 10000, beside --capture-size\n" }
     ensures spread { (about : About) → ending_text about BadSpread ≡ codes "--spread: wanted 0 to 600000 ms\n" }
-    ensures silent { (about : About) (address : SocketAddrV4) → ending_text about (NoAnswer address)
+    ensures an_ending_says_why_silent { (about : About) (address : SocketAddrV4) → ending_text about (NoAnswer address)
         ≡ socket_v4_text address ++ codes ": no answer; does a gateway run, with its telephones (--phones) at this address?\n" }
-{}
-
-/// A capture is parted into files of 1 to 100,000 MB, of which 1 to 10,000 are kept; ten where nothing is said.
-pub fn a_capture_is_parted_as_words_say()
+    // A capture is parted into files of 1 to 100,000 MB, of which 1 to 10,000 are kept; ten where nothing is said.
     ensures none { parting_of true None None ≡ Ok None }
     ensures ten { parting_of true (Some (codes "100")) None ≡ Ok (Some (record { size = 100000000; files = 10 })) }
     ensures both { parting_of true (Some (codes "1")) (Some (codes "3")) ≡ Ok (Some (record { size = 1000000; files = 3 })) }
     ensures most { parting_of true (Some (codes "100000")) (Some (codes "10000"))
         ≡ Ok (Some (record { size = 100000000000; files = 10000 })) }
     ensures no_capture { parting_of false (Some (codes "1")) None ≡ Err BadSize }
-    ensures nothing { parting_of true (Some (codes "0")) None ≡ Err BadSize }
+    ensures a_capture_is_parted_as_words_say_nothing { parting_of true (Some (codes "0")) None ≡ Err BadSize }
     ensures too_much { parting_of true (Some (codes "100001")) None ≡ Err BadSize }
     ensures no_number { parting_of true (Some (codes "1MB")) None ≡ Err BadSize }
     ensures no_files { parting_of true (Some (codes "1")) (Some (codes "0")) ≡ Err BadFiles }

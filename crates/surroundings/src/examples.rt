@@ -11,11 +11,13 @@ ghost use Rattle.surroundings.specs.Sending.{found_by, received_at};
 ghost use Rattle.surroundings.specs.Typing.{behind};
 ghost use Rattle.surroundings.specs.declared.surroundings.Fault.{Fault};
 
-/// Each answer of `rgwd` is known by its beginning, and each line of its counts.
-pub fn answers_of_a_gateway_are_known()
+/// Each sentence at an example.
+pub fn each_sentence_has_an_example()
+    // Each answer of `rgwd` is known by its beginning, and each line of its counts.
     ensures done { is_answer (codes "done") ≡ true }
-    ensures unknown { is_answer (codes "? phone LINE off|on|flash|KEY, show LINE|*, watch SECONDS, counts, or stop") ≡ true }
-    ensures refused { is_answer (codes "! 4 NoSuchLine") ≡ true }
+    ensures answers_of_a_gateway_are_known_unknown { is_answer (codes
+        "? phone LINE off|on|flash|KEY, show LINE|*, watch SECONDS, counts, or stop") ≡ true }
+    ensures answers_of_a_gateway_are_known_refused { is_answer (codes "! 4 NoSuchLine") ≡ true }
     ensures from_afar { is_answer (codes "! stop is taken from a loopback address alone, 127.0.0.0/8") ≡ true }
     ensures shown { is_answer (codes "line 1 on") ≡ true }
     ensures datagrams { is_answer (codes "datagrams in 3 out 4") ≡ true }
@@ -28,56 +30,41 @@ pub fn answers_of_a_gateway_are_known()
     ensures faults { is_answer (codes "faults receive 0 send 0") ≡ true }
     ensures strangers { is_answer (codes "strangers 0 lost commands 0") ≡ true }
     ensures records { is_answer (codes "records dropped 0 write faults 0") ≡ true }
-{}
-
-/// So is what who watches is told.
-pub fn what_watchers_are_told_is_known()
+    // So is what who watches is told.
     ensures begun { is_answer (codes "watching from 17 at 5000") ≡ true }
     ensures change { is_answer (codes "change 17 at 5020 line 1 off") ≡ true }
     ensures full { is_answer (codes "! 8 watch already") ≡ true }
     ensures asked { is_request (codes "watch 60") ≡ true }
     ensures all { is_request (codes "show *") ≡ true }
-    ensures longer { is_request (codes "changes 17") ≡ true }
-{}
-
-/// So is each of `rgca`.
-pub fn answers_of_an_agent_are_known()
+    ensures what_watchers_are_told_is_known_longer { is_request (codes "changes 17") ≡ true }
+    // So is each of `rgca`.
     ensures issued { is_answer (codes "issued 17") ≡ true }
-    ensures unknown { is_answer (codes "? VERB NAME, counts, or stop") ≡ true }
+    ensures answers_of_an_agent_are_known_unknown { is_answer (codes "? VERB NAME, counts, or stop") ≡ true }
     ensures calls { is_answer (codes "calls 1 set up 1") ≡ true }
     ensures network { is_answer (codes "network lost 0 copied 0 late 0") ≡ true }
     ensures bare { is_answer (codes "?") ≡ true }
-    ensures refused { is_answer (codes "!") ≡ true }
-{}
-
-/// What is asked for is no answer, though it begins alike, and an empty line asks for nothing.
-pub fn requests_are_no_answers()
+    ensures answers_of_an_agent_are_known_refused { is_answer (codes "!") ≡ true }
+    // What is asked for is no answer, though it begins alike, and an empty line asks for nothing.
     ensures counts { is_request (codes "counts") ≡ true }
     ensures act { is_request (codes "phone 1 off") ≡ true }
     ensures show { is_request (codes "show 1") ≡ true }
     ensures stop { is_request (codes "stop") ≡ true }
     ensures command { is_request (codes "AUEP aaln/1@rgw.example.net") ≡ true }
-    ensures longer { is_request (codes "lines 1") ≡ true }
+    ensures requests_are_no_answers_longer { is_request (codes "lines 1") ≡ true }
     ensures other_case { is_request (codes "Done") ≡ true }
     ensures behind { is_request (codes "is it done?") ≡ true }
-    ensures empty { is_request [] ≡ false }
+    ensures requests_are_no_answers_empty { is_request [] ≡ false }
     ensures answer { is_request (codes "done") ≡ false }
-{}
-
-/// Lines of answers are passed over, and what stands behind them is asked for none the less, a line behind the other.
-pub fn answers_are_passed_over()
+    // Lines of answers are passed over, and what stands behind them is asked for none the less, a line behind the other.
     ensures between { requests_from (cut (codes "done\n\nshow 1\ndone\n")) ≡ codes "show 1\n" ∷ codes "done\n" ∷ [] }
-    ensures none { requests_from (cut (codes "done\r\n! 1 OutOfMemory\r\n")) ≡ [] }
+    ensures answers_are_passed_over_none { requests_from (cut (codes "done\r\n! 1 OutOfMemory\r\n")) ≡ [] }
     ensures blanks { requests_from (cut (codes " ? phone\n\tline 1 on\ncounts")) ≡ codes "counts" ∷ [] }
-    ensures nothing { requests_from [] ≡ [] }
+    ensures answers_are_passed_over_nothing { requests_from [] ≡ [] }
     ensures next { requests_from (behind (requests_from (cut (codes "\nshow 1\ndone\ncounts\n")))) ≡ codes "counts\n" ∷ [] }
     ensures last { requests_from (behind (codes "counts\n" ∷ [])) ≡ [] }
     ensures behind_nothing { behind [] ≡ [] }
-{}
-
-/// What comes from a socket of the program's own is known by its address and port; of a socket that listens at each address of
-/// the machine by its port.
-pub fn own_sockets_are_known()
+    // What comes from a socket of the program's own is known by its address and port; of a socket that listens at each address of
+    // the machine by its port.
     ensures own { is_from (socket_at here 2500) (socket_at here 2500) ≡ true }
     ensures other_port { is_from (socket_at here 2501) (socket_at here 2500) ≡ false }
     ensures other_host { is_from (socket_at there 2500) (socket_at here 2500) ≡ false }
@@ -86,17 +73,16 @@ pub fn own_sockets_are_known()
     ensures nowhere { is_from (socket_at everywhere 2500) (socket_at here 2500) ≡ false }
     ensures first { is_from_any (socket_at here 2500 ∷ socket_at here 2427 ∷ []) (socket_at here 2500) ≡ true }
     ensures second { is_from_any (socket_at here 2500 ∷ socket_at here 2427 ∷ []) (socket_at here 2427) ≡ true }
-    ensures none { is_from_any (socket_at here 2500 ∷ socket_at here 2427 ∷ []) (socket_at here 40000) ≡ false }
+    ensures own_sockets_are_known_none { is_from_any (socket_at here 2500 ∷ socket_at here 2427 ∷ []) (socket_at here 40000) ≡ false }
     ensures of_its_kind { is_own (socket_at here 2500 ∷ []) (V4 (socket_at here 2500)) ≡ true }
     ensures of_another_kind { (sender : SocketAddrV6) → is_own (socket_at everywhere 2500 ∷ []) (V6 sender) ≡ false }
-{}
-
-/// What is received is the front of the room, as long as is said, with its source; where nothing came, or the socket failed, it is
-/// nothing.
-pub fn what_is_received_stands_at_the_front_of_the_room()
-    ensures front { received_at (Ok (Some (socket_at here 2427, 2))) (7 ∷ 8 ∷ 9 ∷ []) ≡ record { source = socket_at here 2427; bytes = 7 ∷ 8 ∷ [] } ∷ [] }
-    ensures empty { received_at (Ok (Some (socket_at here 2427, 0))) (7 ∷ []) ≡ record { source = socket_at here 2427; bytes = [] } ∷ [] }
-    ensures nothing { received_at (Ok None) (7 ∷ []) ≡ [] }
+    // What is received is the front of the room, as long as is said, with its source; where nothing came, or the socket failed, it is
+    // nothing.
+    ensures front { received_at (Ok (Some (socket_at here 2427, 2))) (7 ∷ 8 ∷ 9 ∷ [])
+        ≡ record { source = socket_at here 2427; bytes = 7 ∷ 8 ∷ [] } ∷ [] }
+    ensures what_is_received_stands_at_the_front_of_the_room_empty { received_at (Ok (Some (socket_at here 2427, 0))) (7 ∷ [])
+        ≡ record { source = socket_at here 2427; bytes = [] } ∷ [] }
+    ensures what_is_received_stands_at_the_front_of_the_room_nothing { received_at (Ok None) (7 ∷ []) ≡ [] }
     ensures fault { (fault : Fault) → received_at (Err fault) (7 ∷ []) ≡ [] }
     ensures found { found_by (Some (socket_at there 2727, 1)) (7 ∷ 8 ∷ []) ≡ record { source = socket_at there 2727; bytes = 7 ∷ [] } ∷ [] }
 {}

@@ -9,23 +9,27 @@ ghost use Rattle.surroundings.specs.Example.{socket_at, here, counts_bytes};
 ghost use Rattle.surroundings.specs.Typing.{left_of};
 ghost use Rattle.surroundings.specs.Hearing.{Looked, AnswersTo};
 
-/// Lines that come are left, as far as the room was filled, and their sender is known; of what came from an own socket nothing is.
-pub fn what_comes_is_taken()
+/// Each sentence at an example.
+pub fn each_sentence_has_an_example()
+    // Lines that come are left, as far as the room was filled, and their sender is known; of what came from an own socket nothing is.
     ensures nothing { (was is : Lines) (taken : Bool) → Looked [] None (codes "show 1") was taken is → is ≡ was }
     ensures not_taken { (was is : Lines) (taken : Bool) → Looked [] None (codes "show 1") was taken is → taken ≡ false }
-    ensures own { (was is : Lines) (taken : Bool) → Looked (socket_at here 2428 ∷ []) (Some (V4 (socket_at here 2428), 6)) (codes "show 1") was taken is → is ≡ was }
-    ensures sender { (was is : Lines) (taken : Bool) → Looked (socket_at here 2428 ∷ []) (Some (V4 (socket_at here 4000), 6)) (codes "show 1") was taken is
+    ensures own { (was is : Lines) (taken : Bool) →
+        Looked (socket_at here 2428 ∷ []) (Some (V4 (socket_at here 2428), 6)) (codes "show 1") was taken is → is ≡ was }
+    ensures what_comes_is_taken_sender { (was is : Lines) (taken : Bool) →
+        Looked (socket_at here 2428 ∷ []) (Some (V4 (socket_at here 4000), 6)) (codes "show 1") was taken is
         → is.sender ≡ Some (V4 (socket_at here 4000)) }
-    ensures whole { (was is : Lines) (taken : Bool) → Looked [] (Some (V4 (socket_at here 4000), 6)) (codes "show 1") was taken is → 6 ≤ vec_capacity was.text
+    ensures whole { (was is : Lines) (taken : Bool) → Looked [] (Some (V4 (socket_at here 4000), 6)) (codes "show 1") was taken is →
+        6 ≤ vec_capacity was.text
         → left_of is ≡ codes "show 1" ∷ [] }
-    ensures filled { (was is : Lines) (taken : Bool) → Looked [] (Some (V4 (socket_at here 4000), 4)) (codes "stop 1") was taken is → 6 ≤ vec_capacity was.text
+    ensures filled { (was is : Lines) (taken : Bool) → Looked [] (Some (V4 (socket_at here 4000), 4)) (codes "stop 1") was taken is →
+        6 ≤ vec_capacity was.text
         → left_of is ≡ codes "stop" ∷ [] }
-    ensures asking { (was is : Lines) (taken : Bool) → Looked [] (Some (V4 (socket_at here 4000), 9)) (codes "done\nstop") was taken is → 9 ≤ vec_capacity was.text
+    ensures asking { (was is : Lines) (taken : Bool) → Looked [] (Some (V4 (socket_at here 4000), 9)) (codes "done\nstop") was taken is →
+        9 ≤ vec_capacity was.text
         → left_of is ≡ codes "stop" ∷ [] }
-{}
-
-/// Who sent lines is answered, and nobody else.
-pub fn who_sent_lines_is_answered()
+    // Who sent lines is answered, and nobody else.
     ensures nobody { (was is : ℕ) → AnswersTo counts_bytes None was (codes "done") is → is ≡ was }
-    ensures sender { (was is : ℕ) → AnswersTo counts_bytes (Some (V4 (socket_at here 4000))) was (codes "done") is → is ≡ was + 4 }
+    ensures who_sent_lines_is_answered_sender { (was is : ℕ) → AnswersTo counts_bytes (Some (V4 (socket_at here 4000))) was
+        (codes "done") is → is ≡ was + 4 }
 {}

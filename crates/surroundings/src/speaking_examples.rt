@@ -5,13 +5,14 @@ ghost use Rattle.std.specs.Prelude.{◌≡◌, codes, true, false, Some, None};
 ghost use Rattle.surroundings.specs.Example.{host_at, admits};
 ghost use Rattle.surroundings.specs.Speaking.{nobody, anybody, with_host, may_speak, admitted_in};
 
-/// An address admits who has it, and a network who has one of its addresses, from the first to the last.
-pub fn networks_have_a_first_and_a_last()
+/// Each sentence at an example.
+pub fn each_sentence_has_an_example()
+    // An address admits who has it, and a network who has one of its addresses, from the first to the last.
     ensures itself { admits (codes "10.0.0.7") (host_at 10 0 0 7) ≡ Some true }
     ensures below { admits (codes "10.0.0.7") (host_at 10 0 0 6) ≡ Some false }
     ensures above { admits (codes "10.0.0.7") (host_at 10 0 0 8) ≡ Some false }
     ensures whole { admits (codes "10.0.0.7/32") (host_at 10 0 0 6) ≡ Some false }
-    ensures first { admits (codes "10.1.0.0/16") (host_at 10 1 0 0) ≡ Some true }
+    ensures networks_have_a_first_and_a_last_first { admits (codes "10.1.0.0/16") (host_at 10 1 0 0) ≡ Some true }
     ensures last { admits (codes "10.1.0.0/16") (host_at 10 1 255 255) ≡ Some true }
     ensures before { admits (codes "10.1.0.0/16") (host_at 10 0 255 255) ≡ Some false }
     ensures behind { admits (codes "10.1.0.0/16") (host_at 10 2 0 0) ≡ Some false }
@@ -20,12 +21,9 @@ pub fn networks_have_a_first_and_a_last()
     // The bits behind those that count don't matter.
     ensures other_bits { admits (codes "10.0.0.7/8") (host_at 10 200 0 1) ≡ Some true }
     ensures all { admits (codes "10.0.0.7/0") (host_at 255 255 255 255) ≡ Some true }
-{}
-
-/// Any of several networks admits; `any` admits all, and nobody is admitted who isn't named.
-pub fn one_of_several_admits()
+    // Any of several networks admits; `any` admits all, and nobody is admitted who isn't named.
     ensures second { admits (codes "10.0.0.7, 10.1.0.0/16") (host_at 10 1 2 3) ≡ Some true }
-    ensures first { admits (codes "10.0.0.7,10.1.0.0/16") (host_at 10 0 0 7) ≡ Some true }
+    ensures one_of_several_admits_first { admits (codes "10.0.0.7,10.1.0.0/16") (host_at 10 0 0 7) ≡ Some true }
     ensures neither { admits (codes "10.0.0.7,10.1.0.0/16") (host_at 10 0 0 8) ≡ Some false }
     ensures any { admits (codes "any") (host_at 10 0 0 8) ≡ Some true }
     ensures anybody { may_speak anybody (host_at 10 0 0 8) ≡ true }
@@ -33,10 +31,7 @@ pub fn one_of_several_admits()
     ensures named { may_speak (with_host (with_host nobody (host_at 10 0 0 7)) (host_at 10 0 0 9)) (host_at 10 0 0 9) ≡ true }
     ensures still { may_speak (with_host (with_host nobody (host_at 10 0 0 7)) (host_at 10 0 0 9)) (host_at 10 0 0 7) ≡ true }
     ensures not_named { may_speak (with_host nobody (host_at 10 0 0 7)) (host_at 10 0 0 9) ≡ false }
-{}
-
-/// Anything else says nothing of who may speak.
-pub fn other_words_admit_nobody()
+    // Anything else says nothing of who may speak.
     ensures empty { admitted_in (codes "") ≡ None }
     ensures no_second { admitted_in (codes "10.0.0.7,") ≡ None }
     ensures too_many_bits { admitted_in (codes "10.0.0.7/33") ≡ None }

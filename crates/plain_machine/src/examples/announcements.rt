@@ -15,9 +15,10 @@ ghost use Rattle.plain_machine.specs.Refusing.{takes_none};
 ghost use Rattle.plain_machine.specs.Lists.{machine_after, outputs_from, outputs_of, sent_of};
 ghost use Rattle.plain_machine.specs.Example.{agent_route, example, two_lines, from_agent, to_agent_at, to_other_at, ready, ready_endpoints, ready_machine, audit, rqnt, lifted, lifted_on_2, response, own_at, from_other, announcement_due, announced, announcing_machine, announcing_sends, announcing_then, asking_nothing, asking_of, crcx, mdcx, dlcx, epcf, says};
 
-/// At the opening the gateway waits before it announces itself under the id 1, and doesn't serve; its lines have nothing
-/// to announce.
-pub fn the_gateway_opens_waiting()
+/// Each sentence at an example.
+pub fn each_sentence_has_an_example()
+    // At the opening the gateway waits before it announces itself under the id 1, and doesn't serve; its lines have nothing
+    // to announce.
     ensures own { (opening example).endpoints.own
         ≡ record { entity = example.agent; number = 1; pending = None; restart = Waiting 1 } }
     ensures due { due_at (opening_endpoints example) 0 ≡ Some (announcement_due 1 0) }
@@ -26,13 +27,10 @@ pub fn the_gateway_opens_waiting()
     ensures lines { (opening_endpoint example 16).post
         ≡ record { entity = example.agent; number = 0; pending = None; restart = Serving } }
     ensures nothing_of_lines { due_at (opening_endpoints example) 16 ≡ None }
-    ensures serves { serves (opening_endpoints example) ≡ false }
+    ensures the_gateway_opens_waiting_serves { serves (opening_endpoints example) ≡ false }
     ensures memory { takes_none (opening example) (tick 1) ≡ false }
     ensures no_memory { takes_none (opening example) (tick 0) ≡ true }
-{}
-
-/// At its moment the announcement goes out to the configured agent, and is in flight from then on; it is of all lines.
-pub fn the_gateway_announces_itself()
+    // At its moment the announcement goes out to the configured agent, and is in flight from then on; it is of all lines.
     ensures datagram { outputs_of example (tick 1 ∷ []) ≡ to_agent_at 1 announced ∷ [] }
     ensures at_its_moment { outputs_of (record example { restart_wait = 100 }) (tick 99 ∷ tick 300 ∷ [])
         ≡ to_agent_at 100 announced ∷ [] }
@@ -48,13 +46,10 @@ pub fn the_gateway_announces_itself()
     } }
     ensures last { announcement example 0 9999999 ≡ messages.Command verbs.Rsip 9999999 (codes "*@rgw.example.net")
         ((record { code = codes "RM"; value = codes "restart" }) ∷ []) [] }
-{}
-
-/// Once its announcement is answered the gateway is ready: its lines are, and it serves.
-pub fn the_gateway_gets_ready()
+    // Once its announcement is answered the gateway is ready: its lines are, and it serves.
     ensures two_lines { machine_after two_lines (opening two_lines) ready ≡ ready_machine two_lines }
     ensures sixteen_lines { machine_after example (opening example) ready ≡ ready_machine example }
-    ensures serves { serves (ready_endpoints example) ≡ true }
+    ensures the_gateway_gets_ready_serves { serves (ready_endpoints example) ≡ true }
     ensures announced { serves announcing_machine.endpoints ≡ false }
 {}
 

@@ -31,9 +31,10 @@ pub fn an_identifier_is_a_number_in_hexadecimal()
         ∷ says (codes "502 2") ∷ [] }
 {}
 
-/// The ports of a line follow those of the line before it, from the first port of the gateway on; streams are received at
-/// the address that is configured.
-pub fn streams_are_received_where_it_is_configured()
+/// Each sentence at an example.
+pub fn each_sentence_has_an_example()
+    // The ports of a line follow those of the line before it, from the first port of the gateway on; streams are received at
+    // the address that is configured.
     ensures lowest { port_of (record example { media_base = 1024 }) 1 ≡ 1024 }
     ensures last_line { port_of example 16 ≡ 3120 }
     ensures highest { port_of elsewhere 96 ≡ 64760 }
@@ -42,10 +43,7 @@ pub fn streams_are_received_where_it_is_configured()
         ≡ to_agent_at 1000
         (codes "200 1 OK\r\nI: 1\r\n\r\nv=0\r\no=- 1 1 IN IP4 127.0.0.2\r\ns=-\r\nc=IN IP4 127.0.0.2\r\n"
         ++ codes "t=0 0\r\nm=audio 64120 RTP/AVP 0 8\r\na=ptime:20\r\n") ∷ [] }
-{}
-
-/// A connection is seen at its place of its line, with its port and its number.
-pub fn connections_stand_at_places()
+    // A connection is seen at its place of its line, with its port and its number.
     ensures port { port_at second_called 2 0 ≡ Some 3008 }
     ensures free { port_at second_called 2 1 ≡ None }
     ensures other_line { port_at second_called 1 0 ≡ None }

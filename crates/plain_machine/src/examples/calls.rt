@@ -37,17 +37,28 @@ pub fn connections_are_created()
     ensures once { numbers_then one_line (crcx 1 (codes "aaln/1") [] ∷ crcx 1 (codes "aaln/1") [] ∷ []) 1 ≡ Some (1 ∷ []) }
 {}
 
-/// Any one line is the least that has a place; no other is asked where that one refuses.
-pub fn any_one_line_is_the_least_with_a_place()
-    ensures first { line_with_place (first_endpoints (ready_endpoint example 1 ∷ ready_endpoint example 2 ∷ [])) ≡ Some 1 }
+/// Each sentence at an example.
+pub fn each_sentence_has_an_example()
+    // Any one line is the least that has a place; no other is asked where that one refuses.
+    ensures any_one_line_is_the_least_with_a_place_first { line_with_place
+        (first_endpoints (ready_endpoint example 1 ∷ ready_endpoint example 2 ∷ [])) ≡ Some 1 }
     ensures last_place { line_with_place (first_endpoints (holding (replicate 3 (Some first_connection) ++ None ∷ []) ∷ [])) ≡ Some 1 }
     ensures second { line_with_place (first_endpoints (holding (replicate 4 (Some first_connection)) ∷ ready_endpoint example 2 ∷ []))
         ≡ Some 2 }
-    ensures none { line_with_place (first_endpoints (holding (replicate 4 (Some first_connection)) ∷ [])) ≡ None }
+    ensures any_one_line_is_the_least_with_a_place_none { line_with_place
+        (first_endpoints (holding (replicate 4 (Some first_connection)) ∷ [])) ≡ None }
     ensures refuses { two_send (rqnt 1 (codes "aaln/1") (codes "X: 1\r\n") ∷ crcx 2 (codes "$") (codes "X: 1\r\nS: L/dl\r\n") ∷ [])
         ≡ says (codes "200 1 OK") ∷ says (codes "402 2") ∷ [] }
     ensures not_there { numbers_then two_lines (crcx 2 (codes "$") (codes "X: 1\r\nS: L/dl\r\n") ∷ []) 1 ≡ Some [] }
     ensures no_other { numbers_then two_lines (crcx 2 (codes "$") (codes "X: 1\r\nS: L/dl\r\n") ∷ []) 2 ≡ Some [] }
+    // What the places of a line hold, where there is such a line.
+    ensures opening { connections_of (ready_machine two_lines) 2 ≡ Some (replicate 4 None) }
+    ensures connections_are_seen_none { connections_of (ready_machine two_lines) 3 ≡ None }
+    ensures connections_are_seen_first { connections_of
+        (machine_after two_lines (ready_machine two_lines) (crcx 1 (codes "aaln/2") [] ∷ [])) 2
+        ≡ Some (Some first_connection ∷ replicate 3 None) }
+    ensures other { connections_of (machine_after two_lines (ready_machine two_lines) (crcx 1 (codes "aaln/2") [] ∷ [])) 1
+        ≡ Some (replicate 4 None) }
 {}
 
 /// A connection that is modified keeps what isn't given. Its local description is answered where the codecs in force or the
@@ -135,14 +146,4 @@ pub fn a_request_comes_with_connections()
     ensures deletion { one_sends (dlcx 1 (codes "aaln/1") (codes "X: 1\r\nS: L/dl\r\n") ∷ []) ≡ says (codes "402 1") ∷ [] }
     ensures entity { option_map (λ endpoint. endpoint.post.entity) (endpoint_at (machine_after one_line (ready_machine one_line)
         (crcx 1 (codes "aaln/1") (codes "N: ca2@[127.0.0.2]:2728\r\n") ∷ [])).endpoints 1) ≡ Some other_entity }
-{}
-
-/// What the places of a line hold, where there is such a line.
-pub fn connections_are_seen()
-    ensures opening { connections_of (ready_machine two_lines) 2 ≡ Some (replicate 4 None) }
-    ensures none { connections_of (ready_machine two_lines) 3 ≡ None }
-    ensures first { connections_of (machine_after two_lines (ready_machine two_lines) (crcx 1 (codes "aaln/2") [] ∷ [])) 2
-        ≡ Some (Some first_connection ∷ replicate 3 None) }
-    ensures other { connections_of (machine_after two_lines (ready_machine two_lines) (crcx 1 (codes "aaln/2") [] ∷ [])) 1
-        ≡ Some (replicate 4 None) }
 {}

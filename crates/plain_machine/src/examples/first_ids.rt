@@ -9,9 +9,10 @@ ghost use Rattle.plain_machine.specs.Machine.{opening, opening_endpoint, opening
 ghost use Rattle.plain_machine.specs.Lists.{machine_after, outputs_of, outputs_from};
 ghost use Rattle.plain_machine.specs.Example.{announced_under, beginning_with, ntfy, ready_machine, response, rqnt, to_agent_at};
 
-/// The ids of each line begin with the first number of the setup, and those of the gateway itself one higher. Past the last
-/// number that they may begin with it goes round.
-pub fn ids_begin_with_the_first()
+/// Each sentence at an example.
+pub fn each_sentence_has_an_example()
+    // The ids of each line begin with the first number of the setup, and those of the gateway itself one higher. Past the last
+    // number that they may begin with it goes round.
     ensures of_line_1 { id_on 1 (opening_endpoint (beginning_with 5) 1).post.number ≡ 10000005 }
     ensures of_line_2 { id_on 2 (opening_endpoint (beginning_with 5) 2).post.number ≡ 20000005 }
     ensures own { id_on 0 (opening_own (beginning_with 5)).number ≡ 6 }
@@ -24,11 +25,8 @@ pub fn ids_begin_with_the_first()
     ensures announced { outputs_of (beginning_with 5) (tick 1 ∷ []) ≡ to_agent_at 1 (announced_under 6) ∷ [] }
     ensures told { outputs_from (beginning_with 5) (ready_machine (beginning_with 5)) (phone 2 OffHook ∷ [])
         ≡ to_agent_at 1000 (ntfy 20000005 2 (codes "0") (codes "L/hd")) ∷ [] }
-{}
-
-/// From there each command takes the next number, and behind the greatest comes the least: 0 of a line, and 1 of the gateway
-/// itself.
-pub fn ids_go_round_from_the_first()
+    // From there each command takes the next number, and behind the greatest comes the least: 0 of a line, and 1 of the gateway
+    // itself.
     ensures next { outputs_from (beginning_with 5) (ready_machine (beginning_with 5)) (phone 2 OffHook ∷ response 200 20000005
         ∷ rqnt 1501 (codes "aaln/2") (codes "X: A5\r\n") ∷ phone 2 OnHook ∷ [])
         ≡ to_agent_at 1000 (ntfy 20000005 2 (codes "0") (codes "L/hd")) ∷ to_agent_at 1000 (codes "200 1501 OK\r\n")

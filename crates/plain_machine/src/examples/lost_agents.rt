@@ -17,8 +17,9 @@ ghost use Rattle.plain_machine.specs.Refusing.{takes_none};
 ghost use Rattle.plain_machine.specs.Lists.{machine_after, outputs_from, sent_from};
 ghost use Rattle.plain_machine.specs.Example.{agent_route, other_route, other_entity, example, from_agent, to_agent_at, to_other_at, ready_post, ready_endpoint, rqnt, sends, ntfy, lifted, response, endpoint_then, own_at, naming_other, entities_of, lost_endpoint, losing, lost_machine, lost_sends, lost_then, lost_line_then, looping, disconnected, asking_nothing, says};
 
-/// Where a line gives its notification up nothing is in flight, and it waits before it announces itself; all else stays.
-pub fn a_line_waits_after_giving_up()
+/// Each sentence at an example.
+pub fn each_sentence_has_an_example()
+    // Where a line gives its notification up nothing is in flight, and it waits before it announces itself; all else stays.
     ensures given_up { endpoint_then (phone 1 OffHook ∷ tick 24500 ∷ []) 1 ≡ Some (lost_endpoint 29500) }
     ensures others { endpoint_then (phone 1 OffHook ∷ tick 24500 ∷ []) 2 ≡ Some (ready_endpoint example 2) }
     ensures other_wait { (given_up (record example { disconnected_wait = 600000 }) 1 24500 (ready_post example 1)).restart
@@ -31,10 +32,7 @@ pub fn a_line_waits_after_giving_up()
     ensures no_memory { takes_none lost_machine (tick 5999) ≡ true }
     ensures memory { takes_none lost_machine (tick 6000) ≡ false }
     ensures serves { serves lost_machine.endpoints ≡ true }
-{}
-
-/// At its moment the line announces itself to whom it notifies, under its next id; this is in flight from then on.
-pub fn a_line_announces_itself()
+    // At its moment the line announces itself to whom it notifies, under its next id; this is in flight from then on.
     ensures row { sends (phone 1 OffHook ∷ tick 29500 ∷ [])
         ≡ to_agent_at 1000 lifted ∷ to_agent_at 1500 lifted ∷ to_agent_at 2500 lifted ∷ to_agent_at 4500 lifted
         ∷ to_agent_at 8500 lifted ∷ to_agent_at 12500 lifted ∷ to_agent_at 16500 lifted ∷ to_agent_at 20500 lifted
@@ -47,7 +45,7 @@ pub fn a_line_announces_itself()
     ensures last_line { announcement example 16 160000001
         ≡ messages.Command verbs.Rsip 160000001 (codes "aaln/16@rgw.example.net")
         ((record { code = codes "RM"; value = codes "disconnected" }) ∷ []) [] }
-    ensures endpoint { lost_line_then (tick 6000 ∷ []) ≡ Some (record (lost_endpoint 6000) {
+    ensures a_line_announces_itself_endpoint { lost_line_then (tick 6000 ∷ []) ≡ Some (record (lost_endpoint 6000) {
       post = record {
         entity = example.agent;
         number = 2;
@@ -57,11 +55,8 @@ pub fn a_line_announces_itself()
     }) }
     ensures entity { lost_sends (rqnt 7 (codes "aaln/1") (codes "X: A5\r\nN: ca2@[127.0.0.2]:2728\r\n") ∷ tick 6000 ∷ [])
         ≡ says (codes "200 7 OK") ∷ to_other_at 6000 (disconnected 10000001) ∷ [] }
-{}
-
-/// An announcement is repeated and put off as a notification is; where it is given up the next comes after the same wait,
-/// under the next id.
-pub fn a_line_announces_itself_again()
+    // An announcement is repeated and put off as a notification is; where it is given up the next comes after the same wait,
+    // under the next id.
     ensures sends { lost_sends (tick 34500 ∷ [])
         ≡ to_agent_at 6000 (disconnected 10000001) ∷ to_agent_at 6500 (disconnected 10000001)
         ∷ to_agent_at 7500 (disconnected 10000001) ∷ to_agent_at 9500 (disconnected 10000001)
@@ -72,54 +67,26 @@ pub fn a_line_announces_itself_again()
         ≡ to_agent_at 6000 (disconnected 10000001) ∷ to_agent_at 11000 (disconnected 10000001) ∷ [] }
     ensures still_waits { option_map (λ endpoint. endpoint.line) (lost_line_then (tick 6000 ∷ response 100 10000001 ∷ []))
         ≡ Some (lost_endpoint 6000).line }
-{}
-
-/// At the answer the line waits for a request, where none came since its notification began; what is quarantined stays.
-pub fn an_answered_line_waits_for_a_request()
-    ensures endpoint { lost_line_then (tick 6000 ∷ response 200 10000001 ∷ []) ≡ Some (record (lost_endpoint 6000) {
-      line = record (lost_endpoint 6000).line { state = states.Lockstep };
-      post = ready_post example 2;
-    }) }
+    // At the answer the line waits for a request, where none came since its notification began; what is quarantined stays.
+    ensures an_answered_line_waits_for_a_request_endpoint { lost_line_then (tick 6000 ∷ response 200 10000001 ∷ [])
+        ≡ Some (record (lost_endpoint 6000) {
+          line = record (lost_endpoint 6000).line { state = states.Lockstep };
+          post = ready_post example 2;
+        }) }
     ensures other_id { lost_line_then (tick 6000 ∷ response 200 10000000 ∷ []) ≡ lost_line_then (tick 6000 ∷ []) }
-    ensures quarantined { lost_sends (phone 1 OnHook ∷ tick 6000 ∷ response 200 10000001 ∷ tick 6500 ∷ asking_nothing ∷ [])
+    ensures an_answered_line_waits_for_a_request_quarantined { lost_sends (phone 1 OnHook ∷ tick 6000 ∷ response 200 10000001 ∷ tick
+        6500 ∷ asking_nothing ∷ [])
         ≡ to_agent_at 6000 (disconnected 10000001)
         ∷ to_agent_at 6500 (codes "200 7 OK\r\n.\r\n" ++ ntfy 10000002 1 (codes "A5") (codes "L/hu")) ∷ [] }
-{}
-
-/// A request while the line waits, or while its announcement is in flight, is remembered, and nothing is told before the
-/// answer.
-pub fn a_request_waits_for_the_answer()
-    ensures waits { lost_sends (phone 1 OnHook ∷ asking_nothing ∷ []) ≡ says (codes "200 7 OK") ∷ [] }
-    ensures state { option_map (λ endpoint. endpoint.line.state) (lost_line_then (asking_nothing ∷ []))
-        ≡ Some states.Notification }
-    ensures renewed { lost_sends (phone 1 OnHook ∷ asking_nothing ∷ tick 6000 ∷ response 200 10000001 ∷ [])
-        ≡ says (codes "200 7 OK") ∷ to_agent_at 6000 (disconnected 10000001)
-        ∷ to_agent_at 6000 (ntfy 10000002 1 (codes "A5") (codes "L/hu")) ∷ [] }
-    ensures in_flight { lost_sends (phone 1 OnHook ∷ tick 6000 ∷ asking_nothing ∷ response 200 10000001 ∷ [])
-        ≡ to_agent_at 6000 (disconnected 10000001) ∷ to_agent_at 6000 (codes "200 7 OK\r\n")
-        ∷ to_agent_at 6000 (ntfy 10000002 1 (codes "A5") (codes "L/hu")) ∷ [] }
-    ensures before_giving_up { sends (phone 1 OffHook ∷ phone 1 OnHook ∷ asking_nothing ∷ tick 16000
-        ∷ response 100 10000000 ∷ tick 26000 ∷ response 200 10000001 ∷ [])
-        ≡ to_agent_at 1000 lifted ∷ says (codes "200 7 OK") ∷ to_agent_at 1500 lifted ∷ to_agent_at 2500 lifted
-        ∷ to_agent_at 4500 lifted ∷ to_agent_at 8500 lifted ∷ to_agent_at 12500 lifted
-        ∷ to_agent_at 26000 (disconnected 10000001)
-        ∷ to_agent_at 26000 (ntfy 10000002 1 (codes "A5") (codes "L/hu")) ∷ [] }
-    ensures nothing_quarantined { option_map (λ endpoint. endpoint.line.state)
-        (lost_line_then (asking_nothing ∷ tick 6000 ∷ response 200 10000001 ∷ [])) ≡ Some states.Normal }
-{}
-
-/// A line in loop goes on at the answer, without a request.
-pub fn a_loop_goes_on_at_the_answer()
+    // A line in loop goes on at the answer, without a request.
     ensures state { option_map (λ endpoint. endpoint.line.state) (endpoint_at
         (machine_after example looping (tick 6000 ∷ response 200 10000001 ∷ [])).endpoints 1) ≡ Some states.Normal }
-    ensures quarantined { outputs_from example looping (phone 1 OnHook ∷ tick 6000 ∷ response 200 10000001 ∷ [])
+    ensures a_loop_goes_on_at_the_answer_quarantined { outputs_from example looping
+        (phone 1 OnHook ∷ tick 6000 ∷ response 200 10000001 ∷ [])
         ≡ to_agent_at 6000 (disconnected 10000001)
         ∷ to_agent_at 6000 (ntfy 10000002 1 (codes "0") (codes "L/hu")) ∷ [] }
-{}
-
-/// 521 that names an agent sends the announcement of the line there at once, under its next id; the other lines and the
-/// gateway itself keep theirs, and go on serving. One that names nobody is the answer.
-pub fn a_line_is_redirected()
+    // 521 that names an agent sends the announcement of the line there at once, under its next id; the other lines and the
+    // gateway itself keep theirs, and go on serving. One that names nobody is the answer.
     ensures sent { lost_sends (tick 6000 ∷ naming_other 521 10000001 ∷ [])
         ≡ to_agent_at 6000 (disconnected 10000001) ∷ to_other_at 6000 (disconnected 10000002) ∷ [] }
     ensures endpoints { (lost_then (tick 6000 ∷ naming_other 521 10000001 ∷ [])).endpoints
@@ -145,6 +112,28 @@ pub fn a_line_is_redirected()
       line = record (lost_endpoint 6000).line { state = states.Lockstep };
       post = ready_post example 2;
     }) }
+{}
+
+/// A request while the line waits, or while its announcement is in flight, is remembered, and nothing is told before the
+/// answer.
+pub fn a_request_waits_for_the_answer()
+    ensures waits { lost_sends (phone 1 OnHook ∷ asking_nothing ∷ []) ≡ says (codes "200 7 OK") ∷ [] }
+    ensures state { option_map (λ endpoint. endpoint.line.state) (lost_line_then (asking_nothing ∷ []))
+        ≡ Some states.Notification }
+    ensures renewed { lost_sends (phone 1 OnHook ∷ asking_nothing ∷ tick 6000 ∷ response 200 10000001 ∷ [])
+        ≡ says (codes "200 7 OK") ∷ to_agent_at 6000 (disconnected 10000001)
+        ∷ to_agent_at 6000 (ntfy 10000002 1 (codes "A5") (codes "L/hu")) ∷ [] }
+    ensures in_flight { lost_sends (phone 1 OnHook ∷ tick 6000 ∷ asking_nothing ∷ response 200 10000001 ∷ [])
+        ≡ to_agent_at 6000 (disconnected 10000001) ∷ to_agent_at 6000 (codes "200 7 OK\r\n")
+        ∷ to_agent_at 6000 (ntfy 10000002 1 (codes "A5") (codes "L/hu")) ∷ [] }
+    ensures before_giving_up { sends (phone 1 OffHook ∷ phone 1 OnHook ∷ asking_nothing ∷ tick 16000
+        ∷ response 100 10000000 ∷ tick 26000 ∷ response 200 10000001 ∷ [])
+        ≡ to_agent_at 1000 lifted ∷ says (codes "200 7 OK") ∷ to_agent_at 1500 lifted ∷ to_agent_at 2500 lifted
+        ∷ to_agent_at 4500 lifted ∷ to_agent_at 8500 lifted ∷ to_agent_at 12500 lifted
+        ∷ to_agent_at 26000 (disconnected 10000001)
+        ∷ to_agent_at 26000 (ntfy 10000002 1 (codes "A5") (codes "L/hu")) ∷ [] }
+    ensures nothing_quarantined { option_map (λ endpoint. endpoint.line.state)
+        (lost_line_then (asking_nothing ∷ tick 6000 ∷ response 200 10000001 ∷ [])) ≡ Some states.Normal }
 {}
 
 /// Whom the answer names that line notifies from then on, and no other, whatever the code; a provisional one names nobody,

@@ -13,9 +13,10 @@ ghost use Rattle.plain_machine.specs.Refusing.{takes_none};
 ghost use Rattle.plain_machine.specs.Lists.{sent_from};
 ghost use Rattle.plain_machine.specs.Example.{example, agent_route, from_agent, from_other, to_agent_at, to_other_at, lifted, response, machine_at, machine_then, own_at, line_end, command_due, ending, announced, announcing, endpoints_announcing, announcing_machine, announcing_sends, announcing_then, own_then, ready_endpoints, lifted_again, announced_again};
 
-/// It is repeated at its moments, and given up, as a line's command is; the lines stay. It waits anew then, and goes out
-/// under the next id.
-pub fn an_own_message_is_repeated_and_given_up()
+/// Each sentence at an example.
+pub fn each_sentence_has_an_example()
+    // It is repeated at its moments, and given up, as a line's command is; the lines stay. It waits anew then, and goes out
+    // under the next id.
     ensures sends { announcing_sends (tick 24500 ∷ [])
         ≡ to_agent_at 1500 announced ∷ to_agent_at 2500 announced ∷ to_agent_at 4500 announced
         ∷ to_agent_at 8500 announced ∷ to_agent_at 12500 announced ∷ to_agent_at 16500 announced
@@ -29,7 +30,8 @@ pub fn an_own_message_is_repeated_and_given_up()
       pending = Some (record { id = 1; route = agent_route; text = announced; first = 1000; repeats = 1; due = 2500 });
       restart = Announced;
     } }
-    ensures lines { (announcing_then (tick 1500 ∷ [])).endpoints.list ≡ (opening_endpoints example).list }
+    ensures an_own_message_is_repeated_and_given_up_lines { (announcing_then (tick 1500 ∷ [])).endpoints.list
+        ≡ (opening_endpoints example).list }
     ensures still_in_flight { option_map (λ message. message.due) (own_then (tick 24499 ∷ [])).pending
         ≡ Some 24500 }
     ensures given_up { own_then (tick 24500 ∷ [])
@@ -42,11 +44,8 @@ pub fn an_own_message_is_repeated_and_given_up()
     ensures without_lines { (pass example (endpoints_announcing []) 5000).sent ≡ own_at 0 5000 (resent (announced_again 0 5000)) ∷ [] }
     ensures memory { takes_none announcing_machine (tick 1500) ≡ false }
     ensures no_memory { takes_none announcing_machine (tick 1499) ≡ true }
-{}
-
-/// At one moment it comes before all that falls due on lines; what is earlier comes before it. Of a line's own kinds
-/// nothing falls due of the gateway itself.
-pub fn an_own_message_goes_before_lines()
+    // At one moment it comes before all that falls due on lines; what is earlier comes before it. Of a line's own kinds
+    // nothing falls due of the gateway itself.
     ensures timer { first_due (endpoints_announcing (ending (Some 5000) [] None ∷ [])) ≡ Some (command_due 5000 0) }
     ensures commands { first_due (endpoints_announcing (ending None [] (Some 5000) ∷ ending None [] (Some 5000) ∷ []))
         ≡ Some (command_due 5000 0) }
@@ -66,6 +65,14 @@ pub fn an_own_message_goes_before_lines()
         ≡ silently (endpoints_announcing []) }
     ensures idle { happened example (ready_endpoints example) (command_due 5000 0)
         ≡ silently (ready_endpoints example) }
+    // A provisional response puts off what is due to 5,000 ms after it; the waits after that go on by the number of
+    // repeats.
+    ensures due { own_then (tick 1200 ∷ response 100 1 ∷ []) ≡ announcing (Some 6200) }
+    ensures repeats { announcing_sends (tick 1200 ∷ response 100 1 ∷ tick 6199 ∷ tick 7200 ∷ [])
+        ≡ to_agent_at 6200 announced ∷ to_agent_at 7200 announced ∷ [] }
+    ensures then_answered { announcing_sends (response 100 1 ∷ response 200 1 ∷ tick 60000 ∷ []) ≡ [] }
+    ensures an_own_message_is_put_off_lines { (announcing_then (tick 1200 ∷ response 100 1 ∷ [])).endpoints.list
+        ≡ (opening_endpoints example).list }
 {}
 
 /// It is answered by its id and by no other, whoever responds; nothing is repeated after that.
@@ -85,15 +92,4 @@ pub fn an_own_message_is_answered_by_its_id()
         ≡ record (announcing None) { restart = Waiting 24501 } }
     ensures acknowledged { announcing_sends (tick 1200 ∷ from_other (codes "200 1 OK\r\nK:\r\n") ∷ [])
         ≡ to_other_at 1200 (codes "000 1\r\n") ∷ [] }
-{}
-
-/// A provisional response puts off what is due to 5,000 ms after it; the waits after that go on by the number of
-/// repeats.
-pub fn an_own_message_is_put_off()
-    ensures due { own_then (tick 1200 ∷ response 100 1 ∷ []) ≡ announcing (Some 6200) }
-    ensures repeats { announcing_sends (tick 1200 ∷ response 100 1 ∷ tick 6199 ∷ tick 7200 ∷ [])
-        ≡ to_agent_at 6200 announced ∷ to_agent_at 7200 announced ∷ [] }
-    ensures then_answered { announcing_sends (response 100 1 ∷ response 200 1 ∷ tick 60000 ∷ []) ≡ [] }
-    ensures lines { (announcing_then (tick 1200 ∷ response 100 1 ∷ [])).endpoints.list
-        ≡ (opening_endpoints example).list }
 {}

@@ -10,9 +10,10 @@ ghost use Rattle.plain_machine.specs.Responding.{entity_in};
 ghost use Rattle.plain_machine.specs.Lists.{outputs_of};
 ghost use Rattle.plain_machine.specs.Example.{other_entity, other_route, example, from_agent, to_agent_at, to_other_at, rqnt, sends, lifted, response, machine_then, from_other, announced, announcing, announcing_machine, announcing_sends, announcing_then, own_then, announced_under, naming_other, entities_of, asking_nothing};
 
-/// Whom the answer names the gateway and all of its lines notify from then on, whatever its code; what waited is told
-/// there.
-pub fn an_answer_names_whom_to_notify()
+/// Each sentence at an example.
+pub fn each_sentence_has_an_example()
+    // Whom the answer names the gateway and all of its lines notify from then on, whatever its code; what waited is told
+    // there.
     ensures lines { entities_of (announcing_then (naming_other 200 1 ∷ [])) ≡ replicate 16 other_entity }
     ensures own { own_then (naming_other 200 1 ∷ [])
         ≡ record (announcing None) { entity = other_entity } }
@@ -21,10 +22,7 @@ pub fn an_answer_names_whom_to_notify()
     ensures serves { serves (announcing_then (naming_other 520 1 ∷ [])).endpoints ≡ true }
     ensures notified { announcing_sends (phone 1 OffHook ∷ naming_other 200 1 ∷ []) ≡ to_other_at 1000 lifted ∷ [] }
     ensures nobody { entities_of (announcing_then (response 200 1 ∷ [])) ≡ replicate 16 example.agent }
-{}
-
-/// The first N counts, be it spelled large or small; where it can't be read it names nobody.
-pub fn the_first_n_counts()
+    // The first N counts, be it spelled large or small; where it can't be read it names nobody.
     ensures large { entity_in example ((record { code = codes "N"; value = codes "ca2@[127.0.0.2]:2728" }) ∷ [])
         ≡ Some other_entity }
     ensures small { entity_in example ((record { code = codes "n"; value = codes "ca2@[127.0.0.2]:2728" }) ∷ [])
@@ -37,6 +35,22 @@ pub fn the_first_n_counts()
     ensures behind_others { entity_in example ((record { code = codes "X"; value = codes "1" })
         ∷ (record { code = codes "N"; value = codes "ca2@[127.0.0.2]:2728" }) ∷ []) ≡ Some other_entity }
     ensures none { entity_in example ((record { code = codes "X"; value = codes "ca2@[127.0.0.2]:2728" }) ∷ []) ≡ None }
+    // 521 that names nobody is the answer.
+    ensures absent { own_then (response 521 1 ∷ []) ≡ announcing None }
+    ensures unreadable { own_then (from_agent (codes "521 1\r\nN: nobody\r\n") ∷ []) ≡ announcing None }
+    ensures told { announcing_sends (phone 1 OffHook ∷ response 521 1 ∷ []) ≡ to_agent_at 1000 lifted ∷ [] }
+    // A provisional response, one to another command and one to a notification name nobody.
+    ensures provisional { announcing_then (naming_other 100 1 ∷ [])
+        ≡ record announcing_machine { endpoints = with_own (opening_endpoints example) (announcing (Some 6000)) } }
+    ensures other_id { announcing_then (naming_other 200 2 ∷ []) ≡ announcing_machine }
+    ensures redirecting { announcing_then (naming_other 521 2 ∷ []) ≡ announcing_machine }
+    ensures to_a_notification { entities_of (machine_then (phone 1 OffHook ∷ naming_other 200 10000000 ∷ []))
+        ≡ replicate 16 example.agent }
+    ensures redirecting_a_notification { sends (phone 1 OffHook ∷ naming_other 521 10000000 ∷ tick 24500 ∷ [])
+        ≡ to_agent_at 1000 lifted ∷ [] }
+    // A redirected announcement that is given up goes to the other agent again.
+    ensures given_up { own_then (naming_other 521 1 ∷ tick 24500 ∷ [])
+        ≡ record { entity = other_entity; number = 3; pending = None; restart = Waiting 24501 } }
 {}
 
 /// 521 that names an agent isn't the answer: the announcement goes there at once, under the next id, and the gateway
@@ -61,29 +75,4 @@ pub fn an_announcement_is_redirected()
     ensures older_answer { own_then (naming_other 521 1 ∷ response 200 1 ∷ []) ≡ own_then (naming_other 521 1 ∷ []) }
     ensures again { announcing_sends (naming_other 521 1 ∷ from_other (codes "521 2\r\nN: ca@ca.example.net\r\n") ∷ [])
         ≡ to_other_at 1000 (announced_under 2) ∷ to_agent_at 1000 (announced_under 3) ∷ [] }
-{}
-
-/// 521 that names nobody is the answer.
-pub fn a_redirection_to_nobody_is_an_answer()
-    ensures absent { own_then (response 521 1 ∷ []) ≡ announcing None }
-    ensures unreadable { own_then (from_agent (codes "521 1\r\nN: nobody\r\n") ∷ []) ≡ announcing None }
-    ensures told { announcing_sends (phone 1 OffHook ∷ response 521 1 ∷ []) ≡ to_agent_at 1000 lifted ∷ [] }
-{}
-
-/// A provisional response, one to another command and one to a notification name nobody.
-pub fn some_responses_name_nobody()
-    ensures provisional { announcing_then (naming_other 100 1 ∷ [])
-        ≡ record announcing_machine { endpoints = with_own (opening_endpoints example) (announcing (Some 6000)) } }
-    ensures other_id { announcing_then (naming_other 200 2 ∷ []) ≡ announcing_machine }
-    ensures redirecting { announcing_then (naming_other 521 2 ∷ []) ≡ announcing_machine }
-    ensures to_a_notification { entities_of (machine_then (phone 1 OffHook ∷ naming_other 200 10000000 ∷ []))
-        ≡ replicate 16 example.agent }
-    ensures redirecting_a_notification { sends (phone 1 OffHook ∷ naming_other 521 10000000 ∷ tick 24500 ∷ [])
-        ≡ to_agent_at 1000 lifted ∷ [] }
-{}
-
-/// A redirected announcement that is given up goes to the other agent again.
-pub fn a_redirected_announcement_is_given_up()
-    ensures given_up { own_then (naming_other 521 1 ∷ tick 24500 ∷ [])
-        ≡ record { entity = other_entity; number = 3; pending = None; restart = Waiting 24501 } }
 {}

@@ -12,12 +12,32 @@ ghost use Rattle.plain_machine.specs.Lists.{machine_after, outputs_of, outputs_f
 ghost use Rattle.plain_machine.specs.Event.{phone, tick};
 ghost use Rattle.plain_machine.specs.Example.{example, two_lines, long_answer, from_agent, to_agent_at, answers_to, answers_from, one_answer, answer_owned_by, messages_to, machine_at, rqnt, sends, asking_of, crcx, epcf, one_sends, local_text, created_text, says, second_called, told_of_connection};
 
-/// An audit is answered to its source.
-pub fn an_audit_is_answered()
+/// Each sentence at an example.
+pub fn each_sentence_has_an_example()
+    // An audit is answered to its source.
     ensures datagram { answers_to (codes "AUEP 1200 aaln/1@rgw.example.net MGCP 1.0\r\n")
         ≡ one_answer (codes "200 1200 OK\r\n") }
     ensures message { messages_to (codes "AUEP 1200 aaln/1@rgw.example.net MGCP 1.0\r\n")
         ≡ answer_owned_by (Some 1) (messages.Response 200 1200 [] []) }
+    // The items of F are reported once each, whatever stands between them.
+    ensures once { answers_to (codes "AUEP 30 aaln/1@rgw.example.net MGCP 1.0\r\nF: ES,y,es,ES\r\n")
+        ≡ one_answer (codes "200 30 OK\r\nES: L/hu\r\n") }
+    ensures commas_alone { answers_to (codes "AUEP 30 aaln/1@rgw.example.net MGCP 1.0\r\nF: y;ES\r\n")
+        ≡ one_answer (codes "200 30 OK\r\n") }
+    ensures whole_words { answers_to (codes "AUEP 30 aaln/1@rgw.example.net MGCP 1.0\r\nF: ESX,E\r\n")
+        ≡ one_answer (codes "200 30 OK\r\n") }
+    // An audit changes no line.
+    ensures of_a_line { (machine_after two_lines second_called
+        (asking_of (codes "AUEP") 3 (codes "aaln/2") (codes "F: A,B,D,ES,I,N,O,Q,R,S,T,X\r\n") ∷ [])).endpoints
+        ≡ second_called.endpoints }
+    ensures of_a_connection { (machine_after two_lines second_called
+        (asking_of (codes "AUCX") 3 (codes "aaln/2") (codes "I: 1\r\nF: C,L,M,N,P,LC,RC\r\n") ∷ [])).endpoints
+        ≡ second_called.endpoints }
+    // An audit of all lines is told their names; an F that asks for nothing is none.
+    ensures names { outputs_of two_lines (from_agent (codes "AUEP 2101 *@rgw.example.net MGCP 1.0\r\n") ∷ [])
+        ≡ one_answer (codes "200 2101 OK\r\nZ: aaln/1@rgw.example.net\r\nZ: aaln/2@rgw.example.net\r\n") }
+    ensures empty { outputs_of two_lines (from_agent (codes "AUEP 2101 AALN/*@rgw.example.net MGCP 1.0\r\nF:\r\n") ∷ [])
+        ≡ one_answer (codes "200 2101 OK\r\nZ: aaln/1@rgw.example.net\r\nZ: aaln/2@rgw.example.net\r\n") }
 {}
 
 /// An audit that asks for ES is told the hook state.
@@ -59,16 +79,6 @@ pub fn answers_have_an_owner()
         ≡ answer_owned_by None (messages.Response 503 9 [] []) }
 {}
 
-/// The items of F are reported once each, whatever stands between them.
-pub fn items_are_reported_once()
-    ensures once { answers_to (codes "AUEP 30 aaln/1@rgw.example.net MGCP 1.0\r\nF: ES,y,es,ES\r\n")
-        ≡ one_answer (codes "200 30 OK\r\nES: L/hu\r\n") }
-    ensures commas_alone { answers_to (codes "AUEP 30 aaln/1@rgw.example.net MGCP 1.0\r\nF: y;ES\r\n")
-        ≡ one_answer (codes "200 30 OK\r\n") }
-    ensures whole_words { answers_to (codes "AUEP 30 aaln/1@rgw.example.net MGCP 1.0\r\nF: ESX,E\r\n")
-        ≡ one_answer (codes "200 30 OK\r\n") }
-{}
-
 /// Each item tells of the line as it is.
 pub fn items_are_those_of_the_line()
     ensures as_it_opens { answers_to (codes "AUEP 30 aaln/1@rgw.example.net MGCP 1.0\r\nF: A,B,D,ES,I,N,O,Q,R,S,T,X\r\n")
@@ -104,24 +114,6 @@ pub fn a_connection_is_reported()
         ≡ says (codes "515 3") ∷ [] }
     ensures all { outputs_from two_lines second_called (asking_of (codes "AUCX") 3 (codes "*") (codes "I: 1\r\n") ∷ [])
         ≡ says (codes "503 3") ∷ [] }
-{}
-
-/// An audit changes no line.
-pub fn an_audit_changes_nothing()
-    ensures of_a_line { (machine_after two_lines second_called
-        (asking_of (codes "AUEP") 3 (codes "aaln/2") (codes "F: A,B,D,ES,I,N,O,Q,R,S,T,X\r\n") ∷ [])).endpoints
-        ≡ second_called.endpoints }
-    ensures of_a_connection { (machine_after two_lines second_called
-        (asking_of (codes "AUCX") 3 (codes "aaln/2") (codes "I: 1\r\nF: C,L,M,N,P,LC,RC\r\n") ∷ [])).endpoints
-        ≡ second_called.endpoints }
-{}
-
-/// An audit of all lines is told their names; an F that asks for nothing is none.
-pub fn all_lines_are_named()
-    ensures names { outputs_of two_lines (from_agent (codes "AUEP 2101 *@rgw.example.net MGCP 1.0\r\n") ∷ [])
-        ≡ one_answer (codes "200 2101 OK\r\nZ: aaln/1@rgw.example.net\r\nZ: aaln/2@rgw.example.net\r\n") }
-    ensures empty { outputs_of two_lines (from_agent (codes "AUEP 2101 AALN/*@rgw.example.net MGCP 1.0\r\nF:\r\n") ∷ [])
-        ≡ one_answer (codes "200 2101 OK\r\nZ: aaln/1@rgw.example.net\r\nZ: aaln/2@rgw.example.net\r\n") }
 {}
 
 /// An answer that would be longer than a datagram may be gives way to 533.

@@ -13,14 +13,19 @@ ghost use Rattle.call_agent.specs.Taking.{transacted_by};
 ghost use Rattle.call_agent.specs.Hearing.{hears};
 ghost use Rattle.world_laws.specs.Example.{agent_sends, agent_posts, agent_then, seconds_of_agent, from_gateway, from_elsewhere, said, ntfy, lifted_at, by_verb, told_then};
 
-/// Of the verbs a gateway's notification alone tells an agent something; all but that and an announcement is 504.
-pub fn other_commands_are_not_for_an_agent()
+/// Each sentence at an example.
+pub fn each_sentence_has_an_example()
+    // Of the verbs a gateway's notification alone tells an agent something; all but that and an announcement is 504.
     ensures configuration { agent_sends [] (by_verb (codes "EPCF")) ≡ (0, codes "504 5\r\n") ∷ [] }
     ensures request { agent_sends [] (by_verb (codes "RQNT")) ≡ (0, codes "504 5\r\n") ∷ [] }
     ensures creation { agent_sends [] (by_verb (codes "CRCX")) ≡ (0, codes "504 5\r\n") ∷ [] }
     ensures modification { agent_sends [] (by_verb (codes "MDCX")) ≡ (0, codes "504 5\r\n") ∷ [] }
     ensures deletion { agent_sends [] (by_verb (codes "DLCX")) ≡ (0, codes "504 5\r\n") ∷ [] }
     ensures connection { agent_sends [] (by_verb (codes "AUCX")) ≡ (0, codes "504 5\r\n") ∷ [] }
+    // What finds no room is lost.
+    ensures what_finds_no_room_at_an_agent_is_lost { transacted_by full (agent_then []) other_agent
+        (record { id = 5; confirms = []; code = 200; taken = (record { line = 1; observed = Happened events.OffHook ∷ [] }) ∷ [] })
+        ≡ idle (agent_then []) }
 {}
 
 /// What other commands than notifications have for an O tells nothing.
@@ -95,13 +100,6 @@ pub fn what_is_confirmed_gets_silence()
     ensures not_told { told_then (from_gateway (ntfy 5 []) ∷ from_gateway (ntfy 6 (codes "K: 5\r\n"))
         ∷ from_gateway (ntfy 5 (codes "O: L/hd\r\n")) ∷ [])
         ≡ [] }
-{}
-
-/// What finds no room is lost.
-pub fn what_finds_no_room_at_an_agent_is_lost()
-    ensures { transacted_by full (agent_then []) other_agent
-        (record { id = 5; confirms = []; code = 200; taken = (record { line = 1; observed = Happened events.OffHook ∷ [] }) ∷ [] })
-        ≡ idle (agent_then []) }
 {}
 
 /// The texts of a datagram are taken one after the other; those of more than 4,000 bytes aren't.

@@ -20,8 +20,9 @@ ghost use Rattle.agent_core.specs.World.{world_opening, steps_are_taken, gateway
 ghost use Rattle.agent_core.specs.WorldStands.{step_of, steps_before};
 ghost use Rattle.world_laws.specs.Example.{world, agent_after_steps, texts_in, texts_with, shared_address, two_addresses, four_addresses, notified_twice, code_in, refused_after, announced, audits};
 
-/// A gateway has its media address and the port 2427; its agent is the one that it reports to, and begins with the id 1.
-pub fn both_ends_are_of_one_configuration()
+/// Each sentence at an example.
+pub fn each_sentence_has_an_example()
+    // A gateway has its media address and the port 2427; its agent is the one that it reports to, and begins with the id 1.
     ensures gateway { gateway_address (record two_lines { media_address = other_host }) ≡ record { ip = other_host; port = 2427 } }
     ensures agent { agent_of (record two_lines { media_address = other_host })
         ≡ record {
@@ -31,10 +32,7 @@ pub fn both_ends_are_of_one_configuration()
           lines = 2;
           first = 1;
         } }
-{}
-
-/// A packet has its moment, the address of its sender, that to which it goes, and its bytes.
-pub fn packets_have_their_addresses()
+    // A packet has its moment, the address of its sender, that to which it goes, and its bytes.
     ensures of_gateway { (world (ticking 1 ∷ [])).posted ≡ (record {
       end = GatewayEnd;
       packet = record {
@@ -53,6 +51,50 @@ pub fn packets_have_their_addresses()
         bytes = codes "AUEP 1 aaln/1@rgw.example.net MGCP 1.0\r\n";
       };
     }) ∷ [] }
+    // A packet goes to the end that didn't send it, where that has its address; else it is lost.
+    ensures to_agent { delivered_from AgentEnd two_lines (world announced)
+        (record { moment = 1; sender = agent; to = agent; bytes = codes "AUEP 1 aaln/1@rgw.example.net MGCP 1.0\r\n" }) ≡ world announced }
+    ensures to_another { delivered_from AgentEnd two_lines (world announced)
+        (record { moment = 1; sender = agent; to = other_agent; bytes = codes "AUEP 1 aaln/1@rgw.example.net MGCP 1.0\r\n" })
+        ≡ world announced }
+    ensures to_gateway { delivered_from GatewayEnd two_lines (world announced)
+        (record {
+          moment = 1;
+          sender = gateway_address two_lines;
+          to = gateway_address two_lines;
+          bytes = codes "RSIP 1 *@rgw.example.net MGCP 1.0\r\n";
+        })
+        ≡ world announced }
+    // Where both ends have one address, each still gets what the other sent.
+    ensures ends_may_share_an_address { texts_with shared_address (announced
+        ++ issuing (codes "RQNT") (codes "aaln/1@rgw.example.net") (codes "X: 1\r\n") ∷ delivering 2 ∷ [])
+        ≡ codes "RSIP 1 *@rgw.example.net MGCP 1.0\r\nRM: restart\r\n" ∷ codes "200 1 OK\r\n"
+        ∷ codes "RQNT 1 aaln/1@rgw.example.net MGCP 1.0\r\nX: 1\r\n" ∷ codes "200 1 OK\r\n" ∷ [] }
+    // A notification of the last line reaches the agent, and so does one that comes late, behind a later one.
+    ensures last_line { observed_on 2 (agent_after_steps (announced ++ dialling 2 acts.OffHook ∷ delivering 2 ∷ []))
+        ≡ Happened events.OffHook ∷ [] }
+    ensures first_line { observed_on 1 (agent_after_steps (announced ++ dialling 1 acts.OffHook ∷ dialling 2 acts.OffHook
+        ∷ delivering 3 ∷ delivering 2 ∷ []))
+        ≡ Happened events.OffHook ∷ [] }
+    ensures lost { observed_on 1 (agent_after_steps (announced ++ dialling 1 acts.OffHook ∷ [])) ≡ [] }
+    // What the agent refuses to issue a world refuses.
+    ensures bad { refused_after [] (issuing (codes "AUEPX") (codes "aaln/1@rgw.example.net") []) ≡ Some (by_agent (as_issue bad_command)) }
+    ensures good { refused_after [] audits ≡ None }
+    ensures the_agent_judges_what_is_issued_tick { refused_after [] (ticking 1000) ≡ None }
+    ensures act { refused_after announced (dialling 2 acts.OffHook) ≡ None }
+    // Steps are taken where none is refused, each after those before it.
+    ensures none { steps_are_taken two_lines world_opening [] ≡ true }
+    ensures first { steps_are_taken two_lines world_opening (ticking 1001 ∷ ticking 1000 ∷ []) ≡ false }
+    ensures last { steps_are_taken two_lines world_opening (ticking 1000 ∷ ticking 2001 ∷ []) ≡ false }
+    ensures not_yet { steps_are_taken two_lines world_opening (announced ++ delivering 2 ∷ audits ∷ []) ≡ false }
+    ensures there { steps_are_taken two_lines world_opening (announced ++ audits ∷ delivering 2 ∷ []) ≡ true }
+    // A step as it is given is the step of the definitions.
+    ensures issue { (verb name rest : Bor (List ℕ)) → step_of (steps.Issue verb name rest) ≡ issuing verb.now name.now rest.now }
+    ensures dial { step_of (steps.Dial 2 acts.Flash) ≡ dialling 2 acts.Flash }
+    ensures steps_are_as_they_are_given_tick { step_of (steps.Tick 7) ≡ ticking 7 }
+    ensures deliver { step_of (steps.Deliver 7) ≡ delivering 7 }
+    ensures before { steps_before (steps.Tick 7 ∷ steps.Deliver 0 ∷ []) 1 ≡ ticking 7 ∷ [] }
+    ensures before_the_first { steps_before (steps.Tick 7 ∷ []) 0 ≡ [] }
 {}
 
 /// The clock of both ends goes on at once; the gateway is first.
@@ -76,23 +118,6 @@ pub fn messages_of_one_moment_share_a_packet()
     ensures second { code_in 2 (announced ++ audits ∷ audits ∷ ticking 501 ∷ delivering 4 ∷ delivering 5 ∷ []) ≡ Some 200 }
 {}
 
-/// A packet goes to the end that didn't send it, where that has its address; else it is lost.
-pub fn what_no_end_has_for_an_address_is_lost()
-    ensures to_agent { delivered_from AgentEnd two_lines (world announced)
-        (record { moment = 1; sender = agent; to = agent; bytes = codes "AUEP 1 aaln/1@rgw.example.net MGCP 1.0\r\n" }) ≡ world announced }
-    ensures to_another { delivered_from AgentEnd two_lines (world announced)
-        (record { moment = 1; sender = agent; to = other_agent; bytes = codes "AUEP 1 aaln/1@rgw.example.net MGCP 1.0\r\n" })
-        ≡ world announced }
-    ensures to_gateway { delivered_from GatewayEnd two_lines (world announced)
-        (record {
-          moment = 1;
-          sender = gateway_address two_lines;
-          to = gateway_address two_lines;
-          bytes = codes "RSIP 1 *@rgw.example.net MGCP 1.0\r\n";
-        })
-        ≡ world announced }
-{}
-
 /// Of an agent with several addresses a packet to any of them arrives, and one to another is lost. It sends from the first. What
 /// comes at two of them is taken once.
 pub fn packets_arrive_at_each_address_of_an_agent()
@@ -111,49 +136,4 @@ pub fn packets_arrive_at_each_address_of_an_agent()
     ensures from { map (λ post. post.packet.sender) (plain_world two_addresses (notified_twice ++ delivering 4 ∷ [])).posted
         ≡ gateway_address two_lines ∷ agent ∷ gateway_address two_lines ∷ gateway_address two_lines ∷ gateway_address two_lines
         ∷ agent ∷ [] }
-{}
-
-/// Where both ends have one address, each still gets what the other sent.
-pub fn ends_may_share_an_address()
-    ensures { texts_with shared_address (announced
-        ++ issuing (codes "RQNT") (codes "aaln/1@rgw.example.net") (codes "X: 1\r\n") ∷ delivering 2 ∷ [])
-        ≡ codes "RSIP 1 *@rgw.example.net MGCP 1.0\r\nRM: restart\r\n" ∷ codes "200 1 OK\r\n"
-        ∷ codes "RQNT 1 aaln/1@rgw.example.net MGCP 1.0\r\nX: 1\r\n" ∷ codes "200 1 OK\r\n" ∷ [] }
-{}
-
-/// A notification of the last line reaches the agent, and so does one that comes late, behind a later one.
-pub fn notifications_come_in_any_order()
-    ensures last_line { observed_on 2 (agent_after_steps (announced ++ dialling 2 acts.OffHook ∷ delivering 2 ∷ []))
-        ≡ Happened events.OffHook ∷ [] }
-    ensures first_line { observed_on 1 (agent_after_steps (announced ++ dialling 1 acts.OffHook ∷ dialling 2 acts.OffHook
-        ∷ delivering 3 ∷ delivering 2 ∷ []))
-        ≡ Happened events.OffHook ∷ [] }
-    ensures lost { observed_on 1 (agent_after_steps (announced ++ dialling 1 acts.OffHook ∷ [])) ≡ [] }
-{}
-
-/// What the agent refuses to issue a world refuses.
-pub fn the_agent_judges_what_is_issued()
-    ensures bad { refused_after [] (issuing (codes "AUEPX") (codes "aaln/1@rgw.example.net") []) ≡ Some (by_agent (as_issue bad_command)) }
-    ensures good { refused_after [] audits ≡ None }
-    ensures tick { refused_after [] (ticking 1000) ≡ None }
-    ensures act { refused_after announced (dialling 2 acts.OffHook) ≡ None }
-{}
-
-/// Steps are taken where none is refused, each after those before it.
-pub fn a_list_of_steps_is_taken_step_by_step()
-    ensures none { steps_are_taken two_lines world_opening [] ≡ true }
-    ensures first { steps_are_taken two_lines world_opening (ticking 1001 ∷ ticking 1000 ∷ []) ≡ false }
-    ensures last { steps_are_taken two_lines world_opening (ticking 1000 ∷ ticking 2001 ∷ []) ≡ false }
-    ensures not_yet { steps_are_taken two_lines world_opening (announced ++ delivering 2 ∷ audits ∷ []) ≡ false }
-    ensures there { steps_are_taken two_lines world_opening (announced ++ audits ∷ delivering 2 ∷ []) ≡ true }
-{}
-
-/// A step as it is given is the step of the definitions.
-pub fn steps_are_as_they_are_given()
-    ensures issue { (verb name rest : Bor (List ℕ)) → step_of (steps.Issue verb name rest) ≡ issuing verb.now name.now rest.now }
-    ensures dial { step_of (steps.Dial 2 acts.Flash) ≡ dialling 2 acts.Flash }
-    ensures tick { step_of (steps.Tick 7) ≡ ticking 7 }
-    ensures deliver { step_of (steps.Deliver 7) ≡ delivering 7 }
-    ensures before { steps_before (steps.Tick 7 ∷ steps.Deliver 0 ∷ []) 1 ≡ ticking 7 ∷ [] }
-    ensures before_the_first { steps_before (steps.Tick 7 ∷ []) 0 ≡ [] }
 {}

@@ -17,8 +17,9 @@ ghost use Rattle.agent_core.specs.World.{agent_of, gateway_address, issuing, dia
 ghost use Rattle.world_laws.specs.Reached.{added_by, executed_of, key_kept, key_reached, taken_with, told_of, issued_in, executed_in, heard_in, taken_in, own_in};
 ghost use Rattle.world_laws.specs.Example.{world, announced, audits, audited, lifted};
 
-/// Of the commands that arrive those are executed that are firsts, each as it was read, under its id and at its moment.
-pub fn firsts_are_executed()
+/// Each sentence at an example.
+pub fn each_sentence_has_an_example()
+    // Of the commands that arrive those are executed that are firsts, each as it was read, under its id and at its moment.
     ensures copies { map key_reached (executed_of (arrivals_of (from_agent (audit 7) ∷ tick 29999 ∷ from_agent (audit 7)
         ∷ tick 30000 ∷ from_agent (audit 7) ∷ [])))
         ≡ (7, 0) ∷ (7, 30000) ∷ [] }
@@ -35,14 +36,14 @@ pub fn firsts_are_executed()
     ensures lost { added_by lost []
         (record { asked = record { source = agent; moment = 0; id = 7; confirms = [] }; outcome = bad_body 7 }) ≡ [] }
     ensures kept { key_kept (record { id = 7; moment = 5; answer = codes "200 7 OK\r\n" }) ≡ (7, 5) }
-{}
-
-/// The commands that the agent issued, each once, with the moment at which it was issued, and no repeats.
-pub fn issued_commands_are_these()
-    ensures { issued_in two_lines (world (announced ++ audits ∷ ticking 501
+    // The commands that the agent issued, each once, with the moment at which it was issued, and no repeats.
+    ensures issued_commands_are_these { issued_in two_lines (world (announced ++ audits ∷ ticking 501
         ∷ issuing (codes "RQNT") (codes "aaln/1@rgw.example.net") (codes "X: 1\r\n") ∷ []))
         ≡ (record { id = 1; moment = 1; text = codes "AUEP 1 aaln/1@rgw.example.net MGCP 1.0\r\n" })
         ∷ (record { id = 2; moment = 501; text = codes "RQNT 2 aaln/1@rgw.example.net MGCP 1.0\r\nX: 1\r\n" }) ∷ [] }
+    // What the agent heard: ticks and datagrams, and not what it issued.
+    ensures an_agent_heard_this { heard_in (world (ticking 1 ∷ delivering 0 ∷ audits ∷ [])) ≡ tick 1
+        ∷ datagram (gateway_address two_lines) (codes "RSIP 1 *@rgw.example.net MGCP 1.0\r\nRM: restart\r\n") ∷ [] }
 {}
 
 /// What the gateway executed, what the agent took, and what that tells, where all came twice.
@@ -65,10 +66,4 @@ pub fn own_commands_are_these()
     ensures of_itself { count_of 0 (own_in two_lines (world lifted)) ≡ 1 }
     ensures of_line_1 { count_of 1 (own_in two_lines (world lifted)) ≡ 1 }
     ensures of_line_2 { count_of 2 (own_in two_lines (world lifted)) ≡ 0 }
-{}
-
-/// What the agent heard: ticks and datagrams, and not what it issued.
-pub fn an_agent_heard_this()
-    ensures { heard_in (world (ticking 1 ∷ delivering 0 ∷ audits ∷ [])) ≡ tick 1
-        ∷ datagram (gateway_address two_lines) (codes "RSIP 1 *@rgw.example.net MGCP 1.0\r\nRM: restart\r\n") ∷ [] }
 {}

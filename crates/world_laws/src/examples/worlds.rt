@@ -42,24 +42,19 @@ pub fn a_repeat_may_come_first()
     ensures behind { refused_after repeated_audit (delivering 6) ≡ Some no_such_packet }
 {}
 
-/// A packet is handed over 10,000 ms after it was sent, and not later.
-pub fn a_packet_of_ten_seconds_is_too_old()
+/// Each sentence at an example.
+pub fn each_sentence_has_an_example()
+    // A packet is handed over 10,000 ms after it was sent, and not later.
     ensures young { refused_after (seconds 11) (delivering 0) ≡ None }
     ensures old { refused_after (seconds 11 ++ ticking 10002 ∷ []) (delivering 0) ≡ Some packet_too_old }
-{}
-
-/// A tick and an act are refused as the gateway refuses them.
-pub fn the_gateway_judges_ticks_and_acts()
+    // A tick and an act are refused as the gateway refuses them.
     ensures far { refused_after [] (ticking 1001) ≡ Some (by_gateway refusals.TickTooFar) }
     ensures back { refused_after announced (ticking 0) ≡ Some (by_gateway refusals.ClockBack) }
     ensures line { refused_after announced (dialling 3 acts.OffHook) ≡ Some (by_gateway refusals.NoSuchLine) }
     ensures state { refused_after announced (dialling 2 acts.OnHook) ≡ Some (by_gateway refusals.PhoneState) }
     ensures opening { refused_after [] (delivering 0) ≡ Some no_such_packet }
-{}
-
-/// What the gateway sends to an address that only it has is lost: it is repeated.
-pub fn what_goes_to_its_sender_is_lost()
-    ensures { texts_in (announced ++ ticking 1000
+    // What the gateway sends to an address that only it has is lost: it is repeated.
+    ensures what_goes_to_its_sender_is_lost { texts_in (announced ++ ticking 1000
         ∷ issuing (codes "RQNT") (codes "aaln/1@rgw.example.net") (codes "X: A0\r\nN: ca@[127.0.0.1]:2427\r\n")
         ∷ delivering 2 ∷ delivering 3 ∷ dialling 1 acts.OffHook ∷ delivering 4 ∷ ticking 1500 ∷ [])
         ≡ texts_in announced ++ codes "RQNT 1 aaln/1@rgw.example.net MGCP 1.0\r\nX: A0\r\nN: ca@[127.0.0.1]:2427\r\n" ∷ codes "200 1 OK\r\n"
