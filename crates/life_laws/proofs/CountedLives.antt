@@ -29,7 +29,7 @@ few_at : (before some after : List Begun) (one : Begun) → keeps_pace before (s
 unfolding keeps_pace
 few_at before [] after one paced =
     let test : nat_lt (count_of (line_of_id one.id) before) (most_after one.moment) ≡ true =
-        (and_parts (nat_lt (count_of (line_of_id one.id) before) (most_after one.moment)) (keeps_pace (before ++ one ∷ []) after) paced).0 in
+    (and_parts (nat_lt (count_of (line_of_id one.id) before) (most_after one.moment)) (keeps_pace (before ++ one ∷ []) after) paced).0 in
     subst (λ (l : List Begun). count_of (line_of_id one.id) l < most_after one.moment) (sym (append-nil before)) (grind (arith, nat_tests, test))
 few_at before (x ∷ some) after one paced =
     let rest = (and_parts (nat_lt (count_of (line_of_id x.id) before) (most_after x.moment)) (keeps_pace (before ++ x ∷ []) (some ++ one ∷ after)) paced).1 in
@@ -77,7 +77,7 @@ count_bound line bound all before (x ∷ xs) is at low =
 pub paced_left : (life : Life) → KeepsPace life → HasNumbersLeft (own_of life)
 paced_left life pace line =
     let few : count_of line (own_of life) ≤ most_after longest_life =
-        count_bound line (most_after longest_life) (own_of life) [] (own_of life) refl at (omega arith) in
+    count_bound line (most_after longest_life) (own_of life) [] (own_of life) refl at (omega arith) in
     let low : first_number line ≤ 1 = first_low line in
     omega (arith, few, low) where
       at : (some more : List Begun) (x : Begun) → own_of life ≡ some ++ x ∷ more → line_of_id x.id ≡ line → count_of line some < most_after longest_life

@@ -103,8 +103,9 @@ fn tell_addresses<R: Net + Clock, F: Write + Drop>(
     outlets: &mut Outlets<F>,
 ) {
     if let Ok((listen, control)) = live.addresses() {
-        let line: Result<String, OutOfMemory> =
-            format!(in alloc; "listen {listen} control {control}\n");
+        let line: Result<String, OutOfMemory> = format!(in alloc;
+            "listen {listen} control {control}\n"
+        );
         // For want of memory that line alone isn't said.
         if let Ok(line) = line {
             outlets.error.say(line.as_bytes());

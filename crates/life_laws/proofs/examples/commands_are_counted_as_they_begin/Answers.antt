@@ -40,6 +40,6 @@ returns c = record {
       (record { few = refl; within = all_from_each (λ (one : Begun). one.moment ≤ longest_life) (own_of (lives first_life).life) (omega arith, (omega arith, tt)) })
       (record { few = refl; within = all_from_each (λ (one : Begun). one.moment ≤ longest_life) (own_of (lives (both_lives 20)).life) (omega arith, (omega arith, tt)) });
   follows_not = λ by_time. absurd (
-    let one = (each_from_all (BeganByTime 0 1) (begun_of (lives (both_lives 20)).life) by_time).0 in
-    never_21 one.line one.number one.began.place one.below one.is one.began.few one.began.behind);
+      let one = (each_from_all (BeganByTime 0 1) (begun_of (lives (both_lives 20)).life) by_time).0 in
+      never_21 one.line one.number one.began.place one.below one.is one.began.few one.began.behind);
 }
