@@ -59,6 +59,10 @@ pub fn each_sentence_has_an_example()
     ensures other_items_are_left_out_of_a_connection { told_of (calling first_connection) (codes "1") (codes "ES,A,M,L C,I")
         ≡ Ok (codes "200 9 OK\r\nM: recvonly\r\n") }
     ensures nothing { told_of (calling first_connection) (codes "1") (codes "") ≡ Ok (codes "200 9 OK\r\n") }
+{}
+
+/// Each sentence at an example.
+pub fn further_sentences_have_examples()
     // The encoding of a line is told by B, and changes no connection.
     ensures line { told (record (calling first_connection) { encoding = Encoding.A }) (codes "B,A,I")
         ≡ Ok (codes "200 9 OK\r\nB: e:A\r\n" ++ capabilities ++ codes "I: 1\r\n") }

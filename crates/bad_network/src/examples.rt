@@ -43,6 +43,10 @@ pub fn each_sentence_has_an_example()
     ensures copy_twice { spoiling_of (codes "copy 1%, copy 1%") ≡ Err faults.Copy }
     ensures late_twice { spoiling_of (codes "late 1-1, late 1-1") ≡ Err faults.Late }
     ensures seed_twice { spoiling_of (codes "seed 1, seed 1") ≡ Err faults.Seed }
+{}
+
+/// Each sentence at an example.
+pub fn further_sentences_have_examples()
     // A seed is mixed with a name as FNV-1a is reckoned, which begins at 14,695,981,039,346,656,037 by itself. Nothing else of the
     // network is changed, and without a name its seed isn't either.
     ensures letter { mixed 14695981039346656037 (codes "a") ≡ 12638187200555641996 }

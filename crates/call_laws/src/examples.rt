@@ -66,6 +66,10 @@ pub fn each_sentence_has_an_example()
     ensures none { sent_at hang_up (tells 2 Told.Flash) ≡ (2, Command.Ask Asked.Rest) ∷ [] }
     ensures on_hook_ends_a_call_refused { sent_at (connect ++ tells 0 Told.OnHook ∷ []) (coded 0 516) ≡ (0, Command.Ask Asked.Rest) ∷ [] }
     ensures lost { sent_at (connect ++ tells 0 Told.OnHook ∷ []) (given_up 0) ≡ (0, Command.Delete 1) ∷ [] }
+{}
+
+/// Each sentence at an example.
+pub fn further_sentences_have_examples()
     // Both ends hang up at once: both rest.
     ensures both_ends_hang_up_at_once_caller { phase_then 0 (connect ++ tells 0 Told.OnHook ∷ tells 1 Told.OnHook ∷ [])
         ≡ Some Phase.Resting }
@@ -102,6 +106,10 @@ pub fn each_sentence_has_an_example()
     ensures deleted { is_success 250 ≡ true }
     ensures last { is_success 299 ≡ true }
     ensures above { is_success 300 ≡ false }
+{}
+
+/// Each sentence at an example.
+pub fn more_sentences_have_examples()
     // Commands as they are written.
     ensures verbs { verb_of (Command.Ask Asked.Rest) ++ verb_of (Command.Create 1 false) ++ verb_of (Command.Modify 1)
         ++ verb_of (Command.Delete 1) ≡ codes "RQNTCRCXMDCXDLCX" }
@@ -143,6 +151,10 @@ pub fn each_sentence_has_an_example()
     ensures keys_behind { told_in (codes "1" ∷ []) (observed.Happened events.OffHook ∷ key keys.One ∷ []) ≡ Some (Told.Dialled (Some 0)) }
     ensures ended { told_in [] (observed.Ended DialTone ∷ []) ≡ Some Told.TimedOut }
     ensures nothing { told_in [] [] ≡ None }
+{}
+
+/// Each sentence at an example.
+pub fn other_sentences_have_examples()
     // What the laws count: commands sent and answered, and what leaves a line alone.
     ensures sent { is_sent 1 opened (sends 1) ≡ true }
     ensures not_sent { is_sent 1 ready (sends 1) ≡ false }

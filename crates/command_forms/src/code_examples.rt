@@ -64,6 +64,10 @@ pub fn each_sentence_has_an_example()
     ensures a_task_has_its_lines_deed { target_meant (DeedOn Creates Any) ≡ Any }
     ensures purposes { map purpose_meant (ReportOf Connection (audits.One 1) ∷ DeedOn Deletes All ∷ [])
         ≡ ForReport Connection ∷ ForDeed Deletes ∷ [] }
+{}
+
+/// Each sentence at an example.
+pub fn further_sentences_have_examples()
     // On all lines connections stay, or all are deleted; on any one line one is created. A report of all lines is of no
     // connection by itself.
     ensures deeds_are_for_more_than_one_line_all { map may_connect_all all_deeds ≡ true ∷ false ∷ false ∷ true ∷ false ∷ false ∷ [] }

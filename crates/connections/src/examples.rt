@@ -47,6 +47,10 @@ pub fn each_sentence_has_an_example()
     ensures known_codecs_count_once_unknown { options_of (codes "a:G729") ≡ Ok none_known }
     ensures known_codecs_count_once_empty { options_of (codes "a:") ≡ Ok none_known }
     ensures known_codecs_count_once_blank { options_of (codes "a:PCMU; PCMA") ≡ Ok (asked (list.Only codec.Pcmu) 20) }
+{}
+
+/// Each sentence at an example.
+pub fn further_sentences_have_examples()
     // The packet time is the least of 10, 20 and 30 ms that is asked for.
     ensures range { options_of (codes "p:10-30") ≡ Ok (asked_time 10) }
     ensures within { options_of (codes "p:11-29") ≡ Ok (asked_time 20) }
@@ -81,6 +85,10 @@ pub fn each_sentence_has_an_example()
     ensures read_other { encoding_named (codes "e:b") ≡ None }
     ensures written_mu { encoding_text encoding.Mu ≡ codes "e:mu" }
     ensures written_a { encoding_text encoding.A ≡ codes "e:A" }
+{}
+
+/// Each sentence at an example.
+pub fn more_sentences_have_examples()
     // Of a list those codecs are left that the remote description offers, in the list's order.
     ensures what_is_offered_is_left_both { offered_of (8 ∷ 18 ∷ 0 ∷ []) (list.Both codec.Pcmu) ≡ Some (list.Both codec.Pcmu) }
     ensures what_is_offered_is_left_first { offered_of (0 ∷ []) (list.Both codec.Pcmu) ≡ Some (list.Only codec.Pcmu) }
@@ -113,7 +121,7 @@ pub fn each_sentence_has_an_example()
 {}
 
 /// Each sentence at an example.
-pub fn further_sentences_have_examples()
+pub fn other_sentences_have_examples()
     // A connection takes the next number and the least free place; its description has version 1. The fifth finds no place.
     ensures first { creating (receives (codes "1A")) line
         ≡ Ok (record { number = 1; description = local_of 1 1 3000 (0 ∷ 8 ∷ []) }) }
@@ -180,6 +188,10 @@ pub fn further_sentences_have_examples()
         ≡ with_one (record first_connection { mode = mode.Inactive }) }
     ensures nothing { left_by (with_one first_connection) (modified encoding.Mu (codes "1A") (codes "1") no_change
         (with_one first_connection)) ≡ with_one first_connection }
+{}
+
+/// Each sentence at an example.
+pub fn still_more_sentences_have_examples()
     // A remote description that leaves the list as it was is kept, and nothing is answered.
     ensures same_list { changing (codes "1") (changes_remote (0 ∷ 8 ∷ [])) (with_one first_connection) ≡ Ok None }
     ensures connections_are_modified_kept { left_by (with_one first_connection) (modified encoding.Mu (codes "1A") (codes "1")
@@ -258,6 +270,10 @@ pub fn further_sentences_have_examples()
         (with_one (record first_connection { version = 4294967295 })) ≡ Ok None }
     ensures mode_before_version { changing (codes "1") (record (changes_mode mode.SendOnly) { options = Some (asked_time 30) })
         (with_one (record first_connection { version = 4294967295 })) ≡ Err 527 }
+{}
+
+/// Each sentence at an example.
+pub fn yet_more_sentences_have_examples()
     // One connection is deleted, or those of a call, or all.
     ensures connections_are_deleted_one { numbers_of (after (with_calls (codes "1A" ∷ codes "B" ∷ codes "1a" ∷ []))
         (deletes (deletion.One (codes "1a") (codes "3")) ∷ [])) ≡ 1 ∷ 2 ∷ [] }

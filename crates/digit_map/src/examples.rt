@@ -58,6 +58,10 @@ pub fn each_sentence_has_an_example()
     ensures last { parts_of (codes "1-") ≡ Part.Single 49 ∷ Part.Single 45 ∷ [] }
     ensures chain { parts_of (codes "1-2-3") ≡ Part.Span 49 50 ∷ Part.Single 45 ∷ Part.Single 51 ∷ [] }
     ensures hyphens_make_spans_none { parts_of [] ≡ [] }
+{}
+
+/// Each sentence at an example.
+pub fn further_sentences_have_examples()
     // These texts are maps.
     ensures some_texts_are_maps_four { list_all is_map (codes "(0T|00T|[1-7]xxx)" ∷ codes "(x.T|8xxx)" ∷ codes "(1xT)" ∷ codes "(xx)"
         ∷ []) ≡ true }
@@ -98,6 +102,10 @@ pub fn each_sentence_has_an_example()
     ensures other_texts_are_no_maps_letter { is_map (codes "E") ≡ false }
     ensures letter_inside { is_map (codes "[1E]") ≡ false }
     ensures second { is_map (codes "(1|2E)") ≡ false }
+{}
+
+/// Each sentence at an example.
+pub fn more_sentences_have_examples()
     // A position is one letter or one range, and a dot behind it or nothing.
     ensures positions_are_letters_and_ranges_letter { is_position (codes "1") ≡ true }
     ensures positions_are_letters_and_ranges_range { is_position (codes "[12]") ≡ true }
@@ -133,7 +141,7 @@ pub fn each_sentence_has_an_example()
 {}
 
 /// Each sentence at an example.
-pub fn further_sentences_have_examples()
+pub fn other_sentences_have_examples()
     // Without D the map stays; a D of blanks alone removes it; another replaces it, or has the fault of its text.
     ensures requests_change_maps_absent { change_of None ≡ Ok MapChange.Keep }
     ensures requests_change_maps_empty { change_of (Some []) ≡ Ok MapChange.Remove }
@@ -179,6 +187,10 @@ pub fn further_sentences_have_examples()
     ensures dots_order { is_word (codes "1.2.3.") (dialled (codes "131")) ≡ false }
     ensures dots_repeat_positions_second { is_word (codes "(1|23)") (dialled (codes "23")) ≡ true }
     ensures joined { is_word (codes "(1|23)") (dialled (codes "123")) ≡ false }
+{}
+
+/// Each sentence at an example.
+pub fn still_more_sentences_have_examples()
     // A word is perfect, even where longer words begin with it; the beginning of a word is partial; others are impossible.
     ensures eight { verdict (codes "(x.T|8xxx)") (codes "8") ≡ Verdict.Partial }
     ensures eight_two { verdict (codes "(x.T|8xxx)") (codes "81") ≡ Verdict.Partial }
@@ -209,6 +221,10 @@ pub fn further_sentences_have_examples()
     ensures letters_have_verdicts_repeated { verdict (codes "1.2") (codes "11") ≡ Verdict.Partial }
     ensures past_repeated { verdict (codes "1.23") (codes "112") ≡ Verdict.Partial }
     ensures letters_have_verdicts_none { verdict (codes "1") [] ≡ Verdict.Partial }
+{}
+
+/// Each sentence at an example.
+pub fn yet_more_sentences_have_examples()
     // Letters are critical where a T behind them makes a word: a longer word with a T doesn't make them so.
     ensures letters_are_critical_before_a_timer_zero { critical (codes "(0T|00T|[1-7]xxx)") (codes "0") ≡ true }
     ensures letters_are_critical_before_a_timer_two_zeros { critical (codes "(0T|00T|[1-7]xxx)") (codes "00") ≡ true }

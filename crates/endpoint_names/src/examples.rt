@@ -54,6 +54,10 @@ pub fn each_sentence_has_an_example()
     ensures all_last { means_line Pattern.All 16 ≡ true }
     ensures any_first { means_line Pattern.Any 1 ≡ true }
     ensures any_last { means_line Pattern.Any 16 ≡ true }
+{}
+
+/// Each sentence at an example.
+pub fn further_sentences_have_examples()
     // A name is written in lower case without leading zeros, with the domain as it is given.
     ensures line { name_text (Pattern.One 1) (codes "rgw.example.net") ≡ codes "aaln/1@rgw.example.net" }
     ensures names_are_written_last { name_text (Pattern.One 16) (codes "RGW.example.net") ≡ codes "aaln/16@RGW.example.net" }
@@ -88,6 +92,10 @@ pub fn each_sentence_has_an_example()
     ensures entities_have_the_addresses_of_their_host_literal { IsRouted (Two (local_address 1) (local_address 2))
         (codes "ca@[127.0.0.2]:2728")
         (One (at_port 2 2728)) }
+{}
+
+/// Each sentence at an example.
+pub fn more_sentences_have_examples()
     // Any other text is no entity.
     ensures port_0 { IsNoEntity (codes "ca.example.net:0") }
     ensures port_65536 { IsNoEntity (codes "ca.example.net:65536") }

@@ -44,6 +44,10 @@ pub fn each_sentence_has_an_example()
     ensures timer { at (codes "D/[0-9T](D)") (LineEvent.Letter Letter.Timer) ≡ does Action.Dial }
     ensures keep { at (codes "D/5(A,K)") (LineEvent.Letter Letter.Five) ≡ does_keeping Action.Accumulate }
     ensures keep_first { at (codes "D/5(A),D/5(A,K)") (LineEvent.Letter Letter.Five) ≡ does Action.Accumulate }
+{}
+
+/// Each sentence at an example.
+pub fn further_sentences_have_examples()
     // An event that no entry names is notified where it is persistent, and the time-out signals stop; at another nothing is
     // done.
     ensures events_without_an_entry_off_hook { at [] LineEvent.OffHook ≡ does Action.Notify }

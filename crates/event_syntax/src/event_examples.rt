@@ -51,6 +51,10 @@ pub fn each_sentence_has_an_example()
     ensures sets_are_written_all { letters_text (letters_in (codes "T0-9*#ABCD")) ≡ codes "[0123456789*#ABCDT]" }
     ensures one { letters_text (letters_in (codes "#")) ≡ codes "#" }
     ensures two { letters_text (letters_in (codes "ta")) ≡ codes "[AT]" }
+{}
+
+/// Each sentence at an example.
+pub fn further_sentences_have_examples()
     // An entry of T names one event, all events of a package, or some letters of D. Without a package L is meant.
     ensures line { detected_of (codes "hu") ≡ names_one LineEvent.OnHook }
     ensures flash { detected_of (codes "l/HF") ≡ names_one LineEvent.Flash }
@@ -83,6 +87,10 @@ pub fn each_sentence_has_an_example()
     ensures connection_of_digits { detected_of (codes "D/X@1") ≡ Err 512 }
     ensures parameter { detected_of (codes "L/hd(N)") ≡ Err 538 }
     ensures parameters { detected_of (codes "D/[0-9](a b,c)") ≡ Err 538 }
+{}
+
+/// Each sentence at an example.
+pub fn more_sentences_have_examples()
     // A value of T that isn't spelled is 510. A range stands behind `D/` alone.
     ensures misspelled_events_are_510_downwards { detected_of (codes "D/[9-1]") ≡ Err 510 }
     ensures empty_range { detected_of (codes "D/[]") ≡ Err 510 }

@@ -41,6 +41,10 @@ pub fn each_sentence_has_an_example()
     ensures embed_and_ignore { requested_of (codes "L/hd(E(R(L/hu)),I)") ≡ Err 523 }
     ensures embed_and_dial { requested_of (codes "D/5(D,E(R(L/hu)))") ≡ Err 523 }
     ensures accumulate_twice { requested_of (codes "L/hd(A,A,E(R(L/hu)))") ≡ Err 523 }
+{}
+
+/// Each sentence at an example.
+pub fn further_sentences_have_examples()
     // D stands on events of D alone, and where T is among them nothing else does.
     ensures dial_on_hook { requested_of (codes "L/hd(D)") ≡ Err 523 }
     ensures dial_on_all { requested_of (codes "L/all(D)") ≡ Err 523 }
@@ -83,6 +87,10 @@ pub fn each_sentence_has_an_example()
     ensures with_accumulate { requested_of (codes "L/hd(A,E(S(L/dl)))") ≡ requested_of (codes "L/hd(E(S(L/dl)),a)") }
     // Nothing in a part of blanks, but blanks in the R and S that stand there.
     ensures blank_inside { requested_of (codes "L/hd(E(R( hu , hf )))") ≡ requested_of (codes "L/hd(E(R(hu,hf)))") }
+{}
+
+/// Each sentence at an example.
+pub fn more_sentences_have_examples()
     // A value of R that isn't spelled is 510, whatever stands in it; so is a value of R or S inside of E.
     ensures empty_actions { requested_of (codes "L/hd()") ≡ Err 510 }
     ensures blank_actions { requested_of (codes "L/hd( )") ≡ Err 510 }
@@ -141,6 +149,10 @@ pub fn each_sentence_has_an_example()
     ensures parameters_before_inside { requested_of (codes "L/hd(E(R(Q/a)))(p)") ≡ Err 538 }
     ensures inside_before_right { requested_of (codes "L/hd(E(R(Q/a))),L/wt") ≡ Err 518 }
     ensures left_before_inside { requested_of (codes "L/wt,L/hd(E(R(Q/a)))") ≡ Err 512 }
+{}
+
+/// Each sentence at an example.
+pub fn other_sentences_have_examples()
     // To read R takes memory where it is spelled and its first entry says what is done at its events, and where R stands in
     // parentheses, in which a request may be embedded; else it takes none.
     ensures one { takes_memory (codes "L/hd") ≡ true }
@@ -157,6 +169,10 @@ pub fn each_sentence_has_an_example()
     ensures fault_around { takes_memory (codes "L/hd(D,E(S(L/dl)))") ≡ false }
     ensures requests_take_memory_from_the_first_entry_on_number { takes_memory
         (codes "hd,hd,hd,hd,hd,hd,hd,hd,hd,hd,hd,hd,hd,hd,hd,hd,hd,hd,hd,hd,hd,hd,hd,hd,hd,hd,hd,hd,hd,hd,hd,hd,hd") ≡ false }
+{}
+
+/// Each sentence at an example.
+pub fn still_more_sentences_have_examples()
     // What is embedded is read part by part in the order of the text, each part by its number of entries and then from left
     // to right; a wrong map has its place there too.
     ensures faults_of_embedded_requests_have_an_order_events { requested_of (codes "L/hd(E(R(L/hu,L/wt)))") ≡ Err 512 }

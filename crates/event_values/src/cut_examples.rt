@@ -40,6 +40,10 @@ pub fn each_sentence_has_an_example()
     ensures words_have_no_marks_empty { is_word [] ≡ false }
     ensures words_have_no_marks_marks { list_any is_word (codes "a b" ∷ codes "a\tb" ∷ codes "a," ∷ codes "(a" ∷ codes "a)" ∷ codes "a/b"
         ∷ codes "a@b" ∷ codes "[a" ∷ codes "a]" ∷ []) ≡ false }
+{}
+
+/// Each sentence at an example.
+pub fn further_sentences_have_examples()
     // A name is a word, with `@` and a word behind it or not.
     ensures names_may_have_a_connection_bare { is_name (codes "dl") ≡ true }
     ensures connection { is_name (codes "dl@1") ≡ true }

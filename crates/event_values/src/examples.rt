@@ -53,6 +53,10 @@ pub fn each_sentence_has_an_example()
         (Signal.DialTone ∷ Signal.Busy ∷ Signal.Reorder ∷ Signal.Ringing ∷ Signal.RingSplash ∷ Signal.MessageWaiting
         ∷ Signal.Ringback ∷ Signal.Congestion ∷ [])) }
     ensures entries_are_separated_by_commas_nine { signals_of (codes "dl,bz,ro,rg,rs,vmwi,G/rt,G/cg,G/cf") ≡ Err 502 }
+{}
+
+/// Each sentence at an example.
+pub fn further_sentences_have_examples()
     // The names are those of the tables.
     ensures names_have_codes_package { signals_of (codes "Q/a") ≡ Err 518 }
     ensures event { signals_of (codes "L/hd") ≡ Err 522 }
@@ -89,6 +93,10 @@ pub fn each_sentence_has_an_example()
     ensures package_with_connection { signals_of (codes "L@1/dl") ≡ Err 510 }
     ensures nothing_before_connection { signals_of (codes "L/@1") ≡ Err 510 }
     ensures bare_connection { signals_of (codes "@1") ≡ Err 510 }
+{}
+
+/// Each sentence at an example.
+pub fn more_sentences_have_examples()
     // The spelling of the whole value comes first, then the number of entries, then the entries from left to right, each by
     // package, `@`, name and parameters.
     ensures spelling_first { signals_of (codes "Q/a,L/dl()") ≡ Err 510 }
@@ -117,6 +125,10 @@ pub fn each_sentence_has_an_example()
         ∷ asks Signal.RingSplash Setting.Stop ∷ []) ≡ false }
     ensures some_lists_can_be_written_longest { are_writable_signals (asks Signal.Busy (Setting.Lasting 3600000) ∷ []) ≡ true }
     ensures some_lists_can_be_written_too_long { are_writable_signals (asks Signal.Busy (Setting.Lasting 3600001) ∷ []) ≡ false }
+{}
+
+/// Each sentence at an example.
+pub fn other_sentences_have_examples()
     // Q is one word, or one of each kind; what isn't said is `step` and `process`.
     ensures step { handling_of (codes "step") ≡ handles Notifying.Step Quarantined.Process }
     ensures looped { handling_of (codes "Loop") ≡ handles Notifying.Loop Quarantined.Process }
@@ -153,6 +165,10 @@ pub fn each_sentence_has_an_example()
         ∷ Observed.Happened (LineEvent.Letter Letter.Hash) ∷ []) }
     ensures observed_events_are_told_empty { observed_of [] ≡ Ok [] }
     ensures observed_events_are_told_blank { observed_of (codes " ") ≡ Ok [] }
+{}
+
+/// Each sentence at an example.
+pub fn still_more_sentences_have_examples()
     // Every fault of O is 510.
     ensures faults_of_observed_events_are_510_package { observed_of (codes "Q/a") ≡ Err 510 }
     ensures faults_of_observed_events_are_510_unknown { observed_of (codes "L/wt") ≡ Err 510 }

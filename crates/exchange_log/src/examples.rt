@@ -57,6 +57,10 @@ pub fn each_sentence_has_an_example()
     ensures above { escaped (126 ∷ 127 ∷ []) ≡ 126 ∷ 92 ∷ codes "x7f" }
     ensures high { escaped (195 ∷ 169 ∷ 255 ∷ []) ≡ (92 ∷ codes "xc3") ++ (92 ∷ codes "xa9") ++ (92 ∷ codes "xff") }
     ensures what_is_not_printable_is_escaped_nothing { escaped (0 ∷ []) ≡ 92 ∷ codes "x00" }
+{}
+
+/// Each sentence at an example.
+pub fn further_sentences_have_examples()
     // A value of 64 bytes is shown whole, and of a longer one the first 64, whatever their escapes take.
     ensures whole { shown (codes "0123456789012345678901234567890123456789012345678901234567890123")
         ≡ codes "0123456789012345678901234567890123456789012345678901234567890123" }
@@ -104,6 +108,10 @@ pub fn each_sentence_has_an_example()
     ensures a_message_is_shown_in_one_line_late { message_shown own (codes "\r\nAUEP 1 a@b MGCP 1.0\r\n") ≡ codes " AUEP 1 a@b MGCP 1.0" }
     ensures stray { message_shown own (codes "AUEP 1 a\n" ++ 27 ∷ codes "c\n") ≡ codes " AUEP 1 a " ++ 92 ∷ codes "x1bc" }
     ensures a_message_is_shown_in_one_line_nothing { message_shown own [] ≡ [] }
+{}
+
+/// Each sentence at an example.
+pub fn more_sentences_have_examples()
     // A pause is noted in seconds, rounded, with how many datagrams had come, where that was counted.
     ensures several { pause_line noon 30600 (Some 12) ≡ codes "1970-01-02T12:03:07.123Z ! paused for 31 s, 12 datagrams were waiting\n" }
     ensures one { pause_line noon 1499 (Some 1) ≡ codes "1970-01-02T12:03:07.123Z ! paused for 1 s, 1 datagram was waiting\n" }

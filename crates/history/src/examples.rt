@@ -81,6 +81,10 @@ pub fn each_sentence_has_an_example()
         ≡ gets 1 ∷ gets 2 ∷ gets 2 ∷ gets 1 ∷ [] }
     ensures firsts_alone_confirm_lost { answers_of 1 (comes 5 0 1 ∷ comes_with (to 5 5 ∷ []) 8 1 9 ∷ comes 5 2 9 ∷ [])
         ≡ gets 1 ∷ silence ∷ gets 1 ∷ [] }
+{}
+
+/// Each sentence at an example.
+pub fn further_sentences_have_examples()
     // What comes while as many firsts as the limit are young is lost, a repeat never; confirmed firsts count like others.
     ensures a_full_memory_loses_what_is_new_lost { answers_of 2 (comes 1 0 1 ∷ comes 2 1 2 ∷ comes 3 2 3 ∷ comes 1 3 9 ∷ comes 2 3 9 ∷ [])
         ≡ gets 1 ∷ gets 2 ∷ silence ∷ gets 1 ∷ gets 2 ∷ [] }

@@ -71,6 +71,10 @@ pub fn each_sentence_has_an_example()
     ensures blanks_are_spaces_and_tabs_vertical_tab { let text = vertical_tab ∷ 97 ∷ vertical_tab ∷ [] in trimmed text ≡ text }
     ensures blanks_are_spaces_and_tabs_ends { let text = codes "\r\na\r\n" in trimmed text ≡ text }
     ensures only { trimmed (codes " \t ") ≡ [] }
+{}
+
+/// Each sentence at an example.
+pub fn further_sentences_have_examples()
     // Spaces and tabs part words, however many there are.
     ensures blanks_part_words_three { words (codes "AUEP  12\taaln/1 ")
         ≡ codes "AUEP" ∷ codes "12" ∷ codes "aaln/1" ∷ [] }
@@ -109,6 +113,10 @@ pub fn each_sentence_has_an_example()
     // Letters are compared without case, and nothing else is.
     ensures same { same_but_case (codes "aaln/1") (codes "AALN/1") ≡ true }
     ensures letters_are_compared_without_case_other { same_but_case (codes "@[") (codes "`{") ≡ false }
+{}
+
+/// Each sentence at an example.
+pub fn more_sentences_have_examples()
     // An address is four numbers up to 255; leading zeros are taken.
     ensures addresses_are_four_numbers_zeros { ipv4_of (codes "127.000.0.01") ≡ Some (record { octets = 127 ∷ 0 ∷ 0 ∷ 1 ∷ [] }) }
     ensures addresses_are_four_numbers_largest { ipv4_of (codes "255.255.255.255")
@@ -164,6 +172,10 @@ pub fn each_sentence_has_an_example()
         ≡ 533 ∷ 534 ∷ 535 ∷ 538 ∷ 539 ∷ 540 ∷ 541 ∷ [] }
     ensures by_number { code_with 510 ≡ Some ReturnCode.ProtocolError }
     ensures by_no_number { code_with 514 ≡ None }
+{}
+
+/// Each sentence at an example.
+pub fn other_sentences_have_examples()
     // What is said of return codes is what RFC 3435, 2.4, says.
     ensures response_acknowledgement { words_of ReturnCode.ResponseAcknowledgement
         ≡ codes "response acknowledgement" }

@@ -56,6 +56,10 @@ pub fn each_sentence_has_an_example()
     ensures b { observed_at (Act.Key Key.B) ≡ Happened (event.Letter letter.B) }
     ensures c { observed_at (Act.Key Key.C) ≡ Happened (event.Letter letter.C) }
     ensures d { observed_at (Act.Key Key.D) ≡ Happened (event.Letter letter.D) }
+{}
+
+/// Each sentence at an example.
+pub fn further_sentences_have_examples()
     // First the hook state changes, and the signals stop that can't be asked for in it; then the event is detected. A flash
     // and a key leave both.
     ensures an_act_changes_the_hook_first_off { phoned (record ready_line
@@ -100,6 +104,10 @@ pub fn each_sentence_has_an_example()
     ensures map_first { refusal_of ready_line (with_signals (codes "L/dl") (requests (codes "A1") (codes "D/X(D)")))
         ≡ Some 519 }
     ensures a_line_refuses_requests_nothing { refusal_of ready_line (requests (codes "A1") []) ≡ None }
+{}
+
+/// Each sentence at an example.
+pub fn more_sentences_have_examples()
     // A request replaces what was asked for, and what was accumulated and dialled is dropped. Quarantined events are kept, or
     // with discard dropped; the count of the lost stays.
     ensures all { replaced busy (with_signals (codes "L/bz") (with_detected (codes "L/hf") (requests (codes "B2") (codes "L/hu(A)")))) 1000

@@ -64,6 +64,10 @@ pub fn each_sentence_has_an_example()
     ensures none { event_of (codes "D/") ≡ Err 512 }
     ensures hook { event_of (codes "D/hd") ≡ Err 512 }
     ensures complete { event_of (codes "D/oc") ≡ Err 512 }
+{}
+
+/// Each sentence at an example.
+pub fn further_sentences_have_examples()
     // Names are read in any case; without a package L is meant; a name is split at its first `/`.
     ensures upper { signal_of (codes "l/DL") ≡ Ok Signal.DialTone }
     ensures generic { signal_of (codes "g/Rt") ≡ Ok Signal.Ringback }

@@ -53,6 +53,10 @@ pub fn each_sentence_has_an_example()
     ensures low { read_text (codes "099 5\r\n") ≡ response 99 5 [] [] }
     ensures greatest { read_text (codes "999 999999999\r\n") ≡ response 999 999999999 [] [] }
     ensures responses_are_read_zeros { read_text (codes "\r\n \n\t200\t000000005\tOK") ≡ response 200 5 [] [] }
+{}
+
+/// Each sentence at an example.
+pub fn further_sentences_have_examples()
     // Another number of digits, or another byte among them, is no return code, and a response without an id has no header.
     ensures alone { read_text (codes "200\r\n") ≡ no_header }
     ensures some_texts_are_no_responses_zero { read_text (codes "200 0 OK\r\n") ≡ no_header }
@@ -89,6 +93,10 @@ pub fn each_sentence_has_an_example()
     // The version is judged before the lines after it.
     ensures first { read_text (codes "AUEP 1202 x MGCP 2.0\r\nno parameter\r\n") ≡ bad_version 1202 }
     ensures lone_return { read_text (codes "AUEP 1202 x MGCP 1.0\r") ≡ bad_version 1202 }
+{}
+
+/// Each sentence at an example.
+pub fn more_sentences_have_examples()
     // A header with too few words is a fault with the id, and so is a line that is no parameter.
     ensures words { read_text (codes "AUEP 12\r\n") ≡ bad_body 12 }
     // Words are counted before they are judged.
@@ -124,7 +132,7 @@ pub fn each_sentence_has_an_example()
 {}
 
 /// Each sentence at an example.
-pub fn further_sentences_have_examples()
+pub fn other_sentences_have_examples()
     // The first parameter with a code counts, and codes are compared without case.
     ensures first { param_at (codes "X")
         (param (codes "I") [] ∷ param (codes "x") (codes "2") ∷ param (codes "X") [] ∷ [])
@@ -176,6 +184,10 @@ pub fn further_sentences_have_examples()
     ensures auep { command_text verbs.Auep ≡ codes "AUEP 7 x MGCP 1.0\r\n" }
     ensures aucx { command_text verbs.Aucx ≡ codes "AUCX 7 x MGCP 1.0\r\n" }
     ensures rsip { command_text verbs.Rsip ≡ codes "RSIP 7 x MGCP 1.0\r\n" }
+{}
+
+/// Each sentence at an example.
+pub fn still_more_sentences_have_examples()
     // Its parameters and its description come after its header.
     ensures restart { let params = param (codes "RM") (codes "restart") ∷ []
         in written (messages.Command verbs.Rsip 1 (codes "*@rgw.example.net") params [])

@@ -50,6 +50,10 @@ pub fn each_sentence_has_an_example()
     ensures other_first { ¬ Follows (record (notified_at 1000) { first = 999 }) (since 1000 []) }
     ensures other_count { ¬ Follows (record (notified_at 1000) { repeats = 1 }) (since 1000 []) }
     ensures other_due { ¬ Follows (record (notified_at 1000) { due = 1501 }) (since 1000 []) }
+{}
+
+/// Each sentence at an example.
+pub fn further_sentences_have_examples()
     // A message is repeated seven times, and less than 20,000 ms after it was first sent.
     ensures last_moment { may_repeat 1000 6 20999 ≡ true }
     ensures a_message_is_repeated_for_20_seconds_too_late { may_repeat 1000 6 21000 ≡ false }
@@ -101,6 +105,10 @@ pub fn each_sentence_has_an_example()
     ensures last { told 1 (heard (notified_at 1000) 10000000 199 15999) ≡ goes_out 20999 ∷ [] }
     ensures a_provisional_response_puts_off_what_is_due_too_late { told 2 (heard (notified_at 1000) 10000000 199 16000)
         ≡ is_given_up 21000 ∷ [] }
+{}
+
+/// Each sentence at an example.
+pub fn more_sentences_have_examples()
     // It is no repeat, and changes nothing but what is due: the wait after the next repeat is that of the second one.
     ensures after_a_repeat { told 2 (heard (repeated (notified_at 1000) 1500) 10000000 100 1600)
         ≡ goes_out 6600 ∷ goes_out 8600 ∷ [] }

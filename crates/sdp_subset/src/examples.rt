@@ -44,6 +44,10 @@ pub fn each_sentence_has_an_example()
     ensures lines_are_fields_blank { is_field (codes "s =-") ≡ false }
     ensures no_letter { is_field (codes "=x") ≡ false }
     ensures nothing { is_field [] ≡ false }
+{}
+
+/// Each sentence at an example.
+pub fn further_sentences_have_examples()
     // The first line is `v=0`.
     ensures version { has_version (codes "v=0" ∷ codes "s=-" ∷ []) ≡ true }
     ensures alone { has_version (codes "v=0" ∷ []) ≡ true }
@@ -74,6 +78,10 @@ pub fn each_sentence_has_an_example()
     ensures read_no_sign { session_of (codes "v=0\ns\nc=IN IP4 10.0.0.1\nm=audio 4000 RTP/AVP 0") ≡ None }
     ensures read_two_letters { session_of (codes "v=0\nab=x\nc=IN IP4 10.0.0.1\nm=audio 4000 RTP/AVP 0") ≡ None }
     ensures read_stray_end { session_of (codes "v=0\nc=IN IP4 10.0.0.1\nm=audio 4000 RTP/AVP 0\nx") ≡ None }
+{}
+
+/// Each sentence at an example.
+pub fn more_sentences_have_examples()
     // A line is told by the bytes that it begins with.
     ensures media { is_media (codes "m=") ≡ true }
     ensures lines_are_told_by_what_they_begin_with_no_media { is_media (codes "m") ≡ false }
@@ -117,7 +125,7 @@ pub fn each_sentence_has_an_example()
 {}
 
 /// Each sentence at an example.
-pub fn further_sentences_have_examples()
+pub fn other_sentences_have_examples()
     // Where the audio line has none, the first connection line before all media lines is used.
     ensures the_first_connection_line_of_the_session_is_used_lines { connection_of
         (codes "c=1" ∷ codes "c=2" ∷ codes "m=audio" ∷ codes "m=" ∷ codes "c=3" ∷ [])
@@ -162,6 +170,10 @@ pub fn further_sentences_have_examples()
     ensures many_ports { audio_of (codes "m=audio 4000/2 RTP/AVP 0") ≡ None }
     ensures no_number { audio_of (codes "m=audio 4000 RTP/AVP PCMU") ≡ None }
     ensures bad_last { audio_of (codes "m=audio 4000 RTP/AVP 0 8 x") ≡ None }
+{}
+
+/// Each sentence at an example.
+pub fn still_more_sentences_have_examples()
     // A port is a number from 0 to 65535.
     ensures least { port_of (codes "0") ≡ Some 0 }
     ensures ports_are_numbers_up_to_65535_greatest { port_of (codes "65535") ≡ Some 65535 }
@@ -189,6 +201,10 @@ pub fn further_sentences_have_examples()
         ≡ Some (offered 1 4000 (replicate 32 8)) }
     ensures read_too_many { read_with_audio (codes "m=audio 4000 RTP/AVP" ++ concat (replicate 33 (codes " 8")))
         ≡ None }
+{}
+
+/// Each sentence at an example.
+pub fn yet_more_sentences_have_examples()
     // A connection line is `c=IN IP4` and an address, in this case, with blanks between the words.
     ensures one { address_of (codes "c=IN IP4 10.0.0.1") ≡ Some (host 1) }
     ensures connection_lines_have_one_spelling_blanks { address_of (codes "c=IN\tIP4   10.0.0.1") ≡ Some (host 1) }

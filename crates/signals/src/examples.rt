@@ -61,6 +61,10 @@ pub fn each_sentence_has_an_example()
     ensures entries_count_in_their_order_stopped { off_hook (starts DialTone ∷ stops DialTone ∷ []) 2000 (until 17000 DialTone ∷ []) ≡ [] }
     ensures named_and_stopped { off_hook (stops DialTone ∷ []) 2000 (until 17000 DialTone ∷ []) ≡ [] }
     ensures stopped_again { off_hook (stops DialTone ∷ []) 2000 [] ≡ [] }
+{}
+
+/// Each sentence at an example.
+pub fn further_sentences_have_examples()
     // Of different signals the order doesn't matter: each is by itself.
     ensures of_others { off_hook (starts Confirm ∷ stops Busy ∷ starts DialTone ∷ []) 1000 (until 30000 Busy ∷ [])
         ≡ until 17000 DialTone ∷ until 1500 Confirm ∷ [] }
