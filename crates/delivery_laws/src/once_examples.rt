@@ -59,6 +59,10 @@ pub fn each_sentence_has_an_example()
     ensures done { done_then (asks_for_all 7 (codes "aaln/1") ∷ dials) ≡ lifted ∷ five ∷ six ∷ hung_up ∷ [] }
     ensures what_is_dialled_is_told_told { told_then (asks_for_all 7 (codes "aaln/1") ∷ dials) ≡ lifted ∷ five ∷ [] }
     ensures what_is_dialled_is_told_left { left_then (asks_for_all 7 (codes "aaln/1") ∷ dials) ≡ Some (six ∷ hung_up ∷ []) }
+{}
+
+/// Each sentence at an example.
+pub fn further_sentences_have_examples()
     // Where that isn't asked for, something is skipped: the quarantined events, by a request that discards them; what isn't
     // named; and what was accumulated, by the next request.
     ensures else_something_may_be_skipped_told { told_then (rqnt 7 (codes "aaln/1") (codes "X: 1\r\nR: D/[0-9](N)\r\n") ∷ dials

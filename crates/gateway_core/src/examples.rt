@@ -72,6 +72,10 @@ pub fn each_sentence_has_an_example()
     ensures tick { told (from_agent (audit 1206) ∷ tick 1001 ∷ []) ≡ [] }
     ensures long { told (from_agent (audit 1206) ∷ from_agent (replicate 4001 65) ∷ []) ≡ [] }
     ensures the_last_event_alone_is_told_of_last { told (from_agent (audit 1206) ∷ response 200 9 ∷ []) ≡ Response false ∷ [] }
+{}
+
+/// Each sentence at an example.
+pub fn further_sentences_have_examples()
     // The code at the front of an answer is its first three digits.
     ensures code { front_code (codes "200 1206 OK\r\n") ≡ 200 }
     ensures short { front_code (codes "20") ≡ 0 }

@@ -70,6 +70,10 @@ pub fn each_sentence_has_an_example()
     ensures later { (deed_done example two_off_hook All [] (signalling (codes "L/rg")) 1000).answer ≡ plain_code 401 }
     ensures the_least_line_that_refuses_answers_none { (deed_done example two_off_hook All [] (signalling (codes "L/vmwi(+)")) 1000).answer
         ≡ plain_code 200 }
+{}
+
+/// Each sentence at an example.
+pub fn further_sentences_have_examples()
     // An acknowledgement is `000` and the id, to where the response came from; no other message is one.
     ensures text { text_of (acknowledging 5 other_agent 1206).said ≡ codes "000 1206\r\n" }
     ensures to { (acknowledging 5 other_agent 1206).to ≡ other_agent }

@@ -68,6 +68,10 @@ pub fn each_sentence_has_an_example()
         ∷ from_agent (codes "x\n") ∷ [] }
     ensures too_long { own_part two_lines 1 (from_agent (replicate 4001 97)) ≡ [] }
     ensures events_are_a_lines_own_in_order { own_events two_lines 1 both_dial ≡ one_dials }
+{}
+
+/// Each sentence at an example.
+pub fn further_sentences_have_examples()
     // Two commands have to do with each other where they have one id, or the one confirms the other; then they read as one
     // line, or both as none.
     ensures one_id { keeps_apart (read_command (Some 1) 7 []) (read_command (Some 2) 7 []) ≡ false }

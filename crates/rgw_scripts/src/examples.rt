@@ -56,6 +56,10 @@ pub fn each_sentence_has_an_example()
     ensures timer { act_of (codes "T") ≡ None }
     ensures two_keys { act_of (codes "12") ≡ None }
     ensures acts_have_their_words_nothing { act_of [] ≡ None }
+{}
+
+/// Each sentence at an example.
+pub fn further_sentences_have_examples()
     // A `wait` is ticks of a second, and one of the rest; a `tick` counts from now, and an `at` from 0.
     ensures the_clock_goes_on_as_scripts_say_wait { moves_of (steps.Wait 2500) ≡ pass 1000 ∷ pass 1000 ∷ pass 500 ∷ [] }
     ensures whole_wait { moves_of (steps.Wait 2000) ≡ pass 1000 ∷ pass 1000 ∷ [] }
@@ -100,6 +104,10 @@ pub fn each_sentence_has_an_example()
     ensures half_a_byte { line_says (codes "raw 127.0.0.1:2727 4") ≡ None }
     ensures no_digit { line_says (codes "raw 127.0.0.1:2727 4g") ≡ None }
     ensures more_bytes { line_says (codes "raw 127.0.0.1:2727 41 41") ≡ None }
+{}
+
+/// Each sentence at an example.
+pub fn more_sentences_have_examples()
     // Numbers and addresses have their limits.
     ensures line { line_says (codes "show 65535") ≡ Some (lines.Whole (steps.Show 65535)) }
     ensures line_past { line_says (codes "show 65536") ≡ None }
@@ -138,7 +146,7 @@ pub fn each_sentence_has_an_example()
 {}
 
 /// Each sentence at an example.
-pub fn further_sentences_have_examples()
+pub fn other_sentences_have_examples()
     // The first line `%%` ends the configuration; without one there is no script.
     ensures inputs_have_two_parts_config { config_text (codes "a = 1\nb = 2\n%%\nshow 1\n") ≡ codes "a = 1\nb = 2\n" }
     ensures inputs_have_two_parts_script { script_lines (codes "a = 1\nb = 2\n%%\nshow 1\n") ≡ codes "show 1" ∷ [] }
@@ -180,6 +188,10 @@ pub fn further_sentences_have_examples()
     ensures number_among { config_of (with_names (host_at (array (item local (item (integer (pos 1)) no_items))))) ≡ None }
     ensures no_names { config_of (with_names (table no_members)) ≡ Some (record (example_config 16) { names = [] }) }
     ensures nothing { config_of no_members ≡ None }
+{}
+
+/// Each sentence at an example.
+pub fn still_more_sentences_have_examples()
     // Of a configuration that can't be read the first key is told that is missing, or whose value is of another kind.
     ensures keys_that_cannot_be_read_are_told_none { unread_key (with_lines (integer (pos 16))) ≡ None }
     ensures missing { unread_key no_members ≡ Some keys_of_configurations.Domain }
@@ -211,6 +223,10 @@ pub fn further_sentences_have_examples()
     ensures wait { name_of_config_fault 5 ≡ codes "BadWait" }
     ensures faults_have_their_names_media { name_of_config_fault 6 ≡ codes "BadMedia" }
     ensures toml { name_of_config_fault 7 ≡ codes "BadToml" }
+{}
+
+/// Each sentence at an example.
+pub fn yet_more_sentences_have_examples()
     // What is shown is printed: datagrams with their lines, refusals, and what a line is.
     ensures datagram { printed (sends (to_agent 0 (codes "200 1200 OK\r\n") ∷ []))
         ≡ codes "> 0 127.0.0.1:2727\n200 1200 OK\n--\n" }

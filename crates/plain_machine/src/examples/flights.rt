@@ -59,6 +59,10 @@ pub fn each_sentence_has_an_example()
     ensures what_is_in_flight_of_the_gateway_is_its_announcement_opening { OwnIsInOrder (opening_own example) }
     ensures what_is_in_flight_of_the_gateway_is_its_announcement_flies { OwnIsInOrder (announcing (Some 1500)) }
     ensures still_flies { OwnIsInOrder (flying 2 1 announced (Some 1500)) → ⊥ }
+{}
+
+/// Each sentence at an example.
+pub fn further_sentences_have_examples()
     // Until the gateway serves its lines are closed, and from then on in order.
     ensures lines_are_closed_until_the_gateway_serves_opening { IsClosed (opening_endpoint example 1) }
     ensures lines_are_closed_until_the_gateway_serves_waits { IsClosed (waiting 6000 (opening_endpoint example 1)) → ⊥ }

@@ -48,6 +48,10 @@ pub fn each_sentence_has_an_example()
     ensures longest { agent_takes_none (agent_then []) (datagram other_agent (replicate 4000 10)) ≡ false }
     ensures too_long { agent_takes_none (agent_then []) (datagram other_agent (replicate 4001 10)) ≡ true }
     ensures act { agent_takes_none (agent_then []) (phone 1 acts.OffHook) ≡ true }
+{}
+
+/// Each sentence at an example.
+pub fn further_sentences_have_examples()
     // A command is sent at once, repeated as a gateway repeats, and given up after that.
     ensures first { agent_sends [] audit_by_agent ≡ (0, codes "AUEP 1 aaln/1@rgw.example.net MGCP 1.0\r\n") ∷ [] }
     ensures early { agent_sends (audit_by_agent ∷ []) (hears (tick 499)) ≡ [] }

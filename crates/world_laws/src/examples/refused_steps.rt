@@ -56,6 +56,10 @@ pub fn each_sentence_has_an_example()
     ensures last { agent_takes (agent_from 1) (agent_opening (agent_from 1)) (hears (tick 1000) ∷ hears (tick 2001) ∷ []) ≡ false }
     ensures a_list_of_an_agent_is_taken_event_by_event_ids { agent_takes (agent_from 999999999) (agent_opening (agent_from 999999999))
         (audit_by_agent ∷ audit_by_agent ∷ []) ≡ false }
+{}
+
+/// Each sentence at an example.
+pub fn further_sentences_have_examples()
     // Where there are no more ids that is the fault; a bad command may want memory first; a good one is issued or wants memory.
     ensures no_more_ids { IssueEnds (Some no_more_ids) (Some faults.NoMoreIds) }
     ensures no_more_ids_first { IssueEnds (Some no_more_ids) (Some faults.OutOfMemory) → ⊥ }
