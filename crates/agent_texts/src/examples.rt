@@ -66,6 +66,10 @@ pub fn each_sentence_has_an_example()
     ensures a_connection_stands_for_its_call_another { stands_for (leg_in 2) 3 ≡ false }
     ensures a_connection_stands_for_its_call_unknown { stands_for (legs.Unknown 3) 3 ≡ false }
     ensures a_connection_stands_for_its_call_none { stands_for legs.Absent 3 ≡ false }
+{}
+
+/// Each sentence at an example.
+pub fn further_sentences_have_examples()
     // A call is counted when it rings, when it is connected, and when it ends before that; and a number that led to none.
     ensures calls_are_counted_as_they_come_rings { (with_change Dialling (calls Ringing) nothing_counted).calls ≡ 1 }
     ensures calls_are_counted_as_they_come_answered { with_change (calls Ringing) (calls Answered) nothing_counted ≡ nothing_counted }

@@ -63,6 +63,10 @@ pub fn each_sentence_has_an_example()
     ensures none { (outlived new_care).is_outlived ≡ false }
     ensures next_one { (begun (landed (outlived (begun new_care)))).is_outlived ≡ false }
     ensures a_restart_outlives_what_is_in_flight_found { (outlived (found true new_care)).is_found_off ≡ false }
+{}
+
+/// Each sentence at an example.
+pub fn further_sentences_have_examples()
     // A line that is announced is asked for its hook; what is in flight to one that has started again isn't believed.
     ensures a_line_that_is_announced_is_audited_audit { (announced false audited).next ≡ Audit }
     ensures a_line_that_is_announced_is_audited_uncleared { (announced true new_care).next ≡ Clear }
@@ -97,6 +101,10 @@ pub fn each_sentence_has_an_example()
     ensures nothing_due { ordered (Some audited) (sent_to (opening 2 0) 1) 1 (codes "x") ≡ None }
     ensures a_line_is_sent_what_is_next_in_flight { (exchange line map : _) → ordered (Some (begun cleared)) exchange line map ≡ None }
     ensures a_line_is_sent_what_is_next_no_line { (exchange line map : _) → ordered None exchange line map ≡ None }
+{}
+
+/// Each sentence at an example.
+pub fn more_sentences_have_examples()
     // What happens to a line is a turn of the exchange, or none.
     ensures none_given_up { (exchange line : _) → forsaken exchange line None ≡ exchange }
     ensures clearing_given_up { (exchange line : _) → forsaken exchange line (Some Clear) ≡ exchange }
@@ -144,7 +152,7 @@ pub fn each_sentence_has_an_example()
 {}
 
 /// Each sentence at an example.
-pub fn further_sentences_have_examples()
+pub fn other_sentences_have_examples()
     // An event state tells a hook with its package or without, in any case, and the first that tells it counts.
     ensures off { hook_of (codes "L/hd") ≡ Some true }
     ensures bare_off { hook_of (codes "hd") ≡ Some true }
@@ -175,6 +183,10 @@ pub fn further_sentences_have_examples()
     ensures restarted { notified true (Some Told.Restarted) ≡ Some Told.Restarted }
     ensures disconnected { notified true (Some Told.Disconnected) ≡ Some Told.Disconnected }
     ensures a_notification_of_what_was_found_is_no_news_nothing { notified true None ≡ None }
+{}
+
+/// Each sentence at an example.
+pub fn still_more_sentences_have_examples()
     // What CRCX created is known where its answer names a connection and describes it.
     ensures a_connection_was_created_whole { created 200 (Some (codes "A")) (codes "v=0\r\n")
         ≡ Outcome.Created (codes "A") (codes "v=0\r\n") }
@@ -218,6 +230,10 @@ pub fn further_sentences_have_examples()
     ensures what_is_typed_becomes_a_message_alone { typed_text (codes "AUEP aaln/1") [] ≡ codes "AUEP aaln/1\r\n" }
     ensures open_line { typed_text (codes "RQNT aaln/1") (codes "X: 1") ≡ codes "RQNT aaln/1\r\nX: 1\r\n" }
     ensures whole_lines { typed_text (codes "RQNT aaln/1") (codes "X: 1\n") ≡ codes "RQNT aaln/1\r\nX: 1\r\n" }
+{}
+
+/// Each sentence at an example.
+pub fn yet_more_sentences_have_examples()
     // A command begins with a verb and a name alone.
     ensures a_command_is_a_verb_and_a_name_alone { typed_in (codes "AUEP aaln/1") ≡ Some (codes "AUEP", (codes "aaln/1", [])) }
     ensures with_lines { typed_in (codes "RQNT aaln/1\r\nX: 1\r\n") ≡ Some (codes "RQNT", (codes "aaln/1", codes "X: 1\r\n")) }

@@ -58,6 +58,10 @@ pub fn each_sentence_has_an_example()
     ensures waits { awaits_answer (Some (steps.Wait 500)) ≡ false }
     ensures answers_wait_for_a_step_none { awaits_answer None ≡ true }
     ensures unknown { awaits_answer (Some steps.Unknown) ≡ true }
+{}
+
+/// Each sentence at an example.
+pub fn further_sentences_have_examples()
     // The first fault counts, and what the RFC leaves open is no failure.
     ensures the_first_fault_decides_none { fault_of [] ≡ None }
     ensures met { fault_of (None ∷ None ∷ []) ≡ None }
@@ -86,6 +90,10 @@ pub fn each_sentence_has_an_example()
     ensures another { has_another (Some (codes "2")) (codes "1") ≡ true }
     ensures not_another { has_another (Some (codes "L/HD")) (codes "L/hd") ≡ false }
     ensures a_parameter_has_a_value_nothing { has_another None (codes "1") ≡ false }
+{}
+
+/// Each sentence at an example.
+pub fn more_sentences_have_examples()
     // An answer is waited for two seconds, anew behind a provisional response to the same command at the same socket, and no longer
     // than thirty seconds in all.
     ensures each_wait_ends_first { waited_until 500 500 ≡ 2500 }
@@ -136,6 +144,10 @@ pub fn each_sentence_has_an_example()
     ensures announcement { announced_by (codes "restart") (read_text (codes "RSIP 5 *@gw1 MGCP 1.0\nRM: Restart\n")) ≡ likes.AsDue }
     ensures other_method { announced_by (codes "restart") (read_text (codes "RSIP 5 *@gw1 MGCP 1.0\nRM: graceful\n")) ≡ likes.Otherwise }
     ensures notification { announced_by (codes "*") (read_text (codes "NTFY 5 aaln/1@gw1 MGCP 1.0\nX: 7\nO: L/hd\n")) ≡ likes.Another }
+{}
+
+/// Each sentence at an example.
+pub fn other_sentences_have_examples()
     // A check's steps answer a notification under one of its own identifiers or under none, and an announcement where they take these.
     ensures steps_answer_what_is_for_them_first { is_for_check 3000 false
         (read_text (codes "NTFY 5 a@gw1 MGCP 1.0\nX: 3001\nO: L/hd\n")) ≡ true }

@@ -71,6 +71,10 @@ pub fn each_sentence_has_an_example()
     ensures places_have_their_ports_first { leading (Both Pcma) ≡ Pcma }
     ensures only { leading (Only Pcmu) ≡ Pcmu }
     ensures places_have_their_ports_unknown { remote_of None ≡ None }
+{}
+
+/// Each sentence at an example.
+pub fn further_sentences_have_examples()
     // Each change has a printed form.
     ensures changes_are_told_as_lines_off { change_line 17 5020 1 (Hook OffHook) ≡ codes "change 17 at 5020 line 1 off\n" }
     ensures changes_are_told_as_lines_on { change_line 18 5020 96 (Hook OnHook) ≡ codes "change 18 at 5020 line 96 on\n" }

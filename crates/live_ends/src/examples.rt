@@ -59,6 +59,10 @@ pub fn each_sentence_has_an_example()
     ensures on_isnt_refused { is_refused On ≡ false }
     ensures off_isnt_refused { is_refused Off ≡ false }
     ensures is_refused { is_refused OutOfMemory ≡ true }
+{}
+
+/// Each sentence at an example.
+pub fn further_sentences_have_examples()
     // An outlet that is broken off has one fault. Lines that are said are kept whole, or it is as if they hadn't been.
     ensures an_outlet_is_open_or_has_a_fault_open { is_open Open ≡ true }
     ensures an_outlet_is_open_or_has_a_fault_broken_off { is_open BrokenOff ≡ false }

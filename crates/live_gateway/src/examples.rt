@@ -80,6 +80,10 @@ pub fn each_sentence_has_an_example()
         (host 9) ≡ true }
     ensures still { may_speak (with_named (with_hosts nobody (host 7 ∷ [])) (record { name = []; route = One (host 8) })) (host 7) ≡ true }
     ensures each_address_of_a_host_may_speak_portless { hosts_of (Two (at_port 7 2727) (at_port 8 2728)) ≡ Two (host 7) (host 8) }
+{}
+
+/// Each sentence at an example.
+pub fn further_sentences_have_examples()
     // A gateway never hears itself: what has the address and the port of one of its sockets came from there. Of others it hears who may
     // speak, and has a port.
     ensures itself { (admission : Admission) → is_heard (record admission { own = sockets }) (at_port 5 2427) ≡ false }

@@ -56,6 +56,10 @@ pub fn each_sentence_has_an_example()
     ensures an_origin_is_the_known_hosts_own_none { is_same_origin here (once (codes "127.0.0.1:8080")) None ≡ false }
     ensures no_host { is_same_origin here None (once (codes "http://127.0.0.1:8080")) ≡ false }
     ensures rebound { is_same_origin here (once (codes "evil.example:8080")) (once (codes "http://evil.example:8080")) ≡ false }
+{}
+
+/// Each sentence at an example.
+pub fn further_sentences_have_examples()
     // A field counts where it stands there once.
     ensures a_field_counts_where_it_stands_once_none { only (codes "") ≡ None }
     ensures one { only (codes "a") ≡ Some 97 }
@@ -94,6 +98,10 @@ pub fn each_sentence_has_an_example()
     ensures portless { is_named (codes "rgw" ∷ []) (codes "rgw") ≡ true }
     ensures further_names_are_known_other { is_named (codes "rgw" ∷ []) (codes "rgw.example:80") ≡ false }
     ensures further_names_are_known_none { is_named [] (codes "rgw") ≡ false }
+{}
+
+/// Each sentence at an example.
+pub fn more_sentences_have_examples()
     // Whether it is well is told in a line.
     ensures alive { alive_text true ≡ codes "ok\n" }
     ensures wellness_is_told_in_a_line_behind { alive_text false ≡ codes "the clock is behind\n" }
@@ -132,6 +140,10 @@ pub fn each_sentence_has_an_example()
     ensures room { room_from 8 this_host (mine 1 ∷ theirs 2 ∷ None ∷ mine 3 ∷ []) ≡ 6 }
     ensures none_left { room_from 8 this_host (mine 1 ∷ eight) ≡ 0 }
     ensures an_address_has_at_most_eight_nobody { idlest (Some other_host) seven ≡ None }
+{}
+
+/// Each sentence at an example.
+pub fn other_sentences_have_examples()
     // Who comes sits there from that moment on, and the others where they sat.
     ensures seated { seated (mine 5 ∷ None ∷ theirs 2 ∷ []) other_host 70 ≡ mine 5 ∷ theirs 70 ∷ theirs 2 ∷ [] }
     ensures unseated { seated [] this_host 70 ≡ [] }

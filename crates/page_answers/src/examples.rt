@@ -56,6 +56,10 @@ pub fn each_sentence_has_an_example()
         ≡ codes "{\"clock\":2000,\"events\":[{\"at\":5000,\"hex\":\"70686f6e652031206f6666\",\"kind\":\"act\",\"n\":7,\"peer\":\"192.168.1.5:2727\"}],\"first\":7,\"more\":true,\"next\":7,\"version\":3}" }
     ensures what_is_told_is_json_none { events_text nothing_yet 0 3 2000
         ≡ codes "{\"clock\":2000,\"events\":[],\"first\":1,\"more\":false,\"next\":0,\"version\":3}" }
+{}
+
+/// Each sentence at an example.
+pub fn further_sentences_have_examples()
     // Samples are lines, and a label's value hides its backslashes, quotes and line ends.
     ensures labelled { labelled_sample (codes "rgw_commands_total") (codes "verb") (codes "RQNT") 12
         ≡ codes "rgw_commands_total{verb=\"RQNT\"} 12\n" }
@@ -88,6 +92,10 @@ pub fn each_sentence_has_an_example()
     ensures ninety_nine { code_text 99 ≡ codes "099" }
     ensures hundred { code_text 100 ≡ codes "100" }
     ensures fault { code_text 510 ≡ codes "510" }
+{}
+
+/// Each sentence at an example.
+pub fn more_sentences_have_examples()
     // An act is `off`, `on`, `flash` or a key.
     ensures acts_have_words_off { act_named (codes "off") ≡ Some Off }
     ensures acts_have_words_on { act_named (codes "on") ≡ Some On }

@@ -78,6 +78,10 @@ pub fn each_sentence_has_an_example()
     ensures stays { verdict_of (next_open (opened (expected.Signal Busy) 5000 (hearing (Busy ∷ []))) 4000 resting) ≡ verdicts.Met }
     ensures no_more { verdict_of (next_open (passed (opened (expected.Signal Busy) 5000 resting) 5001) 5000 (hearing (Busy ∷ [])))
         ≡ verdicts.Failed }
+{}
+
+/// Each sentence at an example.
+pub fn further_sentences_have_examples()
     // Lines say what is done at a telephone, of the first gateway or of one that is named.
     ensures lines_say_acts_off { says (codes "1 off") ≡ Ok (said.Act (phone 0 1) Off) }
     ensures lines_say_acts_on { says (codes " 1  on ") ≡ Ok (said.Act (phone 0 1) On) }
@@ -111,6 +115,10 @@ pub fn each_sentence_has_an_example()
     ensures too_long { says (codes "expect 1 L/dl within 10000001") ≡ Err faults.Time }
     ensures no_phone { says (codes "expect x L/dl within 2000") ≡ Err faults.Phone }
     ensures no_time { says (codes "expect 1 L/dl in 2000") ≡ Err faults.Line }
+{}
+
+/// Each sentence at an example.
+pub fn more_sentences_have_examples()
     // Lines say blocks, files and times; an empty line says nothing, and so does a comment.
     ensures waits { says (codes "wait 500") ≡ Ok (said.Wait 500) }
     ensures wait_too_long { says (codes "wait 10000001") ≡ Err faults.Time }
@@ -162,6 +170,10 @@ pub fn each_sentence_has_an_example()
     ensures nothing_changed { tells (codes "change 1 at 0 line 1") ≡ None }
     ensures watching { watching_in (words (codes "watching from 17 at 5000")) ≡ Some (record { next = 17; moment = 5000 }) }
     ensures watching_more { watching_in (words (codes "watching from 17 at 5000 ms")) ≡ None }
+{}
+
+/// Each sentence at an example.
+pub fn other_sentences_have_examples()
     // What is said of a line that can't stand where it stands.
     ensures line { fault_text faults.Line
         ≡ codes "wanted TELEPHONE off, on, flash, KEY or dial DIGITS, wait, expect, repeat, side by side, include or end" }

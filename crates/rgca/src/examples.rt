@@ -42,6 +42,10 @@ pub fn each_sentence_has_an_example()
     ensures asked_of_phones { (ending : CommonEnding) → is_asked (OfPhones ending) ≡ is_commonly_asked ending }
     ensures own { map is_asked (Checked 0 ∷ Played ∷ SameLine ∷ NoCheck ∷ System ∷ []) ≡ false ∷ false ∷ false ∷ false ∷ false ∷ [] }
     ensures told { map is_asked (Unexpected [] ∷ Unplayed [] ∷ BadScript [] ∷ []) ≡ false ∷ false ∷ false ∷ [] }
+{}
+
+/// Each sentence at an example.
+pub fn further_sentences_have_examples()
     // Words behind `check` have a usage and a help of their own, and so have those behind `phones`; else they are refused as all words are.
     ensures words { (ending : CommonEnding) → word_ending (faults.Common ending) ≡ Common ending }
     ensures a_check_and_a_script_have_their_own_usage_of_check { (ending : CommonEnding) → check_ending (faults.Common ending)

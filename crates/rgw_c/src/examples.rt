@@ -66,6 +66,10 @@ pub fn each_sentence_has_an_example()
     ensures a_host_is_a_number_none { source_at 0 0 ≡ record { ip = record { octets = 0 ∷ 0 ∷ 0 ∷ 0 ∷ [] }; port = 0 } }
     ensures greatest { source_at 4294967295 65535 ≡ record { ip = record { octets = 255 ∷ 255 ∷ 255 ∷ 255 ∷ [] }; port = 65535 } }
     ensures local { source_at 2130706433 2427 ≡ record { ip = record { octets = 127 ∷ 0 ∷ 0 ∷ 1 ∷ [] }; port = 2427 } }
+{}
+
+/// Each sentence at an example.
+pub fn further_sentences_have_examples()
     // What is asked of nothing that is open, of no line, of no place, or with too little room has its number.
     ensures what_is_asked_in_vain_has_a_number_closed { open_number None ≡ NOT_OPEN }
     ensures closed_first { line_number None 0 ≡ NOT_OPEN }

@@ -44,6 +44,10 @@ pub fn each_sentence_has_an_example()
     ensures network { is_answer (codes "network lost 0 copied 0 late 0") ≡ true }
     ensures bare { is_answer (codes "?") ≡ true }
     ensures answers_of_an_agent_are_known_refused { is_answer (codes "!") ≡ true }
+{}
+
+/// Each sentence at an example.
+pub fn further_sentences_have_examples()
     // What is asked for is no answer, though it begins alike, and an empty line asks for nothing.
     ensures counts { is_request (codes "counts") ≡ true }
     ensures act { is_request (codes "phone 1 off") ≡ true }

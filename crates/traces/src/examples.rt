@@ -63,6 +63,10 @@ pub fn each_sentence_has_an_example()
     ensures early { comes_where (codes "| a\n") (codes "| ! not sent 1\n") ≡ differs }
     ensures done { may_end (owing [] []) ≡ true }
     ensures owed { may_end (owing [] (codes "| a\n")) ≡ false }
+{}
+
+/// Each sentence at an example.
+pub fn further_sentences_have_examples()
     // A line without an end, an empty one, and what no trace has are where it breaks off.
     ensures other_lines_are_broken_half { comes_first (codes "show 1") ≡ is_broken }
     ensures half_told { comes_where (codes "| ab\n") (codes "| a") ≡ is_broken }

@@ -59,6 +59,10 @@ pub fn each_sentence_has_an_example()
     ensures idle { turns_from (opening 0) (standing 5 5 nobody ∷ []) ≡ Wait 1005 ∷ [] }
     ensures begun { turns_from (opening 5000) (standing 5000 0 (ready true true true) ∷ standing 5001 1000 (ready true true true) ∷ [])
         ≡ Tick 1000 ∷ Command ∷ [] }
+{}
+
+/// Each sentence at an example.
+pub fn further_sentences_have_examples()
     // Who wakes more than 500 ms too late was stopped: what came meanwhile is read before the clock goes on, and then the clock catches
     // up, by a second at a time, before anything else comes.
     ensures not_late { turns_from asleep (wakes_at 1500) ≡ Tick 1000 ∷ [] }
