@@ -6,10 +6,7 @@ use Rattle.std.proofs.lemmas.Nat.{and_block, or_block, xor_block, xor_lt}
 use Rattle.std.proofs.Math.Nat.{pow-suc}
 use Rattle.std.proofs.lemmas.Bool.Decides.{nat_tests}
 use Rattle.digit_map_bits.specs.Blocks.{bit, bits_by, some_bit}
-
-pub bit_small : (b : Bool) → bit b < 2 ^ 1
-bit_small true = omega arith
-bit_small false = omega arith
+use Rattle.digit_map_places.proofs.BitLaws.{bit_small, doubled}
 
 and_bit : (x y : Bool) → bit_and (bit x) (bit y) ≡ bit (x && y)
 and_bit true true = refl
@@ -94,18 +91,10 @@ carries_are t d c (x ∷ xs) =
     ∙ ap (λ (n : ℕ). n * 2 + bit c) (carries_are t d next xs)
     ∙ shifted (carried_bits t d next xs) (bit (handed t d next xs)) (length xs) (bit c))
 
-doubled : (low n c : ℕ) → low < 2 ^ n → c < 2 → low * 2 + c < 2 ^ suc n
-doubled low n c small few = rw (pow-suc 2 n) (omega arith)
-
 pub carried_small : {X : Type 0} (t d : X → Bool) (c : Bool) (xs : List X) → carried_bits t d c xs < 2 ^ length xs
 carried_small t d c [] = omega arith
 carried_small t d c (x ∷ xs) =
     doubled (carried_bits t d (t x || (d x && c)) xs) (length xs) (bit c) (carried_small t d (t x || (d x && c)) xs) (bit_small c)
-
-pub bits_small : {X : Type 0} (p : X → Bool) (xs : List X) → bits_by p xs < 2 ^ length xs
-unfolding bits_by
-bits_small p [] = omega arith
-bits_small p (x ∷ xs) = doubled (bits_by p xs) (length xs) (bit (p x)) (bits_small p xs) (bit_small (p x))
 
 pub low_part : (low : ℕ) (high : Bool) → low < 4294967296 → (low + bit high * 4294967296) % 4294967296 ≡ low
 low_part low true small = omega arith

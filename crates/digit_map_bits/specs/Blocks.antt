@@ -2,8 +2,8 @@
 --
 -- Nobody has to believe what stands here either (`Places`). Contracts name it to say what is kept from call to call, and
 -- what a matcher says is said without it.
-use Rattle.std.specs.Prelude.{◌≡◌, ℕ, ◌+◌, ◌*◌, ◌%◌, ◌/◌, nat_le, nat_eq, not, if◌then◌else◌, Bool, true, false, ◌||◌}
-use Rattle.std.specs.Prelude.{List, [], ◌∷◌, map, length, take, drop, slice_index, slice_index_or, ◌++◌}
+use Rattle.std.specs.Prelude.{◌≡◌, ℕ, ◌+◌, ◌%◌, ◌/◌, nat_le, nat_eq, not, if◌then◌else◌, Bool, true, false, ◌||◌}
+use Rattle.std.specs.Prelude.{List, [], ◌∷◌, map, length, take, drop, slice_index}
 use Rattle.std.specs.Prelude.{bit_and, bit_or, bit_xor, suc, zero}
 use Rattle.std.specs.List.{list_any}
 use Rattle.digit_map.specs.Spelling.{is_map}
@@ -11,8 +11,8 @@ use Rattle.mg_bytes.specs.declared.letter.Letter.{Letter}
 use Rattle.mg_bytes.specs.declared.letter.Letter.TheVariants.{Zero, One, Two, Three, Four, Five, Six, Seven, Eight}
 use Rattle.mg_bytes.specs.declared.letter.Letter.TheVariants.{Nine, Star, Hash, A, B, C, D, Timer}
 use Rattle.mg_bytes.specs.Letter.{all_letters}
-use Rattle.digit_map_bits.specs.declared.block.Block.{Block}
-use Rattle.digit_map_bits.specs.declared.draft.Draft.{Draft}
+use Rattle.digit_map_places.specs.declared.block.Block.{Block}
+pub use Rattle.digit_map_places.specs.Drafts.{bit, bits_by, draft_of, row_of, block_from, blocks_from, words_from}
 use Rattle.digit_map.specs.declared.verdict.Verdict.{Verdict}
 use Rattle.digit_map.specs.declared.verdict.Verdict.TheVariants.{Perfect, Partial, Impossible}
 use Rattle.digit_map_bits.specs.Places.{Place, takes, repeats, is_end, places_of, places_after}
@@ -36,17 +36,6 @@ index_of B = 13
 index_of C = 14
 index_of D = 15
 index_of Timer = 16
-
--- Bits
-
-abbrev pub bit : Bool → ℕ
-bit true = 1
-bit false = 0
-
--- the number that has a bit for each value, the first the lowest
-unfoldable pub bits_by : {X : Type 0} → (X → Bool) → List X → ℕ
-bits_by test [] = 0
-bits_by test (x ∷ xs) = bits_by test xs * 2 + bit (test x)
 
 -- the words of a block: for each letter the places that take it, those before a position with a dot, those at an end
 abbrev pub block_of : List Place → Block
@@ -107,37 +96,6 @@ unfoldable pub ends_some : List Block → List ℕ → Bool
 ends_some [] words = false
 ends_some (block ∷ blocks) [] = false
 ends_some (block ∷ blocks) (word ∷ words) = some_bit (bit_and word block.ends) || ends_some blocks words
-
--- What the code holds
-
--- a place by itself: its test for each letter, for a dot, for an end, and whether it is live
-abbrev pub draft_of : Place → Draft
-draft_of place = record {
-  tests = map (takes place.ahead) all_letters ++ repeats place.ahead ∷ is_end place.ahead ∷ place.live ∷ [];
-}
-
--- the bits of one test
-abbrev pub row_of : ℕ → List Draft → ℕ
-row_of test drafts = bits_by (λ draft. slice_index_or draft.tests test false) drafts
-
-abbrev pub block_from : List Draft → Block
-block_from drafts = record {
-  letters =
-      row_of 0 drafts ∷ row_of 1 drafts ∷ row_of 2 drafts ∷ row_of 3 drafts ∷ row_of 4 drafts ∷ row_of 5 drafts
-      ∷ row_of 6 drafts ∷ row_of 7 drafts ∷ row_of 8 drafts ∷ row_of 9 drafts ∷ row_of 10 drafts ∷ row_of 11 drafts
-      ∷ row_of 12 drafts ∷ row_of 13 drafts ∷ row_of 14 drafts ∷ row_of 15 drafts ∷ row_of 16 drafts ∷ [];
-  dots = row_of 17 drafts;
-  ends = row_of 18 drafts;
-}
-
--- so many blocks of drafts, and the words of those that are live
-unfoldable pub blocks_from : ℕ → List Draft → List Block
-blocks_from zero drafts = []
-blocks_from (suc count) drafts = block_from (take 32 drafts) ∷ blocks_from count (drop 32 drafts)
-
-unfoldable pub words_from : ℕ → List Draft → List ℕ
-words_from zero drafts = []
-words_from (suc count) drafts = row_of 19 (take 32 drafts) ∷ words_from count (drop 32 drafts)
 
 -- the words of the places behind letters
 unfoldable pub words_after : List ℕ → List Letter → List ℕ

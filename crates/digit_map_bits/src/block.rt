@@ -9,18 +9,8 @@ ghost use Rattle.digit_map_bits.specs.Blocks.{index_of, taken_bits, led_word, le
 ghost use Rattle.digit_map_bits.specs.Blocks.{verdict_at};
 
 use digit_map::Verdict;
+use digit_map_places::Block;
 use mg_bytes::Letter;
-
-/// Some 32 places of a map: a bit for each place, the first the lowest.
-#[derive(Clone, Copy)]
-pub(crate) struct Block {
-    /// For each letter the places that take it.
-    pub(crate) letters: [u32; 17],
-    /// The places before a position with a dot.
-    pub(crate) dots: u32,
-    /// The places behind the last position of a string.
-    pub(crate) ends: u32,
-}
 
 /// What a letter makes of a word.
 #[derive(Clone, Copy)]

@@ -9,7 +9,6 @@
 mod block;
 mod compiled;
 mod dialling;
-mod draft;
 pub mod laws;
 mod plan;
 mod slow;

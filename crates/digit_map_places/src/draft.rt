@@ -3,8 +3,8 @@ ghost use Rattle.std.specs.Prelude.{◌≡◌, ◌≤◌, ◌&&◌, ◌++◌, �
 ghost use Rattle.mg_bytes.specs.Letter.{all_letters};
 ghost use Rattle.digit_map.specs.Words.{is_in_range};
 ghost use Rattle.digit_map.specs.Cuts.{strings_of, positions_of};
-ghost use Rattle.digit_map_bits.specs.Places.{places_from, places_in, places_of};
-ghost use Rattle.digit_map_bits.specs.Blocks.{bit, draft_of, row_of, block_from, blocks_from, words_from};
+ghost use Rattle.digit_map_places.specs.Places.{places_from, places_in, places_of};
+ghost use Rattle.digit_map_places.specs.Drafts.{bit, draft_of, row_of, block_from, blocks_from, words_from};
 
 use crate::block::Block;
 use digit_map::{is_in_range, is_repeated, positions, set_of, stands_for, strings};
@@ -23,8 +23,8 @@ const LIVE: usize = 19;
 /// A place of a map by itself: whether it takes each letter, in their order, and then what the constants above say. All
 /// tests are of one form, so that one function makes the bits of any of them.
 #[derive(Clone, Copy)]
-pub(crate) struct Draft {
-    pub(crate) tests: [bool; 20],
+pub struct Draft {
+    pub tests: [bool; 20],
 }
 
 // The letters that a byte by itself stands for, in their order. A map has mostly bytes by themselves, and this is faster
@@ -142,7 +142,7 @@ fn string_drafts(alloc: Global, text: &[u8]) -> Result<Vec<Draft>, OutOfMemory>
 }
 
 /// The places of a map before any letter, filled up to whole blocks, so that each word has 32 places.
-pub(crate) fn drafts_of(alloc: Global, text: &[u8]) -> Result<Vec<Draft>, OutOfMemory>
+pub fn drafts_of(alloc: Global, text: &[u8]) -> Result<Vec<Draft>, OutOfMemory>
     ensures { IfOk result (λ drafts. drafts.items ≡ map draft_of (places_of text.now)) }
 {
     let mut drafts = string_drafts(alloc, text)?;
@@ -203,7 +203,7 @@ fn block_from(drafts: &[Draft]) -> Block
 }
 
 /// The blocks of places, 32 in each.
-pub(crate) fn blocks_from(alloc: Global, drafts: &[Draft]) -> Result<Vec<Block>, OutOfMemory>
+pub fn blocks_from(alloc: Global, drafts: &[Draft]) -> Result<Vec<Block>, OutOfMemory>
     ensures { IfOk result (λ blocks. blocks.items ≡ blocks_from (length drafts.now / 32) drafts.now) }
 {
     let count = drafts.len() / 32;
@@ -218,7 +218,7 @@ pub(crate) fn blocks_from(alloc: Global, drafts: &[Draft]) -> Result<Vec<Block>,
 }
 
 /// The words of the places that are live before any letter.
-pub(crate) fn words_from(alloc: Global, drafts: &[Draft]) -> Result<Vec<u32>, OutOfMemory>
+pub fn words_from(alloc: Global, drafts: &[Draft]) -> Result<Vec<u32>, OutOfMemory>
     ensures { IfOk result (λ words. words.items ≡ words_from (length drafts.now / 32) drafts.now) }
 {
     let count = drafts.len() / 32;
