@@ -1,6 +1,5 @@
 pub mod EventLemmas
 pub mod AgentStands
-pub mod FlightTable
 pub mod TellingLemmas
 pub mod PassLemmas
 pub mod WorkLemmas

@@ -14,7 +14,7 @@ use Rattle.transmission.specs.declared.output.OutDatagram.{OutDatagram}
 use Rattle.transmission.specs.Transacting.{message_to}
 use Rattle.call_agent.specs.Growing.{Grown}
 use Rattle.call_agent.specs.Flying.{Flown, flown, flown_on, if_due, first_flight, passed, pass, ticked, with_flight, without_flight}
-use Rattle.call_agent.specs.Flights.{flight_in, flights_in}
+use Rattle.flights.specs.Flights.{flight_in, flights_in}
 use Rattle.call_agent.specs.declared.state.State.{State}
 use Rattle.call_agent.specs.State.{FlewOn, Went, kept_in}
 

@@ -1,36 +1,12 @@
 -- What falls due of an agent's commands in flight: each is sent again, or given up (RFC 3435, 3.5.3 and 4.3).
-use Rattle.std.specs.Prelude.{ℕ, ◌*◌, ◌==◌, zero, suc, nat_le, if◌then◌else◌, Bool, List, [], ◌∷◌, ◌++◌, length, Option, Some, None}
+use Rattle.std.specs.Prelude.{ℕ, ◌*◌, zero, suc, List, [], ◌∷◌, ◌++◌, length, Option, Some, None}
 use Rattle.outbound.specs.declared.repeat.Repeat.{Repeat}
 use Rattle.outbound.specs.declared.repeat.Repeat.TheVariants.{Sent, GivenUp}
 use Rattle.outbound.specs.Flight.{InFlight, sent_to, repeat_of, repeated}
 use Rattle.transmission.specs.declared.output.OutDatagram.{OutDatagram}
 use Rattle.transmission.specs.Transacting.{message_to}
+pub use Rattle.flights.specs.Choosing.{has_id, sooner, first_flight, if_due, with_flight, without_flight}
 use Rattle.call_agent.specs.Agent.{AgentMachine, AgentEffect}
-
-abbrev pub has_id : ℕ → InFlight → Bool
-has_id id flight = flight.id == id
-
-abbrev pub sooner : InFlight → Option InFlight → Option InFlight
-sooner flight None = Some flight
-sooner flight (Some other) = if nat_le flight.due other.due then Some flight else Some other
-
--- the flight of which something falls due first; of several at one moment that of the least id, which stands first
-unfoldable pub first_flight : List InFlight → Option InFlight
-first_flight [] = None
-first_flight (flight ∷ flights) = sooner flight (first_flight flights)
-
-abbrev pub if_due : ℕ → Option InFlight → Option InFlight
-if_due moment None = None
-if_due moment (Some flight) = if nat_le flight.due moment then Some flight else None
-
--- the flights with this one in the place of that with its id
-unfoldable pub with_flight : InFlight → List InFlight → List InFlight
-with_flight new [] = []
-with_flight new (flight ∷ flights) = if flight.id == new.id then new ∷ flights else flight ∷ with_flight new flights
-
-unfoldable pub without_flight : ℕ → List InFlight → List InFlight
-without_flight id [] = []
-without_flight id (flight ∷ flights) = if flight.id == id then flights else flight ∷ without_flight id flights
 
 -- flights, and what was sent of them
 pub record Flown : Type 0 where

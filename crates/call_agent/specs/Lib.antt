@@ -1,11 +1,10 @@
-pub mod Growing
 pub mod Agent
 pub mod Issuing
 pub mod Flying
-pub mod Flights
 pub mod Responding
 pub mod Taking
 pub mod Hearing
 pub mod AgentAlike
 pub mod State
 pub mod AgentStands
+pub use Rattle.flights.specs.Growing

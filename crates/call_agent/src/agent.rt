@@ -9,8 +9,6 @@ ghost use Rattle.call_agent.specs.Hearing.{AgentEvent, AgentEnds, issues, hears,
 ghost use Rattle.call_agent.specs.State.{answer_in, answered_with};
 ghost use Rattle.call_agent.specs.AgentStands.{AgentStands, AgentTook, AgentStays, IssueEnds};
 
-use crate::flights::Flights;
-use crate::growing::Growing;
 use crate::issuing::{GREATEST_ID, IssueFault, Issued, command_text, is_good};
 use crate::setup::AgentSetup;
 use crate::state::{Answer, Answered, Context, State};
@@ -18,6 +16,7 @@ use crate::told::TakenEvents;
 use crate::working::step_state;
 use endpoint_names::Route;
 use event_values::Observed;
+use flights::{Flights, Growing};
 use history::History;
 use mg_bytes::{OutOfMemory, Text};
 use mgcp_text::TransactionId;

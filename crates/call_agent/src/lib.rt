@@ -4,8 +4,6 @@
 #![tactic(auto)]
 
 mod agent;
-mod flights;
-mod growing;
 mod hearing;
 mod issuing;
 mod responding;

@@ -1,9 +1,8 @@
 //! What changes in an agent.
 
-use crate::flights::Flights;
-use crate::growing::Growing;
 use crate::setup::AgentSetup;
 use crate::told::TakenEvents;
+use flights::{Flights, Growing};
 use history::History;
 use mg_bytes::Text;
 use std::alloc::Global;

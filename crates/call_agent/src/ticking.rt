@@ -6,8 +6,8 @@ ghost use Rattle.plain_machine.specs.Refusing.{tick_refusal, ends};
 ghost use Rattle.call_agent.specs.Flying.{first_flight, flown_on, if_due, pass, ticked};
 ghost use Rattle.call_agent.specs.State.{kept_in, Flies, Happens};
 
-use crate::flights::Flights;
 use crate::state::{Context, State};
+use flights::Flights;
 use mg_bytes::{OutOfMemory, Text};
 use outbound::{Pending, Repeat};
 use plain_machine::{OutDatagram, Refusal, tick_refusal};

@@ -4,8 +4,8 @@ ghost use Rattle.std.specs.List.{slice_index_or};
 ghost use Rattle.call_agent.specs.Growing.{Grown, grown_to, committed, rolled_back, all_in, told_at};
 ghost use Rattle.call_agent.specs.Taking.{with_taken};
 
-use crate::growing::Growing;
 use event_values::Observed;
+use flights::Growing;
 use mg_bytes::{OutOfMemory, Sequence};
 use std::alloc::Global;
 use std::marker::Model;

@@ -1,6 +1,6 @@
 use Rattle.std.proofs.Common.{◌≡◌, ◌+◌, ◌≤◌, length, drop}
-use Rattle.call_agent.specs.Flights.{flights_in}
-use Rattle.call_agent.proofs.flights.count.Given as goal
+use Rattle.flights.specs.Flights.{flights_in}
+use Rattle.flights.proofs.flights.count.Given as goal
 
 abbrev pub invariant-loop-place : goal.invariant-loop-place
 invariant-loop-place l = record {

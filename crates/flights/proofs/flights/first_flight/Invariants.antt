@@ -1,9 +1,9 @@
 use Rattle.std.proofs.Common.{◌≡◌, drop}
 use Rattle.std.specs.Option.{option_copied}
-use Rattle.call_agent.specs.Flights.{flights_in}
-use Rattle.call_agent.specs.Flying.{first_flight}
-use Rattle.call_agent.proofs.FlightTable.{joined_first}
-use Rattle.call_agent.proofs.flights.first_flight.Given as goal
+use Rattle.flights.specs.Flights.{flights_in}
+use Rattle.flights.specs.Choosing.{first_flight}
+use Rattle.flights.proofs.FlightTable.{joined_first}
+use Rattle.flights.proofs.flights.first_flight.Given as goal
 
 -- what is first of those so far and of the rest is first of all
 abbrev pub invariant-loop-place : goal.invariant-loop-place

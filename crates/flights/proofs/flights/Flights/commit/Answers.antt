@@ -1,8 +1,8 @@
 use Rattle.std.proofs.Common.{sym, rules}
 use Rattle.std.specs.Option.{is_some}
 use Rattle.std.proofs.lemmas.List.Elements.{filter_from_retain}
-use Rattle.call_agent.proofs.FlightTable.{settled_kept}
-use Rattle.call_agent.proofs.flights.Flights.commit.Goals as goal
+use Rattle.flights.proofs.FlightTable.{settled_kept}
+use Rattle.flights.proofs.flights.Flights.commit.Goals as goal
 
 pub returns : goal.returns
 returns c =

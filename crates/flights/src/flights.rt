@@ -1,8 +1,8 @@
 //! The commands in flight.
 ghost use Rattle.std.specs.Prelude.{◌≡◌, ◌<◌, ◌≤◌, ◌*◌, ◌++◌, ◌∷◌, [], length, find, position, slice_set, slice_index_or, OnOk, OnErr, OnSome, option_copied, option_map};
-ghost use Rattle.call_agent.specs.Growing.{grown_to, committed, rolled_back};
-ghost use Rattle.call_agent.specs.Flights.{flights_in, holds_id, exchanged, sooner_at, put_back};
-ghost use Rattle.call_agent.specs.Flying.{has_id, first_flight, if_due, with_flight, without_flight};
+ghost use Rattle.flights.specs.Growing.{grown_to, committed, rolled_back};
+ghost use Rattle.flights.specs.Flights.{flights_in, holds_id, exchanged, sooner_at, put_back};
+ghost use Rattle.flights.specs.Choosing.{has_id, first_flight, if_due, with_flight, without_flight};
 
 use mg_bytes::OutOfMemory;
 use mgcp_text::TransactionId;
@@ -22,17 +22,29 @@ struct Saved {
 ///
 /// What was there before a change is saved, so that it can be put back; that takes no memory. What landed leaves its place
 /// empty until the event is over.
-#[derive(Drop)]
-pub(crate) struct Flights {
+pub struct Flights {
     alloc: Global,
     places: Vec<Option<Pending>>,
     saved: Vec<Saved>,
 }
 
+// Written out: a derived drop, and those of all its parts, are proved anew by each crate that lets one go.
+impl Drop for Flights {
+    fn drop(self) {
+        let Flights {
+            alloc: _,
+            places,
+            saved,
+        } = self;
+        mem::drop(places);
+        mem::drop(saved);
+    }
+}
+
 impl Model for Flights {
     ghost use Rattle.outbound.specs.Flight.{InFlight};
-    ghost use Rattle.call_agent.specs.Growing.{Grown};
-    ghost use Rattle.call_agent.specs.Flights.{flights_in, restored};
+    ghost use Rattle.flights.specs.Growing.{Grown};
+    ghost use Rattle.flights.specs.Flights.{flights_in, restored};
 
     ghost Value = { Grown InFlight };
 
@@ -45,7 +57,7 @@ impl Model for Flights {
 impl Flights {
     /// Nothing is in flight. This takes no memory yet.
     #[tactic(auto, unfolding(crate::specs::Flights::restored))]
-    pub(crate) fn none(alloc: Global) -> Flights
+    pub fn none(alloc: Global) -> Flights
         ensures { result ≡ grown_to [] }
     {
         Flights {
@@ -56,14 +68,14 @@ impl Flights {
     }
 
     /// The flight with this id.
-    pub(crate) fn with_id(&self, id: TransactionId) -> Option<&Pending>
+    pub fn with_id(&self, id: TransactionId) -> Option<&Pending>
         ensures { option_copied result ≡ find (has_id id) self.now.is }
     {
         flight_with(&self.places, id)
     }
 
     /// The flight of which something falls due first up to a moment (in ms).
-    pub(crate) fn first_due(&self, moment: u64) -> Option<&Pending>
+    pub fn first_due(&self, moment: u64) -> Option<&Pending>
         ensures { option_copied result ≡ if_due moment (first_flight self.now.is) }
     {
         let flight = first_flight(&self.places)?;
@@ -75,7 +87,7 @@ impl Flights {
     }
 
     /// When something falls due next, in ms.
-    pub(crate) fn next_due(&self) -> Option<u64>
+    pub fn next_due(&self) -> Option<u64>
         ensures { result ≡ option_map (λ flight. flight.due) (first_flight self.now.is) }
     {
         let flight = first_flight(&self.places)?;
@@ -83,14 +95,14 @@ impl Flights {
     }
 
     /// How many things fall due at most: of each flight seven repeats, and its end.
-    pub(crate) fn most_due(&self) -> u64
+    pub fn most_due(&self) -> u64
         ensures { result ≡ 8 * length self.now.is }
     {
         8 * count(&self.places) as u64
     }
 
     /// A flight goes on as this one, which has its id. After an error all is as it was.
-    pub(crate) fn put(&mut self, flight: Pending) -> Result<(), OutOfMemory>
+    pub fn put(&mut self, flight: Pending) -> Result<(), OutOfMemory>
         ensures ok { OnOk result (self.new ≡ record self.old { is = with_flight flight self.old.is }) }
         ensures err { OnErr result (self.new ≡ self.old) }
     {
@@ -98,7 +110,7 @@ impl Flights {
     }
 
     /// The flight with this id landed, or was given up: it is gone. After an error all is as it was.
-    pub(crate) fn land(&mut self, id: TransactionId) -> Result<(), OutOfMemory>
+    pub fn land(&mut self, id: TransactionId) -> Result<(), OutOfMemory>
         ensures ok { OnOk result (self.new ≡ record self.old { is = without_flight id self.old.is }) }
         ensures err { OnErr result (self.new ≡ self.old) }
     {
@@ -125,7 +137,7 @@ impl Flights {
 
     /// A flight begins, behind those that there are, and nothing is saved any more. After an error these are as they were.
     #[tactic(auto, unfolding(crate::specs::Flights::restored))]
-    pub(crate) fn begin(&mut self, flight: Pending) -> Result<(), OutOfMemory>
+    pub fn begin(&mut self, flight: Pending) -> Result<(), OutOfMemory>
         ensures ok { OnOk result (self.new ≡ grown_to (self.old.is ++ flight ∷ [])) }
         ensures err { OnErr result (self.new ≡ committed self.old) }
     {
@@ -136,7 +148,7 @@ impl Flights {
 
     /// What the next event finds is what is there: nothing is saved any more. This takes no memory.
     #[tactic(auto, unfolding(crate::specs::Flights::restored))]
-    pub(crate) fn commit(&mut self)
+    pub fn commit(&mut self)
         ensures { self.new ≡ committed self.old }
     {
         self.saved = Vec::new(self.alloc);
@@ -144,7 +156,7 @@ impl Flights {
     }
 
     /// An event failed: all is again what it found. This takes no memory.
-    pub(crate) fn rollback(&mut self)
+    pub fn rollback(&mut self)
         ensures { self.new ≡ rolled_back self.old }
     {
         while let Some(saved) = self.saved.pop() {

@@ -1,8 +1,8 @@
 -- The commands in flight as they are kept: what landed leaves its place empty until the event is over.
 use Rattle.std.specs.Prelude.{ℕ, ◌==◌, if◌then◌else◌, List, [], ◌∷◌, ◌++◌, flat_map, Option, Some, None, Bool, false, nat_le, slice_set}
 use Rattle.outbound.specs.Flight.{InFlight}
-use Rattle.call_agent.specs.declared.flights.Saved.{Saved}
-use Rattle.call_agent.specs.Flying.{has_id}
+use Rattle.flights.specs.declared.flights.Saved.{Saved}
+use Rattle.flights.specs.Choosing.{has_id}
 
 abbrev pub flight_in : Option InFlight → List InFlight
 flight_in None = []

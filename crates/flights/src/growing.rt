@@ -1,6 +1,6 @@
 //! A list that grows while an event happens, and is cut back where the event fails.
 ghost use Rattle.std.specs.Prelude.{◌≡◌, ◌++◌, ◌∷◌, [], OnOk, OnErr};
-ghost use Rattle.call_agent.specs.Growing.{grown_to, committed, rolled_back};
+ghost use Rattle.flights.specs.Growing.{grown_to, committed, rolled_back};
 
 use mg_bytes::OutOfMemory;
 use std::alloc::Global;
@@ -8,7 +8,7 @@ use std::marker::Model;
 
 /// Values in their order. A contract sees their list, and as the event that happens found it.
 #[derive(Drop)]
-pub(crate) struct Growing<T> {
+pub struct Growing<T> {
     items: Vec<T>,
     // How many there were before the event.
     count: usize,
@@ -16,7 +16,7 @@ pub(crate) struct Growing<T> {
 
 impl<T> Model for Growing<T> {
     ghost use Rattle.std.specs.Prelude.{◌≤◌, length, take};
-    ghost use Rattle.call_agent.specs.Growing.{Grown};
+    ghost use Rattle.flights.specs.Growing.{Grown};
 
     ghost Value = { Grown T };
 
@@ -27,7 +27,7 @@ impl<T> Model for Growing<T> {
 
 impl<T: Drop> Growing<T> {
     /// No values. This takes no memory yet.
-    pub(crate) fn new(alloc: Global) -> Self
+    pub fn new(alloc: Global) -> Self
         ensures { result ≡ grown_to [] }
     {
         Growing {
@@ -37,14 +37,14 @@ impl<T: Drop> Growing<T> {
     }
 
     /// The values.
-    pub(crate) fn as_slice(&self) -> &[T]
+    pub fn as_slice(&self) -> &[T]
         ensures { result.now ≡ self.now.is }
     {
         &self.items
     }
 
     /// Adds a value at the end. After an error the values are as they were.
-    pub(crate) fn push(&mut self, item: T) -> Result<(), OutOfMemory>
+    pub fn push(&mut self, item: T) -> Result<(), OutOfMemory>
         ensures ok { OnOk result (self.new ≡ record self.old { is = self.old.is ++ item ∷ [] }) }
         ensures err { OnErr result (self.new ≡ self.old) }
     {
@@ -53,7 +53,7 @@ impl<T: Drop> Growing<T> {
     }
 
     /// Adds more values at the end: all of them, or after an error none.
-    pub(crate) fn append(&mut self, mut more: Vec<T>) -> Result<(), OutOfMemory>
+    pub fn append(&mut self, mut more: Vec<T>) -> Result<(), OutOfMemory>
         ensures ok { OnOk result (self.new ≡ record self.old { is = self.old.is ++ more.items }) }
         ensures err { OnErr result (self.new ≡ self.old) }
     {
@@ -61,14 +61,14 @@ impl<T: Drop> Growing<T> {
     }
 
     /// What the next event finds is what is there. This takes no memory.
-    pub(crate) fn commit(&mut self)
+    pub fn commit(&mut self)
         ensures { self.new ≡ committed self.old }
     {
         self.count = self.items.len();
     }
 
     /// The event failed: there is again what it found. This takes no memory.
-    pub(crate) fn rollback(&mut self)
+    pub fn rollback(&mut self)
         ensures { self.new ≡ rolled_back self.old }
     {
         self.items.truncate(self.count);

@@ -1,7 +1,7 @@
 use Rattle.std.proofs.Common.{◌≡◌, ◌∙◌, ap, [], rules}
-use Rattle.call_agent.specs.Flights.{flights_in}
-use Rattle.call_agent.proofs.FlightTable.{restored_less, all_put_back}
-use Rattle.call_agent.proofs.flights.Flights.rollback.Goals as goal
+use Rattle.flights.specs.Flights.{flights_in}
+use Rattle.flights.proofs.FlightTable.{restored_less, all_put_back}
+use Rattle.flights.proofs.flights.Flights.rollback.Goals as goal
 
 pub loop-saved-preserved : goal.loop-saved-preserved
 loop-saved-preserved c = ap flights_in (restored_less _ _ c.in-Some.saved _ _ c.in-Some.ensures.items c.put_back.ensures) ∙ c.loop-saved.invariant

@@ -1,6 +1,6 @@
 use Rattle.std.proofs.Common.{refl, sym, rules}
-use Rattle.call_agent.proofs.FlightTable.{untouched, exchanged_done, exchanged_undone}
-use Rattle.call_agent.proofs.flights.Flights.exchange.Goals as goal
+use Rattle.flights.proofs.FlightTable.{untouched, exchanged_done, exchanged_undone}
+use Rattle.flights.proofs.flights.Flights.exchange.Goals as goal
 
 pub returns-in_default-clause-ok : goal.returns-in_default-clause-ok
 returns-in_default-clause-ok c =

@@ -1,9 +1,9 @@
 use Rattle.std.proofs.Common.{◌≡◌, sym, ap, ◌∙◌, None, rules}
 use Rattle.std.specs.Prelude.{position}
 use Rattle.std.specs.Option.{option_copied}
-use Rattle.call_agent.specs.Flights.{holds_id}
-use Rattle.call_agent.proofs.FlightTable.{found_there, found_nowhere}
-use Rattle.call_agent.proofs.flights.flight_with.Goals as goal
+use Rattle.flights.specs.Flights.{holds_id}
+use Rattle.flights.proofs.FlightTable.{found_there, found_nowhere}
+use Rattle.flights.proofs.flights.flight_with.Goals as goal
 
 pub returns-in_err-place : goal.returns-in_err-place
 returns-in_err-place c =

@@ -1,6 +1,6 @@
 use Rattle.std.proofs.Common.{◌≡◌, vec_len}
-use Rattle.call_agent.specs.Flights.{flights_in, restored}
-use Rattle.call_agent.proofs.flights.Flights.rollback.Given as goal
+use Rattle.flights.specs.Flights.{flights_in, restored}
+use Rattle.flights.proofs.flights.Flights.rollback.Given as goal
 
 abbrev pub invariant-loop-saved : goal.invariant-loop-saved
 invariant-loop-saved l = flights_in (restored l.self-inside.saved.items l.self-inside.places.items) ≡ l.fn.self.found

@@ -8,10 +8,10 @@ use Rattle.std.proofs.lemmas.Bool.{ltb-true, ltb-false}
 use Rattle.std.proofs.lemmas.List.{set-set, set-get_or, drop_all}
 use Rattle.std.proofs.Math.Seq.{drop-cons}
 use Rattle.outbound.specs.Flight.{InFlight}
-use Rattle.call_agent.specs.declared.flights.Saved.{Saved}
-use Rattle.call_agent.specs.Flying.{has_id, sooner, first_flight, with_flight, without_flight}
-use Rattle.call_agent.specs.Growing.{Grown}
-use Rattle.call_agent.specs.Flights.{flight_in, flights_in, holds_id, exchanged, sooner_of, sooner_at, put_back, restored}
+use Rattle.flights.specs.declared.flights.Saved.{Saved}
+use Rattle.flights.specs.Choosing.{has_id, sooner, first_flight, with_flight, without_flight}
+use Rattle.flights.specs.Growing.{Grown}
+use Rattle.flights.specs.Flights.{flight_in, flights_in, holds_id, exchanged, sooner_of, sooner_at, put_back, restored}
 
 abbrev value_or : ℕ → Option ℕ → ℕ
 value_or n None = n

@@ -1,6 +1,6 @@
 use Rattle.std.proofs.Common.{◌∙◌, sym}
-use Rattle.call_agent.proofs.FlightTable.{first_next, first_end}
-use Rattle.call_agent.proofs.flights.first_flight.Goals as goal
+use Rattle.flights.proofs.FlightTable.{first_next, first_end}
+use Rattle.flights.proofs.flights.first_flight.Goals as goal
 
 pub loop-place-preserved : goal.loop-place-preserved
 loop-place-preserved c =
