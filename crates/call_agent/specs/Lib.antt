@@ -8,3 +8,4 @@ pub mod AgentAlike
 pub mod State
 pub mod AgentStands
 pub use Rattle.flights.specs.Growing
+pub use Rattle.flights.specs.Choosing

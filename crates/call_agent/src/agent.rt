@@ -3,7 +3,7 @@ ghost use Rattle.std.specs.Prelude.{◌≡◌, ◌≤◌, ◌∷◌, [], List, f
 ghost use Rattle.std.specs.Result.{result_err};
 ghost use Rattle.plain_machine.specs.Event.{event_of};
 ghost use Rattle.call_agent.specs.Agent.{answer_for, observed_on};
-ghost use Rattle.call_agent.specs.Flying.{first_flight};
+ghost use Rattle.flights.specs.Choosing.{first_flight};
 ghost use Rattle.call_agent.specs.Issuing.{issue_refusal};
 ghost use Rattle.call_agent.specs.Hearing.{AgentEvent, AgentEnds, issues, hears, plain_agent};
 ghost use Rattle.call_agent.specs.State.{answer_in, answered_with};

@@ -19,7 +19,8 @@ ghost use Rattle.machine_laws.specs.Saying.{HasNumbersLeft, IsAnswerTo, Begun, T
 ghost use Rattle.call_agent.specs.declared.setup.AgentSetup.{AgentSetup};
 ghost use Rattle.call_agent.specs.Agent.{AgentMachine, FinalAnswer, agent_opening, answer_for, nothing_taken, observed_on};
 ghost use Rattle.call_agent.specs.Taking.{with_taken};
-ghost use Rattle.call_agent.specs.Flying.{has_id, afterwards, first_flight, flown_on, if_due, pass};
+ghost use Rattle.call_agent.specs.Choosing.{has_id, first_flight, if_due};
+ghost use Rattle.call_agent.specs.Flying.{afterwards, flown_on, pass};
 ghost use Rattle.world_laws.specs.Landing.{landing_from};
 ghost use Rattle.call_agent.specs.Hearing.{AgentEvent, agent_effect, agent_refusal, handled, agent_after, plain_agent};
 ghost use Rattle.call_agent.specs.AgentAlike.{AgentAlike, AgentGoesAlike};
