@@ -10,7 +10,7 @@ use Rattle.mgcp_text.specs.Reading.{Outcome, message, no_header, bad_version, ba
 use Rattle.command_forms.specs.Command.{Command}
 use Rattle.history.specs.Memory.{most_firsts}
 use Rattle.history.specs.Looking.{Looked, new, repeat, confirmed, full, look_of}
-use Rattle.mg_line.specs.declared.state.State.{State}
+use Rattle.mg_line.specs.State.{State}
 use Rattle.outbound.specs.Flight.{InFlight}
 use Rattle.restart.specs.declared.restart.Restart.{Restart}
 use Rattle.restart.specs.declared.restart.Restart.TheVariants.{Waiting, Announced, Serving}

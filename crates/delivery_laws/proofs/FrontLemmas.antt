@@ -7,8 +7,8 @@ use Rattle.history.specs.Firsts.{young_of}
 use Rattle.history.specs.Kept.{young_firsts}
 use Rattle.history.specs.Memory.{most_firsts}
 use Rattle.event_requests.specs.declared.request.Request.{Request}
-use Rattle.mg_line.specs.declared.state.State.{State}
-use Rattle.mg_line.specs.declared.state.State.TheVariants.{Normal, Notification, Lockstep}
+use Rattle.mg_line.specs.State.{State}
+use Rattle.mg_line.specs.State.TheVariants.{Normal, Notification, Lockstep}
 use Rattle.outbound.specs.Flight.{InFlight}
 use Rattle.plain_machine.specs.declared.endpoint.Endpoint.{Endpoint}
 use Rattle.plain_machine.specs.declared.setup.Setup.{Setup}

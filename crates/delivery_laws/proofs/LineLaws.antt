@@ -8,7 +8,7 @@ use Rattle.mgcp_text.specs.declared.message.Param.{Param}
 use Rattle.mgcp_text.specs.declared.message.Message.TheVariants as messages
 use Rattle.mgcp_text.specs.Reading.{Outcome, message, read_text}
 use Rattle.endpoint_names.specs.declared.entity.Entity.{Entity}
-use Rattle.mg_line.specs.declared.state.State.TheVariants.{Notification}
+use Rattle.mg_line.specs.State.TheVariants.{Notification}
 use Rattle.mg_line.specs.Answering.{answered}
 use Rattle.mg_line.specs.Line.{LineDone, Notice}
 use Rattle.outbound.specs.declared.reply.Reply.{Reply}

@@ -23,8 +23,8 @@ use Rattle.timers.specs.declared.kind.LineDue.{LineDue}
 use Rattle.timers.specs.declared.kind.LineDue.TheVariants.{DigitTimer, SignalEnd}
 use Rattle.mg_line.specs.declared.phone.Act.{Act}
 use Rattle.mg_line.specs.declared.phone.Act.TheVariants.{OffHook, OnHook, Flash, Key}
-use Rattle.mg_line.specs.declared.state.State.{State}
-use Rattle.mg_line.specs.declared.state.State.TheVariants.{Normal, Notification, Lockstep}
+use Rattle.mg_line.specs.State.{State}
+use Rattle.mg_line.specs.State.TheVariants.{Normal, Notification, Lockstep}
 use Rattle.mg_line.specs.Line.{LineState, LineDone, Notice, still}
 use Rattle.mg_line.specs.Acting.{hooked, observed_at, phoned}
 use Rattle.mg_line.specs.Answering.{answered, is_loop}

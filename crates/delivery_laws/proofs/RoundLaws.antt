@@ -5,8 +5,8 @@ use Rattle.std.proofs.lemmas.Bool.{leb-true, leb-false}
 use Rattle.std.proofs.Math.Nat.{suc-mul, zero-mul}
 use Rattle.event_requests.specs.declared.request.Request.{Request}
 use Rattle.event_values.specs.declared.observed.Observed.{Observed}
-use Rattle.mg_line.specs.declared.state.State.{State}
-use Rattle.mg_line.specs.declared.state.State.TheVariants.{Normal, Notification, Lockstep}
+use Rattle.mg_line.specs.State.{State}
+use Rattle.mg_line.specs.State.TheVariants.{Normal, Notification, Lockstep}
 use Rattle.outbound.specs.Flight.{InFlight}
 use Rattle.restart.specs.declared.restart.Restart.{Restart}
 use Rattle.restart.specs.declared.restart.Restart.TheVariants.{Waiting, Announced, Serving}

@@ -15,8 +15,8 @@ use Rattle.endpoint_names.specs.declared.entity.Entity.{Entity}
 use Rattle.event_requests.specs.declared.request.Request.{Request}
 use Rattle.event_values.specs.declared.observed.Observed.{Observed}
 use Rattle.mg_line.specs.declared.phone.Act.{Act}
-use Rattle.mg_line.specs.declared.state.State.{State}
-use Rattle.mg_line.specs.declared.state.State.TheVariants.{Normal, Notification, Lockstep}
+use Rattle.mg_line.specs.State.{State}
+use Rattle.mg_line.specs.State.TheVariants.{Normal, Notification, Lockstep}
 use Rattle.mg_line.specs.Line.{LineState, LineDone, Notice, still}
 use Rattle.mg_line.specs.Acting.{phoned}
 use Rattle.mg_line.specs.Answering.{answered}

@@ -4,7 +4,7 @@ use Rattle.std.specs.List.{range_with_len}
 use Rattle.std.specs.Option.{unwrap_or}
 use Rattle.history.specs.declared.span.IdSpan.{IdSpan}
 use Rattle.history.specs.Arrival.{Arrival}
-use Rattle.mg_line.specs.declared.state.State.{State}
+use Rattle.mg_line.specs.State.{State}
 use Rattle.mg_line.specs.Answering.{answered as line_answered}
 use Rattle.restart.specs.declared.restart.Restart.{Restart}
 use Rattle.endpoint_names.specs.declared.route.Route.TheVariants.{Two}

@@ -13,7 +13,7 @@ use Rattle.event_requests.specs.Choice.{chosen}
 use Rattle.timers.specs.declared.kind.LineDue.{LineDue}
 use Rattle.mg_line.specs.declared.phone.Act.{Act}
 use Rattle.event_requests.specs.declared.request.Request.{Request}
-use Rattle.mg_line.specs.declared.state.State.TheVariants.{Normal}
+use Rattle.mg_line.specs.State.TheVariants.{Normal}
 use Rattle.mg_line.specs.Line.{LineState, Notice, LineDone}
 use Rattle.mg_line.specs.Acting.{observed_at, phoned}
 use Rattle.mg_line.specs.Occurring.{is_timer}

@@ -9,7 +9,7 @@ ghost use Rattle.history.specs.Firsts.{young_of};
 ghost use Rattle.history.specs.Kept.{first_entry, young_firsts};
 ghost use Rattle.restart.specs.declared.restart.Restart.TheVariants.{Waiting, Announced, Serving};
 ghost use Rattle.outbound.specs.Flight.{InFlight};
-ghost use Rattle.mg_line.specs.declared.state.State.TheVariants.{Normal, Notification, Lockstep};
+ghost use Rattle.line_rules.specs.declared.state.State.TheVariants.{Normal, Notification, Lockstep};
 ghost use Rattle.plain_machine.specs.Machine.{serves};
 ghost use Rattle.plain_machine.specs.Example.{agent, other_agent, ready, response, two_lines};
 ghost use Rattle.agent_core.specs.declared.packet.End.TheVariants.{GatewayEnd, AgentEnd};

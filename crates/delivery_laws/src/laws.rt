@@ -3,7 +3,7 @@ ghost use Rattle.std.specs.Prelude.{◌≡◌, ◌≢◌, ◌⊎◌, ◌≤◌, 
 ghost use Rattle.event_values.specs.declared.handling.Notifying.TheVariants.{Loop};
 ghost use Rattle.event_values.specs.declared.observed.Observed.{Observed};
 ghost use Rattle.event_requests.specs.declared.request.Request.{Request};
-ghost use Rattle.mg_line.specs.declared.state.State.TheVariants.{Lockstep};
+ghost use Rattle.line_rules.specs.declared.state.State.TheVariants.{Lockstep};
 ghost use Rattle.mg_line.specs.Answering.{answered};
 ghost use Rattle.mg_line.specs.Line.{LineState};
 ghost use Rattle.mg_line.specs.Requesting.{asked};

@@ -13,7 +13,7 @@ ghost use Rattle.mg_packages.specs.declared.signal.Signal.TheVariants as tones;
 ghost use Rattle.mg_bytes.specs.declared.letter.Letter.TheVariants as letters;
 ghost use Rattle.plain_machine.specs.Event.{phone, tick};
 ghost use Rattle.plain_machine.specs.Example.{ready, rqnt, crcx, dlcx, response};
-ghost use Rattle.mg_line.specs.Line.{most_quarantined};
+ghost use Rattle.line_rules.specs.Rules.{most_quarantined};
 ghost use Rattle.mg_line.specs.Scenario.{requests, with_handling};
 ghost use Rattle.delivery_laws.specs.Course.{acts as does, accepts, notifies};
 ghost use Rattle.delivery_laws.specs.Following.{Follow, AreInStep, OnceForEach, OnceFrom};

@@ -38,7 +38,7 @@ use Rattle.restart.specs.declared.heard.Heard.TheVariants.{Nothing, PutOff, Redi
 use Rattle.restart.specs.Restarting.{announced_at, is_serving, answer_by, answer_of, heard_of}
 use Rattle.timers.specs.declared.kind.LineDue.{LineDue}
 use Rattle.mg_line.specs.declared.phone.Act.{Act}
-use Rattle.mg_line.specs.declared.state.State.TheVariants.{Notification}
+use Rattle.mg_line.specs.State.TheVariants.{Notification}
 use Rattle.mg_line.specs.Line.{LineDone, Notice}
 use Rattle.mg_line.specs.Acting.{phoned}
 use Rattle.mg_line.specs.Answering.{answered}

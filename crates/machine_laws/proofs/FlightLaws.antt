@@ -37,8 +37,8 @@ use Rattle.timers.specs.declared.kind.LineDue.TheVariants.{DigitTimer, SignalEnd
 use Rattle.mg_line.specs.declared.phone.Act.{Act}
 use Rattle.mg_line.specs.declared.phone.Act.TheVariants.{OffHook, OnHook, Flash, Key}
 use Rattle.event_requests.specs.declared.request.Request.{Request}
-use Rattle.mg_line.specs.declared.state.State.{State}
-use Rattle.mg_line.specs.declared.state.State.TheVariants.{Notification}
+use Rattle.mg_line.specs.State.{State}
+use Rattle.mg_line.specs.State.TheVariants.{Notification}
 use Rattle.mg_line.specs.Line.{LineState, LineDone, Notice}
 use Rattle.mg_line.specs.Detecting.{quarantining, detected_in, detected}
 use Rattle.mg_line.specs.Acting.{hooked, observed_at, phoned}

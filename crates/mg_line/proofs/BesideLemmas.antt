@@ -1,25 +1,24 @@
 -- What occurs does the same whatever is quarantined, so that quarantined events can stand elsewhere until they have occurred.
-use Rattle.std.proofs.Common.{◌≡◌, ℕ, zero, suc, ◌+◌, ◌-◌, ◌<◌, ◌≤◌, nat_le, Bool, true, false, List, [], ◌∷◌, ◌++◌, length, drop, refl, sym, ap, ◌∙◌, is_some, arith}
+use Rattle.std.proofs.Common.{◌≡◌, ℕ, zero, suc, ◌+◌, ◌-◌, ◌<◌, ◌≤◌, nat_le, Bool, true, false, List, [], ◌∷◌, ◌++◌, length, drop, refl, sym, ap, ◌∙◌, arith}
 use Rattle.std.specs.Prelude.{Option, Some, None, if◌then◌else◌, slice_get}
 use Rattle.std.proofs.lemmas.List.{drop_all}
 use Rattle.mg_bytes.specs.declared.letter.Letter.{Letter}
 use Rattle.digit_map.specs.declared.verdict.Verdict.{Verdict}
 use Rattle.digit_map.specs.declared.verdict.Verdict.TheVariants.{Perfect, Partial, Impossible}
 use Rattle.event_values.specs.declared.observed.Observed.{Observed}
-use Rattle.event_values.specs.declared.handling.Quarantined.{Quarantined}
-use Rattle.event_values.specs.declared.handling.Quarantined.TheVariants.{Process, Discard}
 use Rattle.event_syntax.specs.declared.request.Action.TheVariants.{Notify, Accumulate, Dial, Ignore}
 use Rattle.event_syntax.specs.declared.request.Reaction.{Reaction}
 use Rattle.event_syntax.specs.declared.request.Reaction.TheVariants.{Plain, Embed, AccumulateAndEmbed}
 use Rattle.event_requests.specs.Choice.{Chosen, chosen}
 use Rattle.event_requests.specs.Naming.{event_of}
-use Rattle.quarantine.specs.Held.{Held, without_front, nothing_held}
+use Rattle.quarantine.specs.Held.{Held, without_front, nothing_held, cleared}
 use Rattle.event_requests.specs.declared.request.Request.{Request}
-use Rattle.mg_line.specs.declared.state.State.TheVariants.{Normal}
+use Rattle.line_rules.specs.declared.state.State.TheVariants.{Normal}
+use Rattle.line_rules.specs.Rules.{ends_drain, discards}
 use Rattle.mg_line.specs.Line.{LineState, Notice, LineDone, still, most_accumulated}
 use Rattle.mg_line.specs.Occurring.{notified, notified_if_full, with_event, letter_of, timed, judged, with_letter, dialled_by, embedded, acted, signals_after, occurred, verdict_by}
 use Rattle.mg_line.specs.Detecting.{unless_notified, drained_of, drained, resumed, with_held, beside}
-use Rattle.mg_line.specs.Requesting.{quarantined_after, replaced}
+use Rattle.mg_line.specs.Requesting.{replaced}
 use Rattle.mg_line.proofs.DrainLemmas.{onward}
 
 -- An event that occurs
@@ -112,13 +111,13 @@ one_on count held line after event moment notice h =
     ∙ ap (λ (d : LineDone). onward (drop (count + 1) held.events) moment (beside (without_front (count + 1) held) d)) (sym h.done)
 
 pub beside_stops : (count : ℕ) (held : Held) (line after : LineState) (event : Observed) (moment : ℕ) (notice : Option Notice) (all : LineDone)
-    → Occurs count held line after event moment notice → is_some notice ≡ true → left_of count held line moment ≡ all
+    → Occurs count held line after event moment notice → ends_drain notice ≡ true → left_of count held line moment ≡ all
     → all ≡ beside (without_front (count + 1) held) (record { line = after; notice = notice })
 beside_stops count held line after event moment None all h told whole = cc
 beside_stops count held line after event moment (Some notice) all h told whole = sym whole ∙ one_on count held line after event moment (Some notice) h
 
 pub beside_goes : (count : ℕ) (held : Held) (line after : LineState) (event : Observed) (moment : ℕ) (notice : Option Notice) (all : LineDone)
-    → Occurs count held line after event moment notice → is_some notice ≡ false → left_of count held line moment ≡ all → left_of (count + 1) held after moment ≡ all
+    → Occurs count held line after event moment notice → ends_drain notice ≡ false → left_of count held line moment ≡ all → left_of (count + 1) held after moment ≡ all
 beside_goes count held line after event moment (Some notice) all h told whole = cc
 beside_goes count held line after event moment None all h told whole = sym (one_on count held line after event moment None h) ∙ whole
 
@@ -147,20 +146,21 @@ unfolding resumed
 beside_resumed held line moment done h = h
 
 -- and one that a request came to
-replaced_beside : (q : Quarantined) (held : Held) (line after : LineState) (request : Request) (moment : ℕ) → request.handling.quarantined ≡ q → after ≡ replaced line request moment
-    → with_held (quarantined_after q held) after ≡ replaced (with_held held line) request moment
+replaced_beside : (drops : Bool) (held : Held) (line after : LineState) (request : Request) (moment : ℕ) → discards request.handling.quarantined ≡ drops
+    → after ≡ replaced line request moment → with_held (if drops then cleared held else held) after ≡ replaced (with_held held line) request moment
 unfolding replaced
-replaced_beside q held line after request moment same done =
-    ap (with_held (quarantined_after q held)) done ∙ ap (λ (x : Quarantined). with_held (quarantined_after x held) (replaced line request moment)) (sym same)
+replaced_beside drops held line after request moment same done =
+    ap (with_held (if drops then cleared held else held)) done
+    ∙ ap (λ (b : Bool). with_held (if b then cleared held else held) (replaced line request moment)) (sym same)
 
-pub process_beside : (held : Held) (line after : LineState) (request : Request) (moment : ℕ) (done : LineDone) → request.handling.quarantined ≡ Process → after ≡ replaced line request moment
+pub process_beside : (held : Held) (line after : LineState) (request : Request) (moment : ℕ) (done : LineDone) → discards request.handling.quarantined ≡ false → after ≡ replaced line request moment
     → resumed (with_held held after) moment ≡ done → resumed (replaced (with_held held line) request moment) moment ≡ done
 process_beside held line after request moment done same is h =
-    ap (λ (l : LineState). resumed l moment) (sym (replaced_beside Process held line after request moment same is)) ∙ h
+    ap (λ (l : LineState). resumed l moment) (sym (replaced_beside false held line after request moment same is)) ∙ h
 
-pub discard_beside : (held : Held) (line after : LineState) (request : Request) (moment count : ℕ) → request.handling.quarantined ≡ Discard → after ≡ replaced line request moment
+pub discard_beside : (held : Held) (line after : LineState) (request : Request) (moment count : ℕ) → discards request.handling.quarantined ≡ true → after ≡ replaced line request moment
     → length held.events ≤ count → resumed (replaced (with_held held line) request moment) moment ≡ beside (without_front count held) (still (record after { state = Normal }))
 unfolding resumed drained drained_of
 discard_beside held line after request moment count same is all =
-    ap (λ (l : LineState). resumed l moment) (sym (replaced_beside Discard held line after request moment same is))
+    ap (λ (l : LineState). resumed l moment) (sym (replaced_beside true held line after request moment same is))
     ∙ ap (λ (x : List Observed). beside (record held { events = x }) (still (record after { state = Normal }))) (sym (drop_all count held.events all))

@@ -6,20 +6,17 @@ ghost use Rattle.mg_line.specs.LineFields.{line_in};
 ghost use Rattle.mg_line.specs.Detecting.{with_held};
 
 use crate::notice::MOST_ACCUMULATED;
-use crate::state::State;
 use arrayvec::ArrayVec;
 use digit_map_bits::Dialling;
 use event_requests::EventRequest;
 use event_syntax::{Handling, Notifying, Observed, Quarantined};
+use line_rules::{State, quarantine_room};
 use mg_bytes::{Identifier, OutOfMemory};
 use mg_packages::Hook;
 use quarantine::Buffer;
 use signals::SignalSet;
 use std::alloc::Global;
 use std::mem;
-
-/// How many events can be quarantined (this gateway's profile).
-pub const MOST_QUARANTINED: usize = 256;
 
 /// The fields of a line. Contracts read them by `line_in`.
 #[derive(Drop)]
@@ -85,7 +82,7 @@ impl LineFields {
             timer: None,
             state: State::Notification,
             renewed: false,
-            quarantined: Buffer::new(alloc, MOST_QUARANTINED)?,
+            quarantined: Buffer::new(alloc, quarantine_room())?,
         })
     }
 

@@ -20,8 +20,8 @@ ghost use Rattle.mg_line.specs.Scenario.{requests, with_map, without_map, with_s
 ghost use Rattle.mg_line.specs.Example.{flashed, put_back, lifted, one_pressed, timer_ended, two_signals, one_signal, in_quarantine, busy, busy_with};
 
 use crate::phone::{Act, Key};
-use crate::state::State;
 use digit_map::MapChange;
+use line_rules::State;
 use mg_packages::{Hook, Signal};
 use timers::LineDue;
 

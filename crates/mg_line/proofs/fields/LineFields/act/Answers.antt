@@ -1,6 +1,3 @@
-use Rattle.std.proofs.Common.{rules, arith}
-use Rattle.std.proofs.lemmas.Grind.{common_steps}
-use Rattle.mg_line.specs.Occurring.{acted, embedded}
 use Rattle.mg_line.specs.LineFields.{line_in, hushed}
 use Rattle.mg_line.proofs.RoomLemmas.{embedded_few}
 use Rattle.mg_line.proofs.fields.LineFields.act.Goals as goal
@@ -9,7 +6,3 @@ pub accumulate-requires : goal.accumulate-requires
 accumulate-requires c =
     embedded_few (hushed c.args.goes_on (line_in c.args.self.now)) (line_in c.embed-in-AccumulateAndEmbed.new.self)
     c.in-AccumulateAndEmbed.embedding c.args.moment c.in_ok-embed-in-AccumulateAndEmbed.ensures.ok c.requires.room
-
-pub returns-in_ok-embed-in-Embed-clause-ok : goal.returns-in_ok-embed-in-Embed-clause-ok
-unfolding acted embedded
-returns-in_ok-embed-in-Embed-clause-ok c = first_of (search rules, grind (arith, common_steps))

@@ -14,15 +14,15 @@ pub overflow_add-count : goal.overflow_add-count
 overflow_add-count c =
     omega (arith, beside_inside c.args.events.now.events c.loop-event.count c.in-Some.event c.in-Some.ensures.value, c.in-Some.ensures.few)
 
-pub returns-then-is_some : goal.returns-then-is_some
-returns-then-is_some c =
+pub returns-then-ends_drain : goal.returns-then-ends_drain
+returns-then-ends_drain c =
     beside_stops c.loop-event.count c.args.events.now (line_in c.loop-event.self) (line_in c.occur.new.self) c.in-Some.event c.args.moment c.in_ok-notice.notice _
-    (record { found = c.in-Some.ensures.value; done = c.in_ok-notice.ensures.ok }) (sym c.is_some.ensures ∙ c.if-is_some.true) c.loop-event.invariant.whole
+    (record { found = c.in-Some.ensures.value; done = c.in_ok-notice.ensures.ok }) (sym c.ends_drain.ensures ∙ c.if-ends_drain.true) c.loop-event.invariant.whole
 
 pub loop-event-preserved : goal.loop-event-preserved
 loop-event-preserved c = record {
   whole = beside_goes c.loop-event.count c.args.events.now (line_in c.loop-event.self) (line_in c.occur.new.self) c.in-Some.event c.args.moment c.in_ok-notice.notice _
-      (record { found = c.in-Some.ensures.value; done = c.in_ok-notice.ensures.ok }) (sym c.is_some.ensures ∙ c.if-is_some.false) c.loop-event.invariant.whole;
+      (record { found = c.in-Some.ensures.value; done = c.in_ok-notice.ensures.ok }) (sym c.ends_drain.ensures ∙ c.if-ends_drain.false) c.loop-event.invariant.whole;
   room = drain_room _ _ _ _ _ c.in_ok-notice.ensures.ok c.loop-event.invariant.room;
 }
 

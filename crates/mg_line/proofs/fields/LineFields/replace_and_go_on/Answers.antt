@@ -1,4 +1,4 @@
-use Rattle.std.proofs.Common.{◌≡◌, sym, subst, refl, arith, IfOk}
+use Rattle.std.proofs.Common.{◌≡◌, sym, subst, refl, ◌∙◌, arith, IfOk}
 use Rattle.quarantine.specs.Held.{without_front}
 use Rattle.mg_line.specs.Line.{LineDone}
 use Rattle.mg_line.specs.LineFields.{line_in, done_in}
@@ -15,14 +15,14 @@ go_on-requires c = record {
   early = c.requires;
 }
 
-pub returns-in-Process : goal.returns-in-Process
-returns-in-Process c =
+pub returns : goal.returns
+returns c =
     subst (λ (done : LineDone). IfOk c.go_on.result (λ told. done ≡ beside (without_front told.1 c.args.events.now) (done_in c.go_on.new.self told.0)))
     (sym (process_beside c.args.events.now (line_in c.args.self.now) (line_in c.replace.new.self) c.args.request.now c.args.moment _
-    c.in-Process.is c.in_ok-replace.ensures.ok refl))
+    (sym c.discards.ensures ∙ c.if-discards.false) c.in_ok-replace.ensures.ok refl))
     c.go_on.ensures
 
-pub returns-in-Discard : goal.returns-in-Discard
-returns-in-Discard c =
+pub returns-then-discards : goal.returns-then-discards
+returns-then-discards c =
     discard_beside c.args.events.now (line_in c.args.self.now) (line_in c.replace.new.self) c.args.request.now c.args.moment c.count.result
-    c.in-Discard.is c.in_ok-replace.ensures.ok (omega arith)
+    (sym c.discards.ensures ∙ c.if-discards.true) c.in_ok-replace.ensures.ok (omega arith)
