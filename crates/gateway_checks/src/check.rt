@@ -47,8 +47,11 @@ pub fn check_of(block: &str) -> Check<'_> {
     }
 }
 
-/// All checks as texts, each with a block for each of its checks, behind a first one that is none.
-pub const ALL_CHECKS: [&str; 3] = [CHECKS, NOTICES, TELEPHONES];
+/// All checks as texts, each with a block for each of its checks, behind a first one that is none. They stand in this function alone, since
+/// a check of this crate pays at each step of a function for all constants that it has.
+pub fn all_checks() -> [&'static str; 3] {
+    [CHECKS, NOTICES, TELEPHONES]
+}
 
 // The check with this name among those of a text.
 fn named_in(text: &'static str, name: &str) -> Option<Check<'static>> {
@@ -65,7 +68,8 @@ fn named_in(text: &'static str, name: &str) -> Option<Check<'static>> {
 
 /// The check with this name, if there is one.
 pub fn check_named(name: &str) -> Option<Check<'static>> {
-    for text in ALL_CHECKS.iter() {
+    let texts = all_checks();
+    for text in texts.iter() {
         if let Some(check) = named_in(*text, name) {
             return Some(check);
         }

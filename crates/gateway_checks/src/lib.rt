@@ -28,7 +28,7 @@ mod texts;
 mod unasked;
 mod waiting;
 
-pub use crate::check::{ALL_CHECKS, Check, check_named, check_of};
+pub use crate::check::{Check, all_checks, check_named, check_of};
 pub use crate::checks::{IN_USE, SERVES, UNKNOWN};
 pub use crate::judging::{Fault, Verdict};
 pub use crate::junit::{put_case, put_suite};

@@ -4,7 +4,7 @@ use crate::ends::Ends;
 use crate::json::{check_text, tally_text};
 use crate::telephone::Telephone;
 use gateway_checks::{
-    ALL_CHECKS, Check, IN_USE, Names, Places, Player, SERVES, Tally, UNKNOWN, Verdict, check_named,
+    Check, IN_USE, Names, Places, Player, SERVES, Tally, UNKNOWN, Verdict, all_checks, check_named,
     check_of, put_case, put_check, put_entry, put_suite, put_tally,
 };
 use live_ends::{Outlet, boxed};
@@ -413,7 +413,8 @@ fn check_all<R: Net + Clock, F: Write + Drop>(
 ) -> Result<(), CheckFault> {
     find(checking, ends)?;
     find_lines(checking, ends)?;
-    for text in ALL_CHECKS.iter() {
+    let texts = all_checks();
+    for text in texts.iter() {
         check_each(out, checking, ends, *text)?;
     }
     checking.report_all(out)
@@ -510,7 +511,8 @@ fn put_entries(out: &mut String, text: &'static str) -> Result<(), OutOfMemory> 
 /// All checks, a line each: the name, the sections of its rule, and the rule.
 pub fn check_list(alloc: Global) -> Result<String, OutOfMemory> {
     let mut out = String::new(alloc);
-    for text in ALL_CHECKS.iter() {
+    let texts = all_checks();
+    for text in texts.iter() {
         put_entries(&mut out, *text)?;
     }
     Ok(out)
