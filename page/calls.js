@@ -99,15 +99,13 @@ class Calls {
       }
     }
   }
+}
 
-  // What is known of a connection, in words: its call as far as its messages were heard, all else as the gateway has it.
-  tell(line, held) {
-    const connection = held.number.toString(16).toUpperCase();
-    const known = this.connections.get(`${line} ${connection}`);
-    const call = known ? `, call ${known.call.name}` : "";
-    const remote = held.remote === "" ? ", no remote address yet" : ` to ${held.remote}`;
-    return `connection ${connection} ${held.mode}${call}, ${held.codec} ${held.ptime} ms${remote}`;
-  }
+// A connection in words, as the gateway has it.
+function connectionText(held) {
+  const connection = held.number.toString(16).toUpperCase();
+  const remote = held.remote === "" ? ", no remote address yet" : ` to ${held.remote}`;
+  return `connection ${connection} ${held.mode}, call ${held.call}, ${held.codec} ${held.ptime} ms${remote}`;
 }
 
 // Whether a row belongs to a call: it is of the call, or of a notification by one of its lines, from its first row to its last, or to

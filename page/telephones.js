@@ -97,7 +97,7 @@ class Telephone {
     this.card.classList.toggle("rings", this.signals.some((name) => RINGING.has(name)));
     this.hears.classList.toggle("silent", names.length === 0);
     setText(this.hears, names.length > 0 ? names.join(", ") : isOff ? "off hook, silent" : "on hook");
-    this.showConnections(state.connections.map((held) => ladder.calls.tell(this.line, held)));
+    this.showConnections(state.connections.map(connectionText));
     this.lost.hidden = state.lost === 0;
     setText(this.lost, `lost events: ${state.lost}`);
   }

@@ -8,7 +8,7 @@ ghost use Rattle.gateway_core.specs.Stands.{Stands};
 ghost use Rattle.live_gateway.specs.Picturing.{with_traffic, with_own, with_faults, with_numbers};
 
 use crate::seeing::seen_line;
-use connections::mode_text;
+use connections::{Connection, mode_text};
 use exchange_log::put_peer;
 use gateway_core::Gateway;
 use line_changes::{SeenConnection, SeenLine, codec_text};
@@ -50,7 +50,27 @@ fn remote_text(alloc: Global, remote: Option<SocketAddrV4>) -> Result<Vec<u8>, A
     }
 }
 
-fn connection_of(alloc: Global, connection: SeenConnection) -> Result<ConnectionView, AllocError> {
+// The call of the connection with this number among the places of its line, as that was spelled when the connection was created.
+fn call_text(
+    alloc: Global,
+    places: &[Option<Connection>],
+    number: u32,
+) -> Result<Vec<u8>, AllocError> {
+    for held in places {
+        if let Some(connection) = held {
+            if connection.number == number {
+                return Vec::from_slice(alloc, connection.call.as_slice());
+            }
+        }
+    }
+    Ok(Vec::new(alloc))
+}
+
+fn connection_of(
+    alloc: Global,
+    connection: SeenConnection,
+    places: &[Option<Connection>],
+) -> Result<ConnectionView, AllocError> {
     Ok(ConnectionView {
         number: connection.number,
         mode: mode_text(connection.mode),
@@ -58,26 +78,33 @@ fn connection_of(alloc: Global, connection: SeenConnection) -> Result<Connection
         packet_time: connection.packet_time,
         local: address_text(alloc, connection.local)?,
         remote: remote_text(alloc, connection.remote)?,
+        call: call_text(alloc, places, connection.number)?,
     })
 }
 
 fn connections_of(
     alloc: Global,
     connections: &[SeenConnection],
+    places: &[Option<Connection>],
 ) -> Result<Vec<ConnectionView>, AllocError> {
     let mut views = Vec::new(alloc);
     for connection in connections {
-        views.push(connection_of(alloc, *connection)?)?;
+        views.push(connection_of(alloc, *connection, places)?)?;
     }
     Ok(views)
 }
 
-// A line as it is shown, by what is seen of it, and by how many of its events were lost.
-fn view_of(alloc: Global, seen: &SeenLine, lost: u64) -> Result<LineView, AllocError> {
+// A line as it is shown, by what is seen of it, by its places, and by how many of its events were lost.
+fn view_of(
+    alloc: Global,
+    seen: &SeenLine,
+    places: &[Option<Connection>],
+    lost: u64,
+) -> Result<LineView, AllocError> {
     Ok(LineView {
         is_off_hook: seen.hook == Hook::OffHook,
         signals: signals_of(alloc, seen.signals.as_slice())?,
-        connections: connections_of(alloc, seen.connections.as_slice())?,
+        connections: connections_of(alloc, seen.connections.as_slice(), places)?,
         lost,
     })
 }
@@ -87,7 +114,8 @@ fn line_view(alloc: Global, gateway: &Gateway, line: u16) -> Result<LineView, Al
     requires high { line ≤ gateway.now.setup.names.lines }
 {
     let seen = seen_line(alloc, gateway, line)?;
-    view_of(alloc, &seen, gateway.lost(line))
+    let places = gateway.connections(line);
+    view_of(alloc, &seen, places, gateway.lost(line))
 }
 
 fn put_commands(views: &mut Vec<VerbCount>, tally: &MessageTally) -> Result<(), AllocError> {

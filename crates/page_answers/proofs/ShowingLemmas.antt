@@ -66,7 +66,7 @@ same_Decides E decides (x ∷ xs) (y ∷ ys) =
 abbrev AlikeConnections : ConnectionShown → ConnectionShown → Type 0
 AlikeConnections a b =
     (a.number ≡ b.number) × ((a.mode ≡ b.mode) × ((a.codec ≡ b.codec) × ((a.packet_time ≡ b.packet_time)
-    × ((a.local ≡ b.local) × (a.remote ≡ b.remote)))))
+    × ((a.local ≡ b.local) × ((a.remote ≡ b.remote) × (a.call ≡ b.call))))))
 
 connection_same : (a b : ConnectionShown) → AlikeConnections a b → a ≡ b
 connection_same a b h = λ i. record {
@@ -75,7 +75,8 @@ connection_same a b h = λ i. record {
   codec = h.1.1.0 i;
   packet_time = h.1.1.1.0 i;
   local = h.1.1.1.1.0 i;
-  remote = h.1.1.1.1.1 i;
+  remote = h.1.1.1.1.1.0 i;
+  call = h.1.1.1.1.1.1 i;
 }
 
 connection_parts : (a b : ConnectionShown) → a ≡ b → AlikeConnections a b
@@ -87,7 +88,10 @@ connection_parts a b e = (
       ap (λ (c : ConnectionShown). c.codec) e,
       (
         ap (λ (c : ConnectionShown). c.packet_time) e,
-        (ap (λ (c : ConnectionShown). c.local) e, ap (λ (c : ConnectionShown). c.remote) e),
+        (
+          ap (λ (c : ConnectionShown). c.local) e,
+          (ap (λ (c : ConnectionShown). c.remote) e, ap (λ (c : ConnectionShown). c.call) e),
+        ),
       ),
     ),
   ),
@@ -101,7 +105,8 @@ connection_Decides a b =
     (Decides-and _ _ (bytes_eq-Decides a.codec.now b.codec.now)
     (Decides-and _ _ (Decides-eqb a.packet_time b.packet_time)
     (Decides-and _ _ (same_Decides _ Decides-eqb a.local.items b.local.items)
-    (same_Decides _ Decides-eqb a.remote.items b.remote.items))))))
+    (Decides-and _ _ (same_Decides _ Decides-eqb a.remote.items b.remote.items)
+    (same_Decides _ Decides-eqb a.call.items b.call.items)))))))
 
 -- what two lines show, part by part
 abbrev Alike : LineShown → LineShown → Type 0

@@ -14,7 +14,7 @@ pub record SignalShown : Type 0 where
   pub name : List ℕ
   pub over : Option ℕ
 
--- a connection by its number and its mode, its codec and packet time, and where its media are received and where they go
+-- a connection by its number and its mode, its codec and packet time, where its media are received and where they go, and its call
 pub record ConnectionShown : Type 0 where
   pub number : ℕ
   pub mode : List ℕ
@@ -22,6 +22,7 @@ pub record ConnectionShown : Type 0 where
   pub packet_time : ℕ
   pub local : List ℕ
   pub remote : List ℕ
+  pub call : List ℕ
 
 -- a line by its hook, what is heard, its connections, and how many of its events were lost
 pub record LineShown : Type 0 where
@@ -41,6 +42,7 @@ connection_shown c = record {
   packet_time = c.packet_time;
   local = c.local.items;
   remote = c.remote.items;
+  call = c.call.items;
 }
 
 abbrev pub line_shown : LineView → LineShown

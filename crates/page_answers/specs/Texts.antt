@@ -47,12 +47,13 @@ abbrev pub signal_data : SignalView → Data
 signal_data signal =
     object (put (codes "end") (end_data signal.end) (put (codes "name") (name_data signal.name.now) no_members))
 
--- where its media go is an empty text where that isn't known
+-- where its media go is an empty text where that isn't known; its call stands as it was spelled when the connection was created
 abbrev pub connection_data : ConnectionView → Data
 connection_data connection =
     object (put_number (codes "number") connection.number (put_number (codes "ptime") connection.packet_time
     (put (codes "remote") (name_data connection.remote.items) (put (codes "local") (name_data connection.local.items)
-    (put (codes "codec") (name_data connection.codec.now) (put (codes "mode") (name_data connection.mode.now) no_members))))))
+    (put (codes "codec") (name_data connection.codec.now) (put (codes "mode") (name_data connection.mode.now)
+    (put (codes "call") (name_data connection.call.items) no_members)))))))
 
 abbrev pub hook_word : Bool → List ℕ
 hook_word is_off_hook = if is_off_hook then codes "off" else codes "on"

@@ -30,6 +30,8 @@ pub struct ConnectionView {
     pub local: Vec<u8>,
     /// Where they go; empty where that isn't known yet.
     pub remote: Vec<u8>,
+    /// Its call, as that was spelled when the connection was created.
+    pub call: Vec<u8>,
 }
 
 /// A line: its hook, what is heard, its connections, and how many of its events were lost.

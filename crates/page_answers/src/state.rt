@@ -35,6 +35,7 @@ fn connection_value(alloc: Global, connection: &ConnectionView) -> Result<Value,
     ensures { IfOk result (λ value. view value ≡ connection_data connection.now) }
 {
     let mut map = Map::new(alloc);
+    put_name(alloc, &mut map, "call", connection.call.as_slice())?;
     put_name(alloc, &mut map, "mode", connection.mode)?;
     put_name(alloc, &mut map, "codec", connection.codec)?;
     put_name(alloc, &mut map, "local", connection.local.as_slice())?;

@@ -165,9 +165,13 @@ fn end_of(given: &mut Outcome, value: &[u8]) -> Option<u64> {
     }
 }
 
-// A connection of the line that was begun last, whose media come to 127.0.0.1:3000, and go nowhere yet: whether memory is there.
+// A connection of call 1A of the line that was begun last, whose media come to 127.0.0.1:3000, and go nowhere yet: whether memory is
+// there.
 fn put_connection(alloc: Global, line: &mut LineView, number: u32) -> bool {
     let Ok(local) = Vec::from_slice(alloc, b"127.0.0.1:3000") else {
+        return false;
+    };
+    let Ok(call) = Vec::from_slice(alloc, b"1A") else {
         return false;
     };
     let connection = ConnectionView {
@@ -177,6 +181,7 @@ fn put_connection(alloc: Global, line: &mut LineView, number: u32) -> bool {
         packet_time: 20,
         local,
         remote: Vec::new(alloc),
+        call,
     };
     line.connections.push(connection).is_ok()
 }
