@@ -30,8 +30,6 @@ class Ladder {
     this.open = new Map();
     // Those that were answered, with their first rows.
     this.answered = new Map();
-    // Since when the gateway has asked for an answer and had none, in ms.
-    this.waitsSince = null;
     this.chosen = null;
     this.lastAct = null;
     view.call = null;
@@ -206,9 +204,6 @@ class Ladder {
   addCommand(row, message, direction) {
     row.isNotification = message.verb === "NTFY";
     this.settle(row, message.line, this.calls.callOf(message));
-    if (direction === "out") {
-      this.waitsSince ??= row.at;
-    }
     const key = `${direction} ${message.id}`;
     // The gateway may send a repeat to another address of its agent.
     const peer = direction === "in" ? row.peer : "";
@@ -231,8 +226,6 @@ class Ladder {
   addResponse(row, message, direction) {
     if (direction === "out") {
       this.calls.answer(message);
-    } else {
-      this.waitsSince = null;
     }
     const key = `${direction === "out" ? "in" : "out"} ${message.id}`;
     if (this.isAgain(`${direction} ${row.peer} ${message.code} ${message.id}`, row.at)) {
@@ -309,8 +302,6 @@ class Ladder {
   addGap(count) {
     const item = make("li", {}, make("p", { class: "hint" }, `${count} events are no longer known`));
     this.count += 1;
-    // An answer may be among them.
-    this.waitsSince = null;
     this.keep({ item, line: 0, number: this.count, position: this.count, call: null, isNotification: false });
   }
 

@@ -3,15 +3,13 @@
 const POLL = 100;
 const POLL_HIDDEN = 1000;
 const POLL_LOST = 1000;
-// An agent that owes an answer for so long, in ms, is told to owe it.
-const LONG_WAIT = 2000;
 // The time of day at which the gateway's clock was 0 is taken anew where it is off by more, in ms.
 const CLOCK_PLAY = 100;
 // What was refused longer ago, in ms, is no news any more.
 const NEWS = 5000;
 
 const ladder = new Ladder();
-const gateway = { after: 0, version: null, isFile: false, isServing: null, zero: null, timer: 0, turn: 0 };
+const gateway = { after: 0, version: null, isFile: false, agent: null, zero: null, timer: 0, turn: 0 };
 
 function stand(is, text) {
   const standing = byId("standing");
@@ -27,19 +25,17 @@ async function ask(path) {
   return answer.json();
 }
 
-// Says whether the call agent answers: it has answered the announcement (RFC 3435, 4.4.6), and owes nothing for long.
+// Says whether the call agent answers, as the gateway has it.
 function tellAgent(clock) {
-  const waits = ladder.waitsSince === null ? 0 : clock - ladder.waitsSince;
   const agent = byId("agent");
-  if (gateway.isServing === false) {
-    agent.dataset.is = "lost";
-    setText(agent, "no agent has answered yet");
-  } else if (waits > LONG_WAIT) {
-    agent.dataset.is = "lost";
-    setText(agent, `the agent hasn't answered for ${Math.floor(waits / 1000)} s`);
+  const { answers, hasAnswered, waitsSince } = gateway.agent;
+  agent.dataset.is = answers ? "live" : "lost";
+  if (answers) {
+    setText(agent, "the agent answers");
+  } else if (hasAnswered) {
+    setText(agent, `the agent hasn't answered for ${Math.floor((clock - waitsSince) / 1000)} s`);
   } else {
-    agent.dataset.is = "live";
-    setText(agent, gateway.isServing ? "the agent answers" : "");
+    setText(agent, "no agent has answered yet");
   }
 }
 
@@ -84,7 +80,7 @@ function takeEvents(answer) {
 
 function takeState(state) {
   gateway.version = state.version;
-  gateway.isServing = state.serving ?? null;
+  gateway.agent = { answers: state.agent_answers, hasAnswered: state.serving, waitsSince: state.unanswered_since };
   telephones.show(state.lines);
   const off = state.lines.filter((line) => line.hook === "off").length;
   const held = state.lines.reduce((sum, line) => sum + line.connections.length, 0);
@@ -103,7 +99,8 @@ async function follow(turn) {
     }
     tellClock(answer.clock);
     takeEvents(answer);
-    if (answer.version !== gateway.version || answer.events.length > 0) {
+    // While an answer is waited for, time alone may change the state.
+    if (answer.version !== gateway.version || answer.events.length > 0 || gateway.agent.waitsSince !== null) {
       const state = await ask("/state");
       if (turn !== gateway.turn) {
         return;

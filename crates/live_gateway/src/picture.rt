@@ -250,6 +250,7 @@ pub fn picture_of(
     ensures behind { IfOk result (λ picture. picture.behind ≡ behind) }
     ensures serving { (events : List GatewayEvent) → Stands gateway.now events
         → IfOk result (λ picture. picture.is_serving ≡ serves (plain gateway.now.setup events).endpoints) }
+    ensures unanswered { IfOk result (λ picture. picture.unanswered_since ≡ journal.now.tally.value.unanswered_since) }
     ensures first { IfOk result (λ picture. picture.first ≡ gateway.now.setup.first) }
     ensures held { (events : List GatewayEvent) → Stands gateway.now events
         → IfOk result (λ picture. picture.counts.transactions ≡ remembered (plain gateway.now.setup events)) }
@@ -260,6 +261,7 @@ pub fn picture_of(
     picture.clock = gateway.now();
     picture.behind = behind;
     picture.is_serving = gateway.serves();
+    picture.unanswered_since = journal.tally.unanswered_since;
     picture.first = gateway.setup().first;
     picture.counts.transactions = gateway.remembered() as u64;
     Ok(picture)

@@ -17,6 +17,7 @@ ghost use Rattle.surroundings.specs.Speaking.{nobody, with_host};
 ghost use Rattle.live_journal.specs.Example.{host, said, quiet_until};
 ghost use Rattle.live_journal.specs.Places.{place_among, with_send, with_sends};
 ghost use Rattle.live_journal.specs.Strangers.{told_at, quiet_after, unheard_text};
+ghost use Rattle.live_journal.specs.Waiting.{unanswered_after};
 ghost use Rattle.live_journal.specs.Explaining.{reason_text};
 ghost use Rattle.live_journal.specs.Recording.{trace_head};
 ghost use Rattle.live_journal.specs.Reporting.{told_all, commands_text, datagrams_text, texts_text, others_text, answer_text, answers_from};
@@ -99,4 +100,18 @@ pub fn each_sentence_has_an_example()
     ensures two { with_sends (One (host 7)) (replicate 5 0) (said (host 7) (whats.Command Ntfy) ∷ said (host 7) (whats.Resent Ntfy 2) ∷ [])
         ≡ 2 ∷ 0 ∷ 0 ∷ 0 ∷ 0 ∷ [] }
     ensures other_port { place_among (One (host 7)) (record (host 7) { port = 2728 }) ≡ 4 }
+{}
+
+/// An agent owes an answer from the first command of the gateway's own on, sent or sent again, that came behind its last response.
+pub fn an_agent_owes_an_answer_until_it_gives_one()
+    ensures nothing { unanswered_after None [] [] ≡ None }
+    ensures asked { unanswered_after None [] (said (host 7) (whats.Command Ntfy) ∷ []) ≡ Some 1000 }
+    ensures asked_again { unanswered_after None [] (said (host 7) (whats.Resent Ntfy 2) ∷ []) ≡ Some 1000 }
+    ensures first { unanswered_after None [] (said (host 7) (whats.Answer 200) ∷ said (host 7) (whats.Command Ntfy)
+        ∷ record (said (host 7) (whats.Command Ntfy)) { moment = 1001 } ∷ []) ≡ Some 1000 }
+    ensures no_command { unanswered_after None [] (said (host 7) (whats.Answer 200) ∷ []) ≡ None }
+    ensures still_owed { unanswered_after (Some 500) [] (said (host 7) (whats.Resent Ntfy 2) ∷ []) ≡ Some 500 }
+    ensures answered { unanswered_after (Some 500) (NoMessage ∷ Response false ∷ []) [] ≡ None }
+    ensures command_came { unanswered_after (Some 500) (NoMessage ∷ Command (Some Rqnt) 1207 Silence ∷ []) [] ≡ Some 500 }
+    ensures asked_behind { unanswered_after (Some 500) (Response true ∷ []) (said (host 7) (whats.Command Ntfy) ∷ []) ≡ Some 1000 }
 {}

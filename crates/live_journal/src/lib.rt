@@ -18,6 +18,7 @@ mod taken;
 mod text_counts;
 mod trace;
 pub mod trace_examples;
+mod waiting;
 
 pub use crate::capture::Capture;
 pub use crate::journal::Journal;

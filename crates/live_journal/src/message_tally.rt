@@ -1,13 +1,15 @@
 //! Counts what goes over the wire, as the gateway tells it. A count stays at its greatest value.
-ghost use Rattle.std.specs.Prelude.{◌≡◌, IfOk};
+ghost use Rattle.std.specs.Prelude.{◌≡◌, IfOk, None};
 ghost use Rattle.gateway_core.specs.Wire.{counted};
 ghost use Rattle.live_journal.specs.Counting.{counts_in, no_counts, with_texts};
 ghost use Rattle.live_journal.specs.Places.{with_sends};
+ghost use Rattle.live_journal.specs.Waiting.{unanswered_after};
 ghost use Rattle.sent_counts.specs.Counting.{tally_in, no_tally, with_sent, with_given_up};
 
 use crate::place_counts::PlaceCounts;
 use crate::taken::Taken;
 use crate::text_counts::{TextCounts, count};
+use crate::waiting::unanswered_after;
 use sent_counts::SentCounts;
 use std::alloc::{AllocError, Global};
 
@@ -25,6 +27,8 @@ pub struct MessageTally {
     pub sent: SentCounts,
     /// Sends of commands of its own, by which of its agent's addresses they went to.
     pub places: PlaceCounts,
+    /// The moment, in ms, of the first command of its own since the agent last answered one, if there is one.
+    pub unanswered_since: Option<u64>,
 }
 
 // Written out: a derived drop, and those of all its parts, are proved anew by each crate that lets one go.
@@ -37,6 +41,7 @@ impl Drop for MessageTally {
             texts: _,
             sent,
             places: _,
+            unanswered_since: _,
         } = self;
         drop(sent);
     }
@@ -50,6 +55,7 @@ impl MessageTally {
         ensures strangers { IfOk result (λ tally. tally.strangers ≡ 0) }
         ensures texts { IfOk result (λ tally. counts_in tally.texts ≡ no_counts) }
         ensures sent { IfOk result (λ tally. tally_in tally.sent ≡ no_tally) }
+        ensures unanswered { IfOk result (λ tally. tally.unanswered_since ≡ None) }
     {
         Ok(MessageTally {
             datagrams_in: 0,
@@ -58,6 +64,7 @@ impl MessageTally {
             texts: TextCounts::new(),
             sent: SentCounts::new(alloc)?,
             places: PlaceCounts::new(),
+            unanswered_since: None,
         })
     }
 
@@ -68,6 +75,7 @@ impl MessageTally {
         ensures strangers { self.new.strangers ≡ self.old.strangers }
         ensures texts { self.new.texts ≡ self.old.texts }
         ensures sent { self.new.sent ≡ self.old.sent }
+        ensures unanswered { self.new.unanswered_since ≡ self.old.unanswered_since }
     {
         count(&mut self.datagrams_in);
     }
@@ -79,6 +87,7 @@ impl MessageTally {
         ensures handed_out { self.new.datagrams_out ≡ self.old.datagrams_out }
         ensures texts { self.new.texts ≡ self.old.texts }
         ensures sent { self.new.sent ≡ self.old.sent }
+        ensures unanswered { self.new.unanswered_since ≡ self.old.unanswered_since }
     {
         count(&mut self.strangers);
     }
@@ -92,11 +101,14 @@ impl MessageTally {
         ensures received { self.new.datagrams_in ≡ self.old.datagrams_in }
         ensures handed_out { self.new.datagrams_out ≡ self.old.datagrams_out }
         ensures strangers { self.new.strangers ≡ self.old.strangers }
+        ensures unanswered { self.new.unanswered_since
+            ≡ unanswered_after self.old.unanswered_since taken.now.outcomes.now taken.now.sent.now }
     {
         self.texts.add(taken.outcomes);
         self.sent.add(taken.sent);
         self.sent.give_up(taken.given_up);
         self.places.add(taken.route, taken.sent);
+        self.unanswered_since = unanswered_after(self.unanswered_since, taken);
     }
 
     /// A datagram is sent. The messages in it were counted with the event.
@@ -106,6 +118,7 @@ impl MessageTally {
         ensures strangers { self.new.strangers ≡ self.old.strangers }
         ensures texts { self.new.texts ≡ self.old.texts }
         ensures sent { self.new.sent ≡ self.old.sent }
+        ensures unanswered { self.new.unanswered_since ≡ self.old.unanswered_since }
     {
         count(&mut self.datagrams_out);
     }

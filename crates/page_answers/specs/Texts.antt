@@ -12,6 +12,7 @@ use Rattle.page_answers.specs.declared.picture.SignalView.{SignalView}
 use Rattle.page_answers.specs.declared.picture.ConnectionView.{ConnectionView}
 use Rattle.page_answers.specs.declared.picture.LineView.{LineView}
 use Rattle.page_answers.specs.declared.picture.Picture.{Picture}
+use Rattle.page_answers.specs.Health.{agent_answers}
 use Rattle.page_answers.specs.Keeping.{sum_within}
 use Rattle.page_answers.specs.Metrics.{code_text}
 use Rattle.page_answers.specs.Totals.{totals_of}
@@ -24,13 +25,19 @@ put_number name n members = put name (number (unsigned n)) members
 abbrev pub put_shown : ℕ → ℕ → Members → Members
 put_shown version clock members = put_number (codes "clock") clock (put_number (codes "version") version members)
 
--- what a gateway is: with which number its ids began, whether it serves (RFC 3435, 4.4.6), its lines, how many of their events were
--- lost, and what was counted
-abbrev pub state_data : ℕ → ℕ → ℕ → Bool → ℕ → Data → Data → Data
-state_data version clock first is_serving lost lines counts =
-    object (put (codes "counts") counts (put (codes "lines") lines
-    (put_number (codes "lost") lost (put (codes "serving") (boolean is_serving)
-    (put_number (codes "first") first (put_shown version clock no_members))))))
+-- a moment, where there is one
+abbrev pub moment_data : Option ℕ → Data
+moment_data None = null
+moment_data (Some moment) = number (unsigned moment)
+
+-- what a gateway is: with which number its ids began, whether it serves (RFC 3435, 4.4.6), whether its agent answers, and since when it
+-- owes an answer, its lines, how many of their events were lost, and what was counted
+abbrev pub state_data : ℕ → ℕ → ℕ → Bool → Option ℕ → ℕ → Data → Data → Data
+state_data version clock first is_serving unanswered lost lines counts =
+    object (put (codes "counts") counts (put (codes "lines") lines (put_number (codes "lost") lost
+    (put (codes "unanswered_since") (moment_data unanswered)
+    (put (codes "agent_answers") (boolean (agent_answers clock is_serving unanswered)) (put (codes "serving") (boolean is_serving)
+    (put_number (codes "first") first (put_shown version clock no_members))))))))
 
 -- Lines
 
@@ -38,14 +45,9 @@ state_data version clock first is_serving lost lines counts =
 abbrev pub name_data : List ℕ → Data
 name_data name = string (utf8_lossy name)
 
--- the moment of an end, where there is one
-abbrev pub end_data : Option ℕ → Data
-end_data None = null
-end_data (Some moment) = number (unsigned moment)
-
 abbrev pub signal_data : SignalView → Data
 signal_data signal =
-    object (put (codes "end") (end_data signal.end) (put (codes "name") (name_data signal.name.now) no_members))
+    object (put (codes "end") (moment_data signal.end) (put (codes "name") (name_data signal.name.now) no_members))
 
 -- where its media go is an empty text where that isn't known; its call stands as it was spelled when the connection was created
 abbrev pub connection_data : ConnectionView → Data
@@ -105,5 +107,5 @@ counts_data counts =
 -- the text tells this picture under this number
 abbrev pub TellsState : Picture → ℕ → List ℕ → Type 0
 TellsState picture version text =
-    IsInOrder text (state_data version picture.clock picture.first picture.is_serving (totals_of picture.lines.items).lost
-    (lines_data picture.lines.items) (counts_data picture.counts))
+    IsInOrder text (state_data version picture.clock picture.first picture.is_serving picture.unanswered_since
+    (totals_of picture.lines.items).lost (lines_data picture.lines.items) (counts_data picture.counts))

@@ -1,5 +1,5 @@
 //! The board: what the page is shown, and what it asks to be done.
-ghost use Rattle.std.specs.Prelude.{◌≡◌, ◌≢◌, ◌≤◌, [], false, length, drop, IfOk, OnOk, OnErr, slice_get, string_bytes};
+ghost use Rattle.std.specs.Prelude.{◌≡◌, ◌≢◌, ◌≤◌, [], false, None, length, drop, IfOk, OnOk, OnErr, slice_get, string_bytes};
 ghost use Rattle.page_answers.specs.Texts.{TellsState};
 ghost use Rattle.page_answers.specs.Telling.{events_text as text_of_events};
 ghost use Rattle.page_answers.specs.Keeping.{next_number, nothing_yet, noted, counted};
@@ -95,6 +95,7 @@ impl Board {
         ensures clock { result.picture.clock ≡ 0 }
         ensures behind { result.picture.behind ≡ 0 }
         ensures serving { result.picture.is_serving ≡ false }
+        ensures unanswered { result.picture.unanswered_since ≡ None }
         ensures first { result.picture.first ≡ 0 }
         ensures counts { IsNothingCounted result.picture.counts }
         ensures version { result.version ≡ 0 }

@@ -12,7 +12,7 @@ ghost use Rattle.page_answers.specs.Telling.{kind_word, event_data, told_after, 
 ghost use Rattle.page_answers.specs.declared.ring.Kind.TheVariants.{Received, Sent, Act, Told};
 ghost use Rattle.page_answers.specs.Verbs.{verb_word};
 ghost use Rattle.page_answers.specs.Metrics.{escaped, labelled_sample, code_text, single, number_if};
-ghost use Rattle.page_answers.specs.Health.{is_alive};
+ghost use Rattle.page_answers.specs.Health.{is_alive, agent_answers};
 ghost use Rattle.page_answers.specs.declared.act.PhoneAct.TheVariants.{Off, On, Flash, Key};
 
 /// Each sentence at an example.
@@ -45,10 +45,10 @@ pub fn each_sentence_has_an_example()
     // What is told is JSON: what happened, under which number the lines are shown, and the clock.
     ensures shown { put_shown 3 2000 no_members
         ≡ member (codes "clock") (number (unsigned 2000)) (member (codes "version") (number (unsigned 3)) no_members) }
-    ensures state { state_data 3 2000 4711 false 1 (boolean true) null ≡ object (member (codes "clock") (number (unsigned 2000))
-        (member (codes "counts") null (member (codes "first") (number (unsigned 4711)) (member (codes "lines") (boolean true)
-        (member (codes "lost") (number (unsigned 1)) (member (codes "serving") (boolean false)
-        (member (codes "version") (number (unsigned 3)) no_members))))))) }
+    ensures state { state_data 3 2000 4711 false None 1 (boolean true) null ≡ object (member (codes "agent_answers") (boolean false)
+        (member (codes "clock") (number (unsigned 2000)) (member (codes "counts") null (member (codes "first") (number (unsigned 4711))
+        (member (codes "lines") (boolean true) (member (codes "lost") (number (unsigned 1)) (member (codes "serving") (boolean false)
+        (member (codes "unanswered_since") null (member (codes "version") (number (unsigned 3)) no_members))))))))) }
     ensures act { compact_text (event_data lifted)
         ≡ codes "{\"at\":5000,\"hex\":\"70686f6e652031206f6666\",\"kind\":\"act\",\"n\":7,\"peer\":\"192.168.1.5:2727\"}" }
     ensures kinds { map kind_word (Received ∷ Sent ∷ Act ∷ Told ∷ []) ≡ codes "in" ∷ codes "out" ∷ codes "act" ∷ codes "told" ∷ [] }
@@ -128,4 +128,13 @@ pub fn more_sentences_have_examples()
     ensures no_object { queued_in null ≡ None }
     ensures json { asked_by (codes "{\"line\":10,\"act\":\"#\"}") ≡ Some (queued 10 (Key 35)) }
     ensures no_json { asked_by (codes "off") ≡ None }
+{}
+
+/// An agent answers that has answered the announcement, and owes an answer for two seconds at most.
+pub fn an_agent_that_owes_an_answer_for_long_does_not_answer()
+    ensures nothing_owed { agent_answers 9000 true None ≡ true }
+    ensures never { agent_answers 9000 false None ≡ false }
+    ensures soon { agent_answers 9000 true (Some 7000) ≡ true }
+    ensures late { agent_answers 9000 true (Some 6999) ≡ false }
+    ensures never_nor_soon { agent_answers 9000 false (Some 9000) ≡ false }
 {}

@@ -1,10 +1,14 @@
 //! What the gateway is now, as it is shown.
-ghost use Rattle.std.specs.Prelude.{◌≡◌, [], false};
+ghost use Rattle.std.specs.Prelude.{◌≡◌, [], false, None};
+ghost use Rattle.page_answers.specs.Health.{agent_answers};
 ghost use Rattle.page_answers.specs.Showing.{IsNothingCounted};
 ghost use Rattle.page_answers.specs.Totals.{with_line, totals_of};
 
 use crate::counts::{Counts, PLACES};
 use std::alloc::Global;
+
+// An agent that owes an answer for longer, in ms, is told not to answer.
+const LONGEST_WAIT: u64 = 2000;
 
 /// A signal that is heard at a telephone.
 #[derive(Clone, Copy, PartialEq)]
@@ -43,12 +47,14 @@ pub struct LineView {
     pub lost: u64,
 }
 
-/// What is shown of a gateway: its clock in ms, and by how much that is behind the machine's; whether it serves (RFC 3435, 4.4.6); the
-/// number with which its ids began (RFC 3435, 3.2.1.2), its lines from the first, and what was counted.
+/// What is shown of a gateway: its clock in ms, and by how much that is behind the machine's; whether it serves (RFC 3435, 4.4.6), and
+/// since when, in ms, its agent owes an answer, if it does; the number with which its ids began (RFC 3435, 3.2.1.2), its lines from the
+/// first, and what was counted.
 pub struct Picture {
     pub clock: u64,
     pub behind: u64,
     pub is_serving: bool,
+    pub unanswered_since: Option<u64>,
     pub first: u32,
     pub lines: Vec<LineView>,
     pub counts: Counts,
@@ -61,6 +67,7 @@ impl Drop for Picture {
             clock: _,
             behind: _,
             is_serving: _,
+            unanswered_since: _,
             first: _,
             lines,
             counts,
@@ -102,6 +109,7 @@ impl Picture {
         ensures clock { result.clock ≡ 0 }
         ensures behind { result.behind ≡ 0 }
         ensures serving { result.is_serving ≡ false }
+        ensures unanswered { result.unanswered_since ≡ None }
         ensures first { result.first ≡ 0 }
         ensures counts { IsNothingCounted result.counts }
     {
@@ -109,6 +117,7 @@ impl Picture {
             clock: 0,
             behind: 0,
             is_serving: false,
+            unanswered_since: None,
             first: 0,
             lines: Vec::new(alloc),
             counts: Counts {
@@ -135,6 +144,16 @@ impl Picture {
                 write_faults: Vec::new(alloc),
                 transactions: 0,
             },
+        }
+    }
+
+    /// Whether the agent answers: it has answered the announcement (RFC 3435, 4.4.6), and owes no answer for long.
+    pub(crate) fn agent_answers(&self) -> bool
+        ensures { result ≡ agent_answers self.now.clock self.now.is_serving self.now.unanswered_since }
+    {
+        match self.unanswered_since {
+            Some(since) => self.is_serving && self.clock.saturating_sub(since) <= LONGEST_WAIT,
+            None => self.is_serving,
         }
     }
 

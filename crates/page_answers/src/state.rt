@@ -2,7 +2,7 @@
 ghost use Rattle.std.specs.Prelude.{◌≡◌, map, fold, IfOk, OnOk, string_bytes};
 ghost use Rattle.serde_json.specs.Data.{array};
 ghost use Rattle.serde_json.specs.View.{view, members_view, items_of};
-ghost use Rattle.page_answers.specs.Texts.{state_data, TellsState, end_data, signal_data, connection_data, hook_word, line_data, lines_data, with_verb, with_code, given_up_in, put_counted, counts_data};
+ghost use Rattle.page_answers.specs.Texts.{state_data, TellsState, moment_data, signal_data, connection_data, hook_word, line_data, lines_data, with_verb, with_code, given_up_in, put_counted, counts_data};
 ghost use Rattle.page_answers.specs.Totals.{totals_of};
 
 use crate::counts::{CodeCount, Counts, VerbCount, verb_word};
@@ -12,12 +12,12 @@ use crate::picture::{ConnectionView, LineView, Picture, SignalView};
 use serde_json::{Map, Value, put};
 use std::alloc::{AllocError, Global};
 
-// The end of a signal, where it has one.
-fn end_value(end: Option<u64>) -> Value
-    ensures { view result ≡ end_data end }
+// A moment, where there is one.
+fn moment_value(moment: Option<u64>) -> Value
+    ensures { view result ≡ moment_data moment }
 {
-    match end {
-        Some(end) => Value::from(end),
+    match moment {
+        Some(moment) => Value::from(moment),
         None => Value::Null,
     }
 }
@@ -27,7 +27,7 @@ fn signal_value(alloc: Global, signal: SignalView) -> Result<Value, AllocError>
 {
     let mut map = Map::new(alloc);
     put_name(alloc, &mut map, "name", signal.name)?;
-    put(&mut map, alloc, "end", end_value(signal.end))?;
+    put(&mut map, alloc, "end", moment_value(signal.end))?;
     Ok(Value::from(map))
 }
 
@@ -184,13 +184,17 @@ fn counts_value(alloc: Global, counts: &Counts) -> Result<Value, AllocError>
 
 fn state_value(alloc: Global, picture: &Picture, version: u64) -> Result<Value, AllocError>
     ensures { IfOk result (λ value. view value ≡ state_data version picture.now.clock picture.now.first
-        picture.now.is_serving (totals_of picture.now.lines.items).lost
+        picture.now.is_serving picture.now.unanswered_since (totals_of picture.now.lines.items).lost
         (lines_data picture.now.lines.items) (counts_data picture.now.counts)) }
 {
     let mut map = Map::new(alloc);
     let first = u64::from(picture.first);
     put_shown(alloc, &mut map, version, picture.clock, first)?;
     put(&mut map, alloc, "serving", Value::from(picture.is_serving))?;
+    let answers = picture.agent_answers();
+    put(&mut map, alloc, "agent_answers", Value::from(answers))?;
+    let unanswered = moment_value(picture.unanswered_since);
+    put(&mut map, alloc, "unanswered_since", unanswered)?;
     put(&mut map, alloc, "lost", Value::from(picture.totals().lost))?;
     let lines = lines_value(alloc, picture.lines.as_slice())?;
     put(&mut map, alloc, "lines", lines)?;
@@ -199,8 +203,8 @@ fn state_value(alloc: Global, picture: &Picture, version: u64) -> Result<Value, 
     Ok(Value::from(map))
 }
 
-/// What the gateway is: its clock in ms, the number with which its ids began, whether it serves (RFC 3435, 4.4.6), its lines from the
-/// first, and what was counted. `version` says which state is shown.
+/// What the gateway is: its clock in ms, the number with which its ids began, whether it serves (RFC 3435, 4.4.6), whether its agent
+/// answers, its lines from the first, and what was counted. `version` says which state is shown.
 pub fn state_text(alloc: Global, picture: &Picture, version: u64) -> Result<String, AllocError>
     ensures { IfOk result (λ text. TellsState picture.now version (string_bytes text)) }
 {

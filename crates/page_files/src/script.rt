@@ -558,8 +558,6 @@ class Ladder {
     this.open = new Map();
     // Those that were answered, with their first rows.
     this.answered = new Map();
-    // Since when the gateway has asked for an answer and had none, in ms.
-    this.waitsSince = null;
     this.chosen = null;
     this.lastAct = null;
     view.call = null;
@@ -734,9 +732,6 @@ class Ladder {
   addCommand(row, message, direction) {
     row.isNotification = message.verb === "NTFY";
     this.settle(row, message.line, this.calls.callOf(message));
-    if (direction === "out") {
-      this.waitsSince ??= row.at;
-    }
     const key = `${direction} ${message.id}`;
     // The gateway may send a repeat to another address of its agent.
     const peer = direction === "in" ? row.peer : "";
@@ -759,8 +754,6 @@ class Ladder {
   addResponse(row, message, direction) {
     if (direction === "out") {
       this.calls.answer(message);
-    } else {
-      this.waitsSince = null;
     }
     const key = `${direction === "out" ? "in" : "out"} ${message.id}`;
     if (this.isAgain(`${direction} ${row.peer} ${message.code} ${message.id}`, row.at)) {
@@ -837,8 +830,6 @@ class Ladder {
   addGap(count) {
     const item = make("li", {}, make("p", { class: "hint" }, `${count} events are no longer known`));
     this.count += 1;
-    // An answer may be among them.
-    this.waitsSince = null;
     this.keep({ item, line: 0, number: this.count, position: this.count, call: null, isNotification: false });
   }
 
@@ -1315,15 +1306,13 @@ async function act(line, word) {
 const POLL = 100;
 const POLL_HIDDEN = 1000;
 const POLL_LOST = 1000;
-// An agent that owes an answer for so long, in ms, is told to owe it.
-const LONG_WAIT = 2000;
 // The time of day at which the gateway's clock was 0 is taken anew where it is off by more, in ms.
 const CLOCK_PLAY = 100;
 // What was refused longer ago, in ms, is no news any more.
 const NEWS = 5000;
 
 const ladder = new Ladder();
-const gateway = { after: 0, version: null, isFile: false, isServing: null, zero: null, timer: 0, turn: 0 };
+const gateway = { after: 0, version: null, isFile: false, agent: null, zero: null, timer: 0, turn: 0 };
 
 function stand(is, text) {
   const standing = byId("standing");
@@ -1339,19 +1328,17 @@ async function ask(path) {
   return answer.json();
 }
 
-// Says whether the call agent answers: it has answered the announcement (RFC 3435, 4.4.6), and owes nothing for long.
+// Says whether the call agent answers, as the gateway has it.
 function tellAgent(clock) {
-  const waits = ladder.waitsSince === null ? 0 : clock - ladder.waitsSince;
   const agent = byId("agent");
-  if (gateway.isServing === false) {
-    agent.dataset.is = "lost";
-    setText(agent, "no agent has answered yet");
-  } else if (waits > LONG_WAIT) {
-    agent.dataset.is = "lost";
-    setText(agent, `the agent hasn't answered for ${Math.floor(waits / 1000)} s`);
+  const { answers, hasAnswered, waitsSince } = gateway.agent;
+  agent.dataset.is = answers ? "live" : "lost";
+  if (answers) {
+    setText(agent, "the agent answers");
+  } else if (hasAnswered) {
+    setText(agent, `the agent hasn't answered for ${Math.floor((clock - waitsSince) / 1000)} s`);
   } else {
-    agent.dataset.is = "live";
-    setText(agent, gateway.isServing ? "the agent answers" : "");
+    setText(agent, "no agent has answered yet");
   }
 }
 
@@ -1396,7 +1383,7 @@ function takeEvents(answer) {
 
 function takeState(state) {
   gateway.version = state.version;
-  gateway.isServing = state.serving ?? null;
+  gateway.agent = { answers: state.agent_answers, hasAnswered: state.serving, waitsSince: state.unanswered_since };
   telephones.show(state.lines);
   const off = state.lines.filter((line) => line.hook === "off").length;
   const held = state.lines.reduce((sum, line) => sum + line.connections.length, 0);
@@ -1415,7 +1402,8 @@ async function follow(turn) {
     }
     tellClock(answer.clock);
     takeEvents(answer);
-    if (answer.version !== gateway.version || answer.events.length > 0) {
+    // While an answer is waited for, time alone may change the state.
+    if (answer.version !== gateway.version || answer.events.length > 0 || gateway.agent.waitsSince !== null) {
       const state = await ask("/state");
       if (turn !== gateway.turn) {
         return;

@@ -2,7 +2,8 @@
 //!
 //! A value has a word for each thing that isn't 0: `refused:3`, `verb:6:2` for two commands of the verb at this place,
 //! `code:200:4`; `off:1` and `on:0` for a line on which so many events were lost, and behind it `tone:2000` and `tone:-`
-//! for a signal and its end, and `connection:26`; `file:trace:1` for a file that couldn't be written so often.
+//! for a signal and its end, and `connection:26`; `file:trace:1` for a file that couldn't be written so often; `unanswered:5` for an
+//! agent that owes an answer since then.
 use crate::texts::words_of;
 use crate::values::capturing::number_of;
 use mg_bytes::{decimal, split_once};
@@ -48,6 +49,7 @@ struct Told {
     answers: Vec<CodeCount>,
     write_faults: Vec<FileCount>,
     lines: Vec<LineView>,
+    unanswered_since: Option<u64>,
 }
 
 // Sets the number that a word names, the clock, the first of ids or a count, and says whether it names one.
@@ -71,6 +73,7 @@ fn picture_of(told: Told) -> Picture {
         answers,
         write_faults,
         lines,
+        unanswered_since,
     } = told;
     let [
         clock,
@@ -102,6 +105,7 @@ fn picture_of(told: Told) -> Picture {
         clock,
         behind: 0,
         is_serving: serving > 0,
+        unanswered_since,
         first: u32::try_from(first).unwrap_or(u32::MAX),
         lines,
         counts: Counts {
@@ -231,6 +235,10 @@ fn tell_list(given: &mut Outcome, told: &mut Told, key: &str, value: &[u8]) {
             Some(file) => told.write_faults.push(file).is_ok(),
             None => false,
         },
+        "unanswered" => {
+            told.unanswered_since = Some(number_of(given, value));
+            true
+        }
         "off" | "on" => {
             let lost = number_of(given, value);
             let line = begun(given.alloc, key == "off", lost);
@@ -263,6 +271,7 @@ fn told_by(given: &mut Outcome, value: &[u8]) -> Told {
         answers: Vec::new(given.alloc),
         write_faults: Vec::new(given.alloc),
         lines: Vec::new(given.alloc),
+        unanswered_since: None,
     };
     for word in words_of(value).split(' ') {
         match word.split_once(':') {
