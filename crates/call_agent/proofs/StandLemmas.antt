@@ -6,7 +6,7 @@ use Rattle.std.proofs.lemmas.Bool.{leb-false}
 use Rattle.std.proofs.lemmas.Bool.Decides.{nat_tests}
 use Rattle.mg_bytes.specs.Bytes.{space}
 use Rattle.outbound.specs.Flight.{InFlight}
-use Rattle.history.proofs.RecallLaws.{recalls_itself, recalls_purged}
+use Rattle.transactions.proofs.RecallLaws.{recalls_itself, recalls_purged}
 use Rattle.plain_machine.specs.declared.refusal.Refusal.{Refusal}
 use Rattle.plain_machine.specs.declared.refusal.Refusal.TheVariants.{TickTooFar, ClockBack}
 use Rattle.plain_machine.specs.Event.{GatewayEvent, datagram, phone, tick}

@@ -3,7 +3,7 @@ use Rattle.std.specs.Prelude.{◌≡◌, ◌==◌, ℕ, List, [], ◌++◌, map,
 use Rattle.std.specs.Global.{Vec}
 use Rattle.std.specs.declared.alloc.AllocError.{AllocError}
 use Rattle.event_values.specs.declared.observed.Observed.{Observed}
-use Rattle.history.specs.declared.entry.Entry.{Entry}
+use Rattle.history.specs.Entry.{Entry}
 use Rattle.history.specs.Kept.{from_young}
 use Rattle.outbound.specs.Flight.{InFlight}
 use Rattle.transmission.specs.declared.output.OutDatagram.{OutDatagram}

@@ -4,7 +4,7 @@ use Rattle.std.specs.Prelude.{IfSome, slice_get}
 use Rattle.mgcp_text.specs.declared.message.Message.TheVariants as messages
 use Rattle.mgcp_text.specs.declared.message.Param.{Param}
 use Rattle.mgcp_text.specs.Reading.{message, read_text}
-use Rattle.history.specs.declared.entry.KeptFirst.{KeptFirst}
+use Rattle.history.specs.KeptFirst.{KeptFirst}
 use Rattle.history.specs.Kept.{firsts_in}
 use Rattle.history.specs.Memory.{memory_time}
 use Rattle.transmission.specs.Texts.{texts_of}

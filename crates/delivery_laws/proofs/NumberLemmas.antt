@@ -4,7 +4,7 @@ use Rattle.std.specs.Prelude.{nat_lt, is_none, option_map, option_and_then}
 use Rattle.std.proofs.lemmas.Bool.{and_from, le-leb, lt-leb, le-ltb, lt-ltb, ne_eqb}
 use Rattle.endpoint_names.specs.declared.entity.Entity.{Entity}
 use Rattle.mgcp_text.specs.Writing.{written}
-use Rattle.history.specs.declared.entry.Entry.{Entry}
+use Rattle.history.specs.Entry.{Entry}
 use Rattle.outbound.specs.declared.repeat.Repeat.{Repeat}
 use Rattle.outbound.specs.declared.repeat.Repeat.TheVariants.{Sent as SentAgain, GivenUp}
 use Rattle.outbound.specs.Flight.{InFlight, repeat_of, repeated, sent_first}

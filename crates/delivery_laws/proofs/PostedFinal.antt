@@ -4,7 +4,7 @@ use Rattle.std.proofs.Common.{◌≡◌, ◌≤◌, ℕ, Bool, true, false, if�
 use Rattle.std.specs.Prelude.{Any, IfSome, slice_get, is_none}
 use Rattle.std.proofs.lemmas.Bool.{and_parts}
 use Rattle.mgcp_text.specs.Reading.{read_text}
-use Rattle.history.specs.declared.entry.KeptFirst.{KeptFirst}
+use Rattle.history.specs.KeptFirst.{KeptFirst}
 use Rattle.history.specs.Kept.{firsts_in}
 use Rattle.endpoint_names.specs.Route.{at}
 use Rattle.transmission.specs.declared.output.OutDatagram.{OutDatagram}

@@ -9,12 +9,12 @@ use Rattle.mgcp_text.specs.Confirmation.{k_of}
 use Rattle.mgcp_text.specs.Reading.{Outcome, message, no_header, bad_version, bad_body, id_in, read_text}
 use Rattle.mgcp_text.proofs.IdLemmas.{IsId, read_id}
 use Rattle.command_forms.specs.Command.{Command}
-use Rattle.history.specs.declared.entry.KeptFirst.{KeptFirst}
-use Rattle.history.specs.declared.entry.Entry.TheVariants.{First, Confirmation}
+use Rattle.history.specs.KeptFirst.{KeptFirst}
+use Rattle.history.specs.Entry.TheVariants.{First, Confirmation}
 use Rattle.history.specs.Memory.{most_firsts}
 use Rattle.history.specs.Kept.{firsts_in}
 use Rattle.history.specs.Looking.{Looked, new, repeat, confirmed, full, look_of}
-use Rattle.history.proofs.CountLaws.{firsts_in-append}
+use Rattle.transactions.proofs.CountLaws.{firsts_in-append}
 use Rattle.history.proofs.LookLaws.{repeat_kept}
 use Rattle.outbound.specs.Flight.{InFlight}
 use Rattle.transmission.specs.Acknowledging.{asks_for_acknowledgement}

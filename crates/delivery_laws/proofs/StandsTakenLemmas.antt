@@ -3,7 +3,7 @@ use Rattle.std.proofs.Common.{◌≡◌, ℕ, ◌+◌, ◌<◌, ◌≤◌, true,
 use Rattle.std.specs.Prelude.{flat_map, nat_le}
 use Rattle.std.proofs.lemmas.Bool.{and_parts, leb-true}
 use Rattle.std.proofs.lemmas.List.Elements.{filter-append}
-use Rattle.history.specs.declared.entry.KeptFirst.{KeptFirst}
+use Rattle.history.specs.KeptFirst.{KeptFirst}
 use Rattle.history.specs.Kept.{firsts_in}
 use Rattle.history.specs.Memory.{memory_time}
 use Rattle.transmission.specs.Texts.{texts_of}

@@ -3,8 +3,8 @@ use Rattle.std.proofs.Common.{◌≡◌, ℕ, ◌<◌, true, List, [], ◌∷◌
 use Rattle.std.specs.Prelude.{All, slice_get}
 use Rattle.std.specs.declared.net.socket_addr.SocketAddrV4.{SocketAddrV4}
 use Rattle.mgcp_text.specs.Reading.{read_text}
-use Rattle.history.specs.declared.entry.KeptFirst.{KeptFirst}
-use Rattle.history.specs.declared.entry.Entry.{Entry}
+use Rattle.history.specs.KeptFirst.{KeptFirst}
+use Rattle.history.specs.Entry.{Entry}
 use Rattle.history.specs.Memory.{most_firsts}
 use Rattle.history.specs.Kept.{firsts_in, young_firsts}
 use Rattle.transmission.specs.declared.output.OutDatagram.{OutDatagram}

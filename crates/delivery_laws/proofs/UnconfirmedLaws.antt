@@ -9,9 +9,9 @@ use Rattle.mgcp_text.specs.Confirmation.{first_value, k_of}
 use Rattle.mgcp_text.specs.Message.{param_at}
 use Rattle.mgcp_text.specs.Reading.{Outcome, message, no_header, bad_version, bad_body, read_text}
 use Rattle.mgcp_text.proofs.RoundLaws.{read_again}
-use Rattle.history.specs.declared.entry.KeptFirst.{KeptFirst}
-use Rattle.history.specs.declared.entry.Entry.{Entry}
-use Rattle.history.specs.declared.entry.Entry.TheVariants.{First, Confirmation}
+use Rattle.history.specs.KeptFirst.{KeptFirst}
+use Rattle.history.specs.Entry.{Entry}
+use Rattle.history.specs.Entry.TheVariants.{First, Confirmation}
 use Rattle.history.specs.Memory.{most_firsts}
 use Rattle.history.specs.Kept.{first_entry, firsts_in}
 use Rattle.history.specs.Looking.{Looked, new, repeat, confirmed, full, confirms, look_of}

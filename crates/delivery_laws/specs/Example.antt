@@ -2,7 +2,7 @@
 use Rattle.std.specs.Prelude.{ℕ, ◌+◌, ◌*◌, codes, List, [], ◌∷◌, ◌++◌, drop, length, map, Option, option_and_then, option_map}
 use Rattle.std.specs.List.{range_with_len}
 use Rattle.std.specs.Option.{unwrap_or}
-use Rattle.history.specs.declared.span.IdSpan.{IdSpan}
+use Rattle.history.specs.IdSpan.{IdSpan}
 use Rattle.history.specs.Arrival.{Arrival}
 use Rattle.mg_line.specs.State.{State}
 use Rattle.mg_line.specs.Answering.{answered as line_answered}

@@ -4,7 +4,7 @@
 #![tactic(auto, unfolding(crate::proofs::Computing::on_examples))]
 
 ghost use Rattle.std.specs.Prelude.{◌≡◌, ◌<◌, ◌+◌, ◌++◌, codes, List, [], ◌∷◌, length, map, true, false, None, Some};
-ghost use Rattle.history.specs.declared.entry.Entry.TheVariants.{Confirmation};
+ghost use Rattle.transactions.specs.declared.entry.Entry.TheVariants.{Confirmation};
 ghost use Rattle.history.specs.Firsts.{young_of};
 ghost use Rattle.history.specs.Kept.{first_entry, young_firsts};
 ghost use Rattle.restart.specs.declared.restart.Restart.TheVariants.{Waiting, Announced, Serving};

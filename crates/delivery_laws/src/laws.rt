@@ -12,7 +12,7 @@ ghost use Rattle.mgcp_text.specs.declared.message.Param.{Param};
 ghost use Rattle.mgcp_text.specs.declared.message.Verb.{Verb};
 ghost use Rattle.mgcp_text.specs.Message.{param_at};
 ghost use Rattle.mgcp_text.specs.Reading.{message, read_text};
-ghost use Rattle.history.specs.declared.entry.KeptFirst.{KeptFirst};
+ghost use Rattle.transactions.specs.declared.entry.KeptFirst.{KeptFirst};
 ghost use Rattle.history.specs.Arrival.{Arrival};
 ghost use Rattle.history.specs.Kept.{firsts_in};
 ghost use Rattle.history.specs.Memory.{most_firsts};

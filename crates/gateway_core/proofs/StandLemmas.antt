@@ -24,7 +24,7 @@ use Rattle.gateway_core.specs.declared.state.State.{State}
 use Rattle.gateway_core.specs.Sound.{IsSound}
 use Rattle.history.specs.Memory.{most_firsts}
 use Rattle.history.specs.Kept.{young_firsts}
-use Rattle.history.proofs.RecallLaws.{recalls_itself}
+use Rattle.transactions.proofs.RecallLaws.{recalls_itself}
 use Rattle.plain_machine.specs.Message.{Sent}
 use Rattle.gateway_core.proofs.AlikeLemmas.{effect_alike, refusal_alike, takes_alike, alike_purged, refusal_purged, outcomes_alike, account_alike}
 use Rattle.gateway_core.specs.declared.outcome.TextOutcome.{TextOutcome}

@@ -28,7 +28,7 @@ use Rattle.plain_machine.specs.Effect.{Effect}
 use Rattle.plain_machine.specs.Commanding.{done_by}
 use Rattle.std.proofs.lemmas.List.{map-append}
 use Rattle.std.specs.declared.net.socket_addr.SocketAddrV4.{SocketAddrV4}
-use Rattle.history.specs.declared.span.IdSpan.{IdSpan}
+use Rattle.history.specs.IdSpan.{IdSpan}
 use Rattle.mgcp_text.specs.Answer.{AnswerContent, response_of}
 use Rattle.mgcp_text.specs.Reading.{Outcome, message, no_header, bad_version, bad_body, read_text}
 use Rattle.plain_machine.specs.declared.setup.Setup.{Setup}

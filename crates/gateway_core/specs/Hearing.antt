@@ -5,7 +5,7 @@ use Rattle.mgcp_text.specs.declared.message.Message.{Message}
 use Rattle.mgcp_text.specs.declared.message.Message.TheVariants as messages
 use Rattle.mgcp_text.specs.Confirmation.{k_of}
 use Rattle.mgcp_text.specs.Reading.{Outcome, message, no_header, bad_version, bad_body}
-use Rattle.history.specs.declared.entry.Entry.{Entry}
+use Rattle.history.specs.Entry.{Entry}
 use Rattle.history.specs.Memory.{most_firsts}
 use Rattle.history.specs.Looking.{look_of}
 use Rattle.plain_machine.specs.declared.setup.Setup.{Setup}

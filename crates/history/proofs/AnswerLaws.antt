@@ -6,11 +6,11 @@ use Rattle.std.specs.List.{list_any}
 use Rattle.std.proofs.lemmas.Bool.{and_parts, and_from, leb-true, le-leb}
 use Rattle.std.proofs.lemmas.List.Elements.{All-append, All-weaker}
 use Rattle.std.proofs.lemmas.List.Folds.{list_any-append, Any-from_list_any, list_any-from_Any}
-use Rattle.history.specs.declared.span.IdSpan.{IdSpan}
-use Rattle.history.specs.Span.{has_id, is_named, IsNamed}
-use Rattle.history.specs.Arrival.{Arrival}
-use Rattle.history.specs.Firsts.{is_copy, Copied, copied_by, Kind, a_first, a_repeat, lost, kind_of, firsts_with, firsts_of, IsCopy, IsNoCopy}
-use Rattle.history.specs.Answers.{is_confirmed, IsConfirmed, answer_as, answer_to, answers_from, answers_of, IsRepeat, IsSilenced}
+use Rattle.transactions.specs.declared.span.IdSpan.{IdSpan}
+use Rattle.transactions.specs.Span.{has_id, is_named, IsNamed}
+use Rattle.transactions.specs.Arrival.{Arrival}
+use Rattle.transactions.specs.Firsts.{is_copy, Copied, copied_by, Kind, a_first, a_repeat, lost, kind_of, firsts_with, firsts_of, IsCopy, IsNoCopy}
+use Rattle.transactions.specs.Answers.{is_confirmed, IsConfirmed, answer_as, answer_to, answers_from, answers_of, IsRepeat, IsSilenced}
 use Rattle.history.proofs.KindLaws.{at_front, kind_repeat, copied_latest, latest_copied, none_copied, copied_none}
 
 -- The tests and the facts

@@ -3,9 +3,9 @@ use Rattle.std.proofs.Common.{◌≡◌, ℕ, suc, Bool, true, false, if◌then�
 use Rattle.std.specs.Prelude.{fold, nat_lt, option_map}
 use Rattle.std.specs.Option.{option_or}
 use Rattle.std.proofs.lemmas.List.{map-append}
-use Rattle.history.specs.Arrival.{Arrival, unanswered}
-use Rattle.history.specs.Memory.{is_young}
-use Rattle.history.specs.Firsts.{Copied, is_copy, copied_by, young_of, Kind, a_first, a_repeat, lost, kind_by, kind_of, added, firsts_with, firsts_of}
+use Rattle.transactions.specs.Arrival.{Arrival, unanswered}
+use Rattle.transactions.specs.Memory.{is_young}
+use Rattle.transactions.specs.Firsts.{Copied, is_copy, copied_by, young_of, Kind, a_first, a_repeat, lost, kind_by, kind_of, added, firsts_with, firsts_of}
 
 abbrev bare_copied : Copied → Copied
 bare_copied copied = record { original = unanswered copied.original; after = map unanswered copied.after }

@@ -1,9 +1,9 @@
 -- The definitions opened, so that worked examples compute.
 use Rattle.std.specs.Prelude.{⊤}
-use Rattle.history.specs.Firsts.{copied_by, kind_of, firsts_with}
-use Rattle.history.specs.Answers.{answer_to, answers_from}
-use Rattle.history.specs.Kept.{from_young}
-use Rattle.history.specs.Looking.{latest, look_of}
+use Rattle.transactions.specs.Firsts.{copied_by, kind_of, firsts_with}
+use Rattle.transactions.specs.Answers.{answer_to, answers_from}
+use Rattle.transactions.specs.Kept.{from_young}
+use Rattle.transactions.specs.Looking.{latest, look_of}
 
 unfoldable pub on_examples : ⊤
 unfolding copied_by kind_of firsts_with answer_to answers_from from_young latest look_of

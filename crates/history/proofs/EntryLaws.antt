@@ -3,20 +3,20 @@ use Rattle.std.proofs.Common.{subst, ◌≡◌, ◌≢◌, ℕ, ◌≤◌, suc, 
 use Rattle.std.specs.Prelude.{◌||◌, nat_lt, option_map}
 use Rattle.std.specs.Option.{option_or}
 use Rattle.std.specs.List.{list_any}
-use Rattle.history.specs.declared.span.IdSpan.{IdSpan}
-use Rattle.history.specs.declared.entry.KeptFirst.{KeptFirst}
-use Rattle.history.specs.declared.entry.Entry.{Entry}
-use Rattle.history.specs.declared.entry.Entry.TheVariants.{First, Confirmation}
-use Rattle.history.specs.Span.{is_named}
-use Rattle.history.specs.Memory.{most_firsts, is_young}
-use Rattle.history.specs.Arrival.{Arrival}
-use Rattle.history.specs.Firsts.{is_copy, Copied, copied_by, young_of, a_first, kind_by, kind_of, firsts_with, firsts_of}
-use Rattle.history.specs.Answers.{is_confirmed}
-use Rattle.history.specs.Kept.{first_entry, young_firsts, entries_of}
-use Rattle.history.specs.Looking.{Looked, latest, repeated, confirms, Recalled, recalled, told_by, told_as, look_of}
-use Rattle.history.specs.Recalling.{Recalls, Remembers, TellsArrival}
+use Rattle.transactions.specs.declared.span.IdSpan.{IdSpan}
+use Rattle.transactions.specs.declared.entry.KeptFirst.{KeptFirst}
+use Rattle.transactions.specs.declared.entry.Entry.{Entry}
+use Rattle.transactions.specs.declared.entry.Entry.TheVariants.{First, Confirmation}
+use Rattle.transactions.specs.Span.{is_named}
+use Rattle.transactions.specs.Memory.{most_firsts, is_young}
+use Rattle.transactions.specs.Arrival.{Arrival}
+use Rattle.transactions.specs.Firsts.{is_copy, Copied, copied_by, young_of, a_first, kind_by, kind_of, firsts_with, firsts_of}
+use Rattle.transactions.specs.Answers.{is_confirmed}
+use Rattle.transactions.specs.Kept.{first_entry, young_firsts, entries_of}
+use Rattle.transactions.specs.Looking.{Looked, latest, repeated, confirms, Recalled, recalled, told_by, told_as, look_of}
+use Rattle.transactions.specs.Recalling.{Recalls, Remembers, TellsArrival}
 use Rattle.history.proofs.KindLaws.{at_front, firsts_on, firsts_with_first, firsts_with_no_first}
-use Rattle.history.proofs.RecallLaws.{recalled-cons, or_none, recalls_entry, recalls_no_spans, recalls_look}
+use Rattle.transactions.proofs.RecallLaws.{recalled-cons, or_none, recalls_entry, recalls_no_spans, recalls_look}
 
 abbrev recalled_of : ℕ → Copied → Recalled
 recalled_of id copied = record { answer = copied.original.answer; confirmed = is_confirmed id copied.after }

@@ -7,9 +7,9 @@ use Rattle.std.proofs.lemmas.List.{append-nil, append_assoc}
 use Rattle.std.proofs.lemmas.List.Elements.{All-nil, All-cons, All-head, All-tail}
 use Rattle.std.proofs.lemmas.List.Quantifiers.{all_pairs_push}
 use Rattle.std.proofs.lemmas.List.Sums.{fold-append}
-use Rattle.history.specs.Memory.{memory_time, is_young}
-use Rattle.history.specs.Arrival.{Arrival}
-use Rattle.history.specs.Firsts.{is_copy, Copied, copied_by, young_of, Kind, a_first, a_repeat, lost, kind_by, kind_of, added, firsts_with, firsts_of, IsCopy, IsNoCopy, IsLatestCopy}
+use Rattle.transactions.specs.Memory.{memory_time, is_young}
+use Rattle.transactions.specs.Arrival.{Arrival}
+use Rattle.transactions.specs.Firsts.{is_copy, Copied, copied_by, young_of, Kind, a_first, a_repeat, lost, kind_by, kind_of, added, firsts_with, firsts_of, IsCopy, IsNoCopy, IsLatestCopy}
 
 -- The test and the fact
 

@@ -1,14 +1,6 @@
-pub mod SearchLaws
-pub mod RecallLaws
 pub mod LookLaws
 pub mod KindLaws
 pub mod AnswerLaws
 pub mod EntryLaws
-pub mod PurgeLaws
 pub mod Computing
-pub mod SpotLaws
-pub mod SpotRecalls
-pub mod CountLaws
-pub mod MarkLaws
-pub mod IndexLaws
 pub mod BareLaws

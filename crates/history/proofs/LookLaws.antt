@@ -3,12 +3,12 @@ use Rattle.std.proofs.Common.{◌≡◌, ℕ, suc, Bool, true, false, ◌==◌, 
 use Rattle.std.specs.Prelude.{option_map, Any, nat_lt}
 use Rattle.std.specs.Option.{option_or}
 use Rattle.std.proofs.lemmas.Option.{none-some}
-use Rattle.history.specs.declared.entry.KeptFirst.{KeptFirst}
-use Rattle.history.specs.declared.entry.Entry.{Entry}
-use Rattle.history.specs.declared.entry.Entry.TheVariants.{First, Confirmation}
-use Rattle.history.specs.Memory.{is_young}
-use Rattle.history.specs.Kept.{firsts_in, young_firsts}
-use Rattle.history.specs.Looking.{repeated, Found, latest, recalled_from, Looked, new, repeat, confirmed, full, told_by, look_of}
+use Rattle.transactions.specs.declared.entry.KeptFirst.{KeptFirst}
+use Rattle.transactions.specs.declared.entry.Entry.{Entry}
+use Rattle.transactions.specs.declared.entry.Entry.TheVariants.{First, Confirmation}
+use Rattle.transactions.specs.Memory.{is_young}
+use Rattle.transactions.specs.Kept.{firsts_in, young_firsts}
+use Rattle.transactions.specs.Looking.{repeated, Found, latest, recalled_from, Looked, new, repeat, confirmed, full, told_by, look_of}
 
 abbrev IsKept : List ℕ → List Entry → Type 0
 IsKept answer entries = Any (λ (first : KeptFirst). first.answer ≡ answer) (firsts_in entries)

@@ -1,14 +1,14 @@
 -- What arrives in the worked examples, and what is kept.
 use Rattle.std.specs.Prelude.{ℕ, List, [], ◌∷◌, Option, Some, None}
-use Rattle.history.specs.declared.span.IdSpan.{IdSpan}
-use Rattle.history.specs.declared.entry.Entry.{Entry}
-use Rattle.history.specs.declared.entry.Entry.TheVariants.{Confirmation}
-use Rattle.history.specs.Memory.{most_firsts}
-use Rattle.history.specs.Arrival.{Arrival}
-use Rattle.history.specs.Firsts.{Kind, kind_of, firsts_of}
-use Rattle.history.specs.Answers.{answers_of}
-use Rattle.history.specs.Kept.{first_entry}
-use Rattle.history.specs.Looking.{Looked, look_of}
+use Rattle.transactions.specs.declared.span.IdSpan.{IdSpan}
+use Rattle.transactions.specs.declared.entry.Entry.{Entry}
+use Rattle.transactions.specs.declared.entry.Entry.TheVariants.{Confirmation}
+use Rattle.transactions.specs.Memory.{most_firsts}
+use Rattle.transactions.specs.Arrival.{Arrival}
+use Rattle.transactions.specs.Firsts.{Kind, kind_of, firsts_of}
+use Rattle.transactions.specs.Answers.{answers_of}
+use Rattle.transactions.specs.Kept.{first_entry}
+use Rattle.transactions.specs.Looking.{Looked, look_of}
 
 -- the ids from one to another
 abbrev pub to : ℕ → ℕ → IdSpan

@@ -3,12 +3,12 @@
 #![tactic(auto, unfolding(crate::proofs::Computing::on_examples))]
 
 ghost use Rattle.std.specs.Prelude.{◌≡◌, ◌++◌, [], ◌∷◌, length};
-ghost use Rattle.history.specs.Memory.{memory_time, most_firsts};
-ghost use Rattle.history.specs.Arrival.{unanswered};
-ghost use Rattle.history.specs.Firsts.{a_first, a_repeat, lost, firsts_of};
-ghost use Rattle.history.specs.Answers.{answers_of};
-ghost use Rattle.history.specs.Kept.{settled_at, kept_with, young_firsts, from_young, entries_of, firsts_in};
-ghost use Rattle.history.specs.Looking.{new, repeat, confirmed, full, look_of};
+ghost use Rattle.transactions.specs.Memory.{memory_time, most_firsts};
+ghost use Rattle.transactions.specs.Arrival.{unanswered};
+ghost use Rattle.transactions.specs.Firsts.{a_first, a_repeat, lost, firsts_of};
+ghost use Rattle.transactions.specs.Answers.{answers_of};
+ghost use Rattle.transactions.specs.Kept.{settled_at, kept_with, young_firsts, from_young, entries_of, firsts_in};
+ghost use Rattle.transactions.specs.Looking.{new, repeat, confirmed, full, look_of};
 ghost use Rattle.history.specs.Example.{to, comes, comes_with, gets, silence, answers, kind_after};
 ghost use Rattle.history.specs.Example.{kept, confirmed_ids, told};
 

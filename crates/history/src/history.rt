@@ -1,24 +1,23 @@
 //! The transactions that an end remembers.
 ghost use Rattle.std.specs.Prelude.{◌≡◌, ◌+◌, ◌≤◌, ℕ, nat_lt, List, [], length, drop, position, Some, option_map, OnOk, OnErr};
-ghost use Rattle.history.specs.declared.entry.Entry.{Entry as KeptEntry};
-ghost use Rattle.history.specs.declared.entry.Entry.TheVariants.{Confirmation};
-ghost use Rattle.history.specs.Memory.{most_firsts};
-ghost use Rattle.history.specs.Kept.{settled_at, first_entry, kept_with};
-ghost use Rattle.history.specs.Kept.{is_young_first, young_firsts, from_young};
-ghost use Rattle.history.specs.Looking.{looked_in, recalled, look_of};
-ghost use Rattle.history.specs.Spots.{recalled_in};
-ghost use Rattle.history.specs.Recalling.{TellsArrival, TellsAlike};
+ghost use Rattle.transactions.specs.declared.entry.Entry.{Entry as KeptEntry};
+ghost use Rattle.transactions.specs.declared.entry.Entry.TheVariants.{Confirmation};
+ghost use Rattle.transactions.specs.Memory.{most_firsts};
+ghost use Rattle.transactions.specs.Kept.{settled_at, first_entry, kept_with};
+ghost use Rattle.transactions.specs.Kept.{is_young_first, young_firsts, from_young};
+ghost use Rattle.transactions.specs.Looking.{looked_in, recalled, look_of};
+ghost use Rattle.transactions.specs.Spots.{recalled_in};
+ghost use Rattle.transactions.specs.Recalling.{TellsArrival, TellsAlike};
 
-use crate::entry::{Entry, KeptFirst, count_firsts, is_young_first};
-use crate::look::Look;
-use crate::recall::{Recollection, count_young_of, has_room, recall_kept};
-use crate::span::IdSpan;
-use crate::spots::{Spots, cut, settle};
 use indexmap::IndexMap;
 use mg_bytes::{OutOfMemory, Sequence, Text};
 use std::alloc::Global;
 use std::marker::Model;
 use std::mem;
+use transactions::{
+    Entry, IdSpan, KeptFirst, Look, Recollection, Spots, count_firsts, count_young_of, cut,
+    has_room, is_young_first, recall_kept, settle,
+};
 
 /// The transactions that an end remembers (RFC 3435, 3.5.1). A contract sees the firsts and confirmations that are kept,
 /// in the order in which they came, and those of them that `undo` leaves.
@@ -58,7 +57,7 @@ impl Drop for History {
 }
 
 impl Model for History {
-    ghost use Rattle.history.specs.Kept.{HistoryState};
+    ghost use Rattle.transactions.specs.Kept.{HistoryState};
 
     ghost Value = { HistoryState };
 
@@ -70,7 +69,7 @@ impl Model for History {
       purged = h.purged;
     } };
 
-    ghost use Rattle.history.specs.Spots.{IsIndexed};
+    ghost use Rattle.transactions.specs.Spots.{IsIndexed};
 
     ghost invariant = { λ h. IsIndexed h.entries.items h.gone h.settled h.spots h.firsts h.reached };
 }
@@ -126,7 +125,7 @@ impl History {
         self.tell(id, now)
     }
 
-    #[tactic(auto, unfolding(crate::specs::Looking::look_of))]
+    #[tactic(auto, unfolding(transactions::specs::Looking::look_of))]
     fn tell(&self, id: u32, now: u64) -> Look<'_>
         ensures { looked_in result ≡ look_of most_firsts self.now.kept id now }
     {

@@ -1,17 +1,17 @@
 //! Laws of transactions, over the whole list of what arrived (RFC 3435, 3.5.1), and of what a history keeps of it.
 ghost use Rattle.std.specs.Prelude.{◌≡◌, ◌≢◌, ◌↔◌, ◌-◌, ◌<◌, ◌≤◌, ◌++◌, ◌∷◌, [], ℕ, List, length, map, fold, All, AllPairs, Any};
 ghost use Rattle.std.specs.Prelude.{Some, None, IfSome};
-ghost use Rattle.history.specs.declared.entry.KeptFirst.{KeptFirst};
-ghost use Rattle.history.specs.declared.entry.Entry.{Entry};
-ghost use Rattle.history.specs.declared.entry.Entry.TheVariants.{Confirmation};
-ghost use Rattle.history.specs.Memory.{memory_time, most_firsts};
-ghost use Rattle.history.specs.Arrival.{Arrival, unanswered};
-ghost use Rattle.history.specs.Firsts.{Copied, a_first, a_repeat, lost, young_of, kind_of, firsts_of};
-ghost use Rattle.history.specs.Firsts.{IsNoCopy, IsLatestCopy};
-ghost use Rattle.history.specs.Answers.{IsConfirmed, IsRepeat, IsSilenced, answer_to, answers_from, answers_of};
-ghost use Rattle.history.specs.Kept.{first_entry, settled_at, kept_with, young_firsts, from_young, firsts_in, AreInOrder};
-ghost use Rattle.history.specs.Looking.{repeat, look_of, told_as};
-ghost use Rattle.history.specs.Recalling.{Recalls, Remembers};
+ghost use Rattle.transactions.specs.declared.entry.KeptFirst.{KeptFirst};
+ghost use Rattle.transactions.specs.declared.entry.Entry.{Entry};
+ghost use Rattle.transactions.specs.declared.entry.Entry.TheVariants.{Confirmation};
+ghost use Rattle.transactions.specs.Memory.{memory_time, most_firsts};
+ghost use Rattle.transactions.specs.Arrival.{Arrival, unanswered};
+ghost use Rattle.transactions.specs.Firsts.{Copied, a_first, a_repeat, lost, young_of, kind_of, firsts_of};
+ghost use Rattle.transactions.specs.Firsts.{IsNoCopy, IsLatestCopy};
+ghost use Rattle.transactions.specs.Answers.{IsConfirmed, IsRepeat, IsSilenced, answer_to, answers_from, answers_of};
+ghost use Rattle.transactions.specs.Kept.{first_entry, settled_at, kept_with, young_firsts, from_young, firsts_in, AreInOrder};
+ghost use Rattle.transactions.specs.Looking.{repeat, look_of, told_as};
+ghost use Rattle.transactions.specs.Recalling.{Recalls, Remembers};
 
 // Of all that arrived
 

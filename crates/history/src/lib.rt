@@ -6,17 +6,9 @@
 //! `laws` joins the two, and `examples` has the definitions at work.
 #![tactic(auto)]
 
-mod entry;
 pub mod examples;
 mod history;
 pub mod laws;
-mod look;
-mod recall;
-mod span;
-mod spots;
 
-pub use crate::entry::{Entry, KeptFirst};
 pub use crate::history::History;
-pub use crate::look::Look;
-pub use crate::recall::MOST_FIRSTS;
-pub use crate::span::IdSpan;
+pub use transactions::{Entry, IdSpan, KeptFirst, Look, MOST_FIRSTS};

@@ -6,7 +6,7 @@ use Rattle.mgcp_text.specs.Confirmation.{k_of}
 use Rattle.mgcp_text.specs.declared.message.Message.TheVariants as messages
 use Rattle.mgcp_text.specs.Reading.{Outcome, message, no_header, bad_version, bad_body, read_text}
 use Rattle.endpoint_names.specs.Name.{name_of}
-use Rattle.history.specs.declared.span.IdSpan.{IdSpan}
+use Rattle.history.specs.IdSpan.{IdSpan}
 use Rattle.history.specs.Span.{is_named}
 use Rattle.history.specs.Memory.{most_firsts}
 use Rattle.history.specs.Looking.{full, look_of}

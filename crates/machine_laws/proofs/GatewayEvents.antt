@@ -13,9 +13,9 @@ use Rattle.mgcp_text.proofs.AnswerLemmas.{answer_writable}
 use Rattle.mgcp_text.proofs.IdLemmas.{IsId, read_id}
 use Rattle.mgcp_text.proofs.RoundLaws.{read_again}
 use Rattle.command_forms.specs.Command.{Command}
-use Rattle.history.specs.declared.entry.KeptFirst.{KeptFirst}
-use Rattle.history.specs.declared.entry.Entry.{Entry}
-use Rattle.history.specs.declared.entry.Entry.TheVariants.{First, Confirmation}
+use Rattle.history.specs.KeptFirst.{KeptFirst}
+use Rattle.history.specs.Entry.{Entry}
+use Rattle.history.specs.Entry.TheVariants.{First, Confirmation}
 use Rattle.history.specs.Memory.{most_firsts}
 use Rattle.history.specs.Kept.{firsts_in}
 use Rattle.history.specs.Looking.{Looked, new, repeat, confirmed, full, look_of}

@@ -25,9 +25,9 @@ use Rattle.mgcp_text.proofs.AnswerLemmas.{answer_writable}
 use Rattle.mgcp_text.proofs.IdLemmas.{IsId, read_id}
 use Rattle.mgcp_text.proofs.WholeLemmas.{whole_written}
 use Rattle.piggyback.proofs.PackingLaws.{joinable-from}
-use Rattle.history.specs.declared.entry.KeptFirst.{KeptFirst}
-use Rattle.history.specs.declared.entry.Entry.{Entry}
-use Rattle.history.specs.declared.entry.Entry.TheVariants.{First, Confirmation}
+use Rattle.history.specs.KeptFirst.{KeptFirst}
+use Rattle.history.specs.Entry.{Entry}
+use Rattle.history.specs.Entry.TheVariants.{First, Confirmation}
 use Rattle.history.specs.Memory.{most_firsts}
 use Rattle.history.specs.Kept.{firsts_in}
 use Rattle.history.specs.Looking.{Looked, new, repeat, confirmed, full, look_of}

@@ -3,7 +3,7 @@ use Rattle.std.proofs.Common.{◌≡◌, ℕ, ◌+◌, ◌<◌, ◌≤◌, true,
 use Rattle.mgcp_text.specs.declared.message.Param.{Param}
 use Rattle.mgcp_text.specs.declared.message.Message.TheVariants as messages
 use Rattle.mgcp_text.specs.Reading.{Outcome, message, no_header, bad_version, bad_body, read_text}
-use Rattle.history.specs.declared.entry.KeptFirst.{KeptFirst}
+use Rattle.history.specs.KeptFirst.{KeptFirst}
 use Rattle.history.specs.Memory.{memory_time}
 use Rattle.machine_laws.proofs.EachLemmas.{Each, one_before, one_of_each, one_to, one_weaker}
 use Rattle.machine_laws.specs.Saying.{Carries, Gives, IsAnswerTo, Begun, OneOf, Tells, is_command_as}

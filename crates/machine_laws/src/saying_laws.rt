@@ -1,6 +1,6 @@
 //! What a gateway says, and for how long.
 ghost use Rattle.std.specs.Prelude.{◌≡◌, ◌≢◌, ◌≤◌, ◌<◌, ◌++◌, ◌∷◌, ℕ, List, All, AllPairs, Some, true};
-ghost use Rattle.history.specs.declared.entry.KeptFirst.{KeptFirst};
+ghost use Rattle.transactions.specs.declared.entry.KeptFirst.{KeptFirst};
 ghost use Rattle.history.specs.Kept.{firsts_in};
 ghost use Rattle.plain_machine.specs.declared.setup.Setup.{Setup};
 ghost use Rattle.plain_machine.specs.declared.endpoint.Endpoint.{Endpoint};

@@ -9,9 +9,9 @@ use Rattle.mgcp_text.specs.Answer.{plain_code, response_of}
 use Rattle.mgcp_text.specs.Writing.{written}
 use Rattle.mgcp_text.specs.Confirmation.{k_of}
 use Rattle.mgcp_text.specs.declared.confirmation.KValue.{KValue}
-use Rattle.history.specs.declared.span.IdSpan.{IdSpan}
-use Rattle.history.specs.declared.entry.Entry.{Entry}
-use Rattle.history.specs.declared.entry.Entry.TheVariants.{First, Confirmation}
+use Rattle.history.specs.IdSpan.{IdSpan}
+use Rattle.history.specs.Entry.{Entry}
+use Rattle.history.specs.Entry.TheVariants.{First, Confirmation}
 use Rattle.history.specs.Memory.{most_firsts}
 use Rattle.history.specs.Looking.{Looked, look_of}
 use Rattle.transmission.specs.Confirming.{spans_of}

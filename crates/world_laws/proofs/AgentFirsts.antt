@@ -8,7 +8,7 @@ use Rattle.std.specs.declared.net.socket_addr.SocketAddrV4.{SocketAddrV4}
 use Rattle.mgcp_text.specs.declared.message.Param.{Param}
 use Rattle.mgcp_text.specs.declared.message.Message.TheVariants as messages
 use Rattle.mgcp_text.specs.Reading.{Outcome, message, no_header, bad_version, bad_body, read_text}
-use Rattle.history.specs.declared.entry.Entry.{Entry}
+use Rattle.history.specs.Entry.{Entry}
 use Rattle.history.specs.Arrival.{Arrival, unanswered}
 use Rattle.history.specs.Memory.{most_firsts}
 use Rattle.history.specs.Firsts.{Kind, a_first, a_repeat, lost, kind_of, added, firsts_of}
@@ -16,7 +16,7 @@ use Rattle.history.specs.Answers.{is_confirmed}
 use Rattle.history.specs.Kept.{entries_of, entries_of_first}
 use Rattle.history.specs.Looking.{Looked, new, repeat, confirmed, full, look_of, told_as}
 use Rattle.history.specs.Recalling.{Remembers}
-use Rattle.history.proofs.RecallLaws.{recalls_itself}
+use Rattle.transactions.proofs.RecallLaws.{recalls_itself}
 use Rattle.history.proofs.EntryLaws.{remembers_tells}
 use Rattle.outbound.specs.declared.reply.Reply.{Reply}
 use Rattle.outbound.specs.declared.reply.Reply.TheVariants.{Answered, Provisional, Stranger}

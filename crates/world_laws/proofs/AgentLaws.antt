@@ -23,9 +23,9 @@ use Rattle.mgcp_text.proofs.RoundLaws.{read_again}
 use Rattle.mgcp_text.proofs.WholeLemmas.{whole_written}
 use Rattle.piggyback.proofs.PackingLaws.{joinable-from}
 use Rattle.piggyback.specs.Packing.{is_joinable}
-use Rattle.history.specs.declared.entry.KeptFirst.{KeptFirst}
-use Rattle.history.specs.declared.entry.Entry.{Entry}
-use Rattle.history.specs.declared.entry.Entry.TheVariants.{First, Confirmation}
+use Rattle.history.specs.KeptFirst.{KeptFirst}
+use Rattle.history.specs.Entry.{Entry}
+use Rattle.history.specs.Entry.TheVariants.{First, Confirmation}
 use Rattle.history.specs.Kept.{first_entry, firsts_in}
 use Rattle.machine_laws.proofs.YoungLemmas.{repeat_gives}
 use Rattle.history.specs.Memory.{most_firsts}

@@ -3,7 +3,7 @@ use Rattle.std.proofs.Common.{◌≡◌, ◌≢◌, ℕ, ◌<◌, ◌^◌, true,
 use Rattle.std.specs.Prelude.{is_none}
 use Rattle.std.proofs.lemmas.Bool.{and_parts}
 use Rattle.history.specs.Recalling.{Recalls}
-use Rattle.history.proofs.RecallLaws.{recalls_back, recalls_through}
+use Rattle.transactions.proofs.RecallLaws.{recalls_back, recalls_through}
 use Rattle.plain_machine.specs.declared.setup.Setup.{Setup}
 use Rattle.plain_machine.specs.declared.refusal.Refusal.{Refusal}
 use Rattle.plain_machine.specs.Event.{datagram, phone, tick}

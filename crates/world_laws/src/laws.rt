@@ -4,7 +4,7 @@ ghost use Rattle.std.specs.declared.net.socket_addr.SocketAddrV4.{SocketAddrV4};
 ghost use Rattle.mgcp_text.specs.declared.message.Message.TheVariants as messages;
 ghost use Rattle.mgcp_text.specs.declared.message.Param.{Param};
 ghost use Rattle.mgcp_text.specs.Reading.{message, read_text};
-ghost use Rattle.history.specs.declared.entry.KeptFirst.{KeptFirst};
+ghost use Rattle.transactions.specs.declared.entry.KeptFirst.{KeptFirst};
 ghost use Rattle.history.specs.Kept.{firsts_in};
 ghost use Rattle.outbound.specs.declared.reply.Reply.TheVariants.{Answered};
 ghost use Rattle.outbound.specs.Flight.{InFlight, repeat_of, reply_of};

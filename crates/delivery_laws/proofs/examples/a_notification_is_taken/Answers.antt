@@ -1,6 +1,6 @@
 use Rattle.std.proofs.Common.{◌≡◌, true, List, [], ◌∷◌, ◌++◌, codes, inl, refl}
-use Rattle.history.specs.declared.entry.Entry.{Entry}
-use Rattle.history.specs.declared.entry.Entry.TheVariants.{Confirmation}
+use Rattle.history.specs.Entry.{Entry}
+use Rattle.history.specs.Entry.TheVariants.{Confirmation}
 use Rattle.history.specs.Looking.{confirms}
 use Rattle.machine_laws.proofs.EachLemmas.{any_from_one}
 use Rattle.plain_machine.specs.Example.{two_lines}

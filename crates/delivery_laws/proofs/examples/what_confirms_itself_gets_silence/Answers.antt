@@ -1,5 +1,5 @@
 use Rattle.std.proofs.Common.{◌≡◌, true, List, [], ◌∷◌, ◌++◌, drop, codes, inl, refl}
-use Rattle.history.specs.declared.entry.Entry.{Entry}
+use Rattle.history.specs.Entry.{Entry}
 use Rattle.history.specs.Looking.{confirms}
 use Rattle.machine_laws.proofs.EachLemmas.{any_from_one}
 use Rattle.agent_core.specs.World.{delivering, plain_world}

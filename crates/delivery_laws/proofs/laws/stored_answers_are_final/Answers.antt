@@ -1,5 +1,5 @@
 use Rattle.std.proofs.Common.{ℕ}
-use Rattle.history.specs.declared.entry.KeptFirst.{KeptFirst}
+use Rattle.history.specs.KeptFirst.{KeptFirst}
 use Rattle.history.specs.Memory.{most_firsts}
 use Rattle.history.specs.Firsts.{firsts_of}
 use Rattle.plain_machine.specs.Transactions.{commands_of}

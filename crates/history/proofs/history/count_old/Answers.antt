@@ -1,4 +1,4 @@
-use Rattle.history.proofs.SearchLaws.{from_young_at, from_young_none}
+use Rattle.transactions.proofs.SearchLaws.{from_young_at, from_young_none}
 use Rattle.history.proofs.history.count_old.Goals as goal
 
 pub returns-in-Some-clause-rest : goal.returns-in-Some-clause-rest

@@ -1,4 +1,4 @@
-use Rattle.history.proofs.RecallLaws.{young_purged}
+use Rattle.transactions.proofs.RecallLaws.{young_purged}
 use Rattle.history.proofs.laws.a_purge_drops_nothing_young.Goals as goal
 
 pub returns : goal.returns

@@ -1,4 +1,4 @@
-use Rattle.history.proofs.PurgeLaws.{purge_leaves_young}
+use Rattle.transactions.proofs.PurgeLaws.{purge_leaves_young}
 use Rattle.history.proofs.laws.a_purge_leaves_young_firsts.Goals as goal
 
 pub returns : goal.returns

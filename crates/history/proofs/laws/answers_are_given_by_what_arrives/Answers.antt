@@ -1,4 +1,4 @@
-use Rattle.history.specs.Firsts.{firsts_of}
+use Rattle.transactions.specs.Firsts.{firsts_of}
 use Rattle.history.proofs.AnswerLaws.{first_answer, stored, silence, lost_answer}
 use Rattle.history.proofs.laws.answers_are_given_by_what_arrives.Goals as goal
 

@@ -1,4 +1,4 @@
-use Rattle.history.specs.Firsts.{firsts_of}
+use Rattle.transactions.specs.Firsts.{firsts_of}
 use Rattle.history.proofs.KindLaws.{kind_first, kind_repeat, kind_lost, one_copy}
 use Rattle.history.proofs.laws.each_arrival_is_a_first_a_repeat_or_lost.Goals as goal
 

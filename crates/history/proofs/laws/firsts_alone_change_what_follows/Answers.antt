@@ -1,5 +1,5 @@
 use Rattle.std.proofs.Common.{◌∙◌, ◌∷◌, []}
-use Rattle.history.specs.Firsts.{firsts_of}
+use Rattle.transactions.specs.Firsts.{firsts_of}
 use Rattle.history.proofs.KindLaws.{firsts_grow, firsts_on, firsts_with_first, firsts_with_no_first, firsts_without}
 use Rattle.history.proofs.AnswerLaws.{answers_go_on, answers_without}
 use Rattle.history.proofs.laws.firsts_alone_change_what_follows.Goals as goal

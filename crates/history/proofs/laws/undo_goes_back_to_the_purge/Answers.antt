@@ -1,5 +1,5 @@
-use Rattle.history.specs.Kept.{settled_at}
-use Rattle.history.proofs.PurgeLaws.{still_settled, still_purged}
+use Rattle.transactions.specs.Kept.{settled_at}
+use Rattle.transactions.proofs.PurgeLaws.{still_settled, still_purged}
 use Rattle.history.proofs.laws.undo_goes_back_to_the_purge.Goals as goal
 
 pub returns-clause-settled : goal.returns-clause-settled

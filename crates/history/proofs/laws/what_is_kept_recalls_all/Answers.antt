@@ -1,4 +1,4 @@
-use Rattle.history.proofs.RecallLaws.{recalls_itself, recalls_entry, recalls_purged, recalls_later, recalls_through, recalls_look}
+use Rattle.transactions.proofs.RecallLaws.{recalls_itself, recalls_entry, recalls_purged, recalls_later, recalls_through, recalls_look}
 use Rattle.history.proofs.laws.what_is_kept_recalls_all.Goals as goal
 
 pub returns-clause-itself : goal.returns-clause-itself

@@ -1,5 +1,5 @@
 use Rattle.std.proofs.Common.{[]}
-use Rattle.history.proofs.RecallLaws.{recalls_itself}
+use Rattle.transactions.proofs.RecallLaws.{recalls_itself}
 use Rattle.history.proofs.EntryLaws.{remembers_tells, remembers_first, remembers_plain_first, remembers_no_first}
 use Rattle.history.proofs.laws.what_is_kept_tells_what_arrives.Goals as goal
 

@@ -1,5 +1,5 @@
 use Rattle.std.proofs.Common.{refl, arith}
-use Rattle.history.proofs.IndexLaws.{one_confirmation}
+use Rattle.transactions.proofs.IndexLaws.{one_confirmation}
 use Rattle.history.proofs.history.History.confirm.Goals as goal
 
 pub invariant_of-self-2 : goal.invariant_of-self-2

@@ -1,5 +1,5 @@
 use Rattle.std.proofs.Common.{◌∙◌}
-use Rattle.history.proofs.IndexLaws.{gone-le, gone_cut, cut_view}
+use Rattle.transactions.proofs.IndexLaws.{gone-le, gone_cut, cut_view}
 use Rattle.history.proofs.history.History.cut_off.Goals as goal
 
 pub drop_front-requires : goal.drop_front-requires

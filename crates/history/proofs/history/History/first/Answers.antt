@@ -1,5 +1,5 @@
 use Rattle.std.proofs.Common.{◌≤◌, length, arith}
-use Rattle.history.proofs.IndexLaws.{firsts-le, one_first}
+use Rattle.transactions.proofs.IndexLaws.{firsts-le, one_first}
 use Rattle.history.proofs.history.History.first.Goals as goal
 
 pub count_first-requires : goal.count_first-requires

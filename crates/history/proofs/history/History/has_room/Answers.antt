@@ -1,7 +1,7 @@
 use Rattle.std.proofs.Common.{List, sym, subst}
-use Rattle.history.specs.declared.entry.Entry.{Entry}
-use Rattle.history.specs.Kept.{firsts_in, AreInOrder}
-use Rattle.history.proofs.IndexLaws.{rest_of, kept_in_order}
+use Rattle.transactions.specs.declared.entry.Entry.{Entry}
+use Rattle.transactions.specs.Kept.{firsts_in, AreInOrder}
+use Rattle.transactions.proofs.IndexLaws.{rest_of, kept_in_order}
 use Rattle.history.proofs.history.History.has_room.Goals as goal
 
 pub has_room-requires-clause-order : goal.has_room-requires-clause-order

@@ -1,5 +1,5 @@
 use Rattle.std.proofs.Common.{◌≤◌, length, refl, arith}
-use Rattle.history.proofs.IndexLaws.{firsts-le, one_of_both}
+use Rattle.transactions.proofs.IndexLaws.{firsts-le, one_of_both}
 use Rattle.history.proofs.history.History.keep.Goals as goal
 
 pub count_first-requires : goal.count_first-requires

@@ -1,5 +1,5 @@
 use Rattle.std.proofs.Common.{◌∙◌}
-use Rattle.history.proofs.CountLaws.{purge_counted}
+use Rattle.transactions.proofs.CountLaws.{purge_counted}
 use Rattle.history.proofs.history.History.len.Goals as goal
 
 pub returns-clause-purged : goal.returns-clause-purged

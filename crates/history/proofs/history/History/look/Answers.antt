@@ -1,4 +1,4 @@
-use Rattle.history.specs.Looking.{looked_in}
+use Rattle.transactions.specs.Looking.{looked_in}
 use Rattle.history.proofs.EntryLaws.{tells_arrival}
 use Rattle.history.proofs.history.History.look.Goals as goal
 

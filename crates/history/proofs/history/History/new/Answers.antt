@@ -1,4 +1,4 @@
-use Rattle.history.proofs.IndexLaws.{nothing_indexed}
+use Rattle.transactions.proofs.IndexLaws.{nothing_indexed}
 use Rattle.history.proofs.history.History.new.Goals as goal
 
 pub invariant_of-result : goal.invariant_of-result

@@ -1,6 +1,6 @@
 use Rattle.std.proofs.Common.{◌≤◌, length, drop, ap, sym, arith, ◌∙◌}
-use Rattle.history.specs.Kept.{HistoryState}
-use Rattle.history.proofs.IndexLaws.{rest_of, front_counted, passed-le, all_in, old_passed}
+use Rattle.transactions.specs.Kept.{HistoryState}
+use Rattle.transactions.proofs.IndexLaws.{rest_of, front_counted, passed-le, all_in, old_passed}
 use Rattle.history.proofs.history.History.pass_old.Goals as goal
 
 pub overflow_sub-self : goal.overflow_sub-self

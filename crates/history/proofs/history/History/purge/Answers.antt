@@ -1,6 +1,6 @@
 use Rattle.std.proofs.Common.{ap, ◌∙◌}
-use Rattle.history.specs.Kept.{HistoryState, from_young}
-use Rattle.history.proofs.PurgeLaws.{purged_tells}
+use Rattle.transactions.specs.Kept.{HistoryState, from_young}
+use Rattle.transactions.proofs.PurgeLaws.{purged_tells}
 use Rattle.history.proofs.history.History.purge.Goals as goal
 
 pub returns-clause-told : goal.returns-clause-told

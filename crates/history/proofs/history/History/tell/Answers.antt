@@ -1,5 +1,5 @@
 use Rattle.std.proofs.Common.{rules}
-use Rattle.history.specs.Looking.{look_of}
+use Rattle.transactions.specs.Looking.{look_of}
 use Rattle.history.proofs.history.History.tell.Goals as goal
 
 pub returns-in-Some : goal.returns-in-Some

@@ -1,5 +1,5 @@
 use Rattle.std.proofs.Common.{arith}
-use Rattle.history.proofs.IndexLaws.{rest_counted, since_counted, undone}
+use Rattle.transactions.proofs.IndexLaws.{rest_counted, since_counted, undone}
 use Rattle.history.proofs.history.History.undo.Goals as goal
 
 pub overflow_sub-self : goal.overflow_sub-self

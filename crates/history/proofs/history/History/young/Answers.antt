@@ -1,7 +1,7 @@
 use Rattle.std.proofs.Common.{List, sym, subst}
-use Rattle.history.specs.declared.entry.Entry.{Entry}
-use Rattle.history.specs.Kept.{firsts_in, AreInOrder}
-use Rattle.history.proofs.IndexLaws.{rest_of, kept_in_order}
+use Rattle.transactions.specs.declared.entry.Entry.{Entry}
+use Rattle.transactions.specs.Kept.{firsts_in, AreInOrder}
+use Rattle.transactions.proofs.IndexLaws.{rest_of, kept_in_order}
 use Rattle.history.proofs.history.History.young.Goals as goal
 
 pub count_young_of-requires-clause-order : goal.count_young_of-requires-clause-order
