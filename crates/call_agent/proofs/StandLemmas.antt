@@ -16,14 +16,15 @@ use Rattle.transmission.specs.Packing.{packed, packed_after}
 use Rattle.transmission.specs.Texts.{texts_of}
 use Rattle.transmission.specs.Transacting.{message_to}
 use Rattle.call_agent.specs.declared.setup.AgentSetup.{AgentSetup}
-use Rattle.call_agent.specs.declared.state.Answered.{Answered}
+use Rattle.outbound.specs.declared.issued.Answered.{Answered}
 use Rattle.call_agent.specs.declared.state.State.{State}
 use Rattle.call_agent.specs.Agent.{AgentMachine, AgentEffect, FinalAnswer, agent_opening, answer_for, observed_on}
 use Rattle.call_agent.specs.Flying.{first_flight, if_due}
 use Rattle.call_agent.specs.Issuing.{command_text, is_good, greatest_id, issued, issue_refusal}
 use Rattle.call_agent.specs.Hearing.{AgentEvent, issues, hears, agent_after, agent_effect, agent_refusal, event_refused, issue_refused, hearing_refusal, agent_takes_none, AgentEnds, plain_agent}
 use Rattle.call_agent.specs.AgentAlike.{AgentAlike}
-use Rattle.call_agent.specs.State.{final_of, answer_in, answered_with, kept_in, purged_in, AllOr, GoesOnAs}
+use Rattle.outbound.specs.Issued.{answered_with}
+use Rattle.call_agent.specs.State.{final_of, answer_in, kept_in, purged_in, AllOr, GoesOnAs}
 use Rattle.call_agent.specs.AgentStands.{AgentState, agent_takes, AgentStands, AgentTook, AgentStays, IsAgentSound}
 use Rattle.call_agent.proofs.EventLemmas.{after_on}
 use Rattle.call_agent.proofs.AgentStands.{effect_alike}

@@ -6,7 +6,7 @@ use Rattle.piggyback.specs.Packing.{is_joinable}
 use Rattle.endpoint_names.specs.declared.route.Route.TheVariants.{One}
 use Rattle.outbound.specs.Flight.{sent_first}
 use Rattle.transmission.specs.Texts.{largest_datagram}
-use Rattle.machine_laws.specs.Saying.{is_command_as}
+use Rattle.outbound.specs.Issued.{is_command_as}
 use Rattle.transmission.specs.Transacting.{message_to}
 use Rattle.call_agent.specs.declared.issuing.IssueFault.{IssueFault}
 use Rattle.call_agent.specs.declared.issuing.IssueFault.TheVariants as faults

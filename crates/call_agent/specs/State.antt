@@ -1,5 +1,5 @@
 -- What changes in an agent, and what a piece of work does to it.
-use Rattle.std.specs.Prelude.{◌≡◌, ◌==◌, ℕ, List, [], ◌++◌, map, find, option_map, Option, Result, Ok, Err}
+use Rattle.std.specs.Prelude.{◌≡◌, ℕ, List, [], ◌++◌, map, Result, Ok, Err}
 use Rattle.std.specs.Global.{Vec}
 use Rattle.std.specs.declared.alloc.AllocError.{AllocError}
 use Rattle.event_values.specs.declared.observed.Observed.{Observed}
@@ -9,8 +9,8 @@ use Rattle.outbound.specs.Flight.{InFlight}
 use Rattle.transmission.specs.declared.output.OutDatagram.{OutDatagram}
 use Rattle.transmission.specs.Packing.{packed}
 use Rattle.plain_machine.specs.declared.refusal.Refusal.{Refusal}
-use Rattle.call_agent.specs.declared.state.Answer.{Answer}
-use Rattle.call_agent.specs.declared.state.Answered.{Answered}
+use Rattle.outbound.specs.declared.issued.Answer.{Answer}
+use Rattle.outbound.specs.declared.issued.Answered.{Answered}
 use Rattle.call_agent.specs.declared.state.State.{State}
 use Rattle.call_agent.specs.Growing.{Grown}
 use Rattle.call_agent.specs.Flying.{Flown}
@@ -108,7 +108,3 @@ abbrev pub Flies : {A : Type 0} → Result A AllocError → Flown → Grown InFl
     → List OutDatagram → Type 0
 Flies (Ok x) passage was is were are = FlewOn passage was is were are
 Flies (Err fault) passage was is were are = is.found ≡ was.found
-
--- the answer to the command with this id, once there is one
-abbrev pub answered_with : ℕ → List Answered → Option Answer
-answered_with id answers = option_map (λ one. one.answer) (find (λ one. one.id == id) answers)

@@ -1,17 +1,17 @@
 //! The call agent.
-ghost use Rattle.std.specs.Prelude.{◌≡◌, ◌≤◌, ◌∷◌, [], List, find, option_map, option_copied, IfOk, OnErr};
+ghost use Rattle.std.specs.Prelude.{◌≡◌, ◌≤◌, ◌∷◌, [], List, option_map, option_copied, IfOk, OnErr};
 ghost use Rattle.std.specs.Result.{result_err};
 ghost use Rattle.plain_machine.specs.Event.{event_of};
 ghost use Rattle.call_agent.specs.Agent.{answer_for, observed_on};
 ghost use Rattle.flights.specs.Choosing.{first_flight};
 ghost use Rattle.call_agent.specs.Issuing.{issue_refusal};
 ghost use Rattle.call_agent.specs.Hearing.{AgentEvent, AgentEnds, issues, hears, plain_agent};
-ghost use Rattle.call_agent.specs.State.{answer_in, answered_with};
+ghost use Rattle.call_agent.specs.State.{answer_in};
 ghost use Rattle.call_agent.specs.AgentStands.{AgentStands, AgentTook, AgentStays, IssueEnds};
 
 use crate::issuing::{GREATEST_ID, IssueFault, Issued, command_text, is_good};
 use crate::setup::AgentSetup;
-use crate::state::{Answer, Answered, Context, State};
+use crate::state::{Context, State};
 use crate::told::TakenEvents;
 use crate::working::step_state;
 use endpoint_names::Route;
@@ -20,7 +20,7 @@ use flights::{Flights, Growing};
 use history::History;
 use mg_bytes::{OutOfMemory, Text};
 use mgcp_text::TransactionId;
-use outbound::Pending;
+use outbound::{Answer, Pending, answer_with};
 use plain_machine::{Event, OutDatagram, Outputs, Refusal};
 use std::alloc::Global;
 use std::marker::Model;
@@ -58,14 +58,6 @@ impl Model for Agent {
     ghost view = { λ a. record { setup = a.setup; machine = kept_in a.state } };
 
     ghost invariant = { λ a. IsAgentSound a.setup (kept_in a.state) };
-}
-
-// The answer to the command with this id.
-fn answer_with(answers: &[Answered], id: u32) -> Option<&Answer>
-    ensures { option_copied result ≡ answered_with id answers.now }
-{
-    let one = answers.iter().find(|one| one.id == id)?;
-    Some(&one.answer)
 }
 
 impl Agent {

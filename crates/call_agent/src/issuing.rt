@@ -1,11 +1,12 @@
 //! How a command is issued (RFC 3435, 3.2.1 and 3.5.3), and why it isn't.
 ghost use Rattle.std.specs.Prelude.{◌≡◌, ◌≤◌, ◌<◌, ◌^◌, IfOk};
-ghost use Rattle.mgcp_text.specs.Reading.{message, read_text};
-ghost use Rattle.machine_laws.specs.Saying.{is_command_as};
+ghost use Rattle.mgcp_text.specs.Reading.{read_text};
+ghost use Rattle.outbound.specs.Issued.{is_command_as};
 ghost use Rattle.call_agent.specs.Issuing.{command_text, is_good};
 
 use mg_bytes::{OutOfMemory, Text, put_decimal};
-use mgcp_text::{Message, TextFault, TransactionId, read_message};
+use mgcp_text::{TextFault, TransactionId, read_message};
+use outbound::is_command_with;
 use piggyback::is_joinable;
 use plain_machine::OutDatagram;
 use std::alloc::{AllocError, Global};
@@ -73,20 +74,6 @@ pub(crate) fn command_text(
     text.extend_from_slice(b" MGCP 1.0\r\n")?;
     text.extend_from_slice(rest)?;
     Ok(Text::of(text))
-}
-
-// Whether a message is a command with this id and this name.
-fn is_command_with(id: TransactionId, name: &[u8], said: &Message<'_>) -> bool
-    ensures { result ≡ is_command_as id name.now (message said.now) }
-{
-    match said {
-        Message::Command {
-            id: other,
-            name: of,
-            ..
-        } => other.number() == id.number() && of.as_slice() == name,
-        Message::Response { .. } => false,
-    }
 }
 
 // Whether a text is read as a command with this id and this name.

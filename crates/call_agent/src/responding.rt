@@ -6,10 +6,10 @@ ghost use Rattle.flights.specs.Choosing.{has_id};
 ghost use Rattle.call_agent.specs.Responding.{replied, responded_to};
 ghost use Rattle.call_agent.specs.State.{kept_in, found_in};
 
-use crate::state::{Answer, Answered, Context, State};
+use crate::state::{Context, State};
 use mg_bytes::{OutOfMemory, Text};
 use mgcp_text::TransactionId;
-use outbound::Reply;
+use outbound::{Answer, Answered, Reply};
 
 // A final response lands the command with this id: it is its answer.
 fn land(

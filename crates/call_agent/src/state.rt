@@ -4,24 +4,8 @@ use crate::setup::AgentSetup;
 use crate::told::TakenEvents;
 use flights::{Flights, Growing};
 use history::History;
-use mg_bytes::Text;
+use outbound::Answered;
 use std::alloc::Global;
-
-/// The answer to a command of the agent's.
-#[derive(Drop)]
-pub struct Answer {
-    /// Its return code.
-    pub code: u16,
-    /// Its whole text.
-    pub text: Text,
-}
-
-/// The answer to the command with this id.
-#[derive(Drop)]
-pub(crate) struct Answered {
-    pub id: u32,
-    pub answer: Answer,
-}
 
 /// What changes in an agent: the clock, the next id, the commands in flight, the answers, what was told of each line, and
 /// the history of transactions.

@@ -31,7 +31,8 @@ use Rattle.plain_machine.specs.Event.{datagram, phone, tick}
 use Rattle.machine_laws.proofs.EachLemmas.{Each, each_back, each_both, each_weaker, one_from_any, one_of_each, one_to}
 use Rattle.machine_laws.proofs.FlightLemmas.{IsSame}
 use Rattle.machine_laws.proofs.MessageLaws.{code_is}
-use Rattle.machine_laws.specs.Saying.{Begun, is_command_as}
+use Rattle.outbound.specs.Issued.{is_command_as}
+use Rattle.machine_laws.specs.Saying.{Begun}
 use Rattle.call_agent.specs.declared.setup.AgentSetup.{AgentSetup}
 use Rattle.call_agent.specs.Agent.{AgentMachine, agent_opening}
 use Rattle.call_agent.specs.Flying.{Flown, first_flight, flown_on, fly_on, has_id, if_due, pass, passed}

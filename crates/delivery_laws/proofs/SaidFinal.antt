@@ -32,7 +32,8 @@ use Rattle.plain_machine.specs.Happening.{effect}
 use Rattle.plain_machine.specs.Refusing.{refusal_of}
 use Rattle.plain_machine.proofs.EffectLaws.{handled_now}
 use Rattle.machine_laws.specs.Owning.{acknowledging}
-use Rattle.machine_laws.specs.Saying.{Begun, Carries, begun_in, is_command_as}
+use Rattle.outbound.specs.Issued.{is_command_as}
+use Rattle.machine_laws.specs.Saying.{Begun, Carries, begun_in}
 use Rattle.machine_laws.proofs.EachLemmas.{Each, each_both, each_weaker, one_from_any, one_of_each, one_to}
 use Rattle.machine_laws.proofs.GatewayEvents.{EndpointsStand, GatewayHolds, tick_on}
 use Rattle.machine_laws.proofs.GatewayTurns.{OwnStands, LineStands, log_turns}

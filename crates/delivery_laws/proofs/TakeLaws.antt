@@ -16,7 +16,8 @@ use Rattle.endpoint_names.specs.Route.{at}
 use Rattle.plain_machine.specs.declared.setup.Setup.{Setup}
 use Rattle.plain_machine.specs.Setup.{IsSetUp}
 use Rattle.plain_machine.specs.Event.{datagram}
-use Rattle.machine_laws.specs.Saying.{Begun, OneOf, is_command_as}
+use Rattle.outbound.specs.Issued.{is_command_as}
+use Rattle.machine_laws.specs.Saying.{Begun, OneOf}
 use Rattle.machine_laws.proofs.EachLemmas.{any_from_one, one_from_any, one_mapped, one_of_each, one_to, one_unmapped, one_weaker}
 use Rattle.machine_laws.proofs.PostLogs.{WasBegun}
 use Rattle.machine_laws.proofs.TellsLemmas.{IsAnsweredBy}

@@ -23,7 +23,8 @@ use Rattle.outbound.specs.Flight.{InFlight, reply_of, heard}
 use Rattle.transmission.specs.declared.output.OutDatagram.{OutDatagram}
 use Rattle.transmission.specs.Confirming.{spans_of}
 use Rattle.transmission.specs.Transacting.{message_to}
-use Rattle.machine_laws.specs.Saying.{OneOf, is_command_as}
+use Rattle.outbound.specs.Issued.{is_command_as}
+use Rattle.machine_laws.specs.Saying.{OneOf}
 use Rattle.machine_laws.proofs.EachLemmas.{one_before, one_behind}
 use Rattle.machine_laws.proofs.TellsLemmas.{IsAnsweredBy}
 use Rattle.call_agent.specs.declared.setup.AgentSetup.{AgentSetup}

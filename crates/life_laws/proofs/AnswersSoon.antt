@@ -23,7 +23,8 @@ use Rattle.outbound.specs.declared.repeat.Repeat.{Repeat}
 use Rattle.outbound.specs.declared.repeat.Repeat.TheVariants.{GivenUp, Sent as SentAgain}
 use Rattle.outbound.specs.Flight.{InFlight, repeat_of, repeated}
 use Rattle.outbound.proofs.LifeLaws.{repeat_same}
-use Rattle.machine_laws.specs.Saying.{Begun, OneOf, is_command_as}
+use Rattle.outbound.specs.Issued.{is_command_as}
+use Rattle.machine_laws.specs.Saying.{Begun, OneOf}
 use Rattle.machine_laws.proofs.FlightLemmas.{IsSame}
 use Rattle.machine_laws.proofs.EachLemmas.{Each, each_both, each_unflat, each_unmapped, each_weaker, one_before, one_behind, one_of_each, one_to, one_weaker}
 use Rattle.machine_laws.proofs.TellsLemmas.{IsCommand, IsGivenBy, id_of}

@@ -52,7 +52,8 @@ use Rattle.plain_machine.specs.Posting.{given_up, id_on, numbers, repeated_as, r
 use Rattle.plain_machine.specs.Requesting.{asked_if, deed_on, with_connections, with_entity}
 use Rattle.plain_machine.specs.Responding.{opened_on, redirected_on, responded_as, responded_on}
 use Rattle.plain_machine.specs.Setup.{IsSetUp, most_lines}
-use Rattle.machine_laws.specs.Saying.{Begun, OneOf, is_command_as}
+use Rattle.outbound.specs.Issued.{is_command_as}
+use Rattle.machine_laws.specs.Saying.{Begun, OneOf}
 use Rattle.machine_laws.proofs.AnnouncementLemmas.{announcement_writable}
 use Rattle.machine_laws.proofs.CommandLaws.{OwnSound, Sound, asked_if_done, noted_sound, own_responded_sound, responded_sound, sound_own_turns, sound_turns}
 use Rattle.machine_laws.proofs.EachLemmas.{Each, each_push, one_before, one_behind, one_weaker}

@@ -17,7 +17,8 @@ use Rattle.plain_machine.specs.Happening.{effect}
 use Rattle.plain_machine.specs.Packing.{put_out}
 use Rattle.plain_machine.specs.Setup.{IsSetUp}
 use Rattle.plain_machine.specs.Transactions.{asked_as}
-use Rattle.machine_laws.specs.Saying.{Begun, OneOf, is_command_as}
+use Rattle.outbound.specs.Issued.{is_command_as}
+use Rattle.machine_laws.specs.Saying.{Begun, OneOf}
 use Rattle.machine_laws.proofs.EachLemmas.{Each, all_from_each, any_from_one, each_at, each_both, each_flat, each_mapped, each_weaker, one_mapped, one_of_each, one_weaker}
 use Rattle.machine_laws.proofs.TellsLemmas.{IsCommand}
 use Rattle.call_agent.specs.Hearing.{AgentEvent, agent_effect, hears, issues}

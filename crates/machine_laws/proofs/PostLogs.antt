@@ -43,7 +43,8 @@ use Rattle.machine_laws.proofs.EachLemmas.{Each, EachAfter, all_from_each, each_
 use Rattle.machine_laws.proofs.KeepLemmas.{EffectKeeps, silent_keeps}
 use Rattle.machine_laws.proofs.FlightLemmas.{IsSame}
 use Rattle.machine_laws.specs.Numbering.{start_on, IsBehind, IsInTurn, IsTaken}
-use Rattle.machine_laws.specs.Saying.{Carries, Begun, OneOf, count_of, is_command_as}
+use Rattle.outbound.specs.Issued.{is_command_as}
+use Rattle.machine_laws.specs.Saying.{Carries, Begun, OneOf, count_of}
 
 -- a command of a gateway's own: it is read as a command with its id, and began by this moment
 pub record WasBegun (until : ℕ) (one : Begun) : Type 0 where

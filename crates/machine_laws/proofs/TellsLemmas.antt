@@ -6,7 +6,8 @@ use Rattle.mgcp_text.specs.Reading.{Outcome, message, no_header, bad_version, ba
 use Rattle.history.specs.KeptFirst.{KeptFirst}
 use Rattle.history.specs.Memory.{memory_time}
 use Rattle.machine_laws.proofs.EachLemmas.{Each, one_before, one_of_each, one_to, one_weaker}
-use Rattle.machine_laws.specs.Saying.{Carries, Gives, IsAnswerTo, Begun, OneOf, Tells, is_command_as}
+use Rattle.outbound.specs.Issued.{is_command_as}
+use Rattle.machine_laws.specs.Saying.{Carries, Gives, IsAnswerTo, Begun, OneOf, Tells}
 
 abbrev pub AreAnswers : List KeptFirst → Type 0
 AreAnswers firsts = Each (λ (first : KeptFirst). IsAnswerTo first.id first.answer) firsts

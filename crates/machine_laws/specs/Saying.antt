@@ -1,9 +1,8 @@
 -- What an end says: commands of its own, answers to the firsts that it keeps, and acknowledgements (RFC 3435, 3.5).
-use Rattle.std.specs.Prelude.{◌≡◌, ◌⊎◌, ℕ, ◌+◌, ◌<◌, ◌≤◌, ◌==◌, ◌&&◌, Bool, false, List, [], ◌∷◌, flat_map, filter, length}
-use Rattle.std.specs.Str.{bytes_eq}
+use Rattle.std.specs.Prelude.{◌≡◌, ◌⊎◌, ℕ, ◌+◌, ◌<◌, ◌≤◌, ◌==◌, List, [], ◌∷◌, flat_map, filter, length}
 use Rattle.mgcp_text.specs.declared.message.Param.{Param}
 use Rattle.mgcp_text.specs.declared.message.Message.TheVariants as messages
-use Rattle.mgcp_text.specs.Reading.{Outcome, message, no_header, bad_version, bad_body, read_text}
+use Rattle.mgcp_text.specs.Reading.{message, read_text}
 use Rattle.mgcp_text.specs.Writing.{written}
 use Rattle.outbound.specs.Sends.{sending_time}
 use Rattle.history.specs.KeptFirst.{KeptFirst}
@@ -16,14 +15,6 @@ pub record Begun : Type 0 where
   pub id : ℕ
   pub moment : ℕ
   pub text : List ℕ
-
--- it was read as a command with this id and this name
-abbrev pub is_command_as : ℕ → List ℕ → Outcome → Bool
-is_command_as id name (message (messages.Command verb other of params body)) = other == id && bytes_eq of name
-is_command_as id name (message (messages.Response code other params body)) = false
-is_command_as id name no_header = false
-is_command_as id name (bad_version other) = false
-is_command_as id name (bad_body other) = false
 
 -- The commands of a gateway's own that begin, each at its first send
 

@@ -6,6 +6,7 @@ use Rattle.endpoint_names.specs.declared.route.Route.TheVariants.{One}
 use Rattle.endpoint_names.specs.RouteExample.{agent_at}
 use Rattle.outbound.specs.declared.repeat.Repeat.{Repeat}
 use Rattle.outbound.specs.declared.repeat.Repeat.TheVariants.{Sent, GivenUp}
+use Rattle.outbound.specs.declared.issued.Answered.{Answered}
 use Rattle.outbound.specs.Sends.{Occasion, Sends}
 use Rattle.outbound.specs.Flight.{InFlight, sent_to, sent_first, repeat_of, repeated}
 
@@ -47,3 +48,7 @@ told zero message = []
 told (suc n) message =
     told_as (repeat_of message message.due) (sent_to (repeated message message.due)) message.due
     (told n (repeated message message.due))
+
+-- a command's answer with this code
+abbrev pub kept_answer : ℕ → ℕ → Answered
+kept_answer id code = record { id = id; answer = record { code = code; text = codes "200 7" } }

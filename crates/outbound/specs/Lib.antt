@@ -1,4 +1,5 @@
 pub mod Sends
 pub mod Flight
 pub mod Life
+pub mod Issued
 pub mod Example

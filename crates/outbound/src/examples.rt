@@ -1,7 +1,10 @@
 //! Worked examples of the definitions, as theorems: each sentence of a definition has one that a slip in it breaks.
 #![tactic(auto, unfolding(crate::proofs::Computing::on_examples))]
 
-ghost use Rattle.std.specs.Prelude.{◌≡◌, [], ◌∷◌, true, false, codes};
+ghost use Rattle.std.specs.Prelude.{◌≡◌, [], ◌∷◌, true, false, codes, Some, None};
+ghost use Rattle.mgcp_text.specs.Reading.{message, no_header};
+ghost use Rattle.mgcp_text.specs.declared.message.Verb.TheVariants as verbs;
+ghost use Rattle.mgcp_text.specs.declared.message.Message.TheVariants as messages;
 ghost use Rattle.endpoint_names.specs.declared.route.Route.TheVariants.{One, Two, Three, Four};
 ghost use Rattle.endpoint_names.specs.RouteExample.{agent_at};
 ghost use Rattle.outbound.specs.declared.repeat.Repeat.TheVariants as repeats;
@@ -9,7 +12,8 @@ ghost use Rattle.outbound.specs.declared.reply.Reply.TheVariants as replies;
 ghost use Rattle.outbound.specs.Sends.{sent, provisional, repeats_in, wait_after, due_of, may_repeat, repeat_at, after_repeat, after_reply};
 ghost use Rattle.outbound.specs.Flight.{Follows, sent_to, repeat_of, repeated, reply_by, reply_of, heard};
 ghost use Rattle.outbound.specs.Life.{falls_due, responds, resent, resent_to, is_answered, IsNoAnswer};
-ghost use Rattle.outbound.specs.Example.{agent, notified_on, notified_at, repeated_times, since, goes_to, goes_out, is_given_up, told};
+ghost use Rattle.outbound.specs.Issued.{is_command_as, answered_with};
+ghost use Rattle.outbound.specs.Example.{agent, notified_on, notified_at, repeated_times, since, goes_to, goes_out, is_given_up, told, kept_answer};
 
 /// Each sentence at an example.
 pub fn each_sentence_has_an_example()
@@ -155,4 +159,20 @@ pub fn more_sentences_have_examples()
     // What is no answer: something falls due, or a response that isn't final comes.
     ensures due_is_no_answer { IsNoAnswer (falls_due 1500) }
     ensures provisional_is_no_answer { IsNoAnswer (responds 10000000 199 1600) }
+{}
+
+/// A message is the command that was issued where it is a command with its id and its name.
+pub fn a_command_is_known_by_its_id_and_its_name()
+    ensures own { is_command_as 7 (codes "x") (message (messages.Command verbs.Auep 7 (codes "x") [] [])) ≡ true }
+    ensures other_id { is_command_as 7 (codes "x") (message (messages.Command verbs.Auep 8 (codes "x") [] [])) ≡ false }
+    ensures other_name { is_command_as 7 (codes "x") (message (messages.Command verbs.Auep 7 (codes "y") [] [])) ≡ false }
+    ensures response { is_command_as 7 (codes "x") (message (messages.Response 200 7 [] [])) ≡ false }
+    ensures unread { is_command_as 7 (codes "x") no_header ≡ false }
+{}
+
+/// A command has the first answer that is kept under its id.
+pub fn a_command_has_the_answer_under_its_id()
+    ensures own { answered_with 7 (kept_answer 6 510 ∷ kept_answer 7 200 ∷ kept_answer 7 400 ∷ [])
+        ≡ Some (record { code = 200; text = codes "200 7" }) }
+    ensures none { answered_with 8 (kept_answer 6 510 ∷ kept_answer 7 200 ∷ []) ≡ None }
 {}

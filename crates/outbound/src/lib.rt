@@ -6,11 +6,13 @@
 #![tactic(auto)]
 
 pub mod examples;
+mod issued;
 pub mod laws;
 mod pending;
 mod repeat;
 mod reply;
 
+pub use crate::issued::{Answer, Answered, answer_with, is_command_with};
 pub use crate::pending::Pending;
 pub use crate::repeat::Repeat;
 pub use crate::reply::Reply;

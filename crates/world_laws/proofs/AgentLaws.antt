@@ -45,7 +45,8 @@ use Rattle.plain_machine.specs.Event.{datagram, phone, tick}
 use Rattle.machine_laws.proofs.EachLemmas.{Each, all_from_each, each_both, each_push, each_weaker, one_before, one_behind, one_of_each, one_to, one_weaker}
 use Rattle.machine_laws.proofs.FlightLemmas.{IsSame}
 use Rattle.machine_laws.proofs.TellsLemmas.{tells_on}
-use Rattle.machine_laws.specs.Saying.{Gives, Carries, IsAnswerTo, Begun, OneOf, Tells, is_command_as}
+use Rattle.outbound.specs.Issued.{is_command_as}
+use Rattle.machine_laws.specs.Saying.{Gives, Carries, IsAnswerTo, Begun, OneOf, Tells}
 use Rattle.transmission.specs.Transacting.{message_to}
 use Rattle.call_agent.specs.declared.setup.AgentSetup.{AgentSetup}
 use Rattle.call_agent.specs.Agent.{AgentEffect, AgentMachine, agent_opening}
