@@ -1,7 +1,7 @@
 //! Worked examples of the definitions, as theorems: each sentence of a definition has one that a slip in it breaks.
 #![tactic(auto, unfolding(crate::proofs::Computing::on_examples))]
 
-ghost use Rattle.std.specs.Prelude.{◌≡◌, codes, replicate, [], ◌∷◌, ◌++◌, Some, None};
+ghost use Rattle.std.specs.Prelude.{◌≡◌, codes, replicate, true, false, [], ◌∷◌, ◌++◌, Some, None};
 ghost use Rattle.mgcp_text.specs.declared.message.Verb.TheVariants.{Rqnt, Ntfy};
 ghost use Rattle.command_forms.specs.declared.refused.FaultyPart.TheVariants.{Value};
 ghost use Rattle.command_forms.specs.Explaining.{explanation_of};
