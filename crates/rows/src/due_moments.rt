@@ -40,13 +40,11 @@ fn put_least(given: &mut Outcome, due: &Due) {
         return given.put(b"-");
     };
     given.put_shown(item.moment);
-    given.put(b" ");
-    given.put_shown(item.line);
+    given.put_behind(b" ", item.line);
     match item.kind {
         DueKind::OfLine(LineDue::DigitTimer) => given.put(b" T"),
         DueKind::OfLine(LineDue::SignalEnd(signal)) => {
-            given.put(b" signal ");
-            given.put_shown(signal as u8);
+            given.put_behind(b" signal ", signal as u8);
         }
         DueKind::Resend => given.put(b" message"),
         DueKind::Announce => given.put(b" announcement"),

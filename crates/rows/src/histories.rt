@@ -125,8 +125,7 @@ fn put_unlike(
         let told = told(held, id, now);
         if told != wanted {
             given.put(told.as_bytes());
-            given.put(b" for ");
-            given.put_shown(id);
+            given.put_behind(b" for ", id);
             return true;
         }
     }
@@ -152,8 +151,7 @@ fn put_come(held: &mut HistoryScenario, given: &mut Outcome, run: Run, id: u32) 
     let kept = held.history.len();
     if kept > run.most as usize {
         given.put_shown(kept);
-        given.put(b" at ");
-        given.put_shown(now);
+        given.put_behind(b" at ", now);
         return true;
     }
     let alone = IdSpan {

@@ -22,7 +22,7 @@ use acts::{ACTS, due_of};
 use mg_bytes::OutOfMemory;
 use mg_line::Line;
 use parameters::request_of;
-use scenario_files::{Outcome, Row, Scenario};
+use scenario_files::{Outcome, Row, Scenario, parted};
 use shown::{put_notice, put_state};
 use std::alloc::Global;
 
@@ -91,7 +91,7 @@ fn go_on(held: &mut LineScenario, row: &mut Row<'_>, moment: u64)
     requires { moment < 2 ^ 62 }
 {
     let words = row.before("  ");
-    let (word, what) = words.split_once(' ').unwrap_or((words, ""));
+    let (word, what) = parted(words, " ");
     match word {
         "asks" => ask(held, row, moment),
         "idles" => act(held, &mut row.given, what, moment, false),
@@ -104,7 +104,7 @@ fn go_on(held: &mut LineScenario, row: &mut Row<'_>, moment: u64)
 
 // What the line says to a question, by its hook state or its request.
 fn put_answer(held: &LineScenario, given: &mut Outcome, question: &str) {
-    let (word, act) = question.split_once(' ').unwrap_or((question, ""));
+    let (word, act) = parted(question, " ");
     match named(&ACTS, act) {
         Some(act) if word == "takes" => given.put_judged(held.line.takes(act)),
         Some(act) if word == "heeds" => given.put_judged(held.line.heeds(act)),

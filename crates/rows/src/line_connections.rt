@@ -29,10 +29,7 @@ fn put_description(given: &mut Outcome, description: &Session) {
         return given.refuse();
     };
     let lines = words_of(text.as_bytes()).trim_end();
-    match lines.replace(given.alloc, "\r\n", "  ") {
-        Ok(fields) => given.put(fields.as_bytes()),
-        Err(_) => given.refuse(),
-    }
+    given.put_made(lines.replace(given.alloc, "\r\n", "  "));
 }
 
 /// The connections of a line, its encoding, and the last answer.
@@ -48,8 +45,7 @@ impl ConnectionsScenario {
     fn create(&mut self, given: &mut Outcome, fields: &str) -> Result<(), CodeFault> {
         let creation = creation_of(given.alloc, fields)?;
         let created = self.line.create(self.encoding, creation)?;
-        given.put(b"I ");
-        given.put_shown(created.number);
+        given.put_behind(b"I ", created.number);
         given.put(b"  ");
         put_description(given, &created.description);
         Ok(())
@@ -68,10 +64,8 @@ impl ConnectionsScenario {
     // What can be read of a connection, and its description.
     fn audit(&self, given: &mut Outcome, fields: &str) -> Result<(), CodeFault> {
         let audited = self.line.audit(&identifier_in(fields, "I: ")?)?;
-        given.put(b"C ");
-        given.put(audited.connection.call.as_slice());
-        given.put(b"  M ");
-        given.put(mode_text(audited.connection.mode));
+        given.put_both(b"C ", audited.connection.call.as_slice());
+        given.put_both(b"  M ", mode_text(audited.connection.mode));
         given.put(match &audited.connection.remote {
             Some(_) => b"  RTP known  ".as_slice(),
             None => b"  RTP unknown  ".as_slice(),
@@ -103,9 +97,8 @@ impl ConnectionsScenario {
     // The answer to a command, where a row doesn't say fields of it; a return code is always said.
     fn answer(&mut self, row: &mut Row<'_>) {
         self.answer.clear();
-        if self.answer.extend_from_slice(&row.given.bytes).is_err() {
-            row.given.refuse();
-        }
+        let is_kept = self.answer.extend_from_slice(&row.given.bytes).is_ok();
+        row.given.refuse_unless(is_kept);
         if row.left.is_empty() && words_of(&row.given.bytes).parse::<u32>().is_err() {
             row.given.bytes.clear();
         } else {
@@ -115,11 +108,10 @@ impl ConnectionsScenario {
 
     fn put_places(&self, given: &mut Outcome) {
         for held in self.line.list() {
-            given.put(b" ");
-            given.put_shown(match held {
-                Some(connection) => connection.number,
-                None => 0,
-            });
+            match held {
+                Some(connection) => given.put_behind(b" ", connection.number),
+                None => given.put(b" 0"),
+            }
         }
     }
 }

@@ -77,13 +77,9 @@ impl MessageScenario {
     // Its id, where it was sent last, and its text.
     fn put_state(&self, given: &mut Outcome) {
         given.put_shown(self.message.id().number());
+        given.put_behind(b"  ", self.message.to());
         given.put(b"  ");
-        given.put_shown(self.message.to());
-        given.put(b"  ");
-        match said(given.alloc, self.message.text()) {
-            Ok(text) => given.put(text.as_bytes()),
-            Err(_) => given.refuse(),
-        }
+        given.put_made(said(given.alloc, self.message.text()));
     }
 }
 

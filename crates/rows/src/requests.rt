@@ -12,7 +12,7 @@ use event_requests::{Decision, Doing, EventRequest, decide};
 use event_syntax::{Action, Embedding, Observed, write_signals};
 use mg_bytes::OutOfMemory;
 use mg_packages::event_of;
-use scenario_files::{Outcome, Row, Scenario};
+use scenario_files::{Outcome, Row, Scenario, parted};
 use std::alloc::Global;
 
 // What is done, as a row says it.
@@ -59,7 +59,7 @@ fn put_lacking(given: &mut Outcome, request: &EventRequest, what: &str) {
 
 /// Puts what a request says to a question: `at L/hd`, `requested L/hd`, `keeps L/hd` or `lacks map`.
 pub fn put_answer(given: &mut Outcome, request: &EventRequest, question: &str) {
-    let (word, event) = question.split_once(' ').unwrap_or((question, ""));
+    let (word, event) = parted(question, " ");
     match word {
         "lacks" => put_lacking(given, request, event),
         "requested" => put_requested(given, request, event),
@@ -75,10 +75,9 @@ fn put_embedding(given: &mut Outcome, embedding: &Embedding) {
     let request = embedding.request();
     given.put(b"S ");
     given.put_text(write_signals(given.alloc, request.signals.as_slice()));
-    given.put(b"  D ");
     match &request.map {
-        Some(map) => given.put(map.as_bytes()),
-        None => given.put(b"-"),
+        Some(map) => given.put_both(b"  D ", map.as_bytes()),
+        None => given.put(b"  D -"),
     }
 }
 
@@ -119,8 +118,7 @@ impl RequestScenario {
         if of_copy.is_refused {
             given.refuse();
         } else if of_copy.bytes.as_slice() != given.bytes.as_slice() {
-            given.put(b", and of a copy ");
-            given.put(&of_copy.bytes);
+            given.put_both(b", and of a copy ", &of_copy.bytes);
         }
     }
 }

@@ -36,8 +36,7 @@ fn put_due(given: &mut Outcome, held: &SignalScenario) {
     match held.set.next_due() {
         Some((moment, signal)) => {
             given.put_shown(moment);
-            given.put(b" ");
-            given.put(signal_name(signal));
+            given.put_both(b" ", signal_name(signal));
         }
         None => given.put(b"-"),
     }
@@ -46,12 +45,10 @@ fn put_due(given: &mut Outcome, held: &SignalScenario) {
 // The active signals, a field each.
 fn put_active(given: &mut Outcome, held: &SignalScenario) {
     for active in held.set.list().as_slice() {
-        given.put(b"  ");
-        given.put(signal_name(active.signal));
-        given.put(b" ");
+        given.put_both(b"  ", signal_name(active.signal));
         match active.end {
-            Some(end) => given.put_shown(end),
-            None => given.put(b"-"),
+            Some(end) => given.put_behind(b" ", end),
+            None => given.put(b" -"),
         }
     }
 }

@@ -20,8 +20,7 @@ pub fn words_of(bytes: &[u8]) -> &str {
 
 /// Puts a piece, with a `|` behind it.
 pub fn put_piece(given: &mut Outcome, piece: &[u8]) {
-    given.put(piece);
-    given.put(b"|");
+    given.put_both(piece, b"|");
 }
 
 /// Puts pieces, each with a `|` behind it.

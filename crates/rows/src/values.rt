@@ -18,7 +18,7 @@ mod spelled;
 
 use crate::texts::words_of;
 use mg_bytes::OutOfMemory;
-use scenario_files::{Outcome, Row, Scenario, bytes_of, said};
+use scenario_files::{Outcome, Row, Scenario, bytes_of, parted, said};
 use std::alloc::Global;
 
 /// Rows that stand alone.
@@ -67,10 +67,7 @@ fn put_answer_to(given: &mut Outcome, call: &str, field: &str) {
     }
     let answer = as_said(given);
     given.bytes.clear();
-    match answer {
-        Ok(text) => given.put(text.as_bytes()),
-        Err(_) => given.refuse(),
-    }
+    given.put_made(answer);
 }
 
 // Whether a row says this answer.
@@ -86,8 +83,7 @@ fn put_given(given: &mut Outcome, call: &str, values: &str, wanted: &str) {
     for (place, field) in values.split("  ").enumerate() {
         put_answer_to(given, call, field);
         if !is_said(&given.bytes, wanted) {
-            given.put(b" for value ");
-            return given.put_shown(place.saturating_add(1));
+            return given.put_behind(b" for value ", place.saturating_add(1));
         }
     }
     given.bytes.clear();
@@ -101,7 +97,7 @@ impl Scenario for Values {
 
     fn turn(&mut self, row: &mut Row<'_>) {
         let (rest, wanted) = row.left.rsplit_once("  ").unwrap_or((row.left, ""));
-        let (call, values) = rest.split_once("  ").unwrap_or((rest, ""));
+        let (call, values) = parted(rest, "  ");
         row.left = wanted;
         match call {
             "verdict" | "in range" => maps::put_answer_of_two(&mut row.given, call, values),

@@ -1,6 +1,7 @@
 //! The files that a program is called with, each of which says in its first line what it has.
 use crate::again;
 use crate::report::Report;
+use crate::texts::parted;
 use std::io::Write;
 use std::net::Net;
 use std::process::ExitCode;
@@ -15,7 +16,7 @@ pub trait Kinds {
 
 // The first line before a file's first title that is no comment: nothing plays what stands there.
 fn unplayed(text: &str) -> Option<&str> {
-    let (before, _) = text.split_once("\n= ").unwrap_or((text, ""));
+    let (before, _) = parted(text, "\n= ");
     for line in before.lines() {
         if !line.is_empty() && !line.starts_with('#') {
             return Some(line);

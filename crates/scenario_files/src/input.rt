@@ -1,7 +1,7 @@
 //! The input of the program that a scenario stands for.
 use crate::draft::TextDraft;
 use crate::settings::SETTINGS;
-use crate::texts::value_of;
+use crate::texts::{parted, value_of};
 use crate::written::WrittenScenario;
 use mg_bytes::OutOfMemory;
 use std::alloc::{AllocError, Global};
@@ -9,8 +9,8 @@ use std::alloc::{AllocError, Global};
 // The key that a line of the settings, or `no KEY`, is about.
 fn key_of(line: &str) -> &str {
     let line = line.strip_prefix("no ").unwrap_or(line);
-    let (word, _) = line.split_once(' ').unwrap_or((line, ""));
-    let (key, _) = word.split_once('\\').unwrap_or((word, ""));
+    let (word, _) = parted(line, " ");
+    let (key, _) = parted(word, "\\");
     key
 }
 

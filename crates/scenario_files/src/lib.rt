@@ -33,6 +33,6 @@ pub use crate::report::Report;
 pub use crate::row::Row;
 pub use crate::rows::{Scenario, told};
 pub use crate::settings::SETTINGS;
-pub use crate::texts::{bytes_of, in_full, put_line, said, value_of, yes_or_no};
+pub use crate::texts::{bytes_of, in_full, parted, put_line, said, value_of, yes_or_no};
 pub use crate::titles::{Titled, told_titled};
 pub use crate::written::{WrittenScenario, read_scenario};

@@ -51,6 +51,13 @@ impl Outcome {
         self.is_refused = true;
     }
 
+    /// Memory was refused, unless this is done.
+    pub fn refuse_unless(&mut self, is_done: bool) {
+        if !is_done {
+            self.is_refused = true;
+        }
+    }
+
     /// A value can't be read: there is no such row, or memory was refused.
     pub fn fault(&mut self, fault: CodeFault) {
         match fault {
@@ -70,6 +77,26 @@ impl Outcome {
     pub fn put_shown<T: Display + Copy>(&mut self, value: T) {
         if write!(self.bytes, "{value}").is_err() {
             self.is_refused = true;
+        }
+    }
+
+    /// Puts two pieces, one behind the other.
+    pub fn put_both(&mut self, one: &[u8], other: &[u8]) {
+        self.put(one);
+        self.put(other);
+    }
+
+    /// Puts a value as it is shown, behind a piece.
+    pub fn put_behind<T: Display + Copy>(&mut self, piece: &[u8], value: T) {
+        self.put(piece);
+        self.put_shown(value);
+    }
+
+    /// Puts a text that was made, unless memory was refused for it.
+    pub fn put_made(&mut self, made: Result<String, OutOfMemory>) {
+        match made {
+            Ok(text) => self.put(text.as_bytes()),
+            Err(_) => self.is_refused = true,
         }
     }
 

@@ -4,7 +4,7 @@
 //! Neither reading nor putting can fail: what comes of the row keeps that a word couldn't be read, or that memory was refused, and
 //! says nothing else then. So a kind of row asks for that only before it changes its state.
 use crate::outcome::Outcome;
-use crate::texts::{bytes_of, said};
+use crate::texts::{bytes_of, parted, said};
 use mg_bytes::OutOfMemory;
 use std::alloc::{AllocError, Global};
 
@@ -30,7 +30,7 @@ impl<'a> Row<'a> {
     /// What stands before the next of these separators; all where there is none. The separator is read too, with all blanks
     /// behind it.
     pub fn before(&mut self, separator: &str) -> &'a str {
-        let (text, left) = self.left.split_once(separator).unwrap_or((self.left, ""));
+        let (text, left) = parted(self.left, separator);
         self.left = left.trim_start();
         text
     }

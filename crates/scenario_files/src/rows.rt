@@ -2,7 +2,7 @@
 use crate::again;
 use crate::report::Report;
 use crate::row::Row;
-use crate::texts::in_full;
+use crate::texts::{in_full, parted};
 use mg_bytes::{OutOfMemory, decimal};
 use std::alloc::Global;
 
@@ -69,7 +69,7 @@ fn told_block<T: Scenario + Drop>(alloc: Global, title: &str, rows: &str, report
 /// Tells the rows of a text, which begin anew under each line `= TITLE`.
 pub fn told<T: Scenario + Drop>(alloc: Global, text: &str, report: &mut Report) {
     for block in text.split("\n= ").skip(1) {
-        let (title, rows) = block.split_once('\n').unwrap_or((block, ""));
+        let (title, rows) = parted(block, "\n");
         told_block::<T>(alloc, title, rows, report);
     }
 }

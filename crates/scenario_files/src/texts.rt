@@ -3,6 +3,11 @@ use crate::draft::TextDraft;
 use mg_bytes::{Draft, OutOfMemory, decimal};
 use std::alloc::Global;
 
+/// What stands before and behind the first of these separators; all before it where there is none.
+pub fn parted<'a>(text: &'a str, separator: &str) -> (&'a str, &'a str) {
+    text.split_once(separator).unwrap_or((text, ""))
+}
+
 /// Puts a line with its end.
 pub fn put_line(out: &mut String, line: &str) -> Result<(), OutOfMemory> {
     out.push_str(line)?;

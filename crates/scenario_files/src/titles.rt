@@ -3,6 +3,7 @@ use crate::again;
 use crate::draft::TextDraft;
 use crate::numbers::number_in;
 use crate::report::Report;
+use crate::texts::parted;
 use mg_bytes::OutOfMemory;
 use std::alloc::Global;
 use std::net::Net;
@@ -53,8 +54,8 @@ fn numbered(alloc: Global, lines: &str, number: u64) -> Result<String, OutOfMemo
 
 // What `each` puts in: the lines of a name for each number from one to another, which is `{n}`.
 fn put_each(alloc: Global, pieces: &[Piece<'_>], out: &mut TextDraft, call: &str) {
-    let (first, rest) = call.split_once(' ').unwrap_or((call, ""));
-    let (last, name) = rest.split_once(' ').unwrap_or((rest, ""));
+    let (first, rest) = parted(call, " ");
+    let (last, name) = parted(rest, " ");
     let lines = lines_of(pieces, name);
     for number in number_in(first)..=number_in(last) {
         out.put_made(numbered(alloc, lines, number));
@@ -109,7 +110,7 @@ fn told_block<'a, T: Titled, R: AllocGlobal + Net>(
     block: &'a str,
     report: &mut Report,
 ) {
-    let (title, lines) = block.split_once('\n').unwrap_or((block, ""));
+    let (title, lines) = parted(block, "\n");
     match again!(lines_under(rt.alloc(), pieces, title, lines)) {
         Ok(Some(lines)) => kind.told(rt, title, lines.as_str(), report),
         Ok(None) => {}

@@ -1,6 +1,6 @@
 //! A scenario as it is written: its script, and what it says that is printed.
 use crate::draft::TextDraft;
-use crate::texts::in_full;
+use crate::texts::{in_full, parted};
 use mg_bytes::OutOfMemory;
 use std::alloc::{AllocError, Global};
 
@@ -113,7 +113,7 @@ impl WrittenScenario {
 
     // A line that stands between datagrams.
     fn put_between(&mut self, line: &str) {
-        let (word, rest) = line.split_once(' ').unwrap_or((line, ""));
+        let (word, rest) = parted(line, " ");
         match said_by(word) {
             Says::Heard => self.put_heard(rest),
             Says::Sent => self.put_sent(line, rest),

@@ -179,10 +179,8 @@ impl AgentScenario {
             return given.put(b"none");
         };
         given.put_shown(datagram.moment);
-        given.put(b" ");
-        given.put_shown(datagram.to);
-        given.put(b"  ");
-        given.put(datagram.bytes.as_bytes());
+        given.put_behind(b" ", datagram.to);
+        given.put_both(b"  ", datagram.bytes.as_bytes());
         if !given.is_refused {
             self.told = self.told.wrapping_add(1);
         }

@@ -5,7 +5,7 @@ use event_values::write_observed;
 use mg_bytes::{Draft, OutOfMemory, Text};
 use mg_line::Act;
 use rgw_scripts::{ScriptLine, ScriptStep, line_in};
-use scenario_files::{Outcome, Row, bytes_of};
+use scenario_files::{Outcome, Row, bytes_of, parted};
 use std::alloc::Global;
 use std::net::SocketAddrV4;
 
@@ -46,8 +46,7 @@ pub fn but_refusal<'a>(row: &mut Row<'a>) -> &'a str {
 /// Puts a refusal.
 pub fn put_refusal(given: &mut Outcome, number: u8, name: &str) {
     given.put_shown(number);
-    given.put(b" ");
-    given.put(name.as_bytes());
+    given.put_both(b" ", name.as_bytes());
 }
 
 /// The number that words say; 0 where they say none, and then there is no such row.
@@ -85,8 +84,8 @@ pub fn numbered(given: &mut Outcome, before: &str, number: u32, behind: &str) ->
 
 /// `AUEP  aaln/1@rgw.example.net  K: 1¶`, without the last where that is empty.
 pub fn command_in(given: &mut Outcome, fields: &str) -> Command {
-    let (verb, behind) = fields.split_once("  ").unwrap_or((fields, ""));
-    let (name, rest) = behind.split_once("  ").unwrap_or((behind, ""));
+    let (verb, behind) = parted(fields, "  ");
+    let (name, rest) = parted(behind, "  ");
     let verb = text_of(given, verb);
     let name = text_of(given, name);
     let rest = text_of(given, rest);
@@ -139,8 +138,7 @@ pub fn put_answer(row: &mut Row<'_>, agent: &Agent) {
         return row.given.put(b"none");
     };
     row.given.put_shown(answer.code);
-    row.given.put(b"  ");
-    row.given.put(answer.text.as_bytes());
+    row.given.put_both(b"  ", answer.text.as_bytes());
 }
 
 /// `1  L/hd,D/5` or `1  none`: what notifications of this line told.

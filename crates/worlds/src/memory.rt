@@ -92,12 +92,9 @@ fn run_plan(given: &mut Outcome, gateway: &mut Gateway, plan: &[Planned]) -> Out
 // What came of turns that were served, as a row says it.
 fn put_served(given: &mut Outcome, served: &Served) {
     given.put_shown(served.turns);
-    given.put(b" turns, ");
-    given.put_shown(served.refused);
-    given.put(b" refused, ");
-    given.put_shown(served.receive_faults);
-    given.put(b" not received, ");
-    given.put_shown(served.send_faults);
+    given.put_behind(b" turns, ", served.refused);
+    given.put_behind(b" refused, ", served.receive_faults);
+    given.put_behind(b" not received, ", served.send_faults);
     given.put(b" not sent");
     if served.ended {
         given.put(b", ended");

@@ -72,10 +72,8 @@ impl Ends {
         if self.gateway.serve(&mut self.wire, 1).receive_faults == 0 {
             return self.put_received(given);
         }
-        given.put(b"fault: ");
-        given.put_shown(self.wire.receive_faults());
-        given.put(b" not received, ");
-        given.put_shown(self.wire.send_faults());
+        given.put_behind(b"fault: ", self.wire.receive_faults());
+        given.put_behind(b" not received, ", self.wire.send_faults());
         given.put(b" not sent");
     }
 

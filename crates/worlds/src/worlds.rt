@@ -154,12 +154,9 @@ impl WorldScenario {
             return given.put(b"none");
         };
         given.put_shown(packet.moment);
-        given.put(b"  ");
-        given.put_shown(packet.sender);
-        given.put(b"  ");
-        given.put_shown(packet.to);
-        given.put(b"  ");
-        given.put(packet.bytes.as_bytes());
+        given.put_behind(b"  ", packet.sender);
+        given.put_behind(b"  ", packet.to);
+        given.put_both(b"  ", packet.bytes.as_bytes());
         if !given.is_refused {
             self.told = self.told.wrapping_add(1);
         }

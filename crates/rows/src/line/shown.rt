@@ -11,8 +11,7 @@ use timers::LineDue;
 pub fn put_notice(given: &mut Outcome, notice: Result<Option<Notice>, OutOfMemory>) {
     match notice {
         Ok(Some(notice)) => {
-            given.put(b"tells ");
-            given.put(notice.identifier().as_slice());
+            given.put_both(b"tells ", notice.identifier().as_slice());
             given.put(b" ");
             given.put_text(write_observed(given.alloc, notice.observed()));
         }
@@ -23,49 +22,43 @@ pub fn put_notice(given: &mut Outcome, notice: Result<Option<Notice>, OutOfMemor
 
 // The moment at which something falls due, and what it is.
 fn put_due(given: &mut Outcome, held: &LineScenario) {
-    given.put(b"due ");
     let Some((moment, due)) = held.line.due() else {
-        return given.put(b"-");
+        return given.put(b"due -");
     };
-    given.put_shown(moment);
-    given.put(b" ");
-    given.put(match due {
-        LineDue::DigitTimer => b"T".as_slice(),
-        LineDue::SignalEnd(signal) => signal_name(signal),
-    });
+    given.put_behind(b"due ", moment);
+    match due {
+        LineDue::DigitTimer => given.put(b" T"),
+        LineDue::SignalEnd(signal) => given.put_both(b" ", signal_name(signal)),
+    }
 }
 
 // The active signals.
 fn put_signals(given: &mut Outcome, held: &LineScenario) {
     given.put(b"  signals");
     for active in held.line.signals().as_slice() {
-        given.put(b" ");
-        given.put(signal_name(active.signal));
+        given.put_both(b" ", signal_name(active.signal));
     }
 }
 
 // What is asked for.
 fn put_asked(given: &mut Outcome, held: &LineScenario) {
-    given.put(b"  X ");
-    given.put(held.line.identifier().as_slice());
+    given.put_both(b"  X ", held.line.identifier().as_slice());
     given.put(b"  Q ");
     given.put_text(write_handling(given.alloc, held.line.handling()));
-    given.put(b"  D ");
     match held.line.digit_map() {
-        Some(map) => given.put(map.as_bytes()),
-        None => given.put(b"-"),
+        Some(map) => given.put_both(b"  D ", map.as_bytes()),
+        None => given.put(b"  D -"),
     }
 }
 
 // What happened.
 fn put_happened(given: &mut Outcome, held: &LineScenario) {
     given.put(match held.line.hook() {
-        Hook::OffHook => b"  hook off  lost ".as_slice(),
-        Hook::OnHook => b"  hook on  lost ".as_slice(),
+        Hook::OffHook => b"  hook off".as_slice(),
+        Hook::OnHook => b"  hook on".as_slice(),
     });
-    given.put_shown(held.line.lost());
-    given.put(b"  accumulated ");
-    given.put_shown(held.line.accumulated().len());
+    given.put_behind(b"  lost ", held.line.lost());
+    given.put_behind(b"  accumulated ", held.line.accumulated().len());
     given.put(b"  O ");
     given.put_text(write_observed(given.alloc, held.line.accumulated()));
 }

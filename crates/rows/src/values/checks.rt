@@ -13,7 +13,7 @@ use gateway_checks::{
     put_entry, put_suite, put_tally,
 };
 use mg_bytes::{OutOfMemory, decimal};
-use scenario_files::Outcome;
+use scenario_files::{Outcome, parted};
 use std::alloc::Global;
 
 // Where the checks are played.
@@ -151,13 +151,10 @@ fn told(
 
 /// Puts what a call gives; no where there is no such call here, and where there is no check of its name.
 pub fn put_answer(given: &mut Outcome, call: &str, value: &[u8]) -> bool {
-    let (word, name) = call.split_once(' ').unwrap_or((call, ""));
+    let (word, name) = parted(call, " ");
     let Some(check) = check_named(name) else {
         return false;
     };
-    match told(given.alloc, word, &check, value) {
-        Ok(text) => given.put(text.as_bytes()),
-        Err(_) => given.refuse(),
-    }
+    given.put_made(told(given.alloc, word, &check, value));
     !given.bytes.is_empty()
 }

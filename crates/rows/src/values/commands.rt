@@ -13,8 +13,7 @@ use sdp_subset::Session;
 use std::alloc::Global;
 
 fn put_line(given: &mut Outcome, code: &[u8], value: &[u8]) {
-    given.put(code);
-    given.put(value);
+    given.put_both(code, value);
     given.put(b"\r\n");
 }
 
@@ -62,8 +61,7 @@ fn put_options(given: &mut Outcome, options: Options) {
             put_text(given, b"L:", write_options(given.alloc, codecs, time));
         }
         CodecChoice::ByEncoding => {
-            given.put(b"L:p:");
-            given.put_shown(time);
+            given.put_behind(b"L:p:", time);
             given.put(b"\r\n");
         }
         CodecChoice::NoneKnown => put_line(given, b"L:", b"none"),
@@ -72,11 +70,9 @@ fn put_options(given: &mut Outcome, options: Options) {
 
 // The port and the payload types of a remote description.
 fn put_session(given: &mut Outcome, session: &Session) {
-    given.put(b"RTP:");
-    given.put_shown(session.port);
+    given.put_behind(b"RTP:", session.port);
     for payload in session.payloads.as_slice() {
-        given.put(b" ");
-        given.put_shown(*payload);
+        given.put_behind(b" ", *payload);
     }
     given.put(b"\r\n");
 }

@@ -1,15 +1,13 @@
 //! Calls about session descriptions.
-use scenario_files::Outcome;
+use scenario_files::{Outcome, parted};
 use sdp_subset::{Origin, Session, read_sdp, write_sdp};
 
 // Where a stream is received, and its payload types.
 fn put_offered(given: &mut Outcome, session: &Session) {
     given.put_shown(session.address);
-    given.put(b":");
-    given.put_shown(session.port);
+    given.put_behind(b":", session.port);
     for payload in session.payloads.as_slice() {
-        given.put(b" ");
-        given.put_shown(*payload);
+        given.put_behind(b" ", *payload);
     }
     if session.origin.is_some() || session.ptime.is_some() {
         given.put(b" of its own");
@@ -18,8 +16,8 @@ fn put_offered(given: &mut Outcome, session: &Session) {
 
 // The number of an origin, its version and a packet time: `1 2 20`.
 fn set_own(session: &mut Session, numbers: &str) {
-    let (number, rest) = numbers.split_once(' ').unwrap_or((numbers, ""));
-    let (version, ptime) = rest.split_once(' ').unwrap_or((rest, ""));
+    let (number, rest) = parted(numbers, " ");
+    let (version, ptime) = parted(rest, " ");
     session.origin = Some(Origin {
         number: number.parse::<u32>().unwrap_or(0),
         version: version.parse::<u32>().unwrap_or(0),

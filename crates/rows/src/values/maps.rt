@@ -14,7 +14,7 @@ use digit_map::{
 };
 use digit_map_bits::{Compiled, Dialling, SlowMap};
 use mg_bytes::{CodeFault, Letter, OutOfMemory, letter_of};
-use scenario_files::{Outcome, bytes_of, yes_or_no};
+use scenario_files::{Outcome, bytes_of, parted, yes_or_no};
 use std::alloc::{AllocError, Global};
 
 // What is dialled; nothing where that has another sign, or more than 64.
@@ -148,7 +148,7 @@ fn in_range(range: &[u8], key: &[u8]) -> &'static str {
 
 // The answer of a call of two values.
 fn answer_of_two(alloc: Global, call: &str, fields: &str) -> Result<&'static str, OutOfMemory> {
-    let (one, other) = fields.split_once("  ").unwrap_or((fields, ""));
+    let (one, other) = parted(fields, "  ");
     let (one, other) = (bytes_of(alloc, one)?, bytes_of(alloc, other)?);
     match call {
         "verdict" => verdict(alloc, &one, &other),

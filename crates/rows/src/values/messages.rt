@@ -13,24 +13,15 @@ fn put_fault(given: &mut Outcome, fault: TextFault) {
     match fault {
         TextFault::OutOfMemory => {}
         TextFault::NoHeader => given.put(b" no header"),
-        TextFault::BadVersion { id } => {
-            given.put(b" bad version ");
-            given.put_shown(id.number());
-        }
-        TextFault::BadBody { id } => {
-            given.put(b" bad body ");
-            given.put_shown(id.number());
-        }
+        TextFault::BadVersion { id } => given.put_behind(b" bad version ", id.number()),
+        TextFault::BadBody { id } => given.put_behind(b" bad body ", id.number()),
     }
 }
 
 // What a text is read as.
 fn put_kind(given: &mut Outcome, message: &Message<'_>) {
     match message {
-        Message::Command { id, .. } => {
-            given.put(b"command ");
-            given.put_shown(id.number());
-        }
+        Message::Command { id, .. } => given.put_behind(b"command ", id.number()),
         Message::Response { .. } => given.put(b"response"),
     }
 }
@@ -50,8 +41,7 @@ fn put_first(given: &mut Outcome, message: &Message<'_>, code: &str) {
         return given.put(b"none");
     };
     given.put(param.code.as_slice());
-    given.put(b":");
-    given.put(param.value.as_slice());
+    given.put_both(b":", param.value.as_slice());
 }
 
 // The ids that a message confirms.
@@ -62,8 +52,7 @@ fn put_confirmed(given: &mut Outcome, message: &Message<'_>) {
         Ok(KValue::Items(ranges)) => {
             for range in ranges.as_slice() {
                 given.put_shown(range.first.number());
-                given.put(b"-");
-                given.put_shown(range.last.number());
+                given.put_behind(b"-", range.last.number());
                 given.put(b"|");
             }
         }

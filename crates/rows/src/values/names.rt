@@ -14,10 +14,7 @@ pub const DOMAIN: &[u8] = b"rgw.example.net";
 /// Puts the endpoints that a name means.
 pub fn put_pattern(given: &mut Outcome, pattern: Pattern) {
     match pattern {
-        Pattern::One(line) => {
-            given.put(b"line ");
-            given.put_shown(line);
-        }
+        Pattern::One(line) => given.put_behind(b"line ", line),
         Pattern::All => given.put(b"all lines"),
         Pattern::Any => given.put(b"any line"),
     }
@@ -57,8 +54,7 @@ fn means(name: &[u8], line: u16) -> bool {
 // Two addresses with a comma between them.
 fn put_two<A: Display + Copy>(given: &mut Outcome, one: A, other: A) {
     given.put_shown(one);
-    given.put(b",");
-    given.put_shown(other);
+    given.put_behind(b",", other);
 }
 
 // The addresses of a route, with commas between them, or `none`.
@@ -69,8 +65,7 @@ fn put_route<A: Display + Copy>(given: &mut Outcome, route: Option<Route<A>>) {
         Some(Route::Two(a, b)) => put_two(given, a, b),
         Some(Route::Three(a, b, c)) => {
             put_two(given, a, b);
-            given.put(b",");
-            given.put_shown(c);
+            given.put_behind(b",", c);
         }
         Some(Route::Four(a, b, c, d)) => {
             put_two(given, a, b);

@@ -48,13 +48,10 @@ fn put_options(given: &mut Outcome, value: &[u8]) {
     };
     let time = options.packet_time;
     match options.codecs {
-        CodecChoice::These(codecs) => {
-            return given.put_text(write_options(given.alloc, codecs, time));
-        }
-        CodecChoice::ByEncoding => given.put(b"by encoding, p:"),
-        CodecChoice::NoneKnown => given.put(b"no codec, p:"),
+        CodecChoice::These(codecs) => given.put_text(write_options(given.alloc, codecs, time)),
+        CodecChoice::ByEncoding => given.put_behind(b"by encoding, p:", time),
+        CodecChoice::NoneKnown => given.put_behind(b"no codec, p:", time),
     }
-    given.put_shown(time);
 }
 
 // The identifier of the connection with a number.
