@@ -6,7 +6,7 @@
 //! - `least 500 1 T` what is due first; `least -` nothing is;
 //! - `falls 36` so many are due, each behind the one before, and are cleared;
 //! - `keep` and `back`: the table as it was once.
-use crate::keeping::Kept;
+use crate::keeping::{Held, Kept};
 use crate::texts::named;
 use mg_bytes::OutOfMemory;
 use mg_packages::SIGNALS;
@@ -104,35 +104,27 @@ fn set_all(due: &mut Due, row: &mut Row<'_>, is_cleared: bool) {
     }
 }
 
-/// The table that rows go on with.
-#[derive(Drop)]
-pub struct MomentScenario {
-    due: Due,
-}
-
-impl Scenario for MomentScenario {
-    fn begin(alloc: Global) -> Result<MomentScenario, OutOfMemory> {
-        let due = Due::new(alloc, LINES)?;
-        Ok(MomentScenario { due })
+impl Scenario for Held<Due> {
+    fn begin(alloc: Global) -> Result<Held<Due>, OutOfMemory> {
+        Held::of(alloc, Due::new(alloc, LINES)?)
     }
 
     fn turn(&mut self, row: &mut Row<'_>) {
         match row.before(" ") {
-            "set" => set_all(&mut self.due, row, false),
-            "clear" => set_all(&mut self.due, row, true),
-            "least" => put_least(&mut row.given, &self.due),
+            "set" => set_all(&mut *self.thing, row, false),
+            "clear" => set_all(&mut *self.thing, row, true),
+            "least" => put_least(&mut row.given, &self.thing),
             "falls" => {
                 let most = row.left.parse::<u32>().unwrap_or(0);
-                row.given.put_shown(fallen(&mut self.due, most));
+                row.given.put_shown(fallen(&mut *self.thing, most));
             }
             _ => row.given.unread(),
         }
     }
 }
 
-impl Kept for MomentScenario {
-    fn copy(&self, _alloc: Global) -> Result<MomentScenario, OutOfMemory> {
-        let due = self.due.try_copy()?;
-        Ok(MomentScenario { due })
+impl Kept for Held<Due> {
+    fn copy(&self, alloc: Global) -> Result<Held<Due>, OutOfMemory> {
+        Held::of(alloc, self.thing.try_copy()?)
     }
 }

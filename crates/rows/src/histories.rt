@@ -8,17 +8,11 @@
 //! - `run 1-20000 every 10 holding 3000` commands that come one by one, at their ids times 10 ms: each is new, and after a
 //!   purge no more firsts are ever kept; `run 1-4999 every 100 confirming holding 300` the same, each with a K that names all
 //!   so far.
-use crate::keeping::boxed;
+use crate::keeping::Held;
 use history::{History, IdSpan, Look};
 use mg_bytes::{OutOfMemory, Sequence, Text};
 use scenario_files::{Outcome, Row, Scenario, again, range_in};
 use std::alloc::Global;
-
-/// The history that rows go on with.
-#[derive(Drop)]
-pub struct HistoryScenario {
-    history: Box<History>,
-}
 
 // `7` or `1-4096`.
 fn ids_of(given: &mut Outcome, text: &str) -> IdSpan {
@@ -59,8 +53,8 @@ fn run_of(row: &mut Row<'_>) -> Run {
     }
 }
 
-fn told(held: &HistoryScenario, id: u32, now: u64) -> &'static str {
-    match held.history.look(id, now) {
+fn told(held: &Held<History>, id: u32, now: u64) -> &'static str {
+    match held.thing.look(id, now) {
         Look::New => "new",
         Look::Repeat(answer) if answer.as_bytes() == id.to_be_bytes().as_slice() => "again",
         Look::Repeat(_) => "another answer",
@@ -70,18 +64,13 @@ fn told(held: &HistoryScenario, id: u32, now: u64) -> &'static str {
 }
 
 // Keeps a command with its answer, the bytes of its id.
-fn keep(
-    held: &mut HistoryScenario,
-    alloc: Global,
-    id: u32,
-    moment: u64,
-) -> Result<(), OutOfMemory> {
+fn keep(held: &mut Held<History>, alloc: Global, id: u32, moment: u64) -> Result<(), OutOfMemory> {
     let answer = Text::of(id.to_be_bytes().to_vec(alloc)?);
-    held.history.first(id, moment, answer)
+    held.thing.first(id, moment, answer)
 }
 
 // Of several commands each is kept again where memory was refused.
-fn keep_all(held: &mut HistoryScenario, row: &mut Row<'_>) {
+fn keep_all(held: &mut Held<History>, row: &mut Row<'_>) {
     let first = row.before(" ");
     let ids = ids_of(&mut row.given, first);
     let moment = u64::from(row.number_behind("at"));
@@ -93,7 +82,7 @@ fn keep_all(held: &mut HistoryScenario, row: &mut Row<'_>) {
 }
 
 // `1-7,9`: a K names these.
-fn confirm(held: &mut HistoryScenario, row: &mut Row<'_>) {
+fn confirm(held: &mut Held<History>, row: &mut Row<'_>) {
     let mut spans = Sequence::new(row.given.alloc);
     for written in row.rest().split(',') {
         let ids = ids_of(&mut row.given, written);
@@ -101,21 +90,21 @@ fn confirm(held: &mut HistoryScenario, row: &mut Row<'_>) {
             return row.given.refuse();
         }
     }
-    if held.history.confirm(spans).is_err() {
+    if held.thing.confirm(spans).is_err() {
         row.given.refuse();
     }
 }
 
 // A K names all these.
-fn confirm_all(held: &mut HistoryScenario, alloc: Global, ids: IdSpan) -> Result<(), OutOfMemory> {
+fn confirm_all(held: &mut Held<History>, alloc: Global, ids: IdSpan) -> Result<(), OutOfMemory> {
     let mut spans = Sequence::new(alloc);
     spans.push(ids)?;
-    held.history.confirm(spans)
+    held.thing.confirm(spans)
 }
 
 // Puts what commands with these ids are, where one is something else than the row says, and says whether one is.
 fn put_unlike(
-    held: &HistoryScenario,
+    held: &Held<History>,
     given: &mut Outcome,
     ids: IdSpan,
     now: u64,
@@ -133,7 +122,7 @@ fn put_unlike(
 }
 
 // A command of a run is kept, and maybe confirms all so far. It is done again where memory was refused.
-fn take(held: &mut HistoryScenario, given: &mut Outcome, run: Run, id: u32, now: u64) {
+fn take(held: &mut Held<History>, given: &mut Outcome, run: Run, id: u32, now: u64) {
     let first = run.ids.first;
     let so_far = IdSpan { first, last: id };
     if run.confirming && again!(confirm_all(held, given.alloc, so_far)).is_err() {
@@ -145,10 +134,10 @@ fn take(held: &mut HistoryScenario, given: &mut Outcome, run: Run, id: u32, now:
 }
 
 // One command of a run: it is new, and is kept. Says whether it is otherwise, and puts that.
-fn put_come(held: &mut HistoryScenario, given: &mut Outcome, run: Run, id: u32) -> bool {
+fn put_come(held: &mut Held<History>, given: &mut Outcome, run: Run, id: u32) -> bool {
     let now = u64::from(id).saturating_mul(u64::from(run.wait));
-    held.history.purge(now);
-    let kept = held.history.len();
+    held.thing.purge(now);
+    let kept = held.thing.len();
     if kept > run.most as usize {
         given.put_shown(kept);
         given.put_behind(b" at ", now);
@@ -166,7 +155,7 @@ fn put_come(held: &mut HistoryScenario, given: &mut Outcome, run: Run, id: u32) 
 }
 
 // `run 1-20000 every 10 holding 3000`.
-fn put_run(held: &mut HistoryScenario, row: &mut Row<'_>) {
+fn put_run(held: &mut Held<History>, row: &mut Row<'_>) {
     let run = run_of(row);
     for id in run.ids.first..=run.ids.last {
         if put_come(held, &mut row.given, run, id) {
@@ -175,20 +164,19 @@ fn put_run(held: &mut HistoryScenario, row: &mut Row<'_>) {
     }
 }
 
-impl Scenario for HistoryScenario {
-    fn begin(alloc: Global) -> Result<HistoryScenario, OutOfMemory> {
-        let history = boxed(alloc, History::new(alloc))?;
-        Ok(HistoryScenario { history })
+impl Scenario for Held<History> {
+    fn begin(alloc: Global) -> Result<Held<History>, OutOfMemory> {
+        Held::of(alloc, History::new(alloc))
     }
 
     fn turn(&mut self, row: &mut Row<'_>) {
         match row.before(" ") {
             "first" => keep_all(self, row),
             "confirm" => confirm(self, row),
-            "purge" => self.history.purge(u64::from(row.number())),
-            "undo" => self.history.undo(),
+            "purge" => self.thing.purge(u64::from(row.number())),
+            "undo" => self.thing.undo(),
             "run" => put_run(self, row),
-            "holds" => row.given.put_shown(self.history.len()),
+            "holds" => row.given.put_shown(self.thing.len()),
             // `7 at 30999 again`: what commands with these ids are.
             ids => {
                 let ids = ids_of(&mut row.given, ids);

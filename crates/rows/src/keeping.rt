@@ -18,6 +18,20 @@ pub fn boxed<T: Drop>(alloc: Global, value: T) -> Result<Box<T>, OutOfMemory> {
     }
 }
 
+/// What rows go on with, in a box.
+#[derive(Drop)]
+pub struct Held<T> {
+    pub(crate) thing: Box<T>,
+}
+
+impl<T: Drop> Held<T> {
+    /// The only error is want of memory, at which the value is gone.
+    pub fn of(alloc: Global, thing: T) -> Result<Held<T>, OutOfMemory> {
+        let thing = boxed(alloc, thing)?;
+        Ok(Held { thing })
+    }
+}
+
 /// A scenario, and as it was kept; under a new title that is as it begins.
 #[derive(Drop)]
 pub struct Keeping<T> {

@@ -20,19 +20,19 @@ mod signal_sets;
 mod texts;
 mod values;
 
-use crate::due_moments::MomentScenario;
-use crate::histories::HistoryScenario;
-use crate::keeping::Keeping;
-use crate::line::LineScenario;
+use crate::keeping::{Held, Keeping};
 use crate::line_connections::ConnectionsScenario;
 use crate::messages::MessageScenario;
-use crate::quarantines::QuarantineScenario;
 use crate::requests::RequestScenario;
 use crate::restarts::RestartScenario;
-use crate::signal_sets::SignalScenario;
 use crate::values::Values;
+use history::History;
+use mg_line::Line;
+use quarantine::Buffer;
 use scenario_files::{Kinds, Report, told};
+use signals::SignalSet;
 use std::net::Net;
+use timers::Due;
 
 /// The kinds of rows.
 pub struct Rows;
@@ -42,14 +42,14 @@ impl Kinds for Rows {
         let alloc = rt.alloc();
         match kind {
             "values" => told::<Values>(alloc, text, report),
-            "line" => told::<Keeping<LineScenario>>(alloc, text, report),
+            "line" => told::<Keeping<Held<Line>>>(alloc, text, report),
             "request" => told::<RequestScenario>(alloc, text, report),
-            "signals" => told::<SignalScenario>(alloc, text, report),
-            "quarantine" => told::<Keeping<QuarantineScenario>>(alloc, text, report),
+            "signals" => told::<Held<SignalSet>>(alloc, text, report),
+            "quarantine" => told::<Keeping<Held<Buffer>>>(alloc, text, report),
             "message" => told::<Keeping<MessageScenario>>(alloc, text, report),
-            "history" => told::<HistoryScenario>(alloc, text, report),
+            "history" => told::<Held<History>>(alloc, text, report),
             "connections" => told::<Keeping<ConnectionsScenario>>(alloc, text, report),
-            "moments" => told::<Keeping<MomentScenario>>(alloc, text, report),
+            "moments" => told::<Keeping<Held<Due>>>(alloc, text, report),
             "restart" => told::<Keeping<RestartScenario>>(alloc, text, report),
             _ => return false,
         }

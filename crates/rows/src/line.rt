@@ -15,7 +15,7 @@ mod acts;
 pub mod parameters;
 mod shown;
 
-use crate::keeping::{Kept, boxed};
+use crate::keeping::{Held, Kept};
 use crate::requests;
 use crate::texts::{named, unless_fields};
 use acts::{ACTS, due_of};
@@ -29,65 +29,56 @@ use std::alloc::Global;
 // What a row gives whose turn can't be played.
 const NO_TURN: &[u8] = b"0";
 
-/// A line that rows go on with.
-#[derive(Drop)]
-pub struct LineScenario {
-    pub(crate) line: Box<Line>,
-}
-
-impl LineScenario {
-    // The line as it opens.
-    fn opening(alloc: Global) -> Result<LineScenario, OutOfMemory> {
-        let line = boxed(alloc, Line::new(alloc)?)?;
-        Ok(LineScenario { line })
-    }
+// A line as it opens.
+fn opening(alloc: Global) -> Result<Held<Line>, OutOfMemory> {
+    Held::of(alloc, Line::new(alloc)?)
 }
 
 // A request with these parameters; a code where the line refuses it.
-fn ask(held: &mut LineScenario, row: &mut Row<'_>, moment: u64)
+fn ask(held: &mut Held<Line>, row: &mut Row<'_>, moment: u64)
     requires { moment < 2 ^ 62 }
 {
     let fields = row.parameters();
     match request_of(row.given.alloc, fields) {
-        Ok(request) => match held.line.check(&request) {
+        Ok(request) => match held.thing.check(&request) {
             Some(code) => row.given.put_shown(code),
-            None => put_notice(&mut row.given, held.line.request(&request, moment)),
+            None => put_notice(&mut row.given, held.thing.request(&request, moment)),
         },
         Err(fault) => row.given.put_code(fault),
     }
 }
 
 // An act that the hook state allows: it is done, or isn't heeded.
-fn act(held: &mut LineScenario, given: &mut Outcome, word: &str, moment: u64, is_heeded: bool)
+fn act(held: &mut Held<Line>, given: &mut Outcome, word: &str, moment: u64, is_heeded: bool)
     requires { moment < 2 ^ 62 }
 {
     let Some(act) = named(&ACTS, word) else {
         return given.put(NO_TURN);
     };
-    if !held.line.takes(act) {
+    if !held.thing.takes(act) {
         given.put(NO_TURN);
     } else if is_heeded {
-        put_notice(given, held.line.phone(act, moment));
-    } else if held.line.heeds(act) {
+        put_notice(given, held.thing.phone(act, moment));
+    } else if held.thing.heeds(act) {
         given.put(NO_TURN);
     } else {
-        held.line.pass_over(act);
+        held.thing.pass_over(act);
     }
 }
 
-fn fall(held: &mut LineScenario, given: &mut Outcome, word: &str, moment: u64)
+fn fall(held: &mut Held<Line>, given: &mut Outcome, word: &str, moment: u64)
     requires { moment < 2 ^ 62 }
 {
     match due_of(word) {
-        Some(due) if held.line.due() == Some((moment, due)) => {
-            put_notice(given, held.line.fire(due, moment));
+        Some(due) if held.thing.due() == Some((moment, due)) => {
+            put_notice(given, held.thing.fire(due, moment));
         }
         _ => given.put(NO_TURN),
     }
 }
 
 // A turn at this moment.
-fn go_on(held: &mut LineScenario, row: &mut Row<'_>, moment: u64)
+fn go_on(held: &mut Held<Line>, row: &mut Row<'_>, moment: u64)
     requires { moment < 2 ^ 62 }
 {
     let words = row.before("  ");
@@ -96,26 +87,26 @@ fn go_on(held: &mut LineScenario, row: &mut Row<'_>, moment: u64)
         "asks" => ask(held, row, moment),
         "idles" => act(held, &mut row.given, what, moment, false),
         "falls" => fall(held, &mut row.given, what, moment),
-        "answered" => put_notice(&mut row.given, held.line.answered(moment)),
-        "opened" => put_notice(&mut row.given, held.line.opened(moment)),
+        "answered" => put_notice(&mut row.given, held.thing.answered(moment)),
+        "opened" => put_notice(&mut row.given, held.thing.opened(moment)),
         _ => act(held, &mut row.given, words, moment, true),
     }
 }
 
 // What the line says to a question, by its hook state or its request.
-fn put_answer(held: &LineScenario, given: &mut Outcome, question: &str) {
+fn put_answer(held: &Held<Line>, given: &mut Outcome, question: &str) {
     let (word, act) = parted(question, " ");
     match named(&ACTS, act) {
-        Some(act) if word == "takes" => given.put_judged(held.line.takes(act)),
-        Some(act) if word == "heeds" => given.put_judged(held.line.heeds(act)),
-        _ => requests::put_answer(given, held.line.requests(), question),
+        Some(act) if word == "takes" => given.put_judged(held.thing.takes(act)),
+        Some(act) if word == "heeds" => given.put_judged(held.thing.heeds(act)),
+        _ => requests::put_answer(given, held.thing.requests(), question),
     }
 }
 
 // A row without a moment.
-fn put_shown(held: &mut LineScenario, row: &mut Row<'_>) {
+fn put_shown(held: &mut Held<Line>, row: &mut Row<'_>) {
     match row.before("  ") {
-        "opening" => match LineScenario::opening(row.given.alloc) {
+        "opening" => match opening(row.given.alloc) {
             Ok(new) => *held = new,
             Err(_) => row.given.refuse(),
         },
@@ -127,10 +118,10 @@ fn put_shown(held: &mut LineScenario, row: &mut Row<'_>) {
     }
 }
 
-impl Scenario for LineScenario {
-    fn begin(alloc: Global) -> Result<LineScenario, OutOfMemory> {
-        let mut held = LineScenario::opening(alloc)?;
-        held.line.opened(0)?;
+impl Scenario for Held<Line> {
+    fn begin(alloc: Global) -> Result<Held<Line>, OutOfMemory> {
+        let mut held = opening(alloc)?;
+        held.thing.opened(0)?;
         Ok(held)
     }
 
@@ -146,9 +137,8 @@ impl Scenario for LineScenario {
     }
 }
 
-impl Kept for LineScenario {
-    fn copy(&self, alloc: Global) -> Result<LineScenario, OutOfMemory> {
-        let line = boxed(alloc, self.line.try_copy()?)?;
-        Ok(LineScenario { line })
+impl Kept for Held<Line> {
+    fn copy(&self, alloc: Global) -> Result<Held<Line>, OutOfMemory> {
+        Held::of(alloc, self.thing.try_copy()?)
     }
 }

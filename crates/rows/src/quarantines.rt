@@ -6,7 +6,7 @@
 //! - `into 2`: it goes on as its copy, in a quarantine that had room for so many, and held one event;
 //! - `keep` and `back`: the quarantine as it was once.
 use crate::events::observed_of;
-use crate::keeping::Kept;
+use crate::keeping::{Held, Kept};
 use event_syntax::write_observed;
 use event_values::Observed;
 use mg_bytes::OutOfMemory;
@@ -15,28 +15,12 @@ use quarantine::Buffer;
 use scenario_files::{Outcome, Row, Scenario};
 use std::alloc::Global;
 
-/// The quarantine that rows go on with.
-#[derive(Drop)]
-pub struct QuarantineScenario {
-    buffer: Buffer,
-}
-
-impl QuarantineScenario {
-    // `L/hf`: this event comes.
-    fn hold(&mut self, row: &mut Row<'_>) {
-        let word = row.rest();
-        match observed_of(&mut row.given, word) {
-            Some(event) => self.buffer.hold(event),
-            None => row.given.unread(),
-        }
-    }
-
-    // Another quarantine stands in its place.
-    fn become_other(&mut self, given: &mut Outcome, other: Result<Buffer, OutOfMemory>) {
-        match other {
-            Ok(other) => self.buffer = other,
-            Err(_) => given.refuse(),
-        }
+// `L/hf`: this event comes.
+fn hold(held: &mut Held<Buffer>, row: &mut Row<'_>) {
+    let word = row.rest();
+    match observed_of(&mut row.given, word) {
+        Some(event) => held.thing.hold(event),
+        None => row.given.unread(),
     }
 }
 
@@ -48,45 +32,60 @@ fn put_taken(given: &mut Outcome, taken: Option<Observed>) {
     }
 }
 
+// A quarantine with room for so many.
+fn with_room(alloc: Global, room: u32) -> Result<Held<Buffer>, OutOfMemory> {
+    Held::of(alloc, Buffer::new(alloc, room as usize)?)
+}
+
 // Its copy in another quarantine, with room for so many, which held one event.
-fn copy_into(alloc: Global, buffer: &Buffer, room: u32) -> Result<Buffer, OutOfMemory> {
-    let mut other = Buffer::new(alloc, room as usize)?;
-    other.hold(Observed::default());
-    other.try_copy_from(buffer)?;
+fn copy_into(alloc: Global, held: &Held<Buffer>, room: u32) -> Result<Held<Buffer>, OutOfMemory> {
+    let mut other = with_room(alloc, room)?;
+    other.thing.hold(Observed::default());
+    other.thing.try_copy_from(&held.thing)?;
     Ok(other)
 }
 
-impl Scenario for QuarantineScenario {
-    fn begin(alloc: Global) -> Result<QuarantineScenario, OutOfMemory> {
-        let buffer = Buffer::new(alloc, MOST_QUARANTINED)?;
-        Ok(QuarantineScenario { buffer })
+// Another quarantine stands in its place.
+fn become_other(
+    held: &mut Held<Buffer>,
+    given: &mut Outcome,
+    other: Result<Held<Buffer>, OutOfMemory>,
+) {
+    match other {
+        Ok(other) => *held = other,
+        Err(_) => given.refuse(),
+    }
+}
+
+impl Scenario for Held<Buffer> {
+    fn begin(alloc: Global) -> Result<Held<Buffer>, OutOfMemory> {
+        Held::of(alloc, Buffer::new(alloc, MOST_QUARANTINED)?)
     }
 
     fn turn(&mut self, row: &mut Row<'_>) {
         match row.before(" ") {
             "room" => {
-                let room = row.number() as usize;
-                let other = Buffer::new(row.given.alloc, room);
-                self.become_other(&mut row.given, other);
+                let room = row.number();
+                let other = with_room(row.given.alloc, room);
+                become_other(self, &mut row.given, other);
             }
             "into" => {
                 let room = row.number();
-                let other = copy_into(row.given.alloc, &self.buffer, room);
-                self.become_other(&mut row.given, other);
+                let other = copy_into(row.given.alloc, self, room);
+                become_other(self, &mut row.given, other);
             }
-            "hold" => self.hold(row),
-            "clear" => self.buffer.clear(),
-            "take" => put_taken(&mut row.given, self.buffer.take()),
-            "holds" => row.given.put_shown(self.buffer.iter().count()),
-            "lost" => row.given.put_shown(self.buffer.lost()),
+            "hold" => hold(self, row),
+            "clear" => self.thing.clear(),
+            "take" => put_taken(&mut row.given, self.thing.take()),
+            "holds" => row.given.put_shown(self.thing.iter().count()),
+            "lost" => row.given.put_shown(self.thing.lost()),
             _ => row.given.unread(),
         }
     }
 }
 
-impl Kept for QuarantineScenario {
-    fn copy(&self, _alloc: Global) -> Result<QuarantineScenario, OutOfMemory> {
-        let buffer = self.buffer.try_copy()?;
-        Ok(QuarantineScenario { buffer })
+impl Kept for Held<Buffer> {
+    fn copy(&self, alloc: Global) -> Result<Held<Buffer>, OutOfMemory> {
+        Held::of(alloc, self.thing.try_copy()?)
     }
 }

@@ -5,19 +5,13 @@
 //! - `due 181000 L/rg` the earliest end; `due -` no time ends any;
 //! - `active  L/rg 181000  L/vmwi -` the active signals with their ends; `active` there is none;
 //! - `refused on  L/dl  402` the return code with which an S is refused on hook; `-` where it isn't.
-use crate::keeping::boxed;
+use crate::keeping::Held;
 use event_syntax::read_signals;
 use mg_bytes::OutOfMemory;
 use mg_packages::{Hook, signal_name, signal_of};
 use scenario_files::{Outcome, Row, Scenario};
 use signals::{SignalSet, refused};
 use std::alloc::Global;
-
-/// The active signals that rows go on with.
-#[derive(Drop)]
-pub struct SignalScenario {
-    set: Box<SignalSet>,
-}
 
 // `on` or `off`, up to the next field.
 fn hook_of(row: &mut Row<'_>) -> Hook {
@@ -32,8 +26,8 @@ fn hook_of(row: &mut Row<'_>) -> Hook {
 }
 
 // What ends first.
-fn put_due(given: &mut Outcome, held: &SignalScenario) {
-    match held.set.next_due() {
+fn put_due(given: &mut Outcome, held: &Held<SignalSet>) {
+    match held.thing.next_due() {
         Some((moment, signal)) => {
             given.put_shown(moment);
             given.put_both(b" ", signal_name(signal));
@@ -43,8 +37,8 @@ fn put_due(given: &mut Outcome, held: &SignalScenario) {
 }
 
 // The active signals, a field each.
-fn put_active(given: &mut Outcome, held: &SignalScenario) {
-    for active in held.set.list().as_slice() {
+fn put_active(given: &mut Outcome, held: &Held<SignalSet>) {
+    for active in held.thing.list().as_slice() {
         given.put_both(b"  ", signal_name(active.signal));
         match active.end {
             Some(end) => given.put_behind(b" ", end),
@@ -66,30 +60,31 @@ fn put_refusal(row: &mut Row<'_>) {
 }
 
 // `1000 on  S: L/rg` takes effect at this moment.
-fn apply(held: &mut SignalScenario, row: &mut Row<'_>, moment: u32) {
+fn apply(held: &mut Held<SignalSet>, row: &mut Row<'_>, moment: u32) {
     let hook = hook_of(row);
     let value = row.rest();
     let value = value.strip_prefix("S: ").unwrap_or(value);
     match read_signals(value.as_bytes()) {
-        Ok(requests) => held.set.apply(requests.as_slice(), hook, u64::from(moment)),
+        Ok(requests) => held
+            .thing
+            .apply(requests.as_slice(), hook, u64::from(moment)),
         Err(fault) => row.given.fault(fault),
     }
 }
 
-impl Scenario for SignalScenario {
-    fn begin(alloc: Global) -> Result<SignalScenario, OutOfMemory> {
-        let set = boxed(alloc, SignalSet::new())?;
-        Ok(SignalScenario { set })
+impl Scenario for Held<SignalSet> {
+    fn begin(alloc: Global) -> Result<Held<SignalSet>, OutOfMemory> {
+        Held::of(alloc, SignalSet::new())
     }
 
     fn turn(&mut self, row: &mut Row<'_>) {
         match row.before(" ") {
-            "hook" => self.set.hook_changed(hook_of(row)),
+            "hook" => self.thing.hook_changed(hook_of(row)),
             "expire" => match signal_of(row.rest().as_bytes()) {
-                Ok(signal) => self.set.expire(signal),
+                Ok(signal) => self.thing.expire(signal),
                 Err(_) => row.given.unread(),
             },
-            "stop" => self.set.stop_timeouts(),
+            "stop" => self.thing.stop_timeouts(),
             "due" => put_due(&mut row.given, self),
             "active" => put_active(&mut row.given, self),
             "refused" => put_refusal(row),
