@@ -28,7 +28,7 @@ fn unplayed(text: &str) -> Option<&str> {
 // Tells a file by what its first line says that it has. The other lines keep the line end before them, so that a title
 // may be the first of them.
 fn told<K: Kinds, R: AllocGlobal + Net>(rt: &R, text: &str, report: &mut Report) {
-    let kind = text.lines().next().unwrap_or("");
+    let (kind, _) = parted(text, "\n");
     let rest = text.strip_prefix(kind).unwrap_or("");
     if let Some(line) = unplayed(rest) {
         return report.wrong(line, "\n  stands before the first title\n");
@@ -90,10 +90,11 @@ fn told_all<K: Kinds, R: AllocGlobal + Env + Files + Net + Print>(
     rt: &R,
     report: &mut Report,
 ) -> bool {
-    let Ok(words) = again!(env::args(rt)) else {
+    let Ok(mut names) = again!(env::args(rt)) else {
         return false;
     };
-    for name in words.skip(1) {
+    let _ = names.next();
+    for name in names {
         if !told_file::<K, R>(rt, name.as_str(), report) {
             return false;
         }

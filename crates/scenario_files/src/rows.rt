@@ -68,7 +68,9 @@ fn told_block<T: Scenario + Drop>(alloc: Global, title: &str, rows: &str, report
 
 /// Tells the rows of a text, which begin anew under each line `= TITLE`.
 pub fn told<T: Scenario + Drop>(alloc: Global, text: &str, report: &mut Report) {
-    for block in text.split("\n= ").skip(1) {
+    let mut blocks = text.split("\n= ");
+    let _ = blocks.next();
+    for block in blocks {
         let (title, rows) = parted(block, "\n");
         told_block::<T>(alloc, title, rows, report);
     }

@@ -25,17 +25,23 @@ fn lines_of<'a>(pieces: &'a [Piece<'_>], name: &str) -> &'a str {
     "no such piece\n"
 }
 
-// A text with these values, which have a `|` between them, in its places `{1}`, `{2}` and so on.
+// The places that values stand in, as many as a piece may have.
+const PLACES: [&str; 9] = ["{1}", "{2}", "{3}", "{4}", "{5}", "{6}", "{7}", "{8}", "{9}"];
+
+// A text with these values, which have a `|` between them, in its places.
 fn filled(alloc: Global, lines: &str, values: &str) -> Result<String, OutOfMemory> {
     let mut text = lines.to_string(alloc)?;
-    for (place, value) in values.split('|').enumerate() {
-        let mark = format!(in alloc; "{{{}}}", place.wrapping_add(1))?;
-        text = text.replace(alloc, mark.as_str(), value.trim())?;
+    let mut values = values.split('|');
+    for place in &PLACES {
+        let Some(value) = values.next() else {
+            return Ok(text);
+        };
+        text = text.replace(alloc, *place, value.trim())?;
     }
     Ok(text)
 }
 
-// What `do` puts in: the lines of a name, with a value in each place `{1}`, `{2}` and so on.
+// What `do` puts in: the lines of a name, with a value in each of their places.
 fn put_done(alloc: Global, pieces: &[Piece<'_>], out: &mut TextDraft, call: &str) {
     match call.split_once('|') {
         Some((name, values)) => {
@@ -126,7 +132,9 @@ pub fn told_titled<T: Titled, R: AllocGlobal + Net>(
     report: &mut Report,
 ) {
     let mut pieces = Vec::new(rt.alloc());
-    for block in text.split("\n= ").skip(1) {
+    let mut blocks = text.split("\n= ");
+    let _ = blocks.next();
+    for block in blocks {
         told_block(rt, kind, &mut pieces, block, report);
     }
 }

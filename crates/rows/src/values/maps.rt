@@ -172,8 +172,8 @@ fn put_map(given: &mut Outcome, map: &MapText) {
     }
 }
 
-// A map without its blanks, or a code.
-fn put_read(given: &mut Outcome, value: &[u8]) {
+/// Puts a map without its blanks, or a code.
+pub fn put_read(given: &mut Outcome, value: &[u8]) {
     match read_map(given.alloc, value) {
         Ok(map) => put_map(given, &map),
         Err(fault) => given.put_code(CodeFault::from(fault)),

@@ -1,41 +1,42 @@
 //! Calls that read what a parameter spells: what is read, as it is written again, or a code.
 use crate::texts::words_of;
+use crate::values::maps;
 use connections::{
     CodecChoice, encoding_text, mode_text, read_encoding, read_mode, read_options, write_number,
     write_options,
 };
-use digit_map::read_map;
 use event_syntax::{
     read_detect, read_events, read_handling, read_observed, read_signals, write_detect,
     write_events, write_handling, write_observed, write_signals,
 };
-use mg_bytes::{CodeFault, Text};
 use scenario_files::Outcome;
-use std::alloc::Global;
 
-// A value of R, T, S, Q, O or D, as it is written again; D without its blanks. Nothing where there is no such call.
-fn events_text(alloc: Global, call: &str, value: &[u8]) -> Result<Option<Text>, CodeFault> {
-    let written = match call {
-        "R" => write_events(alloc, read_events(alloc, value)?.as_slice()),
-        "T" => write_detect(alloc, read_detect(value)?.as_slice()),
-        "S" => write_signals(alloc, read_signals(value)?.as_slice()),
-        "Q" => write_handling(alloc, read_handling(value)?),
-        "O" => write_observed(alloc, read_observed(alloc, value)?.as_slice()),
-        "D" => {
-            let map = Vec::from_slice(alloc, read_map(alloc, value)?.as_bytes())?;
-            Ok(Text::of(map))
-        }
-        _ => return Ok(None),
-    };
-    Ok(Some(written?))
-}
-
-// A value of one of these, or a code; no where there is no such call.
+// Puts a value of R, T, S, Q, O or D, as it is written again, or a code; no where there is no such call.
 fn put_spelled(given: &mut Outcome, call: &str, value: &[u8]) -> bool {
-    match events_text(given.alloc, call, value) {
-        Ok(Some(text)) => given.put(text.as_bytes()),
-        Ok(None) => return false,
-        Err(fault) => given.put_code(fault),
+    let alloc = given.alloc;
+    match call {
+        "R" => match read_events(alloc, value) {
+            Ok(events) => given.put_text(write_events(alloc, events.as_slice())),
+            Err(fault) => given.put_code(fault),
+        },
+        "T" => match read_detect(value) {
+            Ok(events) => given.put_text(write_detect(alloc, events.as_slice())),
+            Err(fault) => given.put_code(fault),
+        },
+        "S" => match read_signals(value) {
+            Ok(signals) => given.put_text(write_signals(alloc, signals.as_slice())),
+            Err(fault) => given.put_code(fault),
+        },
+        "Q" => match read_handling(value) {
+            Ok(handling) => given.put_text(write_handling(alloc, handling)),
+            Err(fault) => given.put_code(fault),
+        },
+        "O" => match read_observed(alloc, value) {
+            Ok(events) => given.put_text(write_observed(alloc, events.as_slice())),
+            Err(fault) => given.put_code(fault),
+        },
+        "D" => maps::put_read(given, value),
+        _ => return false,
     }
     true
 }
