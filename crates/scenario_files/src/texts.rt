@@ -41,10 +41,16 @@ pub fn in_full(alloc: Global, text: &str) -> Result<String, OutOfMemory> {
 // The letters that stand behind a `\` for a byte.
 const SHORT_FORMS: [(&str, u8); 3] = [("s", b' '), ("t", b'\t'), ("n", b'\n')];
 
-// The byte with these two digits behind `x` in front, and what follows them.
-fn hexadecimal_byte(piece: &str) -> Option<(u8, &str)> {
-    let (digits, rest) = piece.strip_prefix('x')?.split_at_checked(2)?;
-    Some((u8::from_str_radix(digits, 16).ok()?, rest))
+// Puts the byte whose two digits stand behind an `x` in front, and what follows them; all where they don't.
+fn put_hexadecimal(out: &mut Draft, piece: &str) {
+    let (short, rest) = piece.split_at_checked(3).unwrap_or(("", ""));
+    match u8::from_str_radix(short.strip_prefix('x').unwrap_or(""), 16) {
+        Ok(byte) => {
+            out.put_byte(byte);
+            out.put(rest.as_bytes());
+        }
+        Err(_) => out.put(piece.as_bytes()),
+    }
 }
 
 // Puts what stands behind a `\`: the byte that its short form is, and what follows it.
@@ -55,23 +61,32 @@ fn put_short(out: &mut Draft, piece: &str) {
             return out.put(rest.as_bytes());
         }
     }
-    let Some((byte, rest)) = hexadecimal_byte(piece) else {
-        return out.put(piece.as_bytes());
-    };
-    out.put_byte(byte);
-    out.put(rest.as_bytes());
+    put_hexadecimal(out, piece);
 }
 
-// A text without the short forms that are no single byte.
-fn without_pairs(alloc: Global, field: &str) -> Result<String, OutOfMemory> {
-    let text = field.replace(alloc, "''", "")?;
-    text.as_str().replace(alloc, "¶", "\r\n")
+// The short forms that are no single byte, and what each stands for.
+const PAIRS: [(&str, &str); 2] = [("''", ""), ("¶", "\r\n")];
+
+// What rows say for bytes, in the order in which it is put.
+const SAID: [(&str, &str); 3] = [("\r\n", "¶"), ("\t", "\\t"), ("\n", "\\n")];
+
+// A text with something else in place of each of these pieces.
+fn replaced(
+    alloc: Global,
+    text: String,
+    pieces: &[(&str, &str)],
+) -> Result<String, OutOfMemory> {
+    let mut text = text;
+    for (piece, other) in pieces {
+        text = text.replace(alloc, *piece, *other)?;
+    }
+    Ok(text)
 }
 
 /// A value as its bytes: `''` is nothing, `\s` a blank, `\t` a tab, `\n` a line end, `¶` one of two bytes, and `\xff` the
 /// byte with these hexadecimal digits.
 pub fn bytes_of(alloc: Global, field: &str) -> Result<Vec<u8>, OutOfMemory> {
-    let text = without_pairs(alloc, field)?;
+    let text = replaced(alloc, field.to_string(alloc)?, &PAIRS)?;
     let mut out = Draft::new(alloc);
     let mut pieces = text.as_str().split('\\');
     out.put(pieces.next().unwrap_or("").as_bytes());
@@ -86,10 +101,7 @@ pub fn said(alloc: Global, bytes: &[u8]) -> Result<String, OutOfMemory> {
     if bytes.is_empty() {
         return "''".to_string(alloc);
     }
-    let mut text = String::from_utf8_lossy(alloc, bytes)?;
-    text = text.replace(alloc, "\r\n", "¶")?;
-    text = text.replace(alloc, "\t", "\\t")?;
-    text.replace(alloc, "\n", "\\n")
+    replaced(alloc, String::from_utf8_lossy(alloc, bytes)?, &SAID)
 }
 
 /// A judgement as a row says it.
