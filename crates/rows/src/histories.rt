@@ -113,7 +113,7 @@ fn put_unlike(
     for id in ids.first..=ids.last {
         let told = told(held, id, now);
         if told != wanted {
-            given.put(told.as_bytes());
+            given.put_words(told);
             given.put_behind(b" for ", id);
             return true;
         }

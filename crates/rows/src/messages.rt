@@ -101,11 +101,11 @@ impl Scenario for MessageScenario {
             }
             "repeat" => {
                 let becomes = self.repeat(row);
-                row.given.put(becomes.as_bytes());
+                row.given.put_words(becomes);
             }
             "answer" => {
                 let reply = self.answer(row);
-                row.given.put(reply.as_bytes());
+                row.given.put_words(reply);
             }
             "due" => row.given.put_shown(self.message.due()),
             "to" => row.given.put_shown(self.message.to()),

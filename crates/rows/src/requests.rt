@@ -25,7 +25,7 @@ fn put_decision(given: &mut Outcome, decision: Decision<'_>) {
         Doing::Embed(_) => "embed",
         Doing::AccumulateAndEmbed(_) => "accumulate,embed",
     };
-    given.put(done.as_bytes());
+    given.put_words(done);
     if decision.keep {
         given.put(b",keep");
     }

@@ -55,7 +55,7 @@ impl Scenario for RestartScenario {
             "waits" => self.wait(row),
             "sent" => self.restart = Restart::Announced,
             "answered" => self.restart = Restart::Serving,
-            "is" => row.given.put(self.place().as_bytes()),
+            "is" => row.given.put_words(self.place()),
             "due" => self.put_due(&mut row.given),
             _ => row.given.unread(),
         }

@@ -87,7 +87,7 @@ fn put_given(given: &mut Outcome, call: &str, values: &str, wanted: &str) {
         }
     }
     given.bytes.clear();
-    given.put(wanted.as_bytes());
+    given.put_words(wanted);
 }
 
 impl Scenario for Values {

@@ -80,6 +80,11 @@ impl Outcome {
         }
     }
 
+    /// Puts words.
+    pub fn put_words(&mut self, words: &str) {
+        self.put(words.as_bytes());
+    }
+
     /// Puts two pieces, one behind the other.
     pub fn put_both(&mut self, one: &[u8], other: &[u8]) {
         self.put(one);
@@ -126,6 +131,6 @@ impl Outcome {
 
     /// Puts a judgement.
     pub fn put_judged(&mut self, is_so: bool) {
-        self.put(yes_or_no(is_so).as_bytes());
+        self.put_words(yes_or_no(is_so));
     }
 }

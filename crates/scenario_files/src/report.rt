@@ -42,11 +42,16 @@ impl Report {
         }
     }
 
+    /// Puts words.
+    pub fn put_words(&mut self, words: &str) {
+        self.put(words.as_bytes());
+    }
+
     /// Counts a case that isn't as it is told, of which this is said, and puts both parts of that.
     pub fn wrong(&mut self, what: &str, said: &str) {
         self.count(false);
-        self.put(what.as_bytes());
-        self.put(said.as_bytes());
+        self.put_words(what);
+        self.put_words(said);
     }
 
     /// Counts a row, which is wrong where it gives what it doesn't say.
@@ -60,7 +65,7 @@ impl Report {
             Ok(None) => self.count(true),
             Ok(Some(given)) => {
                 self.wrong(title, ": ");
-                self.put(written.as_bytes());
+                self.put_words(written);
                 self.put(b"\n  gives ");
                 self.put(given.as_bytes());
                 self.put(b"\n");

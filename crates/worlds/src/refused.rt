@@ -156,7 +156,7 @@ fn put_differing(alloc: Global, report: &mut Report, title: &str, step: usize, s
         report.refuse();
     }
     report.put(b": ");
-    report.put(said.as_bytes());
+    report.put_words(said);
     report.put(b"\n");
 }
 

@@ -159,7 +159,7 @@ fn answer_of_two(alloc: Global, call: &str, fields: &str) -> Result<&'static str
 /// Puts the answer of a call of two values: of `verdict` or `in range`.
 pub fn put_answer_of_two(given: &mut Outcome, call: &str, fields: &str) {
     match answer_of_two(given.alloc, call, fields) {
-        Ok(answer) => given.put(answer.as_bytes()),
+        Ok(answer) => given.put_words(answer),
         Err(_) => given.refuse(),
     }
 }
