@@ -53,8 +53,8 @@ fn run_of(row: &mut Row<'_>) -> Run {
     }
 }
 
-fn told(held: &Held<History>, id: u32, now: u64) -> &'static str {
-    match held.thing.look(id, now) {
+fn told(history: &History, id: u32, now: u64) -> &'static str {
+    match history.look(id, now) {
         Look::New => "new",
         Look::Repeat(answer) if answer.as_bytes() == id.to_be_bytes().as_slice() => "again",
         Look::Repeat(_) => "another answer",
@@ -64,25 +64,25 @@ fn told(held: &Held<History>, id: u32, now: u64) -> &'static str {
 }
 
 // Keeps a command with its answer, the bytes of its id.
-fn keep(held: &mut Held<History>, alloc: Global, id: u32, moment: u64) -> Result<(), OutOfMemory> {
+fn keep(history: &mut History, alloc: Global, id: u32, moment: u64) -> Result<(), OutOfMemory> {
     let answer = Text::of(id.to_be_bytes().to_vec(alloc)?);
-    held.thing.first(id, moment, answer)
+    history.first(id, moment, answer)
 }
 
 // Of several commands each is kept again where memory was refused.
-fn keep_all(held: &mut Held<History>, row: &mut Row<'_>) {
+fn keep_all(history: &mut History, row: &mut Row<'_>) {
     let first = row.before(" ");
     let ids = ids_of(&mut row.given, first);
     let moment = u64::from(row.number_behind("at"));
     for id in ids.first..=ids.last {
-        if again!(keep(held, row.given.alloc, id, moment)).is_err() {
+        if again!(keep(history, row.given.alloc, id, moment)).is_err() {
             return row.given.refuse();
         }
     }
 }
 
 // `1-7,9`: a K names these.
-fn confirm(held: &mut Held<History>, row: &mut Row<'_>) {
+fn confirm(history: &mut History, row: &mut Row<'_>) {
     let mut spans = Sequence::new(row.given.alloc);
     for written in row.rest().split(',') {
         let ids = ids_of(&mut row.given, written);
@@ -90,28 +90,28 @@ fn confirm(held: &mut Held<History>, row: &mut Row<'_>) {
             return row.given.refuse();
         }
     }
-    if held.thing.confirm(spans).is_err() {
+    if history.confirm(spans).is_err() {
         row.given.refuse();
     }
 }
 
 // A K names all these.
-fn confirm_all(held: &mut Held<History>, alloc: Global, ids: IdSpan) -> Result<(), OutOfMemory> {
+fn confirm_all(history: &mut History, alloc: Global, ids: IdSpan) -> Result<(), OutOfMemory> {
     let mut spans = Sequence::new(alloc);
     spans.push(ids)?;
-    held.thing.confirm(spans)
+    history.confirm(spans)
 }
 
 // Puts what commands with these ids are, where one is something else than the row says, and says whether one is.
 fn put_unlike(
-    held: &Held<History>,
+    history: &History,
     given: &mut Outcome,
     ids: IdSpan,
     now: u64,
     wanted: &str,
 ) -> bool {
     for id in ids.first..=ids.last {
-        let told = told(held, id, now);
+        let told = told(history, id, now);
         if told != wanted {
             given.put_words(told);
             given.put_behind(b" for ", id);
@@ -122,22 +122,22 @@ fn put_unlike(
 }
 
 // A command of a run is kept, and maybe confirms all so far. It is done again where memory was refused.
-fn take(held: &mut Held<History>, given: &mut Outcome, run: Run, id: u32, now: u64) {
+fn take(history: &mut History, given: &mut Outcome, run: Run, id: u32, now: u64) {
     let first = run.ids.first;
     let so_far = IdSpan { first, last: id };
-    if run.confirming && again!(confirm_all(held, given.alloc, so_far)).is_err() {
+    if run.confirming && again!(confirm_all(history, given.alloc, so_far)).is_err() {
         return given.refuse();
     }
-    if again!(keep(held, given.alloc, id, now)).is_err() {
+    if again!(keep(history, given.alloc, id, now)).is_err() {
         given.refuse();
     }
 }
 
 // One command of a run: it is new, and is kept. Says whether it is otherwise, and puts that.
-fn put_come(held: &mut Held<History>, given: &mut Outcome, run: Run, id: u32) -> bool {
+fn put_come(history: &mut History, given: &mut Outcome, run: Run, id: u32) -> bool {
     let now = u64::from(id).saturating_mul(u64::from(run.wait));
-    held.thing.purge(now);
-    let kept = held.thing.len();
+    history.purge(now);
+    let kept = history.len();
     if kept > run.most as usize {
         given.put_shown(kept);
         given.put_behind(b" at ", now);
@@ -147,18 +147,18 @@ fn put_come(held: &mut Held<History>, given: &mut Outcome, run: Run, id: u32) ->
         first: id,
         last: id,
     };
-    if put_unlike(held, given, alone, now, "new") {
+    if put_unlike(history, given, alone, now, "new") {
         return true;
     }
-    take(held, given, run, id, now);
+    take(history, given, run, id, now);
     given.is_refused
 }
 
 // `run 1-20000 every 10 holding 3000`.
-fn put_run(held: &mut Held<History>, row: &mut Row<'_>) {
+fn put_run(history: &mut History, row: &mut Row<'_>) {
     let run = run_of(row);
     for id in run.ids.first..=run.ids.last {
-        if put_come(held, &mut row.given, run, id) {
+        if put_come(history, &mut row.given, run, id) {
             return;
         }
     }
@@ -171,18 +171,18 @@ impl Scenario for Held<History> {
 
     fn turn(&mut self, row: &mut Row<'_>) {
         match row.before(" ") {
-            "first" => keep_all(self, row),
-            "confirm" => confirm(self, row),
+            "first" => keep_all(&mut self.thing, row),
+            "confirm" => confirm(&mut self.thing, row),
             "purge" => self.thing.purge(u64::from(row.number())),
             "undo" => self.thing.undo(),
-            "run" => put_run(self, row),
+            "run" => put_run(&mut self.thing, row),
             "holds" => row.given.put_shown(self.thing.len()),
             // `7 at 30999 again`: what commands with these ids are.
             ids => {
                 let ids = ids_of(&mut row.given, ids);
                 let now = u64::from(row.number_behind("at"));
                 let wanted = row.rest();
-                put_unlike(self, &mut row.given, ids, now, wanted);
+                put_unlike(&self.thing, &mut row.given, ids, now, wanted);
             }
         }
     }

@@ -35,71 +35,71 @@ fn opening(alloc: Global) -> Result<Held<Line>, OutOfMemory> {
 }
 
 // A request with these parameters; a code where the line refuses it.
-fn ask(held: &mut Held<Line>, row: &mut Row<'_>, moment: u64)
+fn ask(line: &mut Line, row: &mut Row<'_>, moment: u64)
     requires { moment < 2 ^ 62 }
 {
     let fields = row.parameters();
     match request_of(row.given.alloc, fields) {
-        Ok(request) => match held.thing.check(&request) {
+        Ok(request) => match line.check(&request) {
             Some(code) => row.given.put_shown(code),
-            None => put_notice(&mut row.given, held.thing.request(&request, moment)),
+            None => put_notice(&mut row.given, line.request(&request, moment)),
         },
         Err(fault) => row.given.put_code(fault),
     }
 }
 
 // An act that the hook state allows: it is done, or isn't heeded.
-fn act(held: &mut Held<Line>, given: &mut Outcome, word: &str, moment: u64, is_heeded: bool)
+fn act(line: &mut Line, given: &mut Outcome, word: &str, moment: u64, is_heeded: bool)
     requires { moment < 2 ^ 62 }
 {
     let Some(act) = named(&ACTS, word) else {
         return given.put(NO_TURN);
     };
-    if !held.thing.takes(act) {
+    if !line.takes(act) {
         given.put(NO_TURN);
     } else if is_heeded {
-        put_notice(given, held.thing.phone(act, moment));
-    } else if held.thing.heeds(act) {
+        put_notice(given, line.phone(act, moment));
+    } else if line.heeds(act) {
         given.put(NO_TURN);
     } else {
-        held.thing.pass_over(act);
+        line.pass_over(act);
     }
 }
 
-fn fall(held: &mut Held<Line>, given: &mut Outcome, word: &str, moment: u64)
+fn fall(line: &mut Line, given: &mut Outcome, word: &str, moment: u64)
     requires { moment < 2 ^ 62 }
 {
     match due_of(word) {
-        Some(due) if held.thing.due() == Some((moment, due)) => {
-            put_notice(given, held.thing.fire(due, moment));
+        Some(due) if line.due() == Some((moment, due)) => {
+            put_notice(given, line.fire(due, moment));
         }
         _ => given.put(NO_TURN),
     }
 }
 
 // A turn at this moment.
-fn go_on(held: &mut Held<Line>, row: &mut Row<'_>, moment: u64)
+fn go_on(line: &mut Line, row: &mut Row<'_>, moment: u64)
     requires { moment < 2 ^ 62 }
 {
     let words = row.before("  ");
     let (word, what) = parted(words, " ");
     match word {
-        "asks" => ask(held, row, moment),
-        "idles" => act(held, &mut row.given, what, moment, false),
-        "falls" => fall(held, &mut row.given, what, moment),
-        "answered" => put_notice(&mut row.given, held.thing.answered(moment)),
-        "opened" => put_notice(&mut row.given, held.thing.opened(moment)),
-        _ => act(held, &mut row.given, words, moment, true),
+        "asks" => ask(line, row, moment),
+        "idles" => act(line, &mut row.given, what, moment, false),
+        "falls" => fall(line, &mut row.given, what, moment),
+        "answered" => put_notice(&mut row.given, line.answered(moment)),
+        "opened" => put_notice(&mut row.given, line.opened(moment)),
+        _ => act(line, &mut row.given, words, moment, true),
     }
 }
 
 // What the line says to a question, by its hook state or its request.
-fn put_answer(held: &Held<Line>, given: &mut Outcome, question: &str) {
+fn put_answer(line: &Line, given: &mut Outcome, question: &str) {
     let (word, act) = parted(question, " ");
     match named(&ACTS, act) {
-        Some(act) if word == "takes" => given.put_judged(held.thing.takes(act)),
-        Some(act) if word == "heeds" => given.put_judged(held.thing.heeds(act)),
-        _ => requests::put_answer(given, held.thing.requests(), question),
+        Some(act) if word == "takes" => given.put_judged(line.takes(act)),
+        Some(act) if word == "heeds" => given.put_judged(line.heeds(act)),
+        _ => requests::put_answer(given, line.requests(), question),
     }
 }
 
@@ -111,10 +111,10 @@ fn put_shown(held: &mut Held<Line>, row: &mut Row<'_>) {
             Err(_) => row.given.refuse(),
         },
         "is" => {
-            put_state(&mut row.given, held);
+            put_state(&mut row.given, &held.thing);
             unless_fields(row);
         }
-        question => put_answer(held, &mut row.given, question),
+        question => put_answer(&held.thing, &mut row.given, question),
     }
 }
 
@@ -130,7 +130,7 @@ impl Scenario for Held<Line> {
         match first.parse::<u32>() {
             Ok(moment) => {
                 row.left = rest.trim_start();
-                go_on(self, row, u64::from(moment));
+                go_on(&mut self.thing, row, u64::from(moment));
             }
             Err(_) => put_shown(self, row),
         }

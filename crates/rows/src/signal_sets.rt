@@ -26,8 +26,8 @@ fn hook_of(row: &mut Row<'_>) -> Hook {
 }
 
 // What ends first.
-fn put_due(given: &mut Outcome, held: &Held<SignalSet>) {
-    match held.thing.next_due() {
+fn put_due(given: &mut Outcome, set: &SignalSet) {
+    match set.next_due() {
         Some((moment, signal)) => {
             given.put_shown(moment);
             given.put_both(b" ", signal_name(signal));
@@ -37,8 +37,8 @@ fn put_due(given: &mut Outcome, held: &Held<SignalSet>) {
 }
 
 // The active signals, a field each.
-fn put_active(given: &mut Outcome, held: &Held<SignalSet>) {
-    for active in held.thing.list().as_slice() {
+fn put_active(given: &mut Outcome, set: &SignalSet) {
+    for active in set.list().as_slice() {
         given.put_both(b"  ", signal_name(active.signal));
         match active.end {
             Some(end) => given.put_behind(b" ", end),
@@ -60,14 +60,12 @@ fn put_refusal(row: &mut Row<'_>) {
 }
 
 // `1000 on  S: L/rg` takes effect at this moment.
-fn apply(held: &mut Held<SignalSet>, row: &mut Row<'_>, moment: u32) {
+fn apply(set: &mut SignalSet, row: &mut Row<'_>, moment: u32) {
     let hook = hook_of(row);
     let value = row.rest();
     let value = value.strip_prefix("S: ").unwrap_or(value);
     match read_signals(value.as_bytes()) {
-        Ok(requests) => held
-            .thing
-            .apply(requests.as_slice(), hook, u64::from(moment)),
+        Ok(requests) => set.apply(requests.as_slice(), hook, u64::from(moment)),
         Err(fault) => row.given.fault(fault),
     }
 }
@@ -85,11 +83,11 @@ impl Scenario for Held<SignalSet> {
                 Err(_) => row.given.unread(),
             },
             "stop" => self.thing.stop_timeouts(),
-            "due" => put_due(&mut row.given, self),
-            "active" => put_active(&mut row.given, self),
+            "due" => put_due(&mut row.given, &self.thing),
+            "active" => put_active(&mut row.given, &self.thing),
             "refused" => put_refusal(row),
             moment => match moment.parse::<u32>() {
-                Ok(moment) => apply(self, row, moment),
+                Ok(moment) => apply(&mut self.thing, row, moment),
                 Err(_) => row.given.unread(),
             },
         }

@@ -1,5 +1,4 @@
 //! What can be read of a line, as rows say it.
-use crate::keeping::Held;
 use event_syntax::{write_handling, write_observed};
 use mg_bytes::OutOfMemory;
 use mg_line::{Line, Notice};
@@ -21,8 +20,8 @@ pub fn put_notice(given: &mut Outcome, notice: Result<Option<Notice>, OutOfMemor
 }
 
 // The moment at which something falls due, and what it is.
-fn put_due(given: &mut Outcome, held: &Held<Line>) {
-    let Some((moment, due)) = held.thing.due() else {
+fn put_due(given: &mut Outcome, line: &Line) {
+    let Some((moment, due)) = line.due() else {
         return given.put(b"due -");
     };
     given.put_behind(b"due ", moment);
@@ -33,40 +32,40 @@ fn put_due(given: &mut Outcome, held: &Held<Line>) {
 }
 
 // The active signals.
-fn put_signals(given: &mut Outcome, held: &Held<Line>) {
+fn put_signals(given: &mut Outcome, line: &Line) {
     given.put(b"  signals");
-    for active in held.thing.signals().as_slice() {
+    for active in line.signals().as_slice() {
         given.put_both(b" ", signal_name(active.signal));
     }
 }
 
 // What is asked for.
-fn put_asked(given: &mut Outcome, held: &Held<Line>) {
-    given.put_both(b"  X ", held.thing.identifier().as_slice());
+fn put_asked(given: &mut Outcome, line: &Line) {
+    given.put_both(b"  X ", line.identifier().as_slice());
     given.put(b"  Q ");
-    given.put_text(write_handling(given.alloc, held.thing.handling()));
-    match held.thing.digit_map() {
+    given.put_text(write_handling(given.alloc, line.handling()));
+    match line.digit_map() {
         Some(map) => given.put_both(b"  D ", map.as_bytes()),
         None => given.put(b"  D -"),
     }
 }
 
 // What happened.
-fn put_happened(given: &mut Outcome, held: &Held<Line>) {
-    given.put(match held.thing.hook() {
+fn put_happened(given: &mut Outcome, line: &Line) {
+    given.put(match line.hook() {
         Hook::OffHook => b"  hook off".as_slice(),
         Hook::OnHook => b"  hook on".as_slice(),
     });
-    given.put_behind(b"  lost ", held.thing.lost());
-    given.put_behind(b"  accumulated ", held.thing.accumulated().len());
+    given.put_behind(b"  lost ", line.lost());
+    given.put_behind(b"  accumulated ", line.accumulated().len());
     given.put(b"  O ");
-    given.put_text(write_observed(given.alloc, held.thing.accumulated()));
+    given.put_text(write_observed(given.alloc, line.accumulated()));
 }
 
 /// Puts what a line is, a field each.
-pub fn put_state(given: &mut Outcome, held: &Held<Line>) {
-    put_due(given, held);
-    put_signals(given, held);
-    put_asked(given, held);
-    put_happened(given, held);
+pub fn put_state(given: &mut Outcome, line: &Line) {
+    put_due(given, line);
+    put_signals(given, line);
+    put_asked(given, line);
+    put_happened(given, line);
 }
