@@ -35,11 +35,16 @@ fn input_under(alloc: Global, lines: &str) -> Result<Option<String>, OutOfMemory
     Ok(Some(input_of(alloc, &scenario)?))
 }
 
-// The steps of `otherwise`; nothing where they can't be read.
-fn steps_of(alloc: Global, lines: &str) -> Result<Option<Vec<ScriptStep>>, OutOfMemory> {
+// The input that lines are, which begin at the opening.
+fn input_at_opening(alloc: Global, lines: &str) -> Result<String, OutOfMemory> {
     let mut scenario = read_scenario(alloc, lines, false)?;
     scenario.is_at_opening = true;
-    let input = input_of(alloc, &scenario)?;
+    input_of(alloc, &scenario)
+}
+
+// The steps of `otherwise`; nothing where they can't be read.
+fn steps_of(alloc: Global, lines: &str) -> Result<Option<Vec<ScriptStep>>, OutOfMemory> {
+    let input = input_at_opening(alloc, lines)?;
     let Some(Played { steps, .. }) = scene_of(alloc, input.as_bytes())? else {
         return Ok(None);
     };
