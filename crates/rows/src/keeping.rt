@@ -27,8 +27,10 @@ pub struct Held<T> {
 impl<T: Drop> Held<T> {
     /// The only error is want of memory, at which the value is gone.
     pub fn of(alloc: Global, thing: T) -> Result<Held<T>, OutOfMemory> {
-        let thing = boxed(alloc, thing)?;
-        Ok(Held { thing })
+        match Box::new(alloc, thing) {
+            Ok(thing) => Ok(Held { thing }),
+            Err(_) => Err(AllocError),
+        }
     }
 }
 
