@@ -16,10 +16,10 @@
 //! - `taken 1  L/hd,D/5` what notifications of a line told; `taken 2  none`.
 use crate::boxing::in_box;
 use crate::forms::{
-    Command, act_in, address_in, but_refusal, command_in, number_of, numbered, put_answer,
-    put_refusal, put_taken, text_of,
+    Command, address_in, number_of, numbered, put_answer, put_refusal, put_taken, text_of,
 };
 use crate::gateways::{agent_address, gateway_address};
+use crate::given::{Given, given_in};
 use crate::outputs::is_just_200;
 use agent_core::{Agent, IssueFault, Issued};
 use endpoint_names::Route;
@@ -105,12 +105,22 @@ impl AgentScenario {
         Ok(())
     }
 
-    // `RQNT  aaln/1@rgw.example.net  X: 1¶`.
-    fn issue_in(&mut self, row: &mut Row<'_>) {
-        let words = but_refusal(row);
-        let command = command_in(&mut row.given, words);
-        if !row.given.is_refused && self.issue(&mut row.given, &command).is_err() {
-            row.given.refuse();
+    // A command is issued, or an event comes: an act or a tick.
+    fn take_given(&mut self, given: &mut Outcome, taken: &Given) {
+        match taken {
+            Given::Issue { command } => {
+                let is_issued = given.is_refused || self.issue(given, command).is_ok();
+                given.refuse_unless(is_issued);
+            }
+            Given::Dial { line, act } => self.step(
+                given,
+                Event::Phone {
+                    line: *line,
+                    act: *act,
+                },
+            ),
+            Given::Tick { moment } => self.step(given, Event::Tick { moment: *moment }),
+            Given::Deliver { .. } => given.unread(),
         }
     }
 
@@ -146,20 +156,6 @@ impl AgentScenario {
         let bytes = text_of(&mut row.given, field);
         let bytes = bytes.as_bytes();
         self.step(&mut row.given, Event::Datagram { source, bytes });
-    }
-
-    // `1 off`
-    fn phone(&mut self, row: &mut Row<'_>) {
-        let words = but_refusal(row);
-        let (line, act) = act_in(&mut row.given, words);
-        self.step(&mut row.given, Event::Phone { line, act });
-    }
-
-    // `1000`
-    fn tick(&mut self, row: &mut Row<'_>) {
-        let words = but_refusal(row);
-        let moment = number_of(&mut row.given, words);
-        self.step(&mut row.given, Event::Tick { moment });
     }
 
     // Ticks up to this moment. After a refusal of memory they go on from the last that was taken.
@@ -227,13 +223,11 @@ impl Scenario for AgentScenario {
 
     fn turn(&mut self, row: &mut Row<'_>) {
         row.is_exact = true;
-        match row.before(" ") {
+        let word = row.before(" ");
+        match word {
             "agent" => self.open(row),
-            "issue" => self.issue_in(row),
             "issued" => row.given.put_shown(self.issued),
             "hears" => self.hear(row),
-            "phone" => self.phone(row),
-            "tick" => self.tick(row),
             "at" => {
                 let words = row.rest();
                 let end = number_of(&mut row.given, words);
@@ -244,7 +238,10 @@ impl Scenario for AgentScenario {
             "due" => row.given.put_or_none(self.agent.next_due()),
             "answers" => put_answer(row, &self.agent),
             "taken" => put_taken(row, &self.agent),
-            _ => row.given.unread(),
+            _ => match given_in(row, word) {
+                Some(taken) => self.take_given(&mut row.given, &taken),
+                None => row.given.unread(),
+            },
         }
     }
 }

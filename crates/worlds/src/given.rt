@@ -36,15 +36,15 @@ impl Given {
     }
 }
 
-/// `issue RQNT  aaln/1@rgw.example.net  X: 1¶`, `dial 1 off`, `tick 1000`, `deliver 0`: the step that a row says, by its
-/// first word and what stands behind that; nothing where it says none.
+/// `issue RQNT  aaln/1@rgw.example.net  X: 1¶`, `dial 1 off` or `phone 1 off`, `tick 1000`, `deliver 0`: the step that a row
+/// says, by its first word and what stands behind that; nothing where it says none.
 pub fn given_in(row: &mut Row<'_>, word: &str) -> Option<Given> {
     let words = but_refusal(row);
     Some(match word {
         "issue" => Given::Issue {
             command: command_in(&mut row.given, words),
         },
-        "dial" => {
+        "dial" | "phone" => {
             let (line, act) = act_in(&mut row.given, words);
             Given::Dial { line, act }
         }
