@@ -80,12 +80,11 @@ impl AgentScenario {
     }
 
     // What it sent with a command, for which there is a place.
-    fn keep(&mut self, issued: Issued, mut sent: Vec<OutDatagram>) -> Result<(), OutOfMemory> {
+    fn keep(&mut self, issued: Issued, mut sent: Vec<OutDatagram>) {
         let Issued { id, datagram } = issued;
-        sent.push(datagram)?;
-        self.sent.push(Sequence::of(sent))?;
+        let _ = sent.push(datagram);
+        let _ = self.sent.push(Sequence::of(sent));
         self.issued = id;
-        Ok(())
     }
 
     // A command is issued. There is a place for what is sent before it is.
@@ -98,7 +97,7 @@ impl AgentScenario {
             command.rest.as_bytes(),
         );
         match issued {
-            Ok(issued) => return self.keep(issued, sent),
+            Ok(issued) => self.keep(issued, sent),
             Err(IssueFault::OutOfMemory) => given.refuse(),
             Err(fault) => put_refusal(given, fault.number(), name_of(fault)),
         }
