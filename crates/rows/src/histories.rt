@@ -64,19 +64,32 @@ fn told(history: &History, id: u32, now: u64) -> &'static str {
 }
 
 // Keeps a command with its answer, the bytes of its id.
-fn keep(history: &mut History, alloc: Global, id: u32, moment: u64) -> Result<(), OutOfMemory> {
+fn keep_once(
+    history: &mut History,
+    alloc: Global,
+    id: u32,
+    moment: u64,
+) -> Result<(), OutOfMemory> {
     let answer = Text::of(id.to_be_bytes().to_vec(alloc)?);
     history.first(id, moment, answer)
 }
 
-// Of several commands each is kept again where memory was refused.
+// The same, once more where memory was refused.
+fn keep(history: &mut History, given: &mut Outcome, id: u32, moment: u64) {
+    if again!(keep_once(history, given.alloc, id, moment)).is_err() {
+        given.refuse();
+    }
+}
+
+// Of several commands each is kept by itself.
 fn keep_all(history: &mut History, row: &mut Row<'_>) {
     let first = row.before(" ");
     let ids = ids_of(&mut row.given, first);
     let moment = u64::from(row.number_behind("at"));
     for id in ids.first..=ids.last {
-        if again!(keep(history, row.given.alloc, id, moment)).is_err() {
-            return row.given.refuse();
+        keep(history, &mut row.given, id, moment);
+        if row.given.is_refused {
+            return;
         }
     }
 }
@@ -128,9 +141,7 @@ fn take(history: &mut History, given: &mut Outcome, run: Run, id: u32, now: u64)
     if run.confirming && again!(confirm_all(history, given.alloc, so_far)).is_err() {
         return given.refuse();
     }
-    if again!(keep(history, given.alloc, id, now)).is_err() {
-        given.refuse();
-    }
+    keep(history, given, id, now);
 }
 
 // One command of a run: it is new, and is kept. Says whether it is otherwise, and puts that.

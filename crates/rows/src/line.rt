@@ -17,8 +17,8 @@ mod shown;
 
 use crate::keeping::{Held, Kept};
 use crate::requests;
-use crate::texts::{named, unless_fields};
-use acts::{ACTS, due_of};
+use crate::texts::unless_fields;
+use acts::{act_of, due_of};
 use mg_bytes::OutOfMemory;
 use mg_line::Line;
 use parameters::request_of;
@@ -52,7 +52,7 @@ fn ask(line: &mut Line, row: &mut Row<'_>, moment: u64)
 fn act(line: &mut Line, given: &mut Outcome, word: &str, moment: u64, is_heeded: bool)
     requires { moment < 2 ^ 62 }
 {
-    let Some(act) = named(&ACTS, word) else {
+    let Some(act) = act_of(word) else {
         return given.put(NO_TURN);
     };
     if !line.takes(act) {
@@ -96,7 +96,7 @@ fn go_on(line: &mut Line, row: &mut Row<'_>, moment: u64)
 // What the line says to a question, by its hook state or its request.
 fn put_answer(line: &Line, given: &mut Outcome, question: &str) {
     let (word, act) = parted(question, " ");
-    match named(&ACTS, act) {
+    match act_of(act) {
         Some(act) if word == "takes" => given.put_judged(line.takes(act)),
         Some(act) if word == "heeds" => given.put_judged(line.heeds(act)),
         _ => requests::put_answer(given, line.requests(), question),
