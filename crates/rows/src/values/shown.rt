@@ -294,28 +294,27 @@ fn put_unbraced(given: &mut Outcome, text: &[u8]) {
     }
 }
 
-fn put_metrics(given: &mut Outcome, value: &[u8]) {
-    let picture = picture_of(told_by(given, value));
-    match metrics_text(given.alloc, &picture) {
-        Ok(text) => put_unbraced(given, &text),
-        Err(_) => given.refuse(),
-    }
-}
-
-fn put_state(given: &mut Outcome, value: &[u8]) {
-    let picture = picture_of(told_by(given, value));
-    match state_text(given.alloc, &picture, 1) {
-        Ok(text) => put_unbraced(given, text.as_bytes()),
-        Err(_) => given.refuse(),
+// Puts a picture as Prometheus wants it, or as JSON.
+fn put_picture(given: &mut Outcome, call: &str, picture: &Picture) {
+    if call == "state" {
+        match state_text(given.alloc, picture, 1) {
+            Ok(text) => put_unbraced(given, text.as_bytes()),
+            Err(_) => given.refuse(),
+        }
+    } else {
+        match metrics_text(given.alloc, picture) {
+            Ok(text) => put_unbraced(given, &text),
+            Err(_) => given.refuse(),
+        }
     }
 }
 
 /// Puts what a call gives; no where there is no such call here.
 pub fn put_answer(given: &mut Outcome, call: &str, value: &[u8]) -> bool {
-    match call {
-        "metrics" => put_metrics(given, value),
-        "state" => put_state(given, value),
-        _ => return false,
+    if call != "metrics" && call != "state" {
+        return false;
     }
+    let picture = picture_of(told_by(given, value));
+    put_picture(given, call, &picture);
     true
 }
