@@ -37,16 +37,26 @@ fn is_set(agent: &UdpSocket, wire: &UdpWire, wait: Duration) -> bool {
     }
 }
 
-// Both ends, each at a free port of this host; nothing where the host refuses one, or memory.
-fn both_ends<R: AllocGlobal + Net>(rt: &R) -> Option<Ends> {
-    let any = SocketAddrV4::new(Ipv4Addr::LOCALHOST, 0);
-    let wait = Duration::from_millis(LONGEST_WAIT);
-    let gateway = usual_gateway(rt.alloc()).ok()?;
-    let wire = UdpWire::bind(rt, any, wait).ok()?;
-    let agent = UdpSocket::bind(rt, any).ok()?;
-    if !is_set(&agent, &wire, wait) {
+// A free port of this host.
+fn any_port() -> SocketAddrV4 {
+    SocketAddrV4::new(Ipv4Addr::LOCALHOST, 0)
+}
+
+// The agent's socket beside that of the gateway; nothing where the host refuses it.
+fn agent_beside<R: Net>(rt: &R, wire: &UdpWire, wait: Duration) -> Option<UdpSocket> {
+    let agent = UdpSocket::bind(rt, any_port()).ok()?;
+    if !is_set(&agent, wire, wait) {
         return None;
     }
+    Some(agent)
+}
+
+// Both ends, each at a free port; nothing where the host refuses one, or memory.
+fn both_ends<R: AllocGlobal + Net>(rt: &R) -> Option<Ends> {
+    let wait = Duration::from_millis(LONGEST_WAIT);
+    let gateway = usual_gateway(rt.alloc()).ok()?;
+    let wire = UdpWire::bind(rt, any_port(), wait).ok()?;
+    let agent = agent_beside(rt, &wire, wait)?;
     Some(Ends {
         gateway,
         wire,
@@ -96,6 +106,16 @@ impl Ends {
         self.turn(&mut row);
         row.unlike()
     }
+
+    // Tells the rows under a title.
+    fn told(&mut self, alloc: Global, title: &str, lines: &str, report: &mut Report) {
+        for row in lines.lines() {
+            if !row.is_empty() && !row.starts_with('#') {
+                let unlike = self.unlike(alloc, row);
+                report.row(title, row, &unlike);
+            }
+        }
+    }
 }
 
 // Rows at two new ends under each title.
@@ -110,14 +130,9 @@ impl Titled for SocketRows {
         lines: &str,
         report: &mut Report,
     ) {
-        let Some(mut ends) = both_ends(rt) else {
-            return report.wrong(title, "\n  there are no sockets\n");
-        };
-        for row in lines.lines() {
-            if !row.is_empty() && !row.starts_with('#') {
-                let unlike = ends.unlike(rt.alloc(), row);
-                report.row(title, row, &unlike);
-            }
+        match both_ends(rt) {
+            Some(mut ends) => ends.told(rt.alloc(), title, lines, report),
+            None => report.wrong(title, "\n  there are no sockets\n"),
         }
     }
 }
