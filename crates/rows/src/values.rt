@@ -80,10 +80,12 @@ fn is_said(answer: &[u8], wanted: &str) -> bool {
 
 // Puts what a call gives of the first of the values that the row doesn't say, with its place; where there is none, what the row says.
 fn put_given(given: &mut Outcome, call: &str, values: &str, wanted: &str) {
-    for (place, field) in values.split("  ").enumerate() {
+    let mut place = 0u32;
+    for field in values.split("  ") {
+        place = place.saturating_add(1);
         put_answer_to(given, call, field);
         if !is_said(&given.bytes, wanted) {
-            return given.put_behind(b" for value ", place.saturating_add(1));
+            return given.put_behind(b" for value ", place);
         }
     }
     given.bytes.clear();
