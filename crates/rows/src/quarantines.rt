@@ -77,7 +77,7 @@ impl Scenario for Held<Buffer> {
             "hold" => hold(self, row),
             "clear" => self.thing.clear(),
             "take" => put_taken(&mut row.given, self.thing.take()),
-            "holds" => row.given.put_shown(self.thing.iter().count()),
+            "holds" => row.given.put_shown(self.thing.count()),
             "lost" => row.given.put_shown(self.thing.lost()),
             _ => row.given.unread(),
         }
