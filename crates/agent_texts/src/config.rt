@@ -1,15 +1,16 @@
 //! Reads the configuration of a call agent from TOML.
 use crate::config_fault::{
     ConfigRefusal, LONGEST_NUMBER, MOST_GATEWAYS, MOST_NUMBERS, Place, ValueFault, miscounted,
-    misnamed, refused, said, unknown,
+    misnamed, refused, said, told, unknown,
 };
 use crate::text::copied;
 use digit_map::{MapFault, read_map};
 use endpoint_names::is_domain;
-use mg_bytes::Text;
+use mg_bytes::{Draft, Text};
 use std::alloc::{AllocError, Global};
 use std::collections::BTreeMap;
-use std::net::SocketAddrV4;
+use std::net::{Ipv4Addr, SocketAddrV4};
+use toml::de::Error;
 use toml::{Table, Value};
 
 const KEYS: [&str; 3] = ["own", "digit_map", "gateways"];
@@ -101,62 +102,12 @@ fn key_of<'a>(domain: &'a str, key: &'a str) -> Place<'a> {
 }
 
 // The address that a value is; none with port 0.
-fn address_in(value: &Value) -> Option<SocketAddrV4> {
-    let address = value.as_str()?.parse::<SocketAddrV4>().ok()?;
+fn address_in(value: Option<&Value>) -> Option<SocketAddrV4> {
+    let address = value?.as_str()?.parse::<SocketAddrV4>().ok()?;
     if address.port() > 0 {
         Some(address)
     } else {
         None
-    }
-}
-
-// The address at a key.
-fn address_at(
-    alloc: Global,
-    table: &Table,
-    place: Place<'_>,
-) -> Result<SocketAddrV4, ConfigRefusal> {
-    let value = table.get(place.key);
-    let found = match value {
-        Some(value) => address_in(value),
-        None => None,
-    };
-    match found {
-        Some(address) => Ok(address),
-        None => Err(refused(alloc, place, value, ValueFault::NoAddress)),
-    }
-}
-
-// The address at a key, where that is there.
-fn address_if(
-    alloc: Global,
-    table: &Table,
-    place: Place<'_>,
-) -> Result<Option<SocketAddrV4>, ConfigRefusal> {
-    if table.get(place.key).is_none() {
-        return Ok(None);
-    }
-    match address_at(alloc, table, place) {
-        Ok(address) => Ok(Some(address)),
-        Err(refusal) => Err(refusal),
-    }
-}
-
-// The digit map, where there is one.
-fn map_of(alloc: Global, table: &Table) -> Result<Option<Text>, ConfigRefusal> {
-    let Some(value) = table.get("digit_map") else {
-        return Ok(None);
-    };
-    let text = value.as_str().unwrap_or("").as_bytes();
-    match read_map(alloc, text) {
-        Ok(_) => Ok(Some(copied(alloc, text)?)),
-        Err(MapFault::OutOfMemory) => Err(ConfigRefusal::OutOfMemory),
-        Err(_) => Err(refused(
-            alloc,
-            own_key("digit_map"),
-            Some(value),
-            ValueFault::NoDigitMap,
-        )),
     }
 }
 
@@ -196,69 +147,6 @@ fn put_number(
     Ok(before.is_none())
 }
 
-// The numbers of a gateway's lines.
-fn numbers_of(
-    alloc: Global,
-    seen: &mut Numbers,
-    place: Place<'_>,
-    values: &[Value],
-) -> Result<Vec<Text>, ConfigRefusal> {
-    let mut numbers = Vec::new(alloc);
-    for value in values {
-        let Some(number) = number_in(value) else {
-            return Err(refused(alloc, place, Some(value), ValueFault::NoNumber));
-        };
-        if !put_number(alloc, seen, &mut numbers, number)? {
-            return Err(refused(alloc, place, Some(value), ValueFault::Twice));
-        }
-    }
-    if numbers.is_empty() || numbers.len() > MOST_NUMBERS {
-        return Err(miscounted(alloc, place, numbers.len(), ValueFault::NoNumbers));
-    }
-    Ok(numbers)
-}
-
-// The numbers at a key in the table of a gateway.
-fn numbers_at(
-    alloc: Global,
-    seen: &mut Numbers,
-    table: &Table,
-    place: Place<'_>,
-) -> Result<Vec<Text>, ConfigRefusal> {
-    let value = table.get(place.key);
-    let values = match value {
-        Some(value) => value.as_array(),
-        None => None,
-    };
-    match values {
-        Some(values) => numbers_of(alloc, seen, place, values.as_slice()),
-        None => Err(refused(alloc, place, value, ValueFault::NoNumbers)),
-    }
-}
-
-// A gateway, whose table this is.
-fn gateway_of(
-    alloc: Global,
-    seen: &mut Numbers,
-    domain: &str,
-    table: &Table,
-) -> Result<GatewayConfig, ConfigRefusal> {
-    if !is_domain(domain.as_bytes()) {
-        return Err(misnamed(alloc, key_of(domain, ""), ValueFault::NoDomain));
-    }
-    if let Some(other) = other_key(table, &GATEWAY_KEYS) {
-        return Err(unknown(alloc, key_of(domain, other)));
-    }
-    let address = address_at(alloc, table, key_of(domain, "address"))?;
-    let phones = address_if(alloc, table, key_of(domain, "phones"))?;
-    Ok(GatewayConfig {
-        domain: copied(alloc, domain.as_bytes())?,
-        address,
-        phones,
-        numbers: numbers_at(alloc, seen, table, key_of(domain, "numbers"))?,
-    })
-}
-
 // Whether one of these gateways has this address.
 fn has_address(gateways: &[GatewayConfig], address: SocketAddrV4) -> bool {
     for other in gateways {
@@ -269,65 +157,201 @@ fn has_address(gateways: &[GatewayConfig], address: SocketAddrV4) -> bool {
     false
 }
 
-// The gateway with this domain, which this value is to be, is put behind the others. No other one has its address.
-fn put_gateway(
+// What a configuration is read with: the numbers so far, of all gateways, and why it is refused, if it is. It is read on behind that,
+// so that no piece is an error, but the first refusal alone is told.
+#[derive(Drop)]
+struct Reading {
     alloc: Global,
-    seen: &mut Numbers,
-    gateways: &mut Vec<GatewayConfig>,
-    domain: &str,
-    value: &Value,
-) -> Result<(), ConfigRefusal> {
-    let Some(keys) = value.as_table() else {
-        let place = key_of(domain, "");
-        return Err(refused(alloc, place, Some(value), ValueFault::NoGateway));
-    };
-    let gateway = gateway_of(alloc, seen, domain, keys)?;
-    let is_new = !has_address(gateways.as_slice(), gateway.address);
-    if gateways.push(gateway).is_err() {
-        return Err(ConfigRefusal::OutOfMemory);
-    }
-    if is_new {
-        return Ok(());
-    }
-    let place = key_of(domain, "address");
-    Err(refused(alloc, place, keys.get("address"), ValueFault::Twice))
+    seen: Numbers,
+    refusal: Option<ConfigRefusal>,
 }
 
-fn gateways_of(alloc: Global, table: &Table) -> Result<Vec<GatewayConfig>, ConfigRefusal> {
-    let mut seen = BTreeMap::new(alloc);
-    let mut gateways = Vec::new(alloc);
-    for (domain, value) in table.iter() {
-        put_gateway(alloc, &mut seen, &mut gateways, domain.as_str(), value)?;
+impl Reading {
+    fn refuse(&mut self, refusal: ConfigRefusal) {
+        if self.refusal.is_none() {
+            self.refusal = Some(refusal);
+        }
     }
-    if gateways.is_empty() || gateways.len() > MOST_GATEWAYS {
-        let place = own_key("gateways");
-        return Err(miscounted(alloc, place, gateways.len(), ValueFault::NoGateways));
-    }
-    Ok(gateways)
-}
 
-// The gateways at their key.
-fn gateways_at(alloc: Global, table: &Table) -> Result<Vec<GatewayConfig>, ConfigRefusal> {
-    let value = table.get("gateways");
-    let gateways = match value {
-        Some(value) => value.as_table(),
-        None => None,
-    };
-    match gateways {
-        Some(gateways) => gateways_of(alloc, gateways),
-        None => Err(refused(alloc, own_key("gateways"), value, ValueFault::NoGateways)),
+    // What stands at a key may not, or nothing stands there.
+    fn refuse_value(&mut self, place: Place<'_>, value: Option<&Value>, fault: ValueFault) {
+        let refusal = refused(self.alloc, place, value, fault);
+        self.refuse(refusal);
+    }
+
+    // So many may not stand at a key.
+    fn refuse_count(&mut self, place: Place<'_>, count: usize, fault: ValueFault) {
+        let refusal = miscounted(self.alloc, place, count, fault);
+        self.refuse(refusal);
+    }
+
+    // A text; an empty one where memory is refused for it.
+    fn text(&mut self, bytes: &[u8]) -> Text {
+        match copied(self.alloc, bytes) {
+            Ok(text) => text,
+            Err(_) => {
+                self.refuse(ConfigRefusal::OutOfMemory);
+                Text::of(Vec::new(self.alloc))
+            }
+        }
+    }
+
+    // The address at a key; any where none stands there.
+    fn address(&mut self, table: &Table, place: Place<'_>) -> SocketAddrV4 {
+        let value = table.get(place.key);
+        match address_in(value) {
+            Some(address) => address,
+            None => {
+                self.refuse_value(place, value, ValueFault::NoAddress);
+                SocketAddrV4::new(Ipv4Addr::UNSPECIFIED, 0)
+            }
+        }
+    }
+
+    // The address at a key, where that is there.
+    fn address_if(&mut self, table: &Table, place: Place<'_>) -> Option<SocketAddrV4> {
+        if table.get(place.key).is_none() {
+            return None;
+        }
+        Some(self.address(table, place))
+    }
+
+    // The digit map, where there is one.
+    fn map(&mut self, table: &Table) -> Option<Text> {
+        let value = table.get("digit_map")?;
+        let text = value.as_str().unwrap_or("").as_bytes();
+        match read_map(self.alloc, text) {
+            Ok(_) => {}
+            Err(MapFault::OutOfMemory) => self.refuse(ConfigRefusal::OutOfMemory),
+            Err(_) => self.refuse_value(own_key("digit_map"), Some(value), ValueFault::NoDigitMap),
+        }
+        Some(self.text(text))
+    }
+
+    // The number that this value is to be is put behind those of its gateway. No other line has it.
+    fn take_number(&mut self, numbers: &mut Vec<Text>, place: Place<'_>, value: &Value) {
+        let Some(number) = number_in(value) else {
+            return self.refuse_value(place, Some(value), ValueFault::NoNumber);
+        };
+        match put_number(self.alloc, &mut self.seen, numbers, number) {
+            Ok(true) => {}
+            Ok(false) => self.refuse_value(place, Some(value), ValueFault::Twice),
+            Err(_) => self.refuse(ConfigRefusal::OutOfMemory),
+        }
+    }
+
+    // The numbers of a gateway's lines.
+    fn numbers(&mut self, place: Place<'_>, values: &[Value]) -> Vec<Text> {
+        let mut numbers = Vec::new(self.alloc);
+        for value in values {
+            self.take_number(&mut numbers, place, value);
+        }
+        if numbers.is_empty() || numbers.len() > MOST_NUMBERS {
+            self.refuse_count(place, numbers.len(), ValueFault::NoNumbers);
+        }
+        numbers
+    }
+
+    // The numbers at a key in the table of a gateway.
+    fn numbers_at(&mut self, table: &Table, place: Place<'_>) -> Vec<Text> {
+        let value = table.get(place.key);
+        let values = match value {
+            Some(value) => value.as_array(),
+            None => None,
+        };
+        match values {
+            Some(values) => self.numbers(place, values.as_slice()),
+            None => {
+                self.refuse_value(place, value, ValueFault::NoNumbers);
+                Vec::new(self.alloc)
+            }
+        }
+    }
+
+    // The gateway with this domain, whose table this is.
+    fn gateway(&mut self, domain: &str, table: &Table) -> GatewayConfig {
+        if !is_domain(domain.as_bytes()) {
+            let refusal = misnamed(self.alloc, key_of(domain, ""), ValueFault::NoDomain);
+            self.refuse(refusal);
+        }
+        if let Some(other) = other_key(table, &GATEWAY_KEYS) {
+            let refusal = unknown(self.alloc, key_of(domain, other));
+            self.refuse(refusal);
+        }
+        GatewayConfig {
+            domain: self.text(domain.as_bytes()),
+            address: self.address(table, key_of(domain, "address")),
+            phones: self.address_if(table, key_of(domain, "phones")),
+            numbers: self.numbers_at(table, key_of(domain, "numbers")),
+        }
+    }
+
+    // The gateway with this domain, which this value is to be, is put behind the others. No other one has its address.
+    fn put_gateway(&mut self, gateways: &mut Vec<GatewayConfig>, domain: &str, value: &Value) {
+        let Some(table) = value.as_table() else {
+            return self.refuse_value(key_of(domain, ""), Some(value), ValueFault::NoGateway);
+        };
+        let gateway = self.gateway(domain, table);
+        if has_address(gateways.as_slice(), gateway.address) {
+            let place = key_of(domain, "address");
+            self.refuse_value(place, table.get("address"), ValueFault::Twice);
+        }
+        if gateways.push(gateway).is_err() {
+            self.refuse(ConfigRefusal::OutOfMemory);
+        }
+    }
+
+    fn gateways(&mut self, table: &Table) -> Vec<GatewayConfig> {
+        let mut gateways = Vec::new(self.alloc);
+        for (domain, value) in table.iter() {
+            self.put_gateway(&mut gateways, domain.as_str(), value);
+        }
+        if gateways.is_empty() || gateways.len() > MOST_GATEWAYS {
+            self.refuse_count(own_key("gateways"), gateways.len(), ValueFault::NoGateways);
+        }
+        gateways
+    }
+
+    // The gateways at their key.
+    fn gateways_at(&mut self, table: &Table) -> Vec<GatewayConfig> {
+        let value = table.get("gateways");
+        let gateways = match value {
+            Some(value) => value.as_table(),
+            None => None,
+        };
+        match gateways {
+            Some(gateways) => self.gateways(gateways),
+            None => {
+                self.refuse_value(own_key("gateways"), value, ValueFault::NoGateways);
+                Vec::new(self.alloc)
+            }
+        }
+    }
+
+    fn config(&mut self, table: &Table) -> AgentConfig {
+        if let Some(key) = other_key(table, &KEYS) {
+            let refusal = unknown(self.alloc, own_key(key));
+            self.refuse(refusal);
+        }
+        AgentConfig {
+            own: self.address(table, own_key("own")),
+            map: self.map(table),
+            gateways: self.gateways_at(table),
+        }
     }
 }
 
 fn config_of(alloc: Global, table: &Table) -> Result<AgentConfig, ConfigRefusal> {
-    if let Some(key) = other_key(table, &KEYS) {
-        return Err(unknown(alloc, own_key(key)));
+    let mut reading = Reading {
+        alloc,
+        seen: BTreeMap::new(alloc),
+        refusal: None,
+    };
+    let config = reading.config(table);
+    if let Some(refusal) = reading.refusal.take() {
+        return Err(refusal);
     }
-    Ok(AgentConfig {
-        own: address_at(alloc, table, own_key("own"))?,
-        map: map_of(alloc, table)?,
-        gateways: gateways_at(alloc, table)?,
-    })
+    Ok(config)
 }
 
 // The number of the line that a place in a text is in, from 1.
@@ -341,6 +365,23 @@ fn line_at(text: &str, place: usize) -> u64 {
     line
 }
 
+// A text is no TOML.
+fn unreadable(alloc: Global, text: &str, fault: &Error) -> ConfigRefusal {
+    if fault.is_memory() {
+        return ConfigRefusal::OutOfMemory;
+    }
+    let start = match fault.span() {
+        Some(span) => span.start,
+        None => 0,
+    };
+    let mut line = Draft::new(alloc);
+    line.put(b"line ");
+    line.put_decimal(line_at(text, start));
+    line.put(b": ");
+    line.put(fault.message().as_bytes());
+    told(line)
+}
+
 /// The configuration that a text writes, or what is wrong with it: the key, what stands there, and what may.
 pub fn read_config(alloc: Global, text: &[u8]) -> Result<AgentConfig, ConfigRefusal> {
     let Ok(text) = std::str::from_utf8(text) else {
@@ -348,14 +389,6 @@ pub fn read_config(alloc: Global, text: &[u8]) -> Result<AgentConfig, ConfigRefu
     };
     match toml::table_from_str(alloc, text) {
         Ok(table) => config_of(alloc, &table),
-        Err(e) if e.is_memory() => Err(ConfigRefusal::OutOfMemory),
-        Err(e) => {
-            let start = match e.span() {
-                Some(span) => span.start,
-                None => 0,
-            };
-            let words = format!(in alloc; "line {}: {}", line_at(text, start), e.message())?;
-            Err(said(alloc, words.as_str()))
-        }
+        Err(fault) => Err(unreadable(alloc, text, &fault)),
     }
 }

@@ -164,8 +164,8 @@ fn count_line(alloc: Global, place: Place<'_>, count: usize, fault: ValueFault) 
     line
 }
 
-// It has a fault that this line tells.
-fn told(line: Draft) -> ConfigRefusal
+/// It has a fault that this line tells.
+pub(crate) fn told(line: Draft) -> ConfigRefusal
     ensures { IsTold line result }
 {
     match line.end() {
