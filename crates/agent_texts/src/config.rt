@@ -357,7 +357,8 @@ fn config_of(alloc: Global, table: &Table) -> Result<AgentConfig, ConfigRefusal>
 // The number of the line that a place in a text is in, from 1.
 fn line_at(text: &str, place: usize) -> u64 {
     let mut line: u64 = 1;
-    for byte in text.as_bytes().iter().take(place) {
+    let text = text.as_bytes();
+    for byte in text.get(..place).unwrap_or(text) {
         if *byte == b'\n' {
             line = line.saturating_add(1);
         }

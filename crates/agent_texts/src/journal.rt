@@ -163,11 +163,14 @@ impl Journal {
 
     /// Keeps what was recorded since this was called last, at this moment, in microseconds since 1970, and writes what is taken at once.
     pub fn write<F: Write + Drop>(&mut self, outlets: &mut Outlets<F>, time: u64) {
-        outlets.output.keep_log(&mut self.told, time);
-        outlets.output.end_refused(&self.told, b"");
-        outlets.error.keep_log(&mut self.log, time);
-        outlets.error.say_refused(&self.log);
+        let output = &mut *outlets.output;
+        output.keep_log(&mut self.told, time);
+        output.end_refused(&self.told, b"");
+        let error = &mut *outlets.error;
+        error.keep_log(&mut self.log, time);
+        error.say_refused(&self.log);
         if let Some(capture) = &mut outlets.capture {
+            let capture = &mut **capture;
             capture.keep_whole(&mut self.capture, b"");
             capture.end_refused(&self.capture, b"");
         }
