@@ -5,7 +5,6 @@ ghost use Rattle.agent_texts.specs.Stations.{number_at};
 use mg_bytes::Text;
 
 /// A line of a gateway, with its telephone.
-#[derive(Drop)]
 pub struct Station {
     /// The place of its gateway, and its number there, from 1.
     pub gateway: usize,
@@ -15,6 +14,21 @@ pub struct Station {
     pub number: Text,
     /// How many events of it were taken.
     pub taken: usize,
+}
+
+// Written out: a derived drop, and those of all its parts, are proved anew by each crate that lets one go.
+impl Drop for Station {
+    fn drop(self) {
+        let Station {
+            gateway: _,
+            line: _,
+            name,
+            number,
+            taken: _,
+        } = self;
+        drop(name);
+        drop(number);
+    }
 }
 
 /// The number of the station at this place.
