@@ -1,12 +1,12 @@
 //! Why a gateway can't be checked.
 use mg_bytes::OutOfMemory;
+use std::io::ErrorKind;
 
-/// Why a gateway can't be checked, by the settings: those have the addresses. A reason is what `live_ends::reason_of` makes of the
-/// system's error.
+/// Why a gateway can't be checked, by the settings: those have the addresses.
 #[derive(Clone, Copy)]
 pub enum CheckFault {
-    /// No socket can be had at the address of its own.
-    Unbound { reason: &'static str },
+    /// No socket can be had at the address of its own, by the system's error of this kind.
+    Unbound { kind: ErrorKind },
     /// Nothing can be sent to the gateway, or it doesn't answer.
     NoAnswer,
     /// It refuses with 405: no call agent has answered its announcement yet.

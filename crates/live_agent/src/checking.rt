@@ -7,13 +7,15 @@ use gateway_checks::{
     Check, IN_USE, Names, Places, Player, SERVES, Tally, UNKNOWN, Verdict, all_checks, check_named,
     check_of, put_case, put_check, put_entry, put_suite, put_tally,
 };
-use live_ends::{Outlet, boxed};
+use live_ends::{Outlet, boxed, time_of_day};
 use mg_bytes::OutOfMemory;
 use std::alloc::Global;
 use std::io::Write;
 use std::net::{Net, SocketAddrV4};
 use std::rt::Clock;
-use std::time::SystemTime;
+
+// Microseconds in a millisecond.
+const MICROSECONDS: u64 = 1000;
 
 // A check has so many ids.
 const IDS: u32 = 10;
@@ -77,24 +79,24 @@ pub struct Checked {
 
 // A number of at most seven digits, which no session of the last two hours has begun with.
 fn first_base<R: Clock>(rt: &R) -> u32 {
-    let Ok(now) = SystemTime::now(rt) else {
-        return IDS;
-    };
-    let milliseconds = match now.duration_since(SystemTime::UNIX_EPOCH) {
-        Ok(passed) => u64::try_from(passed.as_millis()).unwrap_or(0),
-        Err(_) => 0,
-    };
+    let milliseconds = time_of_day(rt).unwrap_or(0) / MICROSECONDS;
     (milliseconds % 9_000_000 + 10_000) as u32
 }
 
-// Says a text of the report, as far as it is taken at once.
-fn put_out<F: Write + Drop>(said: &mut Outlet<F>, text: &str) -> Result<(), CheckFault> {
+// Says a text of the report, as far as it is taken at once: what fails, if anything does.
+fn put_out<F: Write + Drop>(
+    said: &mut Outlet<F>,
+    text: Result<String, OutOfMemory>,
+) -> Option<CheckFault> {
+    let Ok(text) = text else {
+        return Some(CheckFault::OutOfMemory);
+    };
     let is_kept = said.say(text.as_bytes());
     said.offer();
     if is_kept && said.is_open() {
-        Ok(())
+        None
     } else {
-        Err(CheckFault::Write)
+        Some(CheckFault::Write)
     }
 }
 
@@ -142,19 +144,43 @@ fn player_of<'a>(
     Player::new(alloc, check, names)
 }
 
-// Puts the report of a check as an object, in a line.
-fn put_object(
+// Whether a check is named, where some are.
+fn is_named(settings: &CheckSettings<'_>, check: &Check<'_>) -> bool {
+    match settings.only {
+        Some(names) => is_among(names, check.name),
+        None => true,
+    }
+}
+
+// Whether a check is played: one that takes long is asked for, by its name or with all that do.
+fn is_wanted(settings: &CheckSettings<'_>, check: &Check<'_>) -> bool {
+    let is_asked = settings.only.is_some() || settings.is_slow || !check.is_slow();
+    is_asked && is_possible(settings, check)
+}
+
+// An object in a line of its own.
+fn line_of(object: Result<String, OutOfMemory>) -> Result<String, OutOfMemory> {
+    let mut line = object?;
+    line.push('\n')?;
+    Ok(line)
+}
+
+// The report of a check, of which this was said, this was due, and this came.
+fn report_of(
     alloc: Global,
-    text: &mut String,
+    is_json: bool,
     check: &Check<'_>,
     verdict: Option<Verdict>,
     said: &str,
     due: &str,
     came: &[Vec<u8>],
-) -> Result<(), OutOfMemory> {
-    let object = check_text(alloc, check, verdict, said, due, came)?;
-    text.push_str(object.as_str())?;
-    text.push('\n')
+) -> Result<String, OutOfMemory> {
+    if is_json {
+        return line_of(check_text(alloc, check, verdict, said, due, came));
+    }
+    let mut text = String::new(alloc);
+    put_check(&mut text, check, verdict, said)?;
+    Ok(text)
 }
 
 impl<'a> Checking<'a> {
@@ -174,88 +200,51 @@ impl<'a> Checking<'a> {
         self.base = self.base.saturating_add(IDS);
     }
 
-    // Whether a check is named, where some are.
-    fn is_named(&self, check: &Check<'_>) -> bool {
-        match self.settings.only {
-            Some(names) => is_among(names, check.name),
-            None => true,
-        }
-    }
-
-    // Whether a check is played: one that takes long is asked for, by its name or with all that do.
-    fn is_played(&self, check: &Check<'_>) -> bool {
-        let is_asked = self.settings.only.is_some() || self.settings.is_slow || !check.is_slow();
-        is_asked && is_possible(self.settings, check)
-    }
-
-    // Puts the report of a check that was played, of which the player has what came.
-    fn put_played(&mut self, text: &mut String, check: &Check<'_>) -> Result<(), OutOfMemory> {
+    // Counts a check, and gives its report: where it was played the player has what came.
+    fn report(&mut self, check: &Check<'_>, is_played: bool) -> Result<String, OutOfMemory> {
+        let settings = self.settings;
         let player = &*self.player;
-        let verdict = Some(player.verdict());
-        self.tally.count(verdict);
-        if self.settings.is_junit {
-            put_case(&mut self.cases, check, verdict, player.due(), player.said())?;
-        }
-        if !self.settings.is_json {
-            return put_check(text, check, verdict, player.said());
-        }
-        let (said, due) = (player.said(), player.due());
-        put_object(self.alloc, text, check, verdict, said, due, player.came())
-    }
-
-    // Puts the report of a check that wasn't played.
-    fn put_unplayed(&mut self, text: &mut String, check: &Check<'_>) -> Result<(), OutOfMemory> {
-        self.tally.count(None);
-        if self.settings.is_junit {
-            put_case(&mut self.cases, check, None, "", "")?;
-        }
-        if !self.settings.is_json {
-            return put_check(text, check, None, "");
-        }
-        let nothing: Vec<Vec<u8>> = Vec::new(self.alloc);
-        put_object(self.alloc, text, check, None, "", "", nothing.as_slice())
-    }
-
-    // Reports a check, which was played or wasn't.
-    fn report<F: Write + Drop>(
-        &mut self,
-        out: &mut Outlet<F>,
-        check: &Check<'_>,
-        is_played: bool,
-    ) -> Result<(), CheckFault> {
-        let mut text = String::new(self.alloc);
-        let put = if is_played {
-            self.put_played(&mut text, check)
+        let nothing: &[Vec<u8>] = &[];
+        let (verdict, said, due, came) = if is_played {
+            (Some(player.verdict()), player.said(), player.due(), player.came())
         } else {
-            self.put_unplayed(&mut text, check)
+            (None, "", "", nothing)
         };
-        put?;
-        put_out(out, text.as_str())
+        self.tally.count(verdict);
+        if settings.is_junit {
+            put_case(&mut self.cases, check, verdict, due, said)?;
+        }
+        report_of(self.alloc, settings.is_json, check, verdict, said, due, came)
     }
 
-    // Tells how many checks have come to what.
-    fn report_all<F: Write + Drop>(&mut self, out: &mut Outlet<F>) -> Result<(), CheckFault> {
-        let mut text = String::new(self.alloc);
+    // How many checks have come to what.
+    fn counts(&self) -> Result<String, OutOfMemory> {
         if self.settings.is_json {
-            text = tally_text(self.alloc, &self.tally)?;
-            text.push('\n')?;
-        } else {
-            put_tally(&mut text, &self.tally)?;
+            return line_of(tally_text(self.alloc, &self.tally));
         }
-        put_out(out, text.as_str())
+        let mut text = String::new(self.alloc);
+        put_tally(&mut text, &self.tally)?;
+        Ok(text)
     }
 
-    // The report as JUnit's XML, where that is wanted.
-    fn junit(&self) -> Result<String, OutOfMemory> {
-        let mut out = String::new(self.alloc);
-        if self.settings.is_junit {
-            put_suite(&mut out, self.cases.as_str(), &self.tally)?;
+    // What came of all checks, where nothing has failed.
+    fn outcome(&self, fault: Option<CheckFault>) -> Result<Checked, CheckFault> {
+        if let Some(fault) = fault {
+            return Err(fault);
         }
-        Ok(out)
+        let mut junit = String::new(self.alloc);
+        if self.settings.is_junit {
+            put_suite(&mut junit, self.cases.as_str(), &self.tally)?;
+        }
+        Ok(Checked {
+            status: self.tally.status(),
+            junit,
+        })
     }
 }
 
 // What came of asking whether the gateway serves.
+#[derive(Clone, Copy)]
 enum Found {
     Serving,
     NotServing,
@@ -263,43 +252,36 @@ enum Found {
 }
 
 // Asks whether the gateway serves; where it doesn't a second passes.
-fn ask<R: Net + Clock>(
-    ends: &mut Ends<'_, R>,
-    player: &mut Box<Player<'_>>,
-) -> Result<Found, CheckFault> {
-    ends.play(player)?;
+fn ask<R: Net + Clock>(ends: &mut Ends<'_, R>, player: &mut Box<Player<'_>>) -> Found {
+    ends.play(player);
     if !player.has_answer() {
-        return Ok(Found::Silent);
+        return Found::Silent;
     }
     match player.verdict() {
         Verdict::Passed => {
-            ends.rest(1000)?;
-            Ok(Found::NotServing)
+            ends.rest(1000);
+            Found::NotServing
         }
-        Verdict::LeftOpen | Verdict::NotSupported | Verdict::Failed => Ok(Found::Serving),
+        Verdict::LeftOpen | Verdict::NotSupported | Verdict::Failed => Found::Serving,
     }
 }
 
-// Waits until the gateway serves; else tells why nothing can be checked.
-fn find<R: Net + Clock>(
-    checking: &mut Checking<'_>,
-    ends: &mut Ends<'_, R>,
-) -> Result<(), CheckFault> {
+// Waits until the gateway serves; else nothing can be checked.
+fn find<R: Net + Clock>(checking: &mut Checking<'_>, ends: &mut Ends<'_, R>) {
     let line = checking.settings.line;
     let mut silent: u32 = 0;
     for _ in 0..MOST_TRIES {
         checking.begin(&check_of(SERVES), line);
         match ask(ends, &mut checking.player) {
-            Ok(Found::Serving) => return Ok(()),
-            Ok(Found::NotServing) => {}
-            Ok(Found::Silent) => silent = silent.saturating_add(1),
-            Err(fault) => return Err(fault),
+            Found::Serving => return,
+            Found::NotServing => {}
+            Found::Silent => silent = silent.saturating_add(1),
         }
         if silent == MOST_SILENT {
-            return Err(CheckFault::NoAnswer);
+            return ends.keep(Some(CheckFault::NoAnswer));
         }
     }
-    Err(CheckFault::NotServing)
+    ends.keep(Some(CheckFault::NotServing));
 }
 
 // Whether this holds of a line, as far as the gateway tells.
@@ -308,10 +290,10 @@ fn holds<'a, R: Net + Clock>(
     ends: &mut Ends<'_, R>,
     line: &'a str,
     block: &'static str,
-) -> Result<bool, CheckFault> {
+) -> bool {
     checking.begin(&check_of(block), line);
-    ends.play(&mut checking.player)?;
-    Ok(matches!(checking.player.verdict(), Verdict::Passed))
+    ends.play(&mut checking.player);
+    matches!(checking.player.verdict(), Verdict::Passed)
 }
 
 // A line that isn't there, has a connection, or whose telephone is off the hook isn't checked.
@@ -320,76 +302,53 @@ fn find_idle<'a, R: Net + Clock>(
     ends: &mut Ends<'_, R>,
     line: &'a str,
     is_other: bool,
-) -> Result<(), CheckFault> {
-    if holds(checking, ends, line, UNKNOWN)? {
-        return Err(CheckFault::NoSuchLine { is_other });
+) {
+    if holds(checking, ends, line, UNKNOWN) {
+        return ends.keep(Some(CheckFault::NoSuchLine { is_other }));
     }
     for block in IN_USE.iter() {
-        if holds(checking, ends, line, *block)? {
-            return Err(CheckFault::InUse { is_other });
+        if holds(checking, ends, line, *block) {
+            return ends.keep(Some(CheckFault::InUse { is_other }));
         }
     }
-    Ok(())
 }
 
-// The lines are there, and aren't in use; else tells why nothing can be checked.
-fn find_lines<R: Net + Clock>(
-    checking: &mut Checking<'_>,
-    ends: &mut Ends<'_, R>,
-) -> Result<(), CheckFault> {
+// The lines are there, and aren't in use; else nothing can be checked.
+fn find_lines<R: Net + Clock>(checking: &mut Checking<'_>, ends: &mut Ends<'_, R>) {
     let line = checking.settings.line;
     let other = checking.settings.other;
-    find_idle(checking, ends, line, false)?;
-    match other {
-        Some(other) => find_idle(checking, ends, other, true),
-        None => Ok(()),
+    find_idle(checking, ends, line, false);
+    if let Some(other) = other {
+        find_idle(checking, ends, other, true);
     }
 }
 
-// Behind a check that has the gateway started anew it is waited for: what it announces is answered meanwhile, so that the checks
-// behind aren't refused with 405. One that doesn't serve then shows in these.
-fn await_serving<R: Net + Clock>(
-    checking: &mut Checking<'_>,
-    ends: &mut Ends<'_, R>,
-) -> Result<(), CheckFault> {
-    match find(checking, ends) {
-        Ok(()) => Ok(()),
-        Err(CheckFault::NoAnswer | CheckFault::NotServing) => Ok(()),
-        Err(fault) => Err(fault),
-    }
-}
-
-// Plays a check to its end, and reports what came of it.
-fn play_one<R: Net + Clock, F: Write + Drop>(
-    out: &mut Outlet<F>,
-    checking: &mut Checking<'_>,
-    ends: &mut Ends<'_, R>,
-    check: &Check<'static>,
-) -> Result<(), CheckFault> {
-    ends.play(&mut checking.player)?;
-    checking.report(out, check, true)?;
-    if check.needs_restart() {
-        return await_serving(checking, ends);
-    }
-    Ok(())
-}
-
-// Plays a check, where it is asked for.
+// Plays a check, where it is asked for, and reports what came of it. Behind one that has the gateway started anew it is waited for:
+// what it announces is answered meanwhile, so that the checks behind aren't refused with 405. One that doesn't serve then shows in
+// these.
 fn check_one<R: Net + Clock, F: Write + Drop>(
     out: &mut Outlet<F>,
     checking: &mut Checking<'_>,
     ends: &mut Ends<'_, R>,
     check: &Check<'static>,
-) -> Result<(), CheckFault> {
-    if !checking.is_named(check) {
-        return Ok(());
+) {
+    let settings = checking.settings;
+    if !is_named(settings, check) {
+        return;
     }
-    if !checking.is_played(check) {
-        return checking.report(out, check, false);
+    let is_played = is_wanted(settings, check);
+    if is_played {
+        checking.begin(check, settings.line);
+        ends.play(&mut checking.player);
     }
-    let line = checking.settings.line;
-    checking.begin(check, line);
-    play_one(out, checking, ends, check)
+    if ends.fault().is_some() {
+        return;
+    }
+    ends.keep(put_out(out, checking.report(check, is_played)));
+    if is_played && check.needs_restart() && ends.fault().is_none() {
+        find(checking, ends);
+        ends.forgive();
+    }
 }
 
 // Plays the checks of a text that are asked for.
@@ -398,11 +357,10 @@ fn check_each<R: Net + Clock, F: Write + Drop>(
     checking: &mut Checking<'_>,
     ends: &mut Ends<'_, R>,
     text: &'static str,
-) -> Result<(), CheckFault> {
+) {
     for block in text.split("\n= ").skip(1) {
-        check_one(out, checking, ends, &check_of(block))?;
+        check_one(out, checking, ends, &check_of(block));
     }
-    Ok(())
 }
 
 // Plays all checks that are asked for, and tells how many have come to what.
@@ -410,27 +368,16 @@ fn check_all<R: Net + Clock, F: Write + Drop>(
     out: &mut Outlet<F>,
     checking: &mut Checking<'_>,
     ends: &mut Ends<'_, R>,
-) -> Result<(), CheckFault> {
-    find(checking, ends)?;
-    find_lines(checking, ends)?;
+) {
+    find(checking, ends);
+    find_lines(checking, ends);
     let texts = all_checks();
     for text in texts.iter() {
-        check_each(out, checking, ends, *text)?;
+        check_each(out, checking, ends, *text);
     }
-    checking.report_all(out)
-}
-
-// Does that, and gives the exit status, and the report as JUnit's XML, where that is wanted.
-fn outcome_of<R: Net + Clock, F: Write + Drop>(
-    out: &mut Outlet<F>,
-    checking: &mut Checking<'_>,
-    ends: &mut Ends<'_, R>,
-) -> Result<Checked, CheckFault> {
-    check_all(out, checking, ends)?;
-    Ok(Checked {
-        status: checking.tally.status(),
-        junit: checking.junit()?,
-    })
+    if ends.fault().is_none() {
+        ends.keep(put_out(out, checking.counts()));
+    }
 }
 
 // Plays all, from these two sockets, with ids from behind this number on.
@@ -455,7 +402,8 @@ fn check_from<'a, R: Net + Clock, F: Write + Drop>(
         there,
         cases: String::new(alloc),
     };
-    outcome_of(out, &mut checking, ends)
+    check_all(out, &mut checking, ends);
+    checking.outcome(ends.fault())
 }
 
 // The name under which a call agent speaks, at this address and at this port.

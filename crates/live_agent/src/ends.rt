@@ -1,15 +1,15 @@
 //! The two sockets of a check, the one by which telephones are worked, and the clock.
 use crate::check_fault::CheckFault;
 use crate::telephone::Telephone;
-use gateway_checks::{Player, SOCKETS, Socket, Turn};
-use live_ends::{SystemFault, boxed};
+use gateway_checks::{Player, Socket, Turn};
+use live_ends::{LiveClock, bind, boxed};
 use mio::net::UdpSocket;
 use mio::{Events, Interest, Poll, Token};
 use std::alloc::Global;
-use std::io;
+use std::io::ErrorKind;
 use std::net::{Ipv4Addr, Net, SocketAddr, SocketAddrV4};
 use std::rt::Clock;
-use std::time::{Duration, Instant};
+use std::time::Duration;
 
 // The room for a datagram; what is longer is cut off.
 const ROOM: usize = 4096;
@@ -28,17 +28,18 @@ struct Sockets {
     events: Events,
 }
 
-/// The ends of a talk with a gateway.
+/// The ends of a talk with a gateway. What fails is kept, the first of it, and told at the end: behind that nothing is sent, and
+/// nothing waited for.
 #[derive(Drop)]
 pub(crate) struct Ends<'a, R> {
-    rt: &'a R,
     alloc: Global,
     gateway: SocketAddrV4,
     // In a box: a check pays for all that a value holds inline at each step of a function that is lent it.
     sockets: Box<Sockets>,
-    start: Instant,
+    clock: LiveClock<'a, R>,
     // Who works the line's telephone, if someone does.
     telephone: Option<Telephone<'a>>,
+    fault: Option<CheckFault>,
 }
 
 // A socket at this address, of which the poll tells under this token.
@@ -47,19 +48,32 @@ fn watched<R: Net>(
     poll: &Poll,
     address: SocketAddrV4,
     token: Token,
-) -> io::Result<UdpSocket> {
-    let mut socket = UdpSocket::bind(rt, SocketAddr::V4(address))?;
-    poll.registry()
-        .register(&mut socket, token, Interest::READABLE)?;
-    Ok(socket)
+) -> Result<UdpSocket, ErrorKind> {
+    let mut socket = match bind(rt, address) {
+        Ok(socket) => socket,
+        Err(fault) => return Err(fault.kind()),
+    };
+    match poll
+        .registry()
+        .register(&mut socket, token, Interest::READABLE)
+    {
+        Ok(()) => Ok(socket),
+        Err(fault) => Err(fault.kind()),
+    }
 }
 
-// The sockets: the second has the first one's host, the third any.
-fn opened<R: Net>(rt: &R, alloc: Global, own: SocketAddrV4) -> io::Result<Box<Sockets>> {
+// The sockets of which this poll tells: the second has the first one's host, the third any.
+fn sockets_by<R: Net>(
+    rt: &R,
+    alloc: Global,
+    own: SocketAddrV4,
+    poll: Poll,
+) -> Result<Box<Sockets>, ErrorKind> {
     let other = SocketAddrV4::new(*own.ip(), 0);
     let any = SocketAddrV4::new(Ipv4Addr::UNSPECIFIED, 0);
-    let events = Events::with_capacity(alloc, 3)?;
-    let poll = Poll::new(rt)?;
+    let Ok(events) = Events::with_capacity(alloc, 3) else {
+        return Err(ErrorKind::OutOfMemory);
+    };
     let first = watched(rt, &poll, own, Token(0))?;
     let second = watched(rt, &poll, other, Token(1))?;
     let third = watched(rt, &poll, any, Token(2))?;
@@ -70,7 +84,61 @@ fn opened<R: Net>(rt: &R, alloc: Global, own: SocketAddrV4) -> io::Result<Box<So
         poll,
         events,
     };
-    Ok(boxed(alloc, sockets)?)
+    match boxed(alloc, sockets) {
+        Ok(sockets) => Ok(sockets),
+        Err(_) => Err(ErrorKind::OutOfMemory),
+    }
+}
+
+// The same with a poll of their own.
+fn opened<R: Net>(rt: &R, alloc: Global, own: SocketAddrV4) -> Result<Box<Sockets>, ErrorKind> {
+    match Poll::new(rt) {
+        Ok(poll) => sockets_by(rt, alloc, own, poll),
+        Err(fault) => Err(fault.kind()),
+    }
+}
+
+// What became of a datagram.
+#[derive(Clone, Copy)]
+enum Sent {
+    Gone,
+    // There was no room for it.
+    Held,
+    Refused,
+}
+
+// Sends a datagram: what became of it.
+fn send_by(socket: &UdpSocket, bytes: &[u8], to: SocketAddrV4) -> Sent {
+    match socket.send_to(bytes, SocketAddr::V4(to)) {
+        Ok(_) => Sent::Gone,
+        Err(fault) => {
+            if fault.kind() == ErrorKind::WouldBlock {
+                Sent::Held
+            } else {
+                Sent::Refused
+            }
+        }
+    }
+}
+
+// Puts a datagram that has come into the room: who sent it, and its length. None where nothing is there, or where one that was sent
+// before wasn't delivered.
+fn receive_by(socket: &UdpSocket, room: &mut [u8]) -> Option<(SocketAddr, usize)> {
+    match socket.recv_from(room) {
+        Ok((len, source)) => Some((source, len)),
+        Err(_) => None,
+    }
+}
+
+// Waits until something comes to a socket, but no longer than this, in ms: whether that could be.
+fn wait_by(sockets: &mut Sockets, longest: u64) -> bool {
+    match sockets
+        .poll
+        .poll(&mut sockets.events, Some(Duration::from_millis(longest)))
+    {
+        Ok(()) => true,
+        Err(fault) => fault.kind() == ErrorKind::Interrupted,
+    }
 }
 
 // What came from who works telephones.
@@ -88,11 +156,23 @@ fn is_done(answer: &[u8]) -> bool {
     answer.strip_suffix(b"\n").unwrap_or(answer) == b"done".as_slice()
 }
 
-// Why there is no socket.
-fn unbound(kind: io::ErrorKind) -> CheckFault {
-    match SystemFault::of(kind) {
-        SystemFault::OutOfMemory => CheckFault::OutOfMemory,
-        SystemFault::Refused { reason } => CheckFault::Unbound { reason },
+// What has come to a socket from who works telephones at this address.
+fn told_by(socket: &UdpSocket, telephone: SocketAddrV4) -> Told {
+    let mut room = [0u8; ROOM];
+    match receive_by(socket, &mut room) {
+        Some((SocketAddr::V4(source), len)) if source == telephone => {
+            Told::Done(is_done(room.get(..len).unwrap_or(&[])))
+        }
+        Some(_) => Told::Other,
+        None => Told::Nothing,
+    }
+}
+
+// Whether these are of one host.
+fn is_of_host(source: SocketAddr, gateway: SocketAddrV4) -> bool {
+    match source {
+        SocketAddr::V4(source) => source.ip().octets() == gateway.ip().octets(),
+        SocketAddr::V6(_) => false,
     }
 }
 
@@ -107,18 +187,18 @@ impl<'a, R: Net + Clock> Ends<'a, R> {
     ) -> Result<Ends<'a, R>, CheckFault> {
         let sockets = match opened(rt, alloc, own) {
             Ok(sockets) => sockets,
-            Err(e) => return Err(unbound(e.kind())),
+            Err(kind) => return Err(CheckFault::Unbound { kind }),
         };
-        let Ok(start) = Instant::now(rt) else {
+        let Ok(clock) = LiveClock::start(rt) else {
             return Err(CheckFault::System);
         };
         Ok(Ends {
-            rt,
             alloc,
             gateway,
             sockets,
-            start,
+            clock,
             telephone,
+            fault: None,
         })
     }
 
@@ -130,6 +210,37 @@ impl<'a, R: Net + Clock> Ends<'a, R> {
         }
     }
 
+    /// What has failed first, if anything has.
+    pub(crate) fn fault(&self) -> Option<CheckFault> {
+        self.fault
+    }
+
+    /// Keeps what fails, if anything does, where nothing has failed before.
+    pub(crate) fn keep(&mut self, fault: Option<CheckFault>) {
+        if self.fault.is_none() {
+            self.fault = fault;
+        }
+    }
+
+    /// That the gateway doesn't answer, or doesn't serve, is no fault.
+    pub(crate) fn forgive(&mut self) {
+        match self.fault {
+            Some(CheckFault::NoAnswer | CheckFault::NotServing) => self.fault = None,
+            _ => {}
+        }
+    }
+
+    // The moment, in ms; the last one where the clock fails.
+    fn now(&mut self) -> u64 {
+        match self.clock.passed() {
+            Ok(moment) => moment,
+            Err(_) => {
+                self.keep(Some(CheckFault::System));
+                u64::MAX
+            }
+        }
+    }
+
     fn socket(&self, which: Socket) -> &UdpSocket {
         match which {
             Socket::First => &self.sockets.first,
@@ -137,153 +248,118 @@ impl<'a, R: Net + Clock> Ends<'a, R> {
         }
     }
 
-    /// The moment, in ms.
-    pub(crate) fn now(&self) -> Result<u64, CheckFault> {
-        match self.start.elapsed(self.rt) {
-            Ok(passed) => Ok(u64::try_from(passed.as_millis()).unwrap_or(u64::MAX)),
-            Err(_) => Err(CheckFault::System),
-        }
-    }
-
     // Sends to the gateway. What finds no room counts as lost in the network.
-    fn send(&self, from: Socket, bytes: &[u8]) -> Result<(), CheckFault> {
-        match self
-            .socket(from)
-            .send_to(bytes, SocketAddr::V4(self.gateway))
-        {
-            Ok(_) => Ok(()),
-            Err(e) if e.kind() == io::ErrorKind::WouldBlock => Ok(()),
-            Err(_) => Err(CheckFault::NoAnswer),
+    fn send(&mut self, from: Socket, bytes: &[u8]) {
+        let sent = send_by(self.socket(from), bytes, self.gateway);
+        if let Sent::Refused = sent {
+            self.keep(Some(CheckFault::NoAnswer));
         }
     }
 
     // Gives the player a datagram that has come to a socket, and answers the gateway's commands in it.
-    fn give(
-        &self,
-        player: &mut Box<Player<'_>>,
-        at: Socket,
-        datagram: &[u8],
-    ) -> Result<(), CheckFault> {
+    fn give(&mut self, player: &mut Box<Player<'_>>, at: Socket, datagram: &[u8]) {
         let mut responses = String::new(self.alloc);
-        player.put_responses(&mut responses, datagram)?;
-        if !responses.is_empty() {
-            self.send(at, responses.as_bytes())?;
+        if player.put_responses(&mut responses, datagram).is_err() {
+            return self.keep(Some(CheckFault::OutOfMemory));
         }
-        player.take(at, datagram, self.now()?)?;
-        Ok(())
-    }
-
-    // Waits until something comes, or this moment.
-    fn wait(&mut self, until: u64) -> Result<(), CheckFault> {
-        let left = until.saturating_sub(self.now()?);
-        let sockets = &mut *self.sockets;
-        match sockets
-            .poll
-            .poll(&mut sockets.events, Some(Duration::from_millis(left)))
-        {
-            Ok(()) => Ok(()),
-            Err(e) if e.kind() == io::ErrorKind::Interrupted => Ok(()),
-            Err(_) => Err(CheckFault::System),
+        if !responses.is_empty() {
+            self.send(at, responses.as_bytes());
+        }
+        let now = self.now();
+        if player.take(at, datagram, now).is_err() {
+            self.keep(Some(CheckFault::OutOfMemory));
         }
     }
 
     // Gives the player what has come to a socket, of the gateway's; whether anything has.
-    fn look(&self, player: &mut Box<Player<'_>>, at: Socket) -> Result<bool, CheckFault> {
+    fn look(&mut self, player: &mut Box<Player<'_>>, at: Socket) -> bool {
         let mut room = [0u8; ROOM];
-        match self.socket(at).recv_from(&mut room) {
-            Ok((len, SocketAddr::V4(source)))
-                if source.ip().octets() == self.gateway.ip().octets() => {
-                self.give(player, at, &room[..len])?;
-                Ok(true)
-            }
-            Ok(_) => Ok(true),
-            // Nothing is there, or a datagram before wasn't delivered.
-            Err(_) => Ok(false),
+        let Some((source, len)) = receive_by(self.socket(at), &mut room) else {
+            return false;
+        };
+        if is_of_host(source, self.gateway) {
+            self.give(player, at, room.get(..len).unwrap_or(&[]));
+        }
+        true
+    }
+
+    /// Waits for so long, in ms, or until something comes; where something has failed it doesn't.
+    pub(crate) fn rest(&mut self, longest: u64) {
+        if self.fault.is_none() && !wait_by(&mut self.sockets, longest) {
+            self.fault = Some(CheckFault::System);
         }
     }
 
     // Gives the player what comes next, but waits no longer than until this moment.
-    fn hear(&mut self, player: &mut Box<Player<'_>>, until: u64) -> Result<(), CheckFault> {
-        for at in SOCKETS.iter() {
-            if self.look(player, *at)? {
-                return Ok(());
-            }
+    fn hear(&mut self, player: &mut Box<Player<'_>>, until: u64) {
+        if self.look(player, Socket::First) || self.look(player, Socket::Second) {
+            return;
         }
-        self.wait(until)
-    }
-
-    // What has come from who works telephones.
-    fn told(&self, telephone: Telephone<'_>) -> Told {
-        let mut room = [0u8; ROOM];
-        match self.sockets.third.recv_from(&mut room) {
-            Ok((len, SocketAddr::V4(source))) if source == telephone.address => {
-                Told::Done(is_done(&room[..len]))
-            }
-            Ok(_) => Told::Other,
-            // Nothing is there, or what was asked wasn't delivered.
-            Err(_) => Told::Nothing,
-        }
+        let now = self.now();
+        self.rest(until.saturating_sub(now));
     }
 
     // Waits until it is told whether something was done, but no longer than until this moment; meanwhile the player hears the gateway.
     fn await_done(
         &mut self,
-        telephone: Telephone<'_>,
+        telephone: SocketAddrV4,
         player: &mut Box<Player<'_>>,
         until: u64,
-    ) -> Result<bool, CheckFault> {
+    ) -> bool {
         for _ in 0..u64::MAX {
-            match self.told(telephone) {
-                Told::Done(is_done) => return Ok(is_done),
+            match told_by(&self.sockets.third, telephone) {
+                Told::Done(is_done) => return is_done,
                 Told::Other => {}
                 Told::Nothing => {
-                    if self.now()? >= until {
-                        return Ok(false);
+                    if self.now() >= until || self.fault.is_some() {
+                        return false;
                     }
-                    self.hear(player, until)?;
+                    self.hear(player, until);
                 }
             }
         }
-        Ok(false)
+        false
     }
 
-    // Has what the player asks for done at the line's telephone, or with the gateway; whether it was.
-    fn act(&mut self, player: &mut Box<Player<'_>>) -> Result<bool, CheckFault> {
+    // Has what the player asks for at this moment done at the line's telephone, or with the gateway; whether it was.
+    fn act(&mut self, player: &mut Box<Player<'_>>, now: u64) -> bool {
         let Some(telephone) = self.telephone else {
-            return Ok(false);
+            return false;
         };
-        let text = telephone.text(self.alloc, player.act())?;
-        let until = self.now()?.saturating_add(LONGEST_ACT);
-        match self
-            .sockets
-            .third
-            .send_to(text.as_bytes(), SocketAddr::V4(telephone.address))
-        {
-            Ok(_) => self.await_done(telephone, player, until),
-            Err(_) => Ok(false),
+        let Ok(text) = telephone.text(self.alloc, player.act()) else {
+            self.keep(Some(CheckFault::OutOfMemory));
+            return false;
+        };
+        match send_by(&self.sockets.third, text.as_bytes(), telephone.address) {
+            Sent::Gone => {
+                self.await_done(telephone.address, player, now.saturating_add(LONGEST_ACT))
+            }
+            Sent::Held | Sent::Refused => false,
         }
     }
 
-    /// Plays a check to its end.
-    pub(crate) fn play(&mut self, player: &mut Box<Player<'_>>) -> Result<(), CheckFault> {
+    // Does what the player asks for at this moment: whether it may ask for more.
+    fn turn(&mut self, player: &mut Box<Player<'_>>, now: u64) -> bool {
+        match player.turn(now) {
+            Ok(Turn::Send { from }) => self.send(from, player.sent()),
+            Ok(Turn::Wait { until }) => self.hear(player, until),
+            Ok(Turn::Act) => {
+                let is_done = self.act(player, now);
+                player.acted(is_done);
+            }
+            Ok(Turn::Over) => return false,
+            Err(_) => self.keep(Some(CheckFault::OutOfMemory)),
+        }
+        true
+    }
+
+    /// Plays a check to its end, or until something fails.
+    pub(crate) fn play(&mut self, player: &mut Box<Player<'_>>) {
         for _ in 0..u64::MAX {
-            let now = self.now()?;
-            match player.turn(now)? {
-                Turn::Send { from } => self.send(from, player.sent())?,
-                Turn::Wait { until } => self.hear(player, until)?,
-                Turn::Act => {
-                    let is_done = self.act(player)?;
-                    player.acted(is_done);
-                }
-                Turn::Over => return Ok(()),
+            let now = self.now();
+            if self.fault.is_some() || !self.turn(player, now) {
+                return;
             }
         }
-        Ok(())
-    }
-
-    /// Waits for so long, in ms.
-    pub(crate) fn rest(&mut self, ms: u64) -> Result<(), CheckFault> {
-        let until = self.now()?.saturating_add(ms);
-        self.wait(until)
     }
 }

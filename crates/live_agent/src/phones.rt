@@ -32,21 +32,22 @@ fn place_of(gateways: &[SocketAddrV4], source: SocketAddrV4) -> Option<u16> {
     None
 }
 
-// Takes a datagram, if one has come: whether one had. Nothing is made of one that comes from elsewhere.
+// Takes a datagram, if one has come: whether one had. Nothing is made of one that comes from elsewhere. That memory is refused for it is
+// told where the player is asked what is next.
 fn take<S: Surroundings>(
     around: &mut S,
     player: &mut Player,
     gateways: &[SocketAddrV4],
     room: &mut [u8],
     now: u64,
-) -> Result<bool, OutOfMemory> {
+) -> bool {
     let Ok(Some((source, len))) = around.receive(room) else {
-        return Ok(false);
+        return false;
     };
     if let Some(place) = place_of(gateways, source) {
-        player.hear(place, room.get(..len).unwrap_or(&[]), now)?;
+        let _ = player.hear(place, room.get(..len).unwrap_or(&[]), now);
     }
-    Ok(true)
+    true
 }
 
 // Takes what has come, as much as is taken at once.
@@ -56,13 +57,12 @@ fn take_all<S: Surroundings>(
     gateways: &[SocketAddrV4],
     room: &mut [u8],
     now: u64,
-) -> Result<(), OutOfMemory> {
+) {
     for _ in 0..MOST_TAKEN {
-        if !take(around, player, gateways, room, now)? {
-            return Ok(());
+        if !take(around, player, gateways, room, now) {
+            return;
         }
     }
-    Ok(())
 }
 
 // Waits, and takes what has come then: whether the clock can be read.
@@ -72,15 +72,15 @@ fn wait<S: Surroundings>(
     gateways: &[SocketAddrV4],
     room: &mut [u8],
     longest: u64,
-) -> Result<bool, OutOfMemory> {
+) -> bool {
     if around.wait(longest).is_err() {
-        return Ok(false);
+        return false;
     }
     let Ok(now) = around.moment() else {
-        return Ok(false);
+        return false;
     };
-    take_all(around, player, gateways, room, now)?;
-    Ok(true)
+    take_all(around, player, gateways, room, now);
+    true
 }
 
 // Does what is to be done next: how it ended, if it did.
@@ -100,10 +100,10 @@ fn go_on<S: Surroundings>(
             Ok(None)
         }
         Next::Wait { until } => {
-            match wait(around, player, gateways, room, until.saturating_sub(now)) {
-                Ok(true) => Ok(None),
-                Ok(false) => Ok(Some(Played::Clock)),
-                Err(refused) => Err(refused),
+            if wait(around, player, gateways, room, until.saturating_sub(now)) {
+                Ok(None)
+            } else {
+                Ok(Some(Played::Clock))
             }
         }
         Next::Done => Ok(Some(Played::Done)),

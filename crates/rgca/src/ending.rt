@@ -11,7 +11,7 @@ use crate::words::WordFault;
 use agent_texts::ConfigRefusal;
 use exchange_log::peer_text;
 use live_agent::CheckFault;
-use live_ends::{About, CommonEnding, put_pieces};
+use live_ends::{About, CommonEnding, SystemFault, put_pieces};
 use mg_bytes::{OutOfMemory, Text};
 use std::alloc::Global;
 use std::net::SocketAddrV4;
@@ -212,11 +212,9 @@ pub(crate) fn unchecked_ending<'a>(
     own: SocketAddrV4,
 ) -> Ending<'a> {
     match fault {
-        CheckFault::Unbound { reason } => Ending::Common(CommonEnding::Unbound {
-            word: "--own",
-            address: own,
-            reason,
-        }),
+        CheckFault::Unbound { kind } => {
+            Ending::Common(CommonEnding::unbound("--own", own, SystemFault::of(kind)))
+        }
         CheckFault::NoSuchLine { is_other } => Ending::NoSuchLine {
             word: line_word(is_other),
         },
