@@ -330,7 +330,7 @@ impl<'a, R: Net + Clock> Ends<'a, R> {
             self.keep(Some(CheckFault::OutOfMemory));
             return false;
         };
-        match send_by(&self.sockets.third, text.as_bytes(), telephone.address) {
+        match send_by(&self.sockets.third, text.as_slice(), telephone.address) {
             Sent::Gone => {
                 self.await_done(telephone.address, player, now.saturating_add(LONGEST_ACT))
             }

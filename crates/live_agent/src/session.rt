@@ -9,7 +9,7 @@ use bad_network::Way;
 use call_agent::Issued;
 use call_desk::{Switchboard, TypedFault, typed_text};
 use live_ends::STOP_FROM_AFAR;
-use mg_bytes::{OutOfMemory, put_decimal};
+use mg_bytes::{Draft, OutOfMemory};
 use std::alloc::Global;
 use std::net::SocketAddrV4;
 use surroundings::{Fault, Surroundings};
@@ -164,10 +164,11 @@ fn fault_text(fault: TypedFault) -> &'static [u8] {
 
 // What is answered where a command is issued.
 fn issued_text(alloc: Global, id: u32) -> Result<Vec<u8>, OutOfMemory> {
-    let mut text = Vec::from_slice(alloc, b"issued ")?;
-    put_decimal(alloc, &mut text, u64::from(id))?;
-    text.push(b'\n')?;
-    Ok(text)
+    let mut text = Draft::new(alloc);
+    text.put(b"issued ");
+    text.put_decimal(u64::from(id));
+    text.put_byte(b'\n');
+    text.end()
 }
 
 // Issues a command that was typed, and answers that.

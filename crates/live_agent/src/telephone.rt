@@ -1,5 +1,5 @@
 //! Who works the telephone of the line that is checked.
-use mg_bytes::OutOfMemory;
+use mg_bytes::{Draft, OutOfMemory};
 use std::alloc::Global;
 use std::net::SocketAddrV4;
 
@@ -24,12 +24,16 @@ fn number_in(line: &str) -> &str {
 
 impl<'a> Telephone<'a> {
     /// What asks it to do this: `off`, `on`, `flash` or a key, or `restart`.
-    pub(crate) fn text(&self, alloc: Global, act: &str) -> Result<String, OutOfMemory> {
-        if act == "restart" {
-            return String::from_str(alloc, "restart\n");
+    pub(crate) fn text(&self, alloc: Global, act: &str) -> Result<Vec<u8>, OutOfMemory> {
+        let mut text = Draft::new(alloc);
+        if act != "restart" {
+            let word = if self.is_hook { "act " } else { "phone " };
+            text.put(word.as_bytes());
+            text.put(number_in(self.line).as_bytes());
+            text.put_byte(b' ');
         }
-        let word = if self.is_hook { "act" } else { "phone" };
-        let number = number_in(self.line);
-        format!(in alloc; "{word} {number} {act}\n")
+        text.put(act.as_bytes());
+        text.put_byte(b'\n');
+        text.end()
     }
 }
