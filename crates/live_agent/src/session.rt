@@ -10,9 +10,10 @@ use call_agent::Issued;
 use call_desk::{Switchboard, TypedFault, typed_text};
 use live_ends::STOP_FROM_AFAR;
 use mg_bytes::{Draft, OutOfMemory};
+use plain_machine::{Outputs, Refusal};
 use std::alloc::Global;
 use std::net::SocketAddrV4;
-use surroundings::{Fault, Surroundings};
+use surroundings::{Fault, Lines, Surroundings};
 use transmission::texts;
 use turns::{Schedule, Situation, Turn, earlier};
 
@@ -60,17 +61,15 @@ fn settle<S: Surroundings + Drop>(board: &mut Switchboard, wire: &mut Wire<S>) {
     }
 }
 
-// The agent of a gateway hears a datagram: whether it did.
-fn agent_hears<S: Surroundings + Drop>(
-    board: &mut Switchboard,
+// Sends what an agent says, for the first time or again: whether it went on.
+fn send_outputs<S: Surroundings + Drop>(
     wire: &mut Wire<S>,
-    place: usize,
-    source: SocketAddrV4,
-    bytes: &[u8],
+    outputs: Result<Outputs, Refusal>,
+    is_repeat: bool,
 ) -> bool {
-    match board.step(place, source, bytes) {
+    match outputs {
         Ok(outputs) => {
-            wire.send_all(outputs.as_slice(), false);
+            wire.send_all(outputs.as_slice(), is_repeat);
             true
         }
         Err(_) => {
@@ -117,7 +116,7 @@ fn hear<S: Surroundings + Drop>(
         count(&mut wire.journal.tally.strange);
         return;
     };
-    if agent_hears(board, wire, place, source, bytes) {
+    if send_outputs(wire, board.step(place, source, bytes), false) {
         deal_with(board, wire, place, bytes);
         take_told(board, wire, place);
     }
@@ -198,37 +197,43 @@ fn answer_counts<S: Surroundings + Drop>(wire: &mut Wire<S>) {
     }
 }
 
-// What is typed next, if anything is.
-#[derive(Drop)]
+// What is typed next.
+#[derive(Clone, Copy)]
 enum Request {
+    Nothing,
     Counts,
     Stop,
     // As somebody asks who may be at another machine: that isn't taken.
     StopFromAfar,
-    Command { text: Vec<u8> },
-    OutOfMemory,
+    Command,
 }
 
-// What a `stop` asks for.
-fn stop_request<S: Surroundings + Drop>(wire: &Wire<S>) -> Request {
-    if wire.lines.is_from_loopback() {
-        Request::Stop
-    } else {
-        Request::StopFromAfar
-    }
-}
-
-fn request_of<S: Surroundings + Drop>(alloc: Global, wire: &Wire<S>) -> Option<Request> {
-    let line = wire.lines.line()?;
+fn request_in(lines: &Lines) -> Request {
+    let Some(line) = lines.line() else {
+        return Request::Nothing;
+    };
     if line == b"counts".as_slice() {
-        return Some(Request::Counts);
+        return Request::Counts;
     }
     if line == b"stop".as_slice() || line == b"quit".as_slice() {
-        return Some(stop_request(wire));
+        if lines.is_from_loopback() {
+            return Request::Stop;
+        }
+        return Request::StopFromAfar;
     }
+    Request::Command
+}
+
+// Issues the command that is typed next, and answers that.
+fn answer_command<S: Surroundings + Drop>(
+    alloc: Global,
+    board: &mut Switchboard,
+    wire: &mut Wire<S>,
+) {
+    let line = wire.lines.line().unwrap_or(&[]);
     match typed_text(alloc, line, wire.lines.rest()) {
-        Ok(text) => Some(Request::Command { text }),
-        Err(_) => Some(Request::OutOfMemory),
+        Ok(text) => answer_typed(alloc, board, wire, text.as_slice()),
+        Err(_) => wire.answer_all(OUT_OF_MEMORY),
     }
 }
 
@@ -238,16 +243,15 @@ fn answer_request<S: Surroundings + Drop>(
     board: &mut Switchboard,
     wire: &mut Wire<S>,
 ) {
-    match request_of(alloc, wire) {
-        None => {}
-        Some(Request::Counts) => answer_counts(wire),
-        Some(Request::Stop) => {
+    match request_in(&wire.lines) {
+        Request::Nothing => {}
+        Request::Counts => answer_counts(wire),
+        Request::Stop => {
             wire.answer(DONE);
             wire.end = Some(0);
         }
-        Some(Request::StopFromAfar) => wire.answer(STOP_FROM_AFAR),
-        Some(Request::Command { text }) => answer_typed(alloc, board, wire, text.as_slice()),
-        Some(Request::OutOfMemory) => wire.answer_all(OUT_OF_MEMORY),
+        Request::StopFromAfar => wire.answer(STOP_FROM_AFAR),
+        Request::Command => answer_command(alloc, board, wire),
     }
 }
 
@@ -268,24 +272,11 @@ fn give_up_all<S: Surroundings + Drop>(board: &mut Switchboard, wire: &mut Wire<
     }
 }
 
-// The clock of a gateway's agent goes on.
-fn tick_one<S: Surroundings + Drop>(
-    board: &mut Switchboard,
-    wire: &mut Wire<S>,
-    place: usize,
-    moment: u64,
-) {
-    match board.tick(place, moment) {
-        Ok(outputs) => wire.send_all(outputs.as_slice(), true),
-        Err(_) => count(&mut wire.journal.tally.refused),
-    }
-}
-
 // The clock goes on, that of each agent first: by one that was behind what is issued now would be sent again at once.
 fn tick<S: Surroundings + Drop>(board: &mut Switchboard, wire: &mut Wire<S>, to: u64, moment: u64) {
     wire.now.clock = to;
     for place in 0..board.gateways() {
-        tick_one(board, wire, place, to);
+        let _ = send_outputs(wire, board.tick(place, to), true);
     }
     wire.is_behind = is_behind(moment, to);
     give_up_all(board, wire);
