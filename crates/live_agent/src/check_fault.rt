@@ -1,5 +1,4 @@
 //! Why a gateway can't be checked.
-use mg_bytes::OutOfMemory;
 use std::io::ErrorKind;
 
 /// Why a gateway can't be checked, by the settings: those have the addresses.
@@ -21,10 +20,4 @@ pub enum CheckFault {
     Write,
     /// Memory was refused.
     OutOfMemory,
-}
-
-impl From<OutOfMemory> for CheckFault {
-    fn from(_refused: OutOfMemory) -> CheckFault {
-        CheckFault::OutOfMemory
-    }
 }

@@ -233,8 +233,10 @@ impl<'a> Checking<'a> {
             return Err(fault);
         }
         let mut junit = String::new(self.alloc);
-        if self.settings.is_junit {
-            put_suite(&mut junit, self.cases.as_str(), &self.tally)?;
+        if self.settings.is_junit
+            && put_suite(&mut junit, self.cases.as_str(), &self.tally).is_err()
+        {
+            return Err(CheckFault::OutOfMemory);
         }
         Ok(Checked {
             status: self.tally.status(),
@@ -392,10 +394,13 @@ fn check_from<'a, R: Net + Clock, F: Write + Drop>(
 ) -> Result<Checked, CheckFault> {
     let first = check_of(SERVES);
     let player = player_of(alloc, settings, settings.line, here, there, base, &first);
+    let Ok(player) = boxed(alloc, player) else {
+        return Err(CheckFault::OutOfMemory);
+    };
     let mut checking = Checking {
         alloc,
         settings,
-        player: boxed(alloc, player)?,
+        player,
         base,
         tally: Tally::NONE,
         here,
@@ -411,7 +416,22 @@ fn socket_name(alloc: Global, own: SocketAddrV4, port: u16) -> Result<String, Ou
     format!(in alloc; "ca@[{}]:{}", own.ip(), port)
 }
 
-// Plays all, where the second socket has this port.
+// The names under which it speaks from its two sockets.
+#[derive(Drop)]
+struct SocketNames {
+    here: String,
+    there: String,
+}
+
+// The same of its sockets, of which the second has this port.
+fn socket_names(alloc: Global, own: SocketAddrV4, port: u16) -> Result<SocketNames, OutOfMemory> {
+    Ok(SocketNames {
+        here: socket_name(alloc, own, own.port())?,
+        there: socket_name(alloc, own, port)?,
+    })
+}
+
+// Plays all by these ends.
 fn check_by<R: AllocGlobal + Net + Clock, F: Write + Drop>(
     rt: &R,
     settings: &CheckSettings<'_>,
@@ -419,16 +439,15 @@ fn check_by<R: AllocGlobal + Net + Clock, F: Write + Drop>(
     out: &mut Outlet<F>,
 ) -> Result<Checked, CheckFault> {
     let alloc = rt.alloc();
-    let own = settings.own;
-    let here = socket_name(alloc, own, own.port())?;
-    let there = socket_name(alloc, own, ends.second_port())?;
-    let base = first_base(rt);
+    let Ok(names) = socket_names(alloc, settings.own, ends.second_port()) else {
+        return Err(CheckFault::OutOfMemory);
+    };
     check_from(
         alloc,
         settings,
-        here.as_str(),
-        there.as_str(),
-        base,
+        names.here.as_str(),
+        names.there.as_str(),
+        first_base(rt),
         ends,
         out,
     )
