@@ -51,6 +51,13 @@ pub struct CheckSettings<'a> {
     pub own: SocketAddrV4,
 }
 
+// The names under which it speaks from its two sockets.
+#[derive(Drop)]
+struct SocketNames {
+    here: String,
+    there: String,
+}
+
 /// What is under way. The player is held for all checks, and in a box: a check pays for all that a value holds inline at each step of a
 /// function that is lent it.
 #[derive(Drop)]
@@ -61,9 +68,7 @@ struct Checking<'a> {
     // The number before the ids of the next check.
     base: u32,
     tally: Tally,
-    // The entities that the two sockets are.
-    here: &'a str,
-    there: &'a str,
+    names: &'a SocketNames,
     // What came of checks, for a report as JUnit's XML.
     cases: String,
 }
@@ -123,13 +128,12 @@ fn is_possible(settings: &CheckSettings<'_>, check: &Check<'_>) -> bool {
         && (has_hook || !check.needs_restart())
 }
 
-// The player of a check, whose two sockets are these entities, with the ids from behind this number on.
+// The player of a check at a line, whose two sockets have these names, with the ids from behind this number on.
 fn player_of<'a>(
     alloc: Global,
     settings: &CheckSettings<'a>,
+    names: &'a SocketNames,
     line: &'a str,
-    here: &'a str,
-    there: &'a str,
     base: u32,
     check: &Check<'static>,
 ) -> Player<'a> {
@@ -137,11 +141,10 @@ fn player_of<'a>(
         domain: settings.domain,
         local: line,
         other: settings.other.unwrap_or(""),
-        here,
-        there,
+        here: names.here.as_str(),
+        there: names.there.as_str(),
     };
-    let names = Names::new(alloc, &places, base);
-    Player::new(alloc, check, names)
+    Player::new(alloc, check, Names::new(alloc, &places, base))
 }
 
 // Whether a check is named, where some are.
@@ -186,16 +189,7 @@ fn report_of(
 impl<'a> Checking<'a> {
     // The player has the next check from here on, at this line, with the next ids.
     fn begin(&mut self, check: &Check<'static>, line: &'a str) {
-        let (here, there) = (self.here, self.there);
-        let next = player_of(
-            self.alloc,
-            self.settings,
-            line,
-            here,
-            there,
-            self.base,
-            check,
-        );
+        let next = player_of(self.alloc, self.settings, self.names, line, self.base, check);
         *self.player = next;
         self.base = self.base.saturating_add(IDS);
     }
@@ -382,18 +376,17 @@ fn check_all<R: Net + Clock, F: Write + Drop>(
     }
 }
 
-// Plays all, from these two sockets, with ids from behind this number on.
+// Plays all, from the two sockets with these names, with ids from behind this number on.
 fn check_from<'a, R: Net + Clock, F: Write + Drop>(
     alloc: Global,
     settings: &'a CheckSettings<'a>,
-    here: &'a str,
-    there: &'a str,
+    names: &'a SocketNames,
     base: u32,
     ends: &mut Ends<'_, R>,
     out: &mut Outlet<F>,
 ) -> Result<Checked, CheckFault> {
     let first = check_of(SERVES);
-    let player = player_of(alloc, settings, settings.line, here, there, base, &first);
+    let player = player_of(alloc, settings, names, settings.line, base, &first);
     let Ok(player) = boxed(alloc, player) else {
         return Err(CheckFault::OutOfMemory);
     };
@@ -403,8 +396,7 @@ fn check_from<'a, R: Net + Clock, F: Write + Drop>(
         player,
         base,
         tally: Tally::NONE,
-        here,
-        there,
+        names,
         cases: String::new(alloc),
     };
     check_all(out, &mut checking, ends);
@@ -416,14 +408,7 @@ fn socket_name(alloc: Global, own: SocketAddrV4, port: u16) -> Result<String, Ou
     format!(in alloc; "ca@[{}]:{}", own.ip(), port)
 }
 
-// The names under which it speaks from its two sockets.
-#[derive(Drop)]
-struct SocketNames {
-    here: String,
-    there: String,
-}
-
-// The same of its sockets, of which the second has this port.
+// The same of its two sockets, of which the second has this port.
 fn socket_names(alloc: Global, own: SocketAddrV4, port: u16) -> Result<SocketNames, OutOfMemory> {
     Ok(SocketNames {
         here: socket_name(alloc, own, own.port())?,
@@ -442,15 +427,7 @@ fn check_by<R: AllocGlobal + Net + Clock, F: Write + Drop>(
     let Ok(names) = socket_names(alloc, settings.own, ends.second_port()) else {
         return Err(CheckFault::OutOfMemory);
     };
-    check_from(
-        alloc,
-        settings,
-        names.here.as_str(),
-        names.there.as_str(),
-        first_base(rt),
-        ends,
-        out,
-    )
+    check_from(alloc, settings, &names, first_base(rt), ends, out)
 }
 
 /// Checks a gateway as the settings ask, and reports by this outlet, a check at a time: what came of it. An error says why nothing
