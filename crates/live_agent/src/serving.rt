@@ -7,12 +7,14 @@ use crate::wire::Wire;
 use agent_texts::{AgentConfig, Journal};
 use bad_network::{BadNetwork, Spoiling};
 use call_desk::Switchboard;
-use live_ends::{CommonEnding, Live, LiveClock, Outlets, SocketWanted, boxed, open_capture};
-use mg_bytes::OutOfMemory;
+use exchange_log::put_peer;
+use live_ends::{CommonEnding, Live, Outlets, SocketWanted, boxed, open_capture};
+use mg_bytes::{Draft, OutOfMemory};
 use std::alloc::Global;
 use std::io::Write;
-use std::net::{Net, SocketAddr, SocketAddrV4};
+use std::net::{Net, SocketAddrV4};
 use std::rt::{Clock, Files};
+use std::time::Instant;
 use surroundings::Surroundings;
 
 // Microseconds in a millisecond.
@@ -60,14 +62,15 @@ fn open_wire<'a, 'w, R: Net + Clock>(
     alloc: Global,
     settings: WireSettings,
 ) -> Result<Box<Wire<Live<'a, R>>>, CommonEnding<'w>> {
-    if LiveClock::start(rt).is_err() {
+    if Instant::now(rt).is_err() {
         return Err(CommonEnding::Clock);
     }
-    let live = Live::open(rt, alloc, settings.listen, settings.control)?;
-    let here = match live.addresses() {
-        Ok((SocketAddr::V4(here), _)) => here,
-        _ => settings.listen.address,
+    let live = match Live::open(rt, alloc, settings.listen, settings.control) {
+        Ok(live) => live,
+        Err(ending) => return Err(ending),
     };
+    let own = live.own();
+    let here = if own[0].port() > 0 { own[0] } else { settings.listen.address };
     match wire_over(alloc, live, here, settings) {
         Ok(wire) => Ok(wire),
         Err(_) => Err(CommonEnding::OutOfMemory),
@@ -102,13 +105,17 @@ fn tell_addresses<R: Net + Clock, F: Write + Drop>(
     live: &Live<'_, R>,
     outlets: &mut Outlets<F>,
 ) {
-    if let Ok((listen, control)) = live.addresses() {
-        let line: Result<String, OutOfMemory> = format!(in alloc;
-            "listen {listen} control {control}\n"
-        );
+    let own = live.own();
+    if own[0].port() > 0 && own[1].port() > 0 {
+        let mut line = Draft::new(alloc);
+        line.put(b"listen ");
+        put_peer(&mut line, own[0]);
+        line.put(b" control ");
+        put_peer(&mut line, own[1]);
+        line.put(b"\n");
         // For want of memory that line alone isn't said.
-        if let Ok(line) = line {
-            outlets.error.say(line.as_bytes());
+        if let Ok(line) = line.end() {
+            outlets.error.say(line.as_slice());
         }
     }
     outlets.offer();
@@ -146,32 +153,11 @@ fn serve_to_end<'w, R: Net + Clock, F: Write + Drop>(
     served_ending(&wire.journal, outlets)
 }
 
-// Serves over a wire.
-fn serve_over<'w, R: Net + Clock, F: Write + Drop>(
-    rt: &R,
-    alloc: Global,
-    config: &AgentConfig,
-    is_routed: bool,
-    wire: &mut Wire<Live<'_, R>>,
-    outlets: &mut Outlets<F>,
-) -> CommonEnding<'w> {
-    let time = wire.now.time / MICROSECONDS;
-    let mut board = match Switchboard::of(alloc, config, is_routed, time) {
-        Ok(board) => board,
-        Err(_) => return CommonEnding::OutOfMemory,
-    };
-    tell_addresses(alloc, &wire.around, outlets);
-    let served = serve_to_end(rt, alloc, &mut board, wire, outlets);
-    board.close();
-    served
-}
-
 // Makes the file of a capture, if one is asked for, once the sockets are had, and serves.
 fn serve_captured<'w, R: Files + Net + Clock>(
     rt: &R,
     alloc: Global,
-    config: &AgentConfig,
-    is_routed: bool,
+    board: &mut Switchboard,
     wire: &mut Wire<Live<'_, R>>,
     capture: Option<&'w str>,
     outlets: &mut Outlets<R::File>,
@@ -184,7 +170,8 @@ fn serve_captured<'w, R: Files + Net + Clock>(
     if wire.journal.name_capture(file).is_err() {
         return CommonEnding::OutOfMemory;
     }
-    serve_over(rt, alloc, config, is_routed, wire, outlets)
+    tell_addresses(alloc, &wire.around, outlets);
+    serve_to_end(rt, alloc, board, wire, outlets)
 }
 
 /// Serves the gateways of a configuration until the end, and routes calls between their lines where that is asked for. What happens
@@ -203,5 +190,12 @@ pub fn serve_agent<'w, R: Files + Net + Clock>(
         Ok(wire) => wire,
         Err(ending) => return ending,
     };
-    serve_captured(rt, alloc, config, is_routed, &mut wire, capture, outlets)
+    let time = wire.now.time / MICROSECONDS;
+    let mut board = match Switchboard::of(alloc, config, is_routed, time) {
+        Ok(board) => board,
+        Err(_) => return CommonEnding::OutOfMemory,
+    };
+    let ending = serve_captured(rt, alloc, &mut board, &mut wire, capture, outlets);
+    board.close();
+    ending
 }
