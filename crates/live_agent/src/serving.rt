@@ -17,8 +17,8 @@ use std::rt::{Clock, Files};
 use std::time::Instant;
 use surroundings::Surroundings;
 
-// Microseconds in a millisecond.
-const MICROSECONDS: u64 = 1000;
+/// Microseconds in a millisecond.
+pub(crate) const MICROSECONDS: u64 = 1000;
 
 /// How a wire is opened.
 #[derive(Clone, Copy)]
