@@ -132,7 +132,27 @@ fn served_ending<'w, F: Write + Drop>(journal: &Journal, outlets: &Outlets<F>) -
     CommonEnding::Served
 }
 
-// Serves until the end, writes what was recorded, and says on standard error what was counted.
+// Writes what was recorded to its end, and says on standard error what was counted: how the program ends, where the clock hasn't failed or
+// has.
+fn finish<'w, R: Clock, F: Write + Drop>(
+    rt: &R,
+    journal: &mut Journal,
+    outlets: &mut Outlets<F>,
+    time: u64,
+    has_failed: bool,
+) -> CommonEnding<'w> {
+    journal.write(outlets, time);
+    let Ok(counts) = journal.counts() else {
+        return CommonEnding::OutOfMemory;
+    };
+    outlets.finish(rt, counts.as_slice(), time);
+    if has_failed {
+        return CommonEnding::Clock;
+    }
+    served_ending(journal, outlets)
+}
+
+// Serves until the end.
 fn serve_to_end<'w, R: Net + Clock, F: Write + Drop>(
     rt: &R,
     alloc: Global,
@@ -142,15 +162,7 @@ fn serve_to_end<'w, R: Net + Clock, F: Write + Drop>(
 ) -> CommonEnding<'w> {
     let served = serve(alloc, board, wire, outlets);
     let time = wire.around.time();
-    wire.journal.write(outlets, time);
-    let Ok(counts) = wire.journal.counts() else {
-        return CommonEnding::OutOfMemory;
-    };
-    outlets.finish(rt, counts.as_slice(), time);
-    if served.is_err() {
-        return CommonEnding::Clock;
-    }
-    served_ending(&wire.journal, outlets)
+    finish(rt, &mut wire.journal, outlets, time, served.is_err())
 }
 
 // Makes the file of a capture, if one is asked for, once the sockets are had, and serves.
