@@ -287,6 +287,9 @@ fn situation<S: Surroundings + Drop>(
     board: &Switchboard,
     wire: &Wire<S>,
 ) -> Result<Situation, Fault> {
+    let Ok(moment) = wire.around.moment() else {
+        return Err(Fault);
+    };
     let ready = wire.ready();
     // Where anything is there nothing is waited for, and so the agents of all gateways aren't asked.
     let due = if ready.commands || ready.datagrams {
@@ -295,7 +298,7 @@ fn situation<S: Surroundings + Drop>(
         earlier(board.next_due(), wire.network_due())
     };
     Ok(Situation {
-        moment: wire.around.moment()?,
+        moment,
         ticked: wire.now.clock,
         due,
         end: wire.end,
@@ -351,7 +354,10 @@ fn turn<S: Surroundings + Drop>(
     wire: &mut Wire<S>,
     schedule: &mut Schedule,
 ) -> Result<bool, Fault> {
-    let at = situation(board, wire)?;
+    let at = match situation(board, wire) {
+        Ok(at) => at,
+        Err(fault) => return Err(fault),
+    };
     let turn = schedule.next(at);
     if matches!(turn, Turn::End) {
         return Ok(false);
@@ -373,9 +379,16 @@ pub(crate) fn serve<S: Surroundings + Drop, W: Recorder>(
     recorder: &mut W,
 ) -> Result<(), Fault> {
     // What the start took isn't a pause.
-    let mut schedule = Schedule::starting_at(wire.around.moment()?);
+    let Ok(start) = wire.around.moment() else {
+        return Err(Fault);
+    };
+    let mut schedule = Schedule::starting_at(start);
     for _ in 0..u64::MAX {
-        if !turn(alloc, board, wire, &mut schedule)? {
+        let goes_on = match turn(alloc, board, wire, &mut schedule) {
+            Ok(goes_on) => goes_on,
+            Err(fault) => return Err(fault),
+        };
+        if !goes_on {
             return Ok(());
         }
         recorder.write(&mut wire.journal, wire.now.time);
