@@ -187,7 +187,14 @@ fn report_of(
 impl<'a> Checking<'a> {
     // The player has the next check from here on, at this line, with the next ids.
     fn begin(&mut self, check: &Check<'static>, line: &'a str) {
-        let next = player_of(self.alloc, self.settings, self.names, line, self.base, check);
+        let next = player_of(
+            self.alloc,
+            self.settings,
+            self.names,
+            line,
+            self.base,
+            check,
+        );
         *self.player = next;
         self.base = self.base.saturating_add(IDS);
     }
@@ -198,7 +205,12 @@ impl<'a> Checking<'a> {
         let player = &*self.player;
         let nothing: &[Vec<u8>] = &[];
         let (verdict, said, due, came) = if is_played {
-            (Some(player.verdict()), player.said(), player.due(), player.came())
+            (
+                Some(player.verdict()),
+                player.said(),
+                player.due(),
+                player.came(),
+            )
         } else {
             (None, "", "", nothing)
         };
@@ -206,7 +218,15 @@ impl<'a> Checking<'a> {
         if settings.is_junit {
             put_case(&mut self.cases, check, verdict, due, said)?;
         }
-        report_of(self.alloc, settings.is_json, check, verdict, said, due, came)
+        report_of(
+            self.alloc,
+            settings.is_json,
+            check,
+            verdict,
+            said,
+            due,
+            came,
+        )
     }
 
     // How many checks have come to what.

@@ -70,7 +70,11 @@ fn open_wire<'a, 'w, R: Net + Clock>(
         Err(ending) => return Err(ending),
     };
     let own = live.own();
-    let here = if own[0].port() > 0 { own[0] } else { settings.listen.address };
+    let here = if own[0].port() > 0 {
+        own[0]
+    } else {
+        settings.listen.address
+    };
     match wire_over(alloc, live, here, settings) {
         Ok(wire) => Ok(wire),
         Err(_) => Err(CommonEnding::OutOfMemory),
