@@ -169,6 +169,25 @@ fn serve_to_end<'w, R: Net + Clock, F: Write + Drop>(
     finish(rt, &mut wire.journal, outlets, time, served.is_err())
 }
 
+// Makes the file of a capture, if one is asked for: how the program ends where there is none.
+fn begin_capture<'w, R: Files>(
+    rt: &R,
+    alloc: Global,
+    journal: &mut Journal,
+    capture: Option<&'w str>,
+    outlets: &mut Outlets<R::File>,
+) -> Option<CommonEnding<'w>> {
+    let file = capture?;
+    outlets.capture = match open_capture(rt, alloc, capture) {
+        Ok(opened) => opened,
+        Err(fault) => return Some(CommonEnding::unwritable(file, fault)),
+    };
+    if journal.name_capture(file).is_err() {
+        return Some(CommonEnding::OutOfMemory);
+    }
+    None
+}
+
 // Makes the file of a capture, if one is asked for, once the sockets are had, and serves.
 fn serve_captured<'w, R: Files + Net + Clock>(
     rt: &R,
@@ -178,13 +197,8 @@ fn serve_captured<'w, R: Files + Net + Clock>(
     capture: Option<&'w str>,
     outlets: &mut Outlets<R::File>,
 ) -> CommonEnding<'w> {
-    let file = capture.unwrap_or("");
-    outlets.capture = match open_capture(rt, alloc, capture) {
-        Ok(opened) => opened,
-        Err(fault) => return CommonEnding::unwritable(file, fault),
-    };
-    if wire.journal.name_capture(file).is_err() {
-        return CommonEnding::OutOfMemory;
+    if let Some(ending) = begin_capture(rt, alloc, &mut wire.journal, capture, outlets) {
+        return ending;
     }
     tell_addresses(alloc, &wire.around, outlets);
     serve_to_end(rt, alloc, board, wire, outlets)
