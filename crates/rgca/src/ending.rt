@@ -160,12 +160,6 @@ impl<'a> Ending<'a> {
     }
 }
 
-impl From<OutOfMemory> for Ending<'_> {
-    fn from(_refused: OutOfMemory) -> Self {
-        Ending::Common(CommonEnding::OutOfMemory)
-    }
-}
-
 /// How the program ends by its words.
 pub fn word_ending<'a>(fault: WordFault) -> Ending<'a>
     ensures { result ≡ word_ending fault }

@@ -2,41 +2,49 @@
 use crate::ending::Ending;
 use crate::help::of_all;
 use crate::phone_words::PhoneSettings;
-use live_ends::{CommonEnding, put_around, read_file};
-use mg_bytes::{OutOfMemory, Text};
+use agent_texts::copied;
+use live_ends::{CommonEnding, read_file};
+use mg_bytes::{Draft, OutOfMemory, Text};
 use phone_scripts::{Place, Reader, Script, ScriptFault, Wanted, fault_line, put_place};
 use rgw_scripts::LIMIT;
 use std::alloc::{AllocError, Global};
 use std::rt::Files;
 
-// What is said of a file that is too long.
-fn length_text(alloc: Global, path: &str) -> Result<Text, OutOfMemory> {
-    let mut said = Vec::from_slice(alloc, path.as_bytes())?;
-    put_around(alloc, &mut said, ": longer than ", LIMIT as u64, " bytes\n")?;
-    Ok(Text::of(said))
+// How the program ends where a script can't be played, of which this is said.
+fn bad_script<'w>(said: Result<Text, OutOfMemory>) -> Ending<'w> {
+    match said {
+        Ok(text) => Ending::BadScript { text },
+        Err(_) => Ending::Common(CommonEnding::OutOfMemory),
+    }
+}
+
+// How the program ends by a file that is too long.
+fn too_long<'w>(alloc: Global, path: &str) -> Ending<'w> {
+    let mut said = Draft::new(alloc);
+    said.put(path.as_bytes());
+    said.put(b": longer than ");
+    said.put_decimal(LIMIT as u64);
+    said.put(b" bytes\n");
+    bad_script(said.into_text())
 }
 
 // The text of a file, or how the program ends where it is the script itself.
 fn text_in<'p, R: Files>(rt: &R, alloc: Global, path: &'p str) -> Result<Text, Ending<'p>> {
-    match read_file(rt, alloc, path, LIMIT as u64) {
-        Ok(text) => {
-            if text.len() <= LIMIT {
-                Ok(Text::of(text))
-            } else {
-                Err(Ending::BadScript {
-                    text: length_text(alloc, path)?,
-                })
-            }
-        }
-        Err(ending) => Err(Ending::Common(ending)),
+    let text = match read_file(rt, alloc, path, LIMIT as u64) {
+        Ok(text) => text,
+        Err(ending) => return Err(Ending::Common(ending)),
+    };
+    if text.len() > LIMIT {
+        return Err(too_long(alloc, path));
     }
+    Ok(Text::of(text))
 }
 
-// What is said of a script that can't be played.
-fn script_text(alloc: Global, files: &[Text], fault: ScriptFault) -> Result<Text, OutOfMemory> {
+// How the program ends by a script that can't be played.
+fn script_ending<'w>(alloc: Global, files: &[Text], fault: ScriptFault) -> Ending<'w> {
     match fault {
-        ScriptFault::OutOfMemory => Err(AllocError),
-        ScriptFault::Line { place, fault } => fault_line(alloc, files, place, fault),
+        ScriptFault::OutOfMemory => Ending::Common(CommonEnding::OutOfMemory),
+        ScriptFault::Line { place, fault } => bad_script(fault_line(alloc, files, place, fault)),
     }
 }
 
@@ -57,16 +65,16 @@ fn include_text(
 }
 
 // Where a file is that a script brings: one that is relative stands in the script's folder.
-fn path_of(alloc: Global, script: &str, file: &[u8]) -> Result<String, OutOfMemory> {
-    let mut path = String::new(alloc);
+fn path_of(alloc: Global, script: &str, file: &[u8]) -> Result<Vec<u8>, OutOfMemory> {
+    let mut path = Draft::new(alloc);
     if !file.starts_with(b"/") {
         if let Some((folder, _)) = script.rsplit_once('/') {
-            path.push_str(folder)?;
-            path.push('/')?;
+            path.put(folder.as_bytes());
+            path.put_byte(b'/');
         }
     }
-    path.push_str(str::from_utf8(file).unwrap_or(""))?;
-    Ok(path)
+    path.put(str::from_utf8(file).unwrap_or("").as_bytes());
+    path.end()
 }
 
 // The name of the file that was named last.
@@ -77,65 +85,75 @@ fn last_of(files: &[Text]) -> &[u8] {
     }
 }
 
-// Gives a reader the file with this path, which its script brings there: what is said where that can't be had.
-fn give_file<R: Files>(
+// Gives a reader the file with this path, which its script brings there: how the program ends where that can't be had.
+fn give_file<'w, R: Files>(
     rt: &R,
     alloc: Global,
     path: &str,
     reader: &mut Reader<'_>,
     place: Place,
-) -> Result<Option<Text>, OutOfMemory> {
-    match text_in(rt, alloc, path) {
-        Ok(text) => {
-            reader.give(text)?;
-            Ok(None)
+) -> Option<Ending<'w>> {
+    let text = match text_in(rt, alloc, path) {
+        Ok(text) => text,
+        Err(ending) => {
+            return Some(bad_script(include_text(alloc, reader.files(), place, &ending)));
         }
-        Err(ending) => Ok(Some(include_text(alloc, reader.files(), place, &ending)?)),
+    };
+    if reader.give(text).is_err() {
+        return Some(Ending::Common(CommonEnding::OutOfMemory));
     }
+    None
 }
 
-// Gives a reader the file that its script brings there: what is said where that can't be had.
-fn give_include<R: Files>(
+// Gives a reader the file that its script brings there: how the program ends where that can't be had.
+fn give_include<'w, R: Files>(
     rt: &R,
     alloc: Global,
     script: &str,
     reader: &mut Reader<'_>,
     place: Place,
-) -> Result<Option<Text>, OutOfMemory> {
-    let path = path_of(alloc, script, last_of(reader.files()))?;
-    give_file(rt, alloc, path.as_str(), reader, place)
+) -> Option<Ending<'w>> {
+    let Ok(path) = path_of(alloc, script, last_of(reader.files())) else {
+        return Some(Ending::Common(CommonEnding::OutOfMemory));
+    };
+    let path = str::from_utf8(path.as_slice()).unwrap_or("");
+    give_file(rt, alloc, path, reader, place)
 }
 
-// Reads a script to its end: what is said where it can't be played.
-fn read_on<R: Files>(
+// Reads a script to its end: how the program ends where it can't be played.
+fn read_on<'w, R: Files>(
     rt: &R,
     alloc: Global,
     script: &str,
     reader: &mut Reader<'_>,
-) -> Result<Option<Text>, OutOfMemory> {
+) -> Option<Ending<'w>> {
     for _ in 0..u64::MAX {
-        let said = match reader.go_on() {
-            Ok(Wanted::File { place }) => give_include(rt, alloc, script, reader, place)?,
-            Ok(Wanted::Nothing) => return Ok(None),
-            Err(fault) => Some(script_text(alloc, reader.files(), fault)?),
+        let ending = match reader.go_on() {
+            Ok(Wanted::File { place }) => give_include(rt, alloc, script, reader, place),
+            Ok(Wanted::Nothing) => return None,
+            Err(fault) => Some(script_ending(alloc, reader.files(), fault)),
         };
-        if said.is_some() {
-            return Ok(said);
+        if ending.is_some() {
+            return ending;
         }
     }
-    Ok(None)
+    None
 }
 
-// Reads a script in this file with this text: what is said where it can't be played.
-fn read_with<R: Files>(
+// Reads a script in this file with this text: how the program ends where it can't be played.
+fn read_with<'w, R: Files>(
     rt: &R,
     alloc: Global,
     script: &str,
     text: Text,
     reader: &mut Reader<'_>,
-) -> Result<Option<Text>, OutOfMemory> {
-    let file = Text::of(Vec::from_slice(alloc, script.as_bytes())?);
-    reader.begin(file, text)?;
+) -> Option<Ending<'w>> {
+    let Ok(file) = copied(alloc, script.as_bytes()) else {
+        return Some(Ending::Common(CommonEnding::OutOfMemory));
+    };
+    if reader.begin(file, text).is_err() {
+        return Some(Ending::Common(CommonEnding::OutOfMemory));
+    }
     read_on(rt, alloc, script, reader)
 }
 
@@ -145,11 +163,13 @@ pub fn read_script<'w, R: Files>(
     alloc: Global,
     settings: &PhoneSettings<'w>,
 ) -> Result<Script, Ending<'w>> {
-    let text = text_in(rt, alloc, settings.script)?;
+    let text = match text_in(rt, alloc, settings.script) {
+        Ok(text) => text,
+        Err(ending) => return Err(ending),
+    };
     let mut reader = Reader::new(alloc, settings.names.as_slice());
-    match read_with(rt, alloc, settings.script, text, &mut reader) {
-        Ok(None) => Ok(reader.into_script()),
-        Ok(Some(text)) => Err(Ending::BadScript { text }),
-        Err(refused) => Err(Ending::from(refused)),
+    if let Some(ending) = read_with(rt, alloc, settings.script, text, &mut reader) {
+        return Err(ending);
     }
+    Ok(reader.into_script())
 }

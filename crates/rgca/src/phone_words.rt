@@ -1,4 +1,5 @@
 //! Reads the words behind `phones`.
+use agent_texts::copied;
 use live_ends::CommonEnding;
 use mg_bytes::Text;
 use std::alloc::{AllocError, Global};
@@ -98,25 +99,8 @@ impl PhoneSettings<'_> {
 
     // A gateway is named so, and its telephones are there.
     fn add(&mut self, alloc: Global, name: &str, address: SocketAddrV4) -> Result<(), AllocError> {
-        let name = Text::of(Vec::from_slice(alloc, name.as_bytes())?);
-        self.names.push(name)?;
-        self.addresses.push(address)?;
-        Ok(())
-    }
-}
-
-// Reads a word that says a gateway.
-fn take_gateway<'a>(
-    alloc: Global,
-    settings: &mut PhoneSettings<'a>,
-    word: &'a str,
-) -> Result<(), PhoneWordFault<'a>> {
-    match gateway_of(word) {
-        Some((name, address)) if !settings.has(name, address) => {
-            settings.add(alloc, name, address)?;
-            Ok(())
-        }
-        _ => Err(PhoneWordFault::BadGateway { word }),
+        self.names.push(copied(alloc, name.as_bytes())?)?;
+        self.addresses.push(address)
     }
 }
 
@@ -130,14 +114,17 @@ fn take_gateways<'a>(
         return Err(PhoneWordFault::Common(CommonEnding::Usage));
     }
     for word in words {
-        take_gateway(alloc, settings, word.as_str())?;
+        let word = word.as_str();
+        match gateway_of(word) {
+            Some((name, address)) if !settings.has(name, address) => {
+                settings.add(alloc, name, address)?;
+            }
+            _ => return Err(PhoneWordFault::BadGateway { word }),
+        }
     }
     if words.is_empty() {
-        settings.add(
-            alloc,
-            "",
-            SocketAddrV4::new(Ipv4Addr::LOCALHOST, USUAL_PORT),
-        )?;
+        let usual = SocketAddrV4::new(Ipv4Addr::LOCALHOST, USUAL_PORT);
+        settings.add(alloc, "", usual)?;
     }
     Ok(())
 }

@@ -4,7 +4,7 @@ use crate::phone_files::read_script;
 use crate::phone_words::{PhoneSettings, read_phone_words};
 use live_agent::{Played, play_phones};
 use live_ends::{CommonEnding, Live, SocketWanted};
-use mg_bytes::{OutOfMemory, Text};
+use mg_bytes::Text;
 use phone_scripts::{Failure, Player, Script, failure_text};
 use std::alloc::Global;
 use std::net::{Ipv4Addr, Net, SocketAddrV4};
@@ -16,11 +16,13 @@ fn failure_ending<'w>(
     files: &[Text],
     names: &[Text],
     failure: &Failure,
-) -> Result<Ending<'w>, OutOfMemory> {
-    let text = failure_text(alloc, files, names, failure)?;
+) -> Ending<'w> {
+    let Ok(text) = failure_text(alloc, files, names, failure) else {
+        return Ending::Common(CommonEnding::OutOfMemory);
+    };
     match failure {
-        Failure::Unmet(_) => Ok(Ending::Unexpected { text }),
-        _ => Ok(Ending::Unplayed { text }),
+        Failure::Unmet(_) => Ending::Unexpected { text },
+        _ => Ending::Unplayed { text },
     }
 }
 
@@ -30,11 +32,13 @@ fn play_with<'w, R: Net + Clock>(
     live: &mut Live<'_, R>,
     settings: &PhoneSettings<'w>,
     player: &mut Player,
-) -> Result<Ending<'w>, OutOfMemory> {
-    let played = play_phones(alloc, live, player, settings.addresses.as_slice())?;
+) -> Ending<'w> {
+    let Ok(played) = play_phones(alloc, live, player, settings.addresses.as_slice()) else {
+        return Ending::Common(CommonEnding::OutOfMemory);
+    };
     let failure = match &played {
-        Played::Done => return Ok(Ending::Played),
-        Played::Clock => return Ok(Ending::Common(CommonEnding::Clock)),
+        Played::Done => return Ending::Played,
+        Played::Clock => return Ending::Common(CommonEnding::Clock),
         Played::Failed { failure } => failure,
     };
     failure_ending(alloc, player.files(), settings.names.as_slice(), failure)
@@ -46,9 +50,11 @@ fn play_over<'w, R: Net + Clock>(
     live: &mut Live<'_, R>,
     settings: &PhoneSettings<'w>,
     script: Script,
-) -> Result<Ending<'w>, OutOfMemory> {
+) -> Ending<'w> {
     let gateways = u16::try_from(settings.addresses.len()).unwrap_or(u16::MAX);
-    let mut player = Player::new(alloc, script, gateways, 0)?;
+    let Ok(mut player) = Player::new(alloc, script, gateways, 0) else {
+        return Ending::Common(CommonEnding::OutOfMemory);
+    };
     play_with(alloc, live, settings, &mut player)
 }
 
@@ -58,7 +64,7 @@ fn play<'w, R: Net + Clock>(
     alloc: Global,
     settings: &PhoneSettings<'w>,
     script: Script,
-) -> Result<Ending<'w>, OutOfMemory> {
+) -> Ending<'w> {
     // Any free port of this machine.
     let any = SocketWanted {
         word: "",
@@ -66,7 +72,7 @@ fn play<'w, R: Net + Clock>(
     };
     let mut live = match Live::open(rt, alloc, any, any) {
         Ok(live) => live,
-        Err(_) => return Ok(Ending::System),
+        Err(_) => return Ending::System,
     };
     play_over(alloc, &mut live, settings, script)
 }
@@ -76,9 +82,11 @@ fn play_by<'w, R: Files + Net + Clock>(
     rt: &R,
     alloc: Global,
     settings: &PhoneSettings<'w>,
-) -> Result<Ending<'w>, Ending<'w>> {
-    let script = read_script(rt, alloc, settings)?;
-    Ok(play(rt, alloc, settings, script)?)
+) -> Ending<'w> {
+    match read_script(rt, alloc, settings) {
+        Ok(script) => play(rt, alloc, settings, script),
+        Err(ending) => ending,
+    }
 }
 
 /// How the program ends by a play with these words, of which the first is `phones`.
@@ -87,12 +95,8 @@ pub fn played<'w, R: Files + Net + Clock>(
     alloc: Global,
     words: &'w [String],
 ) -> Ending<'w> {
-    let settings = match read_phone_words(alloc, words) {
-        Ok(settings) => settings,
-        Err(fault) => return phone_words_ending(fault),
-    };
-    match play_by(rt, alloc, &settings) {
-        Ok(ending) => ending,
-        Err(ending) => ending,
+    match read_phone_words(alloc, words) {
+        Ok(settings) => play_by(rt, alloc, &settings),
+        Err(fault) => phone_words_ending(fault),
     }
 }
