@@ -92,17 +92,18 @@ const WORDS: [(&str, Kind); 8] = [
 
 // What clap is told of a word.
 fn arg_of<'a>(alloc: Global, name: &'static str, kind: Kind) -> Arg<'a> {
+    let arg = Arg::new(alloc, name);
+    if let Kind::Bare = kind {
+        return arg.required(true);
+    }
+    let arg = arg.long(name);
     match kind {
-        Kind::Bare => Arg::new(alloc, name).required(true),
-        Kind::Needed => Arg::new(alloc, name).long(name).required(true),
-        Kind::Valued => Arg::new(alloc, name).long(name),
-        Kind::Several => Arg::new(alloc, name).long(name).num_args(1usize..),
-        Kind::Number => {
-            let arg = Arg::new(alloc, name).long(name);
-            arg.value_parser(clap::value_parser!(u64))
-        }
-        Kind::Or(other) => Arg::new(alloc, name).long(name).default_value(other),
-        Kind::Flag => Arg::new(alloc, name).long(name).action(ArgAction::SetTrue),
+        Kind::Bare | Kind::Valued => arg,
+        Kind::Needed => arg.required(true),
+        Kind::Several => arg.num_args(1usize..),
+        Kind::Number => arg.value_parser(clap::value_parser!(u64)),
+        Kind::Or(other) => arg.default_value(other),
+        Kind::Flag => arg.action(ArgAction::SetTrue),
     }
 }
 
