@@ -1,10 +1,8 @@
 //! The word that says of a gateway who may speak to it, where none is said.
 ghost use Rattle.std.specs.Prelude.{◌≡◌, IfOk, OnOk, option_copied};
 ghost use Rattle.std.specs.List.{fold};
-ghost use Rattle.std.specs.Net.Addr.{ipv4_octets};
-ghost use Rattle.std.specs.Net.Text.{ipv4_text};
 ghost use Rattle.endpoint_names.specs.Route.{addresses};
-ghost use Rattle.live_gateway.specs.Naming.{word_of, no_word, listed, with_named_host, with_all, with_each, known_word, agents_line};
+ghost use Rattle.live_gateway.specs.Naming.{word_of, no_word, with_named_host, with_all, with_each, known_word, agents_line};
 
 use crate::admission::hosts_of;
 use endpoint_names::{Host, Route};
@@ -23,26 +21,6 @@ struct Named {
     speakers: Speakers,
 }
 
-// An address as text.
-fn host_text(alloc: Global, host: Ipv4Addr) -> Result<Vec<u8>, OutOfMemory>
-    ensures { IfOk result (λ text. text.items ≡ ipv4_text (ipv4_octets host)) }
-{
-    let mut text = Draft::new(alloc);
-    put_host(&mut text, host);
-    text.end()
-}
-
-// Puts an item behind others, which commas part.
-fn put_item(out: &mut Vec<u8>, item: &[u8]) -> Result<(), OutOfMemory>
-    ensures { OnOk result (out.new.items ≡ listed out.old.items item.now) }
-{
-    if !out.is_empty() {
-        out.push(b',')?;
-    }
-    out.extend_from_slice(item)?;
-    Ok(())
-}
-
 impl Named {
     // No address is named yet.
     fn nothing(alloc: Global) -> Named
@@ -55,17 +33,20 @@ impl Named {
         }
     }
 
-    // An address is named, where it isn't admitted yet.
+    // An address is named, where it isn't admitted yet; commas part those that are.
     fn name(&mut self, host: Ipv4Addr) -> Result<(), OutOfMemory>
         ensures { OnOk result (word_of self.new ≡ with_named_host (word_of self.old) host) }
     {
         if self.speakers.hears(host) {
             return Ok(());
         }
-        let item = host_text(self.alloc, host)?;
-        put_item(&mut self.text, item.as_slice())?;
-        self.speakers.admit(host)?;
-        Ok(())
+        let mut item = Draft::new(self.alloc);
+        if !self.text.is_empty() {
+            item.put(b",");
+        }
+        put_host(&mut item, host);
+        item.append_to(&mut self.text)?;
+        self.speakers.admit(host)
     }
 
     fn name_all(&mut self, hosts: &[Ipv4Addr]) -> Result<(), OutOfMemory>
