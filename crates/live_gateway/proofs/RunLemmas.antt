@@ -1,6 +1,6 @@
 -- How entries follow one another.
 use Rattle.std.proofs.Common.{◌≡◌, inl, inr, ℕ, ◌+◌, ◌<◌, ◌≤◌, length, take, get_or, Bool, true, false, List, [], ◌∷◌, ◌++◌, map, Option, Some, None, refl, sym, ◌∙◌, ap, subst, append_assoc, append-nil, arith}
-use Rattle.std.specs.Prelude.{IfSome, ⊤}
+use Rattle.std.specs.Prelude.{IfSome, OnOk, Result, Ok, Err, ⊤}
 use Rattle.std.specs.List.{flat_map}
 use Rattle.std.proofs.lemmas.List.{map-append, take_more, length-append, length-take-le}
 use Rattle.std.proofs.lemmas.Bool.{le-leb}
@@ -452,6 +452,26 @@ answers_none g line text none same = record {
   shows = λ before s. rw (both_not line g.setup.names.lines none) refl;
   text = same;
 }
+
+-- so it is where it is put behind what was said before, if memory was there
+pub shows_line : {A B : Type 0} (g : GatewayState) (line : ℕ) (status : LineStatus) (done : Result A B) (before after : List ℕ) → 1 ≤ line → line ≤ g.setup.names.lines
+    → ((events : List GatewayEvent) → Stands g events → status_of (plain g.setup events) line ≡ Some status)
+    → OnOk done (after ≡ before ++ printed_line (shown_line status)) → OnOk done ((shown : List ℕ) × IsAnswer g line shown × (after ≡ before ++ shown))
+shows_line g line status (Ok done) before after low high is put =
+    (printed_line (shown_line status), answers_line g line status (printed_line (shown_line status)) low high is refl, put)
+shows_line g line status (Err why) before after low high is put = tt
+
+pub answers_shown : {A B : Type 0} (g : GatewayState) (line : ℕ) (done : Result A B) (before after : List ℕ) → before ≡ []
+    → OnOk done ((shown : List ℕ) × IsAnswer g line shown × (after ≡ before ++ shown)) → OnOk done (IsAnswer g line after)
+answers_shown g line (Ok done) before after none put =
+    subst (λ (l : List ℕ). IsAnswer g line l) (sym (put.2 ∙ ap (λ (l : List ℕ). l ++ put.0) none)) put.1
+answers_shown g line (Err why) before after none put = tt
+
+pub answers_refused : {A B : Type 0} (g : GatewayState) (line : ℕ) (done : Result A B) (before after : List ℕ) → before ≡ []
+    → (1 ≤ line → line ≤ g.setup.names.lines → ⊥) → OnOk done (after ≡ before ++ printed_line (refusal_line NoSuchLine)) → OnOk done (IsAnswer g line after)
+answers_refused g line (Ok done) before after none other put =
+    answers_none g line after other (put ∙ ap (λ (l : List ℕ). l ++ printed_line (refusal_line NoSuchLine)) none)
+answers_refused g line (Err why) before after none other put = tt
 
 asked_went : (setup : Setup) (before : List GatewayEvent) (number : ℕ) (shown : Shown) → line_shown setup before number ≡ shown
     → move_went setup before (ask number) ≡ record { shown = shown ∷ []; taken = before }

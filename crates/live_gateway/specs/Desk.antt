@@ -18,9 +18,9 @@ pub record Standing : Type 0 where
 
 abbrev pub at_desk : {S T : Type 0} → (T → Option (List ℕ)) → (S → Traffic) → Desk S T → Standing
 at_desk told traffic desk = record {
-  live = live desk.play.value.gateway.value desk.play.value.script (told desk.play.value.teller)
-      (handed_by desk.exchange.value.network (traffic desk.exchange.value.around).sent);
-  came = came_by traffic desk.exchange.value;
+  live = live desk.play.gateway.value desk.play.script (told desk.play.teller)
+      (handed_by desk.exchange.network (traffic desk.exchange.around).sent);
+  came = came_by traffic desk.exchange;
 }
 
 -- an input was refused, or taken

@@ -10,9 +10,8 @@ ghost use Rattle.live_gateway.specs.Watching.{full_text};
 use crate::picture::picture_of;
 use gateway_core::{Gateway, Refusal};
 use line_changes::MOST_WATCHERS;
-use live_ends::put_around;
 use live_journal::{Faults, Journal};
-use mg_bytes::OutOfMemory;
+use mg_bytes::{Draft, OutOfMemory};
 use rgw_scripts::{LineStatus, put_line};
 use std::alloc::Global;
 use surroundings::Lines;
@@ -31,8 +30,8 @@ pub const PHONES_FROM_AFAR: &[u8] =
 /// The answer where memory is refused for any other, and what who watches is told then.
 pub const OUT_OF_MEMORY: &[u8] = b"! 1 OutOfMemory\n";
 
-/// What a line, from 1 to the number of lines, is.
-pub(crate) fn status_of(gateway: &Gateway, line: u16) -> LineStatus<'_>
+// What a line, from 1 to the number of lines, is.
+fn status_of(gateway: &Gateway, line: u16) -> LineStatus<'_>
     requires low { 1 ≤ line }
     requires high { line ≤ gateway.now.setup.names.lines }
     ensures { (events : List GatewayEvent) → Stands gateway.now events →
@@ -47,8 +46,8 @@ pub(crate) fn status_of(gateway: &Gateway, line: u16) -> LineStatus<'_>
     }
 }
 
-// Puts what a line is.
-fn put_shown(
+/// Puts what a line is.
+pub(crate) fn put_shown(
     alloc: Global,
     gateway: &Gateway,
     line: u16,
@@ -59,23 +58,18 @@ fn put_shown(
     ensures { OnOk result ((shown : List ℕ) × IsAnswer gateway.now line shown × (out.new.items ≡ out.old.items ++ shown)) }
 {
     let status = status_of(gateway, line);
-    put_line(alloc, out, &status)?;
-    Ok(())
+    put_line(alloc, out, &status)
 }
 
 /// The answer to who wants to watch where as many watch as may.
 pub(crate) fn full_answer(alloc: Global) -> Result<Vec<u8>, OutOfMemory>
     ensures { IfOk result (λ text. text.items ≡ full_text) }
 {
-    let mut text = Vec::new(alloc);
-    put_around(
-        alloc,
-        &mut text,
-        "! ",
-        MOST_WATCHERS as u64,
-        " watch already\n",
-    )?;
-    Ok(text)
+    let mut text = Draft::new(alloc);
+    text.put(b"! ");
+    text.put_decimal(MOST_WATCHERS as u64);
+    text.put(b" watch already\n");
+    text.end()
 }
 
 /// What each line is, from the first.

@@ -1,7 +1,7 @@
 //! The loop: it asks what comes next, and does that.
 #![tactic(auto, using(crate::proofs::DeskLemmas::stays_so))]
 
-ghost use Rattle.std.specs.Prelude.{◌≡◌, ◌↔◌, ◌≤◌, ◌⊎◌, ◌-◌, ◌^◌, ℕ, Bool, true, false, not, codes, List, [], IsTrue, IfOk, is_ok};
+ghost use Rattle.std.specs.Prelude.{◌≡◌, ◌↔◌, ◌≤◌, ◌⊎◌, ◌-◌, ◌^◌, ℕ, Bool, true, false, not, codes, List, [], Option, IsTrue, IfOk, is_ok};
 ghost use Rattle.turns.specs.Runs.{is_end};
 ghost use Rattle.plain_machine.specs.Event.{GatewayEvent, tick};
 ghost use Rattle.plain_machine.specs.Lists.{plain};
@@ -9,6 +9,8 @@ ghost use Rattle.gateway_core.specs.Stands.{Stands};
 ghost use Rattle.line_changes.specs.Watching.{longest_watch};
 ghost use Rattle.live_gateway.specs.Losses.{counts_text};
 ghost use Rattle.live_gateway.specs.Admitting.{typist_of};
+ghost use Rattle.live_gateway.specs.Asking.{AsksFor};
+ghost use Rattle.rgw_scripts.specs.declared.step.ScriptLine.{ScriptLine};
 ghost use Rattle.surroundings.specs.Hearing.{AnswersTo};
 ghost use Rattle.surroundings.specs.Requests.{requests_from};
 ghost use Rattle.surroundings.specs.Typing.{left_of, behind};
@@ -40,9 +42,9 @@ use turns::{Ready, Schedule, Situation, Turn, earlier};
 /// A gateway that runs, all that it stands on, and what is kept of it.
 pub struct Desk<S, T> {
     alloc: Global,
-    pub play: Box<LivePlay<T>>,
-    pub exchange: Box<Exchange<S>>,
-    pub lines: Box<Lines>,
+    pub play: LivePlay<T>,
+    pub exchange: Exchange<S>,
+    pub lines: Lines,
     // Whom it hears, and who may type.
     admission: Admission,
     // Whether the line that is left is the page's.
@@ -106,9 +108,9 @@ impl<S: Surroundings + Drop, T: Teller + Drop> Desk<S, T> {
     /// A gateway over this exchange, to which these are admitted, and which ends at a moment of its clock, in ms, if one is given.
     pub fn new(
         alloc: Global,
-        play: Box<LivePlay<T>>,
-        exchange: Box<Exchange<S>>,
-        lines: Box<Lines>,
+        play: LivePlay<T>,
+        exchange: Exchange<S>,
+        lines: Lines,
         admission: Admission,
         end: Option<u64>,
     ) -> Desk<S, T>
@@ -161,8 +163,8 @@ impl<S: Surroundings + Drop, T: Teller + Drop> Desk<S, T> {
         ensures rest { (self.new.play ≡ self.old.play) × (self.new.end ≡ self.old.end) }
         ensures schedule { self.new.schedule ≡ self.old.schedule }
         ensures end { result.end ≡ self.old.end }
-        ensures ticked { (events : List GatewayEvent) → Stands self.old.play.value.gateway.value events
-            → result.ticked ≡ (plain self.old.play.value.gateway.value.setup events).now }
+        ensures ticked { (events : List GatewayEvent) → Stands self.old.play.gateway.value events
+            → result.ticked ≡ (plain self.old.play.gateway.value.setup events).now }
     {
         let ticked = self.play.gateway.now();
         let moment = self.exchange.moment(ticked);
@@ -213,7 +215,7 @@ impl<S: Surroundings + Drop, T: Teller + Drop> Desk<S, T> {
         ensures tried { Tries (passed moment) (tick moment) (at_desk T.told S.traffic self.old) (at_desk T.told S.traffic self.new) }
     {
         self.exchange.begin(moment);
-        let done = self.play.tick(&mut *self.exchange, moment);
+        let done = self.play.tick(&mut self.exchange, moment);
         self.note_taken(done.is_ok());
     }
 
@@ -243,9 +245,7 @@ impl<S: Surroundings + Drop, T: Teller + Drop> Desk<S, T> {
         let Some((source, len)) = self.exchange.receive(admission, &mut room) else {
             return;
         };
-        let done = self
-            .play
-            .datagram(&mut *self.exchange, source, &room[..len]);
+        let done = self.play.datagram(&mut self.exchange, source, &room[..len]);
         self.note_datagram(done.is_ok(), source, &room[..len]);
         self.note_taken(done.is_ok());
     }
@@ -254,8 +254,8 @@ impl<S: Surroundings + Drop, T: Teller + Drop> Desk<S, T> {
     fn answer(&mut self, text: &[u8])
         ensures play { at_desk T.told S.traffic self.new ≡ at_desk T.told S.traffic self.old }
         ensures admission { self.new.admission ≡ self.old.admission }
-        ensures answered { AnswersTo S.answers self.old.lines.value.sender self.old.exchange.value.around text.now self.new.exchange.value.around }
-        ensures left { left_of self.new.lines.value ≡ requests_from (behind (left_of self.old.lines.value)) }
+        ensures answered { AnswersTo S.answers self.old.lines.sender self.old.exchange.around text.now self.new.exchange.around }
+        ensures left { left_of self.new.lines ≡ requests_from (behind (left_of self.old.lines)) }
     {
         self.lines.answer(&mut self.exchange.around, text);
     }
@@ -264,8 +264,8 @@ impl<S: Surroundings + Drop, T: Teller + Drop> Desk<S, T> {
     fn answer_all(&mut self, text: &[u8])
         ensures play { at_desk T.told S.traffic self.new ≡ at_desk T.told S.traffic self.old }
         ensures admission { self.new.admission ≡ self.old.admission }
-        ensures answered { AnswersTo S.answers self.old.lines.value.sender self.old.exchange.value.around text.now self.new.exchange.value.around }
-        ensures left { left_of self.new.lines.value ≡ [] }
+        ensures answered { AnswersTo S.answers self.old.lines.sender self.old.exchange.around text.now self.new.exchange.around }
+        ensures left { left_of self.new.lines ≡ [] }
     {
         self.lines.answer_all(&mut self.exchange.around, text);
     }
@@ -281,9 +281,9 @@ impl<S: Surroundings + Drop, T: Teller + Drop> Desk<S, T> {
 
     /// What was counted so far, as text. Its only error is want of memory.
     pub fn counts(&self) -> Result<Vec<u8>, AllocError>
-        ensures { (events : List GatewayEvent) → Stands self.now.play.value.gateway.value events → IfOk result (λ text. text.items
-            ≡ counts_text self.now.exchange.value.journal.value self.now.exchange.value.faults self.now.play.value.gateway.value.setup
-            (plain self.now.play.value.gateway.value.setup events)) }
+        ensures { (events : List GatewayEvent) → Stands self.now.play.gateway.value events → IfOk result (λ text. text.items
+            ≡ counts_text self.now.exchange.journal self.now.exchange.faults self.now.play.gateway.value.setup
+            (plain self.now.play.gateway.value.setup events)) }
     {
         let exchange = &self.exchange;
         report(
@@ -306,48 +306,54 @@ impl<S: Surroundings + Drop, T: Teller + Drop> Desk<S, T> {
         self.lines.answer(&mut self.exchange.around, answer);
     }
 
-    // What was counted so far is answered.
-    fn answer_counts(&mut self)
+    // What was put is answered, or that memory was refused for it.
+    fn answer_put(&mut self, text: Result<Vec<u8>, AllocError>)
         ensures play { at_desk T.told S.traffic self.new ≡ at_desk T.told S.traffic self.old }
         ensures admission { self.new.admission ≡ self.old.admission }
     {
-        match self.counts() {
-            Ok(counts) => self.answer(counts.as_slice()),
-            Err(_) => self.answer(OUT_OF_MEMORY),
-        }
-    }
-
-    // What each line is is answered.
-    fn answer_all_shown(&mut self)
-        ensures play { at_desk T.told S.traffic self.new ≡ at_desk T.told S.traffic self.old }
-        ensures admission { self.new.admission ≡ self.old.admission }
-    {
-        match all_shown(self.alloc, &self.play.gateway) {
+        match text {
             Ok(text) => self.answer(text.as_slice()),
             Err(_) => self.answer(OUT_OF_MEMORY),
         }
     }
 
-    // Somebody asks to be told what changes for so long, in s: the answer.
-    fn watch_answer(&mut self, seconds: u64) -> Result<Vec<u8>, AllocError>
-        requires { seconds ≤ longest_watch }
-        ensures play { at_desk T.told S.traffic self.new ≡ at_desk T.told S.traffic self.old }
-        ensures admission { self.new.admission ≡ self.old.admission }
-    {
-        let sender = self.lines.sender();
-        self.watch
-            .ask(self.alloc, &self.play.gateway, sender, seconds)
-    }
-
-    // That is answered.
+    // Somebody asks to be told what changes for so long, in s: that is answered.
     fn answer_watch(&mut self, seconds: u64)
         requires { seconds ≤ longest_watch }
         ensures play { at_desk T.told S.traffic self.new ≡ at_desk T.told S.traffic self.old }
         ensures admission { self.new.admission ≡ self.old.admission }
     {
-        match self.watch_answer(seconds) {
-            Ok(text) => self.answer(text.as_slice()),
-            Err(_) => self.answer(OUT_OF_MEMORY),
+        let sender = self.lines.sender();
+        let answer = self
+            .watch
+            .ask(self.alloc, &self.play.gateway, sender, seconds);
+        self.answer_put(answer);
+    }
+
+    // What a line asks for is answered that asks neither for an act nor for what a line is. Who asks for the end is answered when the
+    // gateway has ended.
+    fn answer_request(&mut self, request: TelephoneRequest)
+        requires { (said : Option ScriptLine) × AsksFor request said }
+        ensures play { at_desk T.told S.traffic self.new ≡ at_desk T.told S.traffic self.old }
+        ensures admission { self.new.admission ≡ self.old.admission }
+    {
+        match request {
+            TelephoneRequest::ShowAll => {
+                let answer = all_shown(self.alloc, &self.play.gateway);
+                self.answer_put(answer);
+            }
+            TelephoneRequest::Watch { seconds } => self.answer_watch(seconds),
+            TelephoneRequest::Counts => {
+                let answer = self.counts();
+                self.answer_put(answer);
+            }
+            TelephoneRequest::Stop => self.end = Some(0),
+            TelephoneRequest::StopFromAfar => self.answer(STOP_FROM_AFAR),
+            TelephoneRequest::Refused => self.answer_all(PHONES_FROM_AFAR),
+            TelephoneRequest::OutOfMemory => self.answer(OUT_OF_MEMORY),
+            TelephoneRequest::Act { .. }
+            | TelephoneRequest::Show { .. }
+            | TelephoneRequest::Unknown => self.answer(UNKNOWN),
         }
     }
 
@@ -375,7 +381,7 @@ impl<S: Surroundings + Drop, T: Teller + Drop> Desk<S, T> {
             TelephoneRequest::Act { line, act } => {
                 let now = self.exchange.now;
                 self.exchange.journal.act(now, text);
-                let done = self.play.act(&mut *self.exchange, text, line, act);
+                let done = self.play.act(&mut self.exchange, text, line, act);
                 self.answer_act(done);
             }
             TelephoneRequest::Show { line } => {
@@ -383,15 +389,7 @@ impl<S: Surroundings + Drop, T: Teller + Drop> Desk<S, T> {
                 let answer = question_answer(asked, self.play.printed());
                 self.lines.answer(&mut self.exchange.around, answer);
             }
-            TelephoneRequest::ShowAll => self.answer_all_shown(),
-            TelephoneRequest::Watch { seconds } => self.answer_watch(seconds),
-            TelephoneRequest::Counts => self.answer_counts(),
-            // Who asks for that is answered when the gateway has ended.
-            TelephoneRequest::Stop => self.end = Some(0),
-            TelephoneRequest::StopFromAfar => self.answer(STOP_FROM_AFAR),
-            TelephoneRequest::Refused => self.answer_all(PHONES_FROM_AFAR),
-            TelephoneRequest::Unknown => self.answer(UNKNOWN),
-            TelephoneRequest::OutOfMemory => self.answer(OUT_OF_MEMORY),
+            other => self.answer_request(other),
         }
     }
 
@@ -464,7 +462,7 @@ impl<S: Surroundings + Drop, T: Teller + Drop> Desk<S, T> {
     #[tactic(auto, using(crate::proofs::DeskLemmas::stays_so, crate::proofs::DeskLemmas::goes_on_then))]
     pub fn turn<V: Visitors<S>>(&mut self, visitors: &mut Option<Box<V>>) -> bool
         ensures play { GoesOn T.told S.traffic self.old self.new }
-        ensures end { EndsAt self.old.end self.old.play.value.gateway.value (not result) }
+        ensures end { EndsAt self.old.end self.old.play.gateway.value (not result) }
         ensures does { DoesNext S.receives self.old.schedule self.old.admission (at_desk T.told S.traffic self.old) (at_desk T.told S.traffic self.new) }
         ensures over { result ≡ false → (self.new.play ≡ self.old.play) × (self.new.end ≡ self.old.end) }
     {
@@ -482,10 +480,10 @@ impl<S: Surroundings + Drop, T: Teller + Drop> Desk<S, T> {
         ensures play { GoesOn T.told S.traffic self.old self.new }
         ensures lines { self.new.lines ≡ self.old.lines }
         ensures end { self.new.end ≡ self.old.end }
-        ensures gateway { self.new.play.value.gateway ≡ self.old.play.value.gateway }
+        ensures gateway { self.new.play.gateway ≡ self.old.play.gateway }
         ensures wrote { W.writes recorder.old recorder.new }
-        ensures read { self.new.exchange.value.read ≡ self.old.exchange.value.read }
-        ensures faults { self.new.exchange.value.faults ≡ self.old.exchange.value.faults }
+        ensures read { self.new.exchange.read ≡ self.old.exchange.read }
+        ensures faults { self.new.exchange.faults ≡ self.old.exchange.faults }
     {
         let time = self.exchange.now.time;
         recorder.write(&mut self.exchange.journal, &mut self.play.teller, time);
@@ -501,7 +499,7 @@ impl<S: Surroundings + Drop, T: Teller + Drop> Desk<S, T> {
     )
         ensures play { GoesOn T.told S.traffic self.old self.new }
         ensures end { (count : ℕ) × WroteTimes W.writes count recorder.old recorder.new
-            × ((EndsAt self.new.end self.new.play.value.gateway.value true) ⊎ (count ≡ 2 ^ 64 - 1)) }
+            × ((EndsAt self.new.end self.new.play.gateway.value true) ⊎ (count ≡ 2 ^ 64 - 1)) }
     {
         self.begin();
         for _ in 0..u64::MAX {
@@ -517,9 +515,9 @@ impl<S: Surroundings + Drop, T: Teller + Drop> Desk<S, T> {
     /// stands behind that in the datagram isn't done.
     pub fn answer_stop(&mut self)
         ensures play { at_desk T.told S.traffic self.new ≡ at_desk T.told S.traffic self.old }
-        ensures stopped { AsksForEnd self.old.lines.value →
-            AnswersTo S.answers self.old.lines.value.sender self.old.exchange.value.around (codes "done\n") self.new.exchange.value.around }
-        ensures other { (AsksForEnd self.old.lines.value → ⊥) → self.new.exchange ≡ self.old.exchange }
+        ensures stopped { AsksForEnd self.old.lines →
+            AnswersTo S.answers self.old.lines.sender self.old.exchange.around (codes "done\n") self.new.exchange.around }
+        ensures other { (AsksForEnd self.old.lines → ⊥) → self.new.exchange ≡ self.old.exchange }
     {
         if asks_for_end(&self.lines) {
             self.lines.answer_all(&mut self.exchange.around, DONE);

@@ -25,7 +25,7 @@ pub struct Exchange<S> {
     pub around: S,
     // What spoils what goes over it, where that is asked for.
     network: Option<Box<SpoiltWay>>,
-    pub journal: Box<Journal>,
+    pub journal: Journal,
     /// What clocks say at the turn under way.
     pub now: Now,
     /// So many datagrams were read since the start, of lines too.
@@ -73,7 +73,7 @@ impl<S: Surroundings + Drop> Exchange<S> {
     pub fn new(
         around: S,
         network: Option<Box<SpoiltWay>>,
-        journal: Box<Journal>,
+        journal: Journal,
         now: Now,
     ) -> Exchange<S>
         ensures around { result.around ≡ around }
@@ -163,9 +163,8 @@ impl<S: Surroundings + Drop> Exchange<S> {
         ensures read { self.new.read ≡ self.old.read }
         ensures turn { IsSameTurn self.old self.new }
     {
-        let journal = &mut *self.journal;
         if let Some(visitors) = visitors {
-            if let Some(board) = &mut journal.board {
+            if let Some(board) = &mut self.journal.board {
                 visitors.turn(&mut self.around, board, moment);
             }
         }
@@ -231,21 +230,15 @@ impl<S: Surroundings + Drop> Exchange<S> {
         }
     }
 
-    // A packet of who is heard comes to the gateway out of the network, with these bytes.
-    fn hand_in(&mut self, packet: &Packet, bytes: &[u8])
-        ensures network { self.new.network ≡ self.old.network }
-        ensures around { self.new.around ≡ self.old.around }
-        ensures faults { self.new.faults ≡ self.old.faults }
-        ensures read { self.new.read ≡ self.old.read }
-        ensures turn { IsSameTurn self.old self.new }
-    {
-        let late = packet.due.saturating_sub(packet.offered);
-        self.journal.came(self.now, packet.peer, bytes, late);
-    }
-
-    // Whether a datagram that has come is heard; another one is a stranger's, which is counted, and told of now and then. One without a
-    // port can't be answered, and isn't counted.
-    fn is_heard(&mut self, admission: &Admission, source: SocketAddrV4) -> bool
+    // A datagram has come, with these bytes, so many ms late by the network before the socket: whether it is heard. Another one is a
+    // stranger's, which is counted, and told of now and then; one without a port can't be answered, and isn't counted.
+    fn come(
+        &mut self,
+        admission: &Admission,
+        source: SocketAddrV4,
+        bytes: &[u8],
+        late: u64,
+    ) -> bool
         ensures heard { result ≡ is_heard admission.now source }
         ensures network { self.new.network ≡ self.old.network }
         ensures around { self.new.around ≡ self.old.around }
@@ -254,7 +247,9 @@ impl<S: Surroundings + Drop> Exchange<S> {
         ensures turn { IsSameTurn self.old self.new }
     {
         let is_taken = admission.hears(source);
-        if !is_taken && 0 < source.port() {
+        if is_taken {
+            self.journal.came(self.now, source, bytes, late);
+        } else if 0 < source.port() {
             self.journal.stranger(self.now, source);
         }
         is_taken
@@ -286,30 +281,14 @@ impl<S: Surroundings + Drop> Exchange<S> {
                     let _ = self.around.send(packet.peer, packet.bytes.as_bytes());
                 }
                 Way::In => {
-                    if self.is_heard(admission, packet.peer) {
-                        self.hand_in(&packet, &room[..len]);
+                    let late = packet.due.saturating_sub(packet.offered);
+                    if self.come(admission, packet.peer, &room[..len], late) {
                         return Some((packet.peer, len));
                     }
                 }
             }
         }
         None
-    }
-
-    // A datagram has come, and no network is before the socket: whether it is heard.
-    fn come(&mut self, admission: &Admission, source: SocketAddrV4, bytes: &[u8]) -> bool
-        ensures heard { result ≡ is_heard admission.now source }
-        ensures network { self.new.network ≡ self.old.network }
-        ensures around { self.new.around ≡ self.old.around }
-        ensures faults { self.new.faults ≡ self.old.faults }
-        ensures read { self.new.read ≡ self.old.read }
-        ensures turn { IsSameTurn self.old self.new }
-    {
-        let is_taken = self.is_heard(admission, source);
-        if is_taken {
-            self.journal.came(self.now, source, bytes, 0);
-        }
-        is_taken
     }
 
     // A datagram that has come goes over the network: whether that loses it.
@@ -407,7 +386,7 @@ impl<S: Surroundings + Drop> Exchange<S> {
             (received_by self.new.network (S.traffic self.new.around).received) }
     {
         let (source, len) = self.read_socket(room)?;
-        if self.come(admission, source, &room[..len]) {
+        if self.come(admission, source, &room[..len], 0) {
             return Some((source, len));
         }
         None

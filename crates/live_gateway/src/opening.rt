@@ -60,15 +60,14 @@ fn journal_of(
     alloc: Global,
     settings: &DeskSettings<'_>,
     gateway: &Gateway,
-) -> Result<Box<Journal>, AllocError> {
-    let journal = Journal {
+) -> Result<Journal, AllocError> {
+    Ok(Journal {
         tally: tally_of(alloc)?,
         log: log_of(alloc, settings.has_log, gateway)?,
         capture: capture_of(alloc, settings)?,
         board: board_of(alloc, settings.has_page)?,
         written: Written::ALL,
-    };
-    boxed(alloc, journal)
+    })
 }
 
 // A network of the gateway's own, which spoils as this says.
@@ -100,8 +99,8 @@ fn exchange_of<S: Surroundings + Drop>(
     settings: &DeskSettings<'_>,
     gateway: &Gateway,
     around: Box<S>,
-) -> Result<Box<Exchange<S>>, AllocError>
-    ensures { IfOk result (λ exchange. exchange.value.around ≡ around.value) }
+) -> Result<Exchange<S>, AllocError>
+    ensures { IfOk result (λ exchange. exchange.around ≡ around.value) }
 {
     let journal = journal_of(alloc, settings, gateway)?;
     let network = network_of(alloc, settings.network, gateway)?;
@@ -110,7 +109,7 @@ fn exchange_of<S: Surroundings + Drop>(
         clock: 0,
         time: around.time(),
     };
-    boxed(alloc, Exchange::new(around, network, journal, now))
+    Ok(Exchange::new(around, network, journal, now))
 }
 
 // A gateway that is played, and its trace, which has its head.
@@ -119,15 +118,11 @@ fn play_of(
     has_trace: bool,
     config: &[u8],
     gateway: Box<Gateway>,
-) -> Result<Box<LivePlay<Trace>>, AllocError>
-    ensures { IfOk result (λ play. play.value.gateway ≡ gateway) }
+) -> LivePlay<Trace>
+    ensures { result.gateway ≡ gateway }
 {
     let trace = Trace::new(alloc, has_trace, config, gateway.setup().first);
-    boxed(alloc, LivePlay::new(alloc, gateway, trace))
-}
-
-fn lines_of(alloc: Global) -> Result<Box<Lines>, AllocError> {
-    boxed(alloc, Lines::new(alloc)?)
+    LivePlay::new(alloc, gateway, trace)
 }
 
 /// A gateway over these surroundings, as the settings ask for it, which hears these; its trace has begun with this configuration.
@@ -140,14 +135,14 @@ pub fn open_desk<S: Surroundings + Drop>(
     around: Box<S>,
     admission: Admission,
 ) -> Result<Box<Desk<S, Trace>>, AllocError>
-    ensures around { IfOk result (λ desk. desk.value.exchange.value.around ≡ around.value) }
-    ensures gateway { IfOk result (λ desk. desk.value.play.value.gateway ≡ gateway) }
+    ensures around { IfOk result (λ desk. desk.value.exchange.around ≡ around.value) }
+    ensures gateway { IfOk result (λ desk. desk.value.play.gateway ≡ gateway) }
     ensures admission { IfOk result (λ desk. desk.value.admission ≡ admission) }
     ensures end { IfOk result (λ desk. desk.value.end ≡ settings.now.end) }
 {
+    let lines = Lines::new(alloc)?;
     let exchange = exchange_of(alloc, settings, &gateway, around)?;
-    let play = play_of(alloc, settings.has_trace, config, gateway)?;
-    let lines = lines_of(alloc)?;
+    let play = play_of(alloc, settings.has_trace, config, gateway);
     let desk = Desk::new(alloc, play, exchange, lines, admission, settings.end);
     boxed(alloc, desk)
 }

@@ -3,7 +3,6 @@ ghost use Rattle.std.specs.Prelude.{◌≡◌, ◌+◌, ◌≤◌, ◌++◌, ◌
 ghost use Rattle.std.specs.Result.{result_err};
 ghost use Rattle.surroundings.specs.Sending.{Sent, Grows};
 ghost use Rattle.mg_bytes.specs.Words.{words};
-ghost use Rattle.plain_machine.specs.declared.refusal.Refusal.TheVariants.{NoSuchLine};
 ghost use Rattle.plain_machine.specs.Event.{GatewayEvent, event_of, datagram, phone, tick};
 ghost use Rattle.plain_machine.specs.Lists.{plain};
 ghost use Rattle.plain_machine.specs.Refusing.{Ends, refusal_of};
@@ -17,13 +16,13 @@ ghost use Rattle.traces.specs.Telling.{told_mark, told_text};
 ghost use Rattle.traces.specs.Writing.{Entry, arrived, typed, passed, tick_text, after_tick, input_text, at_clock, clock_text, opening_script};
 ghost use Rattle.live_gateway.specs.Running.{live, Ran, HeardFrom, HandsOut, Takes, Refuses, Asked, IsAnswer, TellsRefusal};
 
-use crate::answering::status_of;
+use crate::answering::put_shown;
 use crate::ends::Outlet;
 use crate::placed::{Placed, tell_trace, untold};
 use gateway_core::{Event, Gateway, OutDatagram, Outputs, Refusal};
 use mg_bytes::OutOfMemory;
 use mg_line::Act;
-use rgw_scripts::{put_line, put_refusal};
+use rgw_scripts::put_refusal;
 use std::alloc::Global;
 use std::net::SocketAddrV4;
 use surroundings::Teller;
@@ -69,31 +68,6 @@ fn take(gateway: &mut Box<Gateway>, event: Event<'_>) -> Result<Outputs, Refusal
     gateway.step(event)
 }
 
-// What a line is is put, to be answered.
-fn put_status(
-    alloc: Global,
-    gateway: &Gateway,
-    line: u16,
-    out: &mut Vec<u8>,
-) -> Result<(), OutOfMemory>
-    requires low { 1 ≤ line }
-    requires high { line ≤ gateway.now.setup.names.lines }
-    ensures { OnOk result (IsAnswer gateway.now line out.new.items) }
-{
-    out.clear();
-    let status = status_of(gateway, line);
-    put_line(alloc, out, &status)?;
-    Ok(())
-}
-
-// That there is no such line is put, to be answered.
-fn put_no_line(alloc: Global, out: &mut Vec<u8>) -> Result<(), OutOfMemory>
-    ensures { OnOk result (out.new.items ≡ printed_line (refusal_line NoSuchLine)) }
-{
-    out.clear();
-    put_refusal(alloc, out, Refusal::NoSuchLine)
-}
-
 // What a line is is put, to be answered, or that there is none.
 fn put_answer(
     alloc: Global,
@@ -103,12 +77,11 @@ fn put_answer(
 ) -> Result<(), OutOfMemory>
     ensures { OnOk result (IsAnswer gateway.now line out.new.items) }
 {
+    out.clear();
     if line >= 1 && line <= gateway.lines() {
-        put_status(alloc, gateway, line, out)?;
-        return Ok(());
+        return put_shown(alloc, gateway, line, out);
     }
-    put_no_line(alloc, out)?;
-    Ok(())
+    put_refusal(alloc, out, Refusal::NoSuchLine)
 }
 
 impl<T: Teller + Drop> LivePlay<T> {

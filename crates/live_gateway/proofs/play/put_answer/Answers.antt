@@ -1,7 +1,10 @@
 use Rattle.std.proofs.Common.{◌≤◌, arith}
-use Rattle.live_gateway.proofs.RunLemmas.{answers_none}
+use Rattle.live_gateway.proofs.RunLemmas.{answers_shown, answers_refused}
 use Rattle.live_gateway.proofs.play.put_answer.Goals as goal
 use Rattle.live_gateway.proofs.play.put_answer.Goals.{else-line-ge1-via-then-line-ge1+else-line-lines, else-line-ge1-via-else-line-ge1}
+
+pub returns-then-line-ge1 : goal.returns-then-line-ge1
+returns-then-line-ge1 c = answers_shown c.args.gateway.now c.args.line c.put_shown.result _ _ c.clear.ensures.items c.put_shown.ensures
 
 pub returns : goal.returns
 returns c =
@@ -10,4 +13,4 @@ returns c =
       | else-line-ge1-via-then-line-ge1+else-line-lines w ↦ omega arith
       | else-line-ge1-via-else-line-ge1 w ↦ omega arith
     ]) in
-    answers_none c.args.gateway.now c.args.line _ none c.in_ok-put_no_line.ensures
+    answers_refused c.args.gateway.now c.args.line c.put_refusal.result _ _ c.clear.ensures.items none c.put_refusal.ensures.ok

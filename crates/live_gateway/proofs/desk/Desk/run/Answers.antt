@@ -18,10 +18,10 @@ returns-then-not-goes_on-clause-end g c =
       c.loop.counter + 1,
       wrote_once_more g.W.Recorder.writes _ _ _ _ c.loop.invariant.1 c.write.ensures.wrote,
       inl (
-          ends_so c.loop.self.end c.write.new.self.end c.loop.self.play.value.gateway.value c.write.new.self.play.value.gateway.value true
+          ends_so c.loop.self.end c.write.new.self.end c.loop.self.play.gateway.value c.write.new.self.play.gateway.value true
           (c.write.ensures.end ∙ over.1)
-          (ap (λ gateway. gateway.value) c.write.ensures.gateway ∙ ap (λ play. play.value.gateway.value) over.0)
-          (subst (λ (b : Bool). EndsAt c.loop.self.end c.loop.self.play.value.gateway.value (not b)) c.if-not-goes_on.true c.turn-goes_on.ensures.end)),
+          (ap (λ gateway. gateway.value) c.write.ensures.gateway ∙ ap (λ play. play.gateway.value) over.0)
+          (subst (λ (b : Bool). EndsAt c.loop.self.end c.loop.self.play.gateway.value (not b)) c.if-not-goes_on.true c.turn-goes_on.ensures.end)),
     )
 
 pub loop-preserved : goal.loop-preserved

@@ -9,10 +9,9 @@ use Rattle.live_gateway.proofs.desk.Desk.take_line.Goals as goal
 pub returns-in-Show-clause-play : goal.returns-in-Show-clause-play
 returns-in-Show-clause-play g c =
     asks g.T.Teller.told g.S.Surroundings.traffic _ _
-    (rw (c.answer.ensures.traffic, c.deref_mut-in-Show-3.ensures.value)
-    (rw (c.deref_mut-in-Show.ensures.value) at
-    (c.ask-asked.ensures.ran (handed_by c.args.self.now.exchange.value.network (g.S.Surroundings.traffic c.args.self.now.exchange.value.around).sent))))
-    (rw (c.answer.ensures.traffic, c.deref_mut-in-Show-3.ensures.value) refl)
+    (rw (c.answer.ensures.traffic)
+    (c.ask-asked.ensures.ran (handed_by c.args.self.now.exchange.network (g.S.Surroundings.traffic c.args.self.now.exchange.around).sent)))
+    (rw (c.answer.ensures.traffic) refl)
     refl
 
 pub returns-in-Show-clause-line : goal.returns-in-Show-clause-line
@@ -22,19 +21,17 @@ returns-in-Show-clause-line g c =
       _,
       c.in-Show.ensures.said,
       asks_of _ _ c.ask-asked.result c.ask-asked.new.self.printed.items _ _
-          (rw (c.answer.ensures.traffic, c.deref_mut-in-Show-3.ensures.value)
-          (rw (c.deref_mut-in-Show.ensures.value) at
-          (c.ask-asked.ensures.answered (handed_by c.args.self.now.exchange.value.network (g.S.Surroundings.traffic c.args.self.now.exchange.value.around).sent))))
-          (rw (c.answer.ensures.traffic, c.deref_mut-in-Show-3.ensures.value)
-          (rw (c.deref_mut-in-Show.ensures.value) at
-          (c.ask-asked.ensures.ran (handed_by c.args.self.now.exchange.value.network (g.S.Surroundings.traffic c.args.self.now.exchange.value.around).sent)))),
+          (rw (c.answer.ensures.traffic)
+          (c.ask-asked.ensures.answered (handed_by c.args.self.now.exchange.network (g.S.Surroundings.traffic c.args.self.now.exchange.around).sent)))
+          (rw (c.answer.ensures.traffic)
+          (c.ask-asked.ensures.ran (handed_by c.args.self.now.exchange.network (g.S.Surroundings.traffic c.args.self.now.exchange.around).sent))),
     ))
 
 pub returns-in-Act-clause-play : goal.returns-in-Act-clause-play
 returns-in-Act-clause-play g c =
     ticks g.T.Teller.told g.S.Surroundings.traffic _ _ _ _
-    (rw (c.deref_mut-in-Act-2.ensures.value, c.deref_mut-in-Act-3.ensures.value, c.deref_mut.ensures.value) at c.act-done.ensures.ran)
-    (rw (c.deref_mut-in-Act-3.ensures.value, c.deref_mut.ensures.value) at c.act-done.ensures.came)
+    c.act-done.ensures.ran
+    c.act-done.ensures.came
     c.answer_act.ensures.play
     c.answer_act.ensures.admission
 
@@ -46,8 +43,8 @@ returns-in-Act-clause-line g c =
       _,
       c.in-Act.ensures.said,
       tries_act _ _ _ c.act-done.result _ (at_desk g.T.Teller.told g.S.Surroundings.traffic c.args.self.now) _ _
-          (rw (c.deref_mut-in-Act-2.ensures.value, c.deref_mut-in-Act-3.ensures.value, c.deref_mut.ensures.value) at c.act-done.ensures.taken)
-          (rw (c.deref_mut-in-Act-2.ensures.value, c.deref_mut-in-Act-3.ensures.value, c.deref_mut.ensures.value) at c.act-done.ensures.refused)
-          (ap (λ (x : Came). x.refused) (rw (c.deref_mut-in-Act-3.ensures.value, c.deref_mut.ensures.value) at c.act-done.ensures.came))
+          c.act-done.ensures.taken
+          c.act-done.ensures.refused
+          (ap (λ (x : Came). x.refused) c.act-done.ensures.came)
           c.answer_act.ensures.play,
     ))

@@ -1,14 +1,14 @@
 use Rattle.std.proofs.Common.{rules, refl, sym, ◌∙◌}
 use Rattle.live_gateway.proofs.HearingLemmas.{heard_still, outgoing, strange, incoming}
 use Rattle.live_gateway.proofs.exchange.Exchange.handed_over.Goals as goal
-use Rattle.live_gateway.proofs.exchange.Exchange.handed_over.Goals.{in-Out, in-In+else-is_heard}
+use Rattle.live_gateway.proofs.exchange.Exchange.handed_over.Goals.{in-Out, in-In+else-come}
 
-pub returns-then-is_heard-clause-came : goal.returns-then-is_heard-clause-came
-returns-then-is_heard-clause-came g c =
+pub returns-then-come-clause-came : goal.returns-then-come-clause-came
+returns-then-come-clause-came g c =
     heard_still c.args.admission.now _ _ _ _
     (incoming c.args.admission.now _ _ _ c.in_ok-packet.packet.way c.in_ok-packet.packet.peer c.in_ok-packet.len c.take_due.new.room c.loop.invariant.came
-    c.in_ok-packet.ensures.came c.in-In.is (sym c.is_heard.ensures.heard ∙ c.if-is_heard.true))
-    (rw (c.hand_in.ensures.network, c.hand_in.ensures.around, c.is_heard.ensures.network, c.is_heard.ensures.around) refl)
+    c.in_ok-packet.ensures.came c.in-In.is (sym c.come.ensures.heard ∙ c.if-come.true))
+    (rw (c.come.ensures.network, c.come.ensures.around) refl)
 
 pub loop-preserved : goal.loop-preserved
 loop-preserved g c = elim c.match-packet.branch [
@@ -24,7 +24,7 @@ loop-preserved g c = elim c.match-packet.branch [
         (outgoing c.args.admission.now _ _ _ c.in_ok-packet.packet.way c.in_ok-packet.packet.peer _ c.loop.invariant.came c.in_ok-packet.ensures.came w.in-Out.is)
         (rw (w.send.ensures.received) refl));
   }
-  | in-In+else-is_heard w ↦ record {
+  | in-In+else-come w ↦ record {
     length = search rules;
     handed = search rules;
     faults = search rules;
@@ -34,7 +34,7 @@ loop-preserved g c = elim c.match-packet.branch [
     came = rw w.self-is
         (heard_still c.args.admission.now _ _ _ _
         (strange c.args.admission.now _ _ _ c.in_ok-packet.packet.way c.in_ok-packet.packet.peer _ c.loop.invariant.came c.in_ok-packet.ensures.came w.in-In.is
-        (sym w.is_heard.ensures.heard ∙ w.if-is_heard.false))
-        (rw (w.is_heard.ensures.network, w.is_heard.ensures.around) refl));
+        (sym w.come.ensures.heard ∙ w.if-come.false))
+        (rw (w.come.ensures.network, w.come.ensures.around) refl));
   }
 ]
