@@ -102,8 +102,8 @@ fn exchange_of<S: Surroundings + Drop>(
 ) -> Result<Exchange<S>, AllocError>
     ensures { IfOk result (λ exchange. exchange.around ≡ around.value) }
 {
-    let journal = journal_of(alloc, settings, gateway)?;
     let network = network_of(alloc, settings.network, gateway)?;
+    let journal = journal_of(alloc, settings, gateway)?;
     let around = Box::into_inner(around);
     let now = Now {
         clock: 0,
