@@ -14,11 +14,8 @@ returns-in-Ok-clause-taken g c =
     c.tell_act-told.ensures.told c.tell_act-told.ensures.script c.hand_out.ensures.handed
 
 pub returns-in-Ok-clause-ran : goal.returns-in-Ok-clause-ran
-returns-in-Ok-clause-ran g c = goes_on_by (λ (nobody : SocketAddrV4). ⊥) _ _ (typed c.args.text.now) (phone c.args.line c.args.act) tt (
-    takes_so _
-    (live c.tell_act-told.new.self.gateway.value c.tell_act-told.new.self.script (g.T.Teller.told c.tell_act-told.new.self.teller) (g.O.Outlet.handed c.args.out.now)) _ c.take.new.gateway.value
-    (typed c.args.text.now) (phone c.args.line c.args.act) _ c.as_slice-sent.result.now (says_act c.args.text.now c.args.line c.args.act c.requires) c.in-Ok.ensures.ok (ap (λ gateway. gateway.value) c.tell_act-told.ensures.gateway) c.as_slice-sent.ensures c.in-Ok.ensures.ends refl
-    c.tell_act-told.ensures.told c.tell_act-told.ensures.script c.hand_out.ensures.handed)
+returns-in-Ok-clause-ran g c =
+    goes_on_by (λ (nobody : SocketAddrV4). ⊥) _ _ (typed c.args.text.now) (phone c.args.line c.args.act) tt (returns-in-Ok-clause-taken g c)
 
 pub returns-in-Err-clause-refused : goal.returns-in-Err-clause-refused
 returns-in-Err-clause-refused g c =
@@ -26,9 +23,9 @@ returns-in-Err-clause-refused g c =
     (rw (ap (λ gateway. gateway.value) c.refuse.ensures.gateway) c.in-Err.ensures.err) c.in-Err.ensures.ends refl c.refuse.ensures.told
 
 pub returns-in-Err-clause-ran : goal.returns-in-Err-clause-ran
-returns-in-Err-clause-ran g c = goes_on_refused (λ (nobody : SocketAddrV4). ⊥) _ _ c.args.text.now (phone c.args.line c.args.act) c.refuse.result c.refuse.new.self.printed.items (
-    refuses_so _ _ c.args.text.now (phone c.args.line c.args.act) c.in-Err.refusal c.refuse.result c.refuse.new.self.printed.items (says_act c.args.text.now c.args.line c.args.act c.requires)
-    (rw (ap (λ gateway. gateway.value) c.refuse.ensures.gateway) c.in-Err.ensures.err) c.in-Err.ensures.ends refl c.refuse.ensures.told)
+returns-in-Err-clause-ran g c =
+    goes_on_refused (λ (nobody : SocketAddrV4). ⊥) _ _ c.args.text.now (phone c.args.line c.args.act) c.refuse.result c.refuse.new.self.printed.items
+    (returns-in-Err-clause-refused g c)
 
 pub returns-in-Ok-clause-ends : goal.returns-in-Ok-clause-ends
 returns-in-Ok-clause-ends g c = λ before stands possible. c.in-Ok.ensures.ends before stands

@@ -16,7 +16,5 @@ returns-clause-answered g c =
 
 pub returns-clause-ran : goal.returns-clause-ran
 returns-clause-ran g c =
-    λ handed. goes_on_answered (λ (nobody : SocketAddrV4). ⊥) _ _ c.args.text.now c.args.line c.tell_answered.new.self.printed.items (
-    answers_so _ _ c.args.text.now c.args.line c.tell_answered.new.self.printed.items c.requires
-    (rw (c.tell_answered.ensures.printed) (subst (λ (gateway : GatewayState). IsAnswer gateway c.args.line c.put_answer.new.out.items) c.deref.ensures c.in_ok-put_answer.ensures))
-    (ap (λ gateway. gateway.value) c.tell_answered.ensures.gateway) refl (rw (c.tell_answered.ensures.printed) c.tell_answered.ensures.told) c.tell_answered.ensures.script)
+    λ handed. goes_on_answered (λ (nobody : SocketAddrV4). ⊥) _ _ c.args.text.now c.args.line c.tell_answered.new.self.printed.items
+    (returns-clause-answered g c handed)

@@ -14,11 +14,9 @@ returns-in-Ok-clause-taken g c =
     c.tell_datagram-told.ensures.told c.tell_datagram-told.ensures.script c.hand_out.ensures.handed
 
 pub returns-in-Ok-clause-ran : goal.returns-in-Ok-clause-ran
-returns-in-Ok-clause-ran g c = goes_on_by (λ (sender : SocketAddrV4). sender ≡ c.args.source) _ _ (arrived c.args.source c.args.bytes.now) (datagram c.args.source c.args.bytes.now) refl (
-    takes_so _
-    (live c.tell_datagram-told.new.self.gateway.value c.tell_datagram-told.new.self.script (g.T.Teller.told c.tell_datagram-told.new.self.teller) (g.O.Outlet.handed c.args.out.now)) _ c.take.new.gateway.value
-    (arrived c.args.source c.args.bytes.now) (datagram c.args.source c.args.bytes.now) _ c.as_slice-sent.result.now refl c.in-Ok.ensures.ok (ap (λ gateway. gateway.value) c.tell_datagram-told.ensures.gateway) c.as_slice-sent.ensures c.in-Ok.ensures.ends refl
-    c.tell_datagram-told.ensures.told c.tell_datagram-told.ensures.script c.hand_out.ensures.handed)
+returns-in-Ok-clause-ran g c =
+    goes_on_by (λ (sender : SocketAddrV4). sender ≡ c.args.source) _ _ (arrived c.args.source c.args.bytes.now) (datagram c.args.source c.args.bytes.now) refl
+    (returns-in-Ok-clause-taken g c)
 
 pub returns-in-Err-clause-refused : goal.returns-in-Err-clause-refused
 returns-in-Err-clause-refused g c = ran_nothing _ _ c.in-Err.ensures.err refl refl refl

@@ -14,11 +14,7 @@ returns-in-Ok-clause-taken g c =
     c.tell_tick-told.ensures.told c.tell_tick-told.ensures.script c.hand_out.ensures.handed
 
 pub returns-in-Ok-clause-ran : goal.returns-in-Ok-clause-ran
-returns-in-Ok-clause-ran g c = goes_on_by (λ (nobody : SocketAddrV4). ⊥) _ _ (passed c.args.moment) (tick c.args.moment) tt (
-    takes_so _
-    (live c.tell_tick-told.new.self.gateway.value c.tell_tick-told.new.self.script (g.T.Teller.told c.tell_tick-told.new.self.teller) (g.O.Outlet.handed c.args.out.now)) _ c.take.new.gateway.value
-    (passed c.args.moment) (tick c.args.moment) _ c.as_slice-sent.result.now refl c.in-Ok.ensures.ok (ap (λ gateway. gateway.value) c.tell_tick-told.ensures.gateway) c.as_slice-sent.ensures c.in-Ok.ensures.ends refl
-    c.tell_tick-told.ensures.told c.tell_tick-told.ensures.script c.hand_out.ensures.handed)
+returns-in-Ok-clause-ran g c = goes_on_by (λ (nobody : SocketAddrV4). ⊥) _ _ (passed c.args.moment) (tick c.args.moment) tt (returns-in-Ok-clause-taken g c)
 
 pub returns-in-Err-clause-refused : goal.returns-in-Err-clause-refused
 returns-in-Err-clause-refused g c = ran_nothing _ _ c.in-Err.ensures.err refl refl refl
