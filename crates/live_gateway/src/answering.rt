@@ -8,13 +8,15 @@ ghost use Rattle.live_gateway.specs.Running.{IsAnswer};
 ghost use Rattle.live_gateway.specs.Watching.{full_text};
 
 use crate::picture::picture_of;
+use crate::telephones::TelephoneRequest;
 use gateway_core::{Gateway, Refusal};
 use line_changes::MOST_WATCHERS;
+use live_ends::STOP_FROM_AFAR;
 use live_journal::{Faults, Journal};
 use mg_bytes::{Draft, OutOfMemory};
 use rgw_scripts::{LineStatus, put_line};
 use std::alloc::Global;
-use surroundings::Lines;
+use surroundings::{Lines, Surroundings};
 
 /// The answer to an act that was done.
 pub const DONE: &[u8] = b"done\n";
@@ -79,6 +81,29 @@ pub(crate) fn all_shown(alloc: Global, gateway: &Gateway) -> Result<Vec<u8>, Out
         put_shown(alloc, gateway, before + 1, &mut text)?;
     }
     Ok(text)
+}
+
+/// What is answered to a request that is answered by a text alone.
+pub(crate) fn short_answer(request: TelephoneRequest) -> &'static [u8] {
+    match request {
+        TelephoneRequest::StopFromAfar => STOP_FROM_AFAR,
+        TelephoneRequest::OutOfMemory => OUT_OF_MEMORY,
+        _ => UNKNOWN,
+    }
+}
+
+/// What was put is answered, or that memory was refused for it.
+pub(crate) fn answer_put<S: Surroundings>(
+    lines: &mut Lines,
+    around: &mut S,
+    answer: Result<Vec<u8>, OutOfMemory>,
+)
+    ensures traffic { S.traffic around.new ≡ S.traffic around.old }
+{
+    match answer {
+        Ok(answer) => lines.answer(around, answer.as_slice()),
+        Err(_) => lines.answer(around, OUT_OF_MEMORY),
+    }
 }
 
 /// What is answered to an act: what was printed, where it was refused and not for want of memory.

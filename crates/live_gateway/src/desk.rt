@@ -6,14 +6,11 @@ ghost use Rattle.turns.specs.Runs.{is_end};
 ghost use Rattle.plain_machine.specs.Event.{GatewayEvent, tick};
 ghost use Rattle.plain_machine.specs.Lists.{plain};
 ghost use Rattle.gateway_core.specs.Stands.{Stands};
-ghost use Rattle.line_changes.specs.Watching.{longest_watch};
 ghost use Rattle.live_gateway.specs.Losses.{counts_text};
 ghost use Rattle.live_gateway.specs.Admitting.{typist_of};
 ghost use Rattle.live_gateway.specs.Asking.{AsksFor};
 ghost use Rattle.rgw_scripts.specs.declared.step.ScriptLine.{ScriptLine};
 ghost use Rattle.surroundings.specs.Hearing.{AnswersTo};
-ghost use Rattle.surroundings.specs.Requests.{requests_from};
-ghost use Rattle.surroundings.specs.Typing.{left_of, behind};
 ghost use Rattle.live_gateway.specs.Desk.{at_desk, with_input, GoesOn};
 ghost use Rattle.live_gateway.specs.Ending.{EndsAt, WroteTimes, AsksForEnd};
 ghost use Rattle.live_gateway.specs.Turning.{Tries, TriesHeard, LooksForOne, DoesLine, Does, DoesNext};
@@ -21,19 +18,19 @@ ghost use Rattle.traces.specs.Writing.{passed};
 
 use crate::admission::Admission;
 use crate::answering::{
-    DONE, OUT_OF_MEMORY, PHONES_FROM_AFAR, UNKNOWN, act_answer, all_shown, question_answer, show,
+    DONE, PHONES_FROM_AFAR, act_answer, all_shown, answer_put, question_answer, short_answer, show,
     take_act,
 };
 use crate::exchange::Exchange;
-use crate::losses::report;
+use crate::losses::lost_of;
 use crate::play::LivePlay;
 use crate::recorder::Recorder;
 use crate::telephones::{TelephoneRequest, Typist, request_in, typist_of};
-use crate::visitors::Visitors;
+use crate::visitors::{Visitors, are_ready, next_deadline};
 use crate::watch::Watch;
 use exchange_log::Note;
 use gateway_core::{DATAGRAM_ROOM, Refusal};
-use live_ends::STOP_FROM_AFAR;
+use live_journal::report_with;
 use std::alloc::{AllocError, Global};
 use std::net::SocketAddrV4;
 use surroundings::{Lines, Surroundings, Teller};
@@ -88,6 +85,11 @@ fn asks_for_end(lines: &Lines) -> bool
     }
 }
 
+// Whether something falls due by this moment.
+fn has_come(due: Option<u64>, moment: u64) -> bool {
+    matches!(due, Some(due) if due <= moment)
+}
+
 // Whether nothing comes any more.
 fn is_end(turn: Turn) -> bool
     ensures { result ≡ is_end turn }
@@ -133,29 +135,6 @@ impl<S: Surroundings + Drop, T: Teller + Drop> Desk<S, T> {
         }
     }
 
-    // What may come now, where ticks have come to one moment, and the machine's clock to another.
-    fn ready<V: Visitors<S>>(&self, visitors: &Option<Box<V>>, ticked: u64, moment: u64) -> Ready {
-        let told = self.exchange.around.told();
-        Ready {
-            commands: told.lines || !self.lines.is_empty(),
-            datagrams: told.datagrams
-                || matches!(self.exchange.network_due(), Some(due) if due <= ticked),
-            visitors: match visitors {
-                Some(visitors) => visitors.is_ready(&self.exchange.around, moment),
-                None => false,
-            },
-        }
-    }
-
-    // The moment at which something falls due next.
-    fn due<V: Visitors<S>>(&self, visitors: &Option<Box<V>>) -> Option<u64> {
-        let due = earlier(self.play.gateway.next_due(), self.exchange.network_due());
-        match visitors {
-            Some(visitors) => earlier(due, visitors.next_deadline()),
-            None => due,
-        }
-    }
-
     // How things stand.
     fn situation<V: Visitors<S>>(&mut self, visitors: &Option<Box<V>>) -> Situation
         ensures play { at_desk T.told S.traffic self.new ≡ at_desk T.told S.traffic self.old }
@@ -168,43 +147,33 @@ impl<S: Surroundings + Drop, T: Teller + Drop> Desk<S, T> {
     {
         let ticked = self.play.gateway.now();
         let moment = self.exchange.moment(ticked);
+        let network = self.exchange.network_due();
+        let due = earlier(self.play.gateway.next_due(), network);
+        let told = self.exchange.around.told();
         Situation {
             moment,
             ticked,
-            due: self.due(visitors),
+            due: earlier(due, next_deadline(visitors)),
             end: self.end,
             read: self.exchange.read,
-            ready: self.ready(visitors, ticked, moment),
+            ready: Ready {
+                commands: told.lines || !self.lines.is_empty(),
+                datagrams: told.datagrams || has_come(network, ticked),
+                visitors: are_ready(visitors, &self.exchange.around, moment),
+            },
         }
     }
 
-    // It begins now: what its start took isn't a pause.
-    fn begin(&mut self)
-        ensures play { at_desk T.told S.traffic self.new ≡ at_desk T.told S.traffic self.old }
-        ensures admission { self.new.admission ≡ self.old.admission }
-    {
-        let moment = self.exchange.moment(self.play.gateway.now());
-        self.schedule = Schedule::starting_at(moment);
-    }
-
-    // Of commands that were sent to who may not speak it is noted that no answer is heard.
-    fn note_unheard(&mut self)
-        ensures play { at_desk T.told S.traffic self.new ≡ at_desk T.told S.traffic self.old }
-        ensures admission { self.new.admission ≡ self.old.admission }
-    {
-        let now = self.exchange.now;
-        let log = &mut self.exchange.journal.log;
-        log.unheard(now, self.play.gateway.sent(), &self.admission.speakers);
-    }
-
-    // The gateway took an input, or refused it.
+    // The gateway took an input, or refused it. Of commands that it sent to who may not speak it is noted that no answer is heard.
     fn note_taken(&mut self, is_taken: bool)
         ensures play { at_desk T.told S.traffic self.new ≡ with_input (not is_taken) (at_desk T.told S.traffic self.old) }
         ensures admission { self.new.admission ≡ self.old.admission }
     {
         self.exchange.count_refused(!is_taken);
         if is_taken {
-            self.note_unheard();
+            let now = self.exchange.now;
+            let log = &mut self.exchange.journal.log;
+            log.unheard(now, self.play.gateway.sent(), &self.admission.speakers);
         }
     }
 
@@ -250,26 +219,6 @@ impl<S: Surroundings + Drop, T: Teller + Drop> Desk<S, T> {
         self.note_taken(done.is_ok());
     }
 
-    // This is answered to the line, which is done with.
-    fn answer(&mut self, text: &[u8])
-        ensures play { at_desk T.told S.traffic self.new ≡ at_desk T.told S.traffic self.old }
-        ensures admission { self.new.admission ≡ self.old.admission }
-        ensures answered { AnswersTo S.answers self.old.lines.sender self.old.exchange.around text.now self.new.exchange.around }
-        ensures left { left_of self.new.lines ≡ requests_from (behind (left_of self.old.lines)) }
-    {
-        self.lines.answer(&mut self.exchange.around, text);
-    }
-
-    // This is answered to all lines of the datagram, which are done with.
-    fn answer_all(&mut self, text: &[u8])
-        ensures play { at_desk T.told S.traffic self.new ≡ at_desk T.told S.traffic self.old }
-        ensures admission { self.new.admission ≡ self.old.admission }
-        ensures answered { AnswersTo S.answers self.old.lines.sender self.old.exchange.around text.now self.new.exchange.around }
-        ensures left { left_of self.new.lines ≡ [] }
-    {
-        self.lines.answer_all(&mut self.exchange.around, text);
-    }
-
     // Who typed the line that is answered next.
     fn typist(&self) -> Typist
         ensures { (is_here is_afar : Bool) × (result ≡ typist_of is_here is_afar self.now.admission.are_phones_open) }
@@ -286,12 +235,8 @@ impl<S: Surroundings + Drop, T: Teller + Drop> Desk<S, T> {
             (plain self.now.play.gateway.value.setup events)) }
     {
         let exchange = &self.exchange;
-        report(
-            self.alloc,
-            &self.play.gateway,
-            &exchange.journal,
-            exchange.faults,
-        )
+        let lost = lost_of(&self.play.gateway);
+        report_with(self.alloc, &exchange.journal, lost, exchange.faults)
     }
 
     // The act that the line asked for was done, or refused: that is answered.
@@ -306,30 +251,6 @@ impl<S: Surroundings + Drop, T: Teller + Drop> Desk<S, T> {
         self.lines.answer(&mut self.exchange.around, answer);
     }
 
-    // What was put is answered, or that memory was refused for it.
-    fn answer_put(&mut self, text: Result<Vec<u8>, AllocError>)
-        ensures play { at_desk T.told S.traffic self.new ≡ at_desk T.told S.traffic self.old }
-        ensures admission { self.new.admission ≡ self.old.admission }
-    {
-        match text {
-            Ok(text) => self.answer(text.as_slice()),
-            Err(_) => self.answer(OUT_OF_MEMORY),
-        }
-    }
-
-    // Somebody asks to be told what changes for so long, in s: that is answered.
-    fn answer_watch(&mut self, seconds: u64)
-        requires { seconds ≤ longest_watch }
-        ensures play { at_desk T.told S.traffic self.new ≡ at_desk T.told S.traffic self.old }
-        ensures admission { self.new.admission ≡ self.old.admission }
-    {
-        let sender = self.lines.sender();
-        let answer = self
-            .watch
-            .ask(self.alloc, &self.play.gateway, sender, seconds);
-        self.answer_put(answer);
-    }
-
     // What a line asks for is answered that asks neither for an act nor for what a line is. Who asks for the end is answered when the
     // gateway has ended.
     fn answer_request(&mut self, request: TelephoneRequest)
@@ -340,31 +261,33 @@ impl<S: Surroundings + Drop, T: Teller + Drop> Desk<S, T> {
         match request {
             TelephoneRequest::ShowAll => {
                 let answer = all_shown(self.alloc, &self.play.gateway);
-                self.answer_put(answer);
+                answer_put(&mut self.lines, &mut self.exchange.around, answer);
             }
-            TelephoneRequest::Watch { seconds } => self.answer_watch(seconds),
+            TelephoneRequest::Watch { seconds } => {
+                let sender = self.lines.sender();
+                let answer = self
+                    .watch
+                    .ask(self.alloc, &self.play.gateway, sender, seconds);
+                answer_put(&mut self.lines, &mut self.exchange.around, answer);
+            }
             TelephoneRequest::Counts => {
                 let answer = self.counts();
-                self.answer_put(answer);
+                answer_put(&mut self.lines, &mut self.exchange.around, answer);
             }
             TelephoneRequest::Stop => self.end = Some(0),
-            TelephoneRequest::StopFromAfar => self.answer(STOP_FROM_AFAR),
-            TelephoneRequest::Refused => self.answer_all(PHONES_FROM_AFAR),
-            TelephoneRequest::OutOfMemory => self.answer(OUT_OF_MEMORY),
+            TelephoneRequest::Refused => {
+                self.lines
+                    .answer_all(&mut self.exchange.around, PHONES_FROM_AFAR);
+            }
             TelephoneRequest::Act { .. }
             | TelephoneRequest::Show { .. }
-            | TelephoneRequest::Unknown => self.answer(UNKNOWN),
+            | TelephoneRequest::StopFromAfar
+            | TelephoneRequest::Unknown
+            | TelephoneRequest::OutOfMemory => {
+                let answer = short_answer(request);
+                self.lines.answer(&mut self.exchange.around, answer);
+            }
         }
-    }
-
-    // Who watches is told what changed at the lines.
-    fn tell_watchers(&mut self)
-        ensures play { at_desk T.told S.traffic self.new ≡ at_desk T.told S.traffic self.old }
-        ensures admission { self.new.admission ≡ self.old.admission }
-        ensures rest { (self.new.play ≡ self.old.play) × (self.new.end ≡ self.old.end) }
-    {
-        self.watch
-            .tell(self.alloc, &mut self.exchange.around, &self.play.gateway);
     }
 
     // What the line asks for that is to be answered next is done.
@@ -470,7 +393,8 @@ impl<S: Surroundings + Drop, T: Teller + Drop> Desk<S, T> {
         let turn = self.schedule.next(at);
         self.exchange.begin(at.ticked);
         self.do_turn(turn, visitors, at.moment);
-        self.tell_watchers();
+        self.watch
+            .tell(self.alloc, &mut self.exchange.around, &self.play.gateway);
         !is_end(turn)
     }
 
@@ -501,7 +425,9 @@ impl<S: Surroundings + Drop, T: Teller + Drop> Desk<S, T> {
         ensures end { (count : ℕ) × WroteTimes W.writes count recorder.old recorder.new
             × ((EndsAt self.new.end self.new.play.gateway.value true) ⊎ (count ≡ 2 ^ 64 - 1)) }
     {
-        self.begin();
+        // It begins now: what its start took isn't a pause.
+        let moment = self.exchange.moment(self.play.gateway.now());
+        self.schedule = Schedule::starting_at(moment);
         for _ in 0..u64::MAX {
             let goes_on = self.turn(visitors);
             self.write(recorder);

@@ -39,8 +39,7 @@ fn tally_of(alloc: Global) -> Result<Box<MessageTally>, AllocError> {
     boxed(alloc, MessageTally::new(alloc)?)
 }
 
-fn log_of(alloc: Global, has_log: bool, gateway: &Gateway) -> Result<Box<Log>, AllocError> {
-    let domain = gateway.setup().names.domain.as_bytes();
+fn log_of(alloc: Global, has_log: bool, domain: &[u8]) -> Result<Box<Log>, AllocError> {
     boxed(alloc, Log::new(alloc, has_log, domain)?)
 }
 
@@ -59,11 +58,11 @@ fn board_of(alloc: Global, has_page: bool) -> Result<Option<Box<Board>>, AllocEr
 fn journal_of(
     alloc: Global,
     settings: &DeskSettings<'_>,
-    gateway: &Gateway,
+    domain: &[u8],
 ) -> Result<Journal, AllocError> {
     Ok(Journal {
         tally: tally_of(alloc)?,
-        log: log_of(alloc, settings.has_log, gateway)?,
+        log: log_of(alloc, settings.has_log, domain)?,
         capture: capture_of(alloc, settings)?,
         board: board_of(alloc, settings.has_page)?,
         written: Written::ALL,
@@ -74,9 +73,8 @@ fn journal_of(
 fn spoilt_by(
     alloc: Global,
     spoiling: Spoiling,
-    gateway: &Gateway,
+    domain: &[u8],
 ) -> Result<Box<SpoiltWay>, AllocError> {
-    let domain = gateway.setup().names.domain.as_bytes();
     let network = BadNetwork::new(alloc, spoiling.with_name(domain));
     boxed(alloc, SpoiltWay::new(alloc, network))
 }
@@ -85,25 +83,25 @@ fn spoilt_by(
 fn network_of(
     alloc: Global,
     asked: Option<Spoiling>,
-    gateway: &Gateway,
+    domain: &[u8],
 ) -> Result<Option<Box<SpoiltWay>>, AllocError> {
     match asked {
-        Some(spoiling) => Ok(Some(spoilt_by(alloc, spoiling, gateway)?)),
+        Some(spoiling) => Ok(Some(spoilt_by(alloc, spoiling, domain)?)),
         None => Ok(None),
     }
 }
 
-// The way between a gateway and others, over which nothing went.
+// The way between the gateway of this domain and others, over which nothing went.
 fn exchange_of<S: Surroundings + Drop>(
     alloc: Global,
     settings: &DeskSettings<'_>,
-    gateway: &Gateway,
+    domain: &[u8],
     around: Box<S>,
 ) -> Result<Exchange<S>, AllocError>
     ensures { IfOk result (λ exchange. exchange.around ≡ around.value) }
 {
-    let network = network_of(alloc, settings.network, gateway)?;
-    let journal = journal_of(alloc, settings, gateway)?;
+    let network = network_of(alloc, settings.network, domain)?;
+    let journal = journal_of(alloc, settings, domain)?;
     let around = Box::into_inner(around);
     let now = Now {
         clock: 0,
@@ -141,7 +139,8 @@ pub fn open_desk<S: Surroundings + Drop>(
     ensures end { IfOk result (λ desk. desk.value.end ≡ settings.now.end) }
 {
     let lines = Lines::new(alloc)?;
-    let exchange = exchange_of(alloc, settings, &gateway, around)?;
+    let domain = gateway.setup().names.domain.as_bytes();
+    let exchange = exchange_of(alloc, settings, domain, around)?;
     let play = play_of(alloc, settings.has_trace, config, gateway);
     let desk = Desk::new(alloc, play, exchange, lines, admission, settings.end);
     boxed(alloc, desk)

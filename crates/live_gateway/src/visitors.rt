@@ -16,3 +16,25 @@ pub trait Visitors<S: Surroundings> {
     fn turn(&mut self, around: &mut S, board: &mut Board, moment: u64)
         ensures { S.traffic around.new ≡ S.traffic around.old };
 }
+
+/// Whether one of them has more to do at this moment, in ms, or comes, where there are visitors.
+pub(crate) fn are_ready<S: Surroundings, V: Visitors<S>>(
+    visitors: &Option<Box<V>>,
+    around: &S,
+    moment: u64,
+) -> bool {
+    match visitors {
+        Some(visitors) => visitors.is_ready(around, moment),
+        None => false,
+    }
+}
+
+/// The moment at which somebody's time is over, in ms, if there is one.
+pub(crate) fn next_deadline<S: Surroundings, V: Visitors<S>>(
+    visitors: &Option<Box<V>>,
+) -> Option<u64> {
+    match visitors {
+        Some(visitors) => visitors.next_deadline(),
+        None => None,
+    }
+}

@@ -6,7 +6,8 @@ use Rattle.live_gateway.proofs.EndingLemmas.{ends_so, wrote_once_more}
 use Rattle.live_gateway.proofs.desk.Desk.run.Goals as goal
 
 pub loop-init : goal.loop-init
-loop-init g c = (stays_so _ _ _ _ c.begin.ensures.play c.begin.ensures.admission, refl)
+loop-init g c =
+    (stays_so _ _ _ _ (rw (c.moment-moment.ensures.network, c.moment-moment.ensures.around, c.moment-moment.ensures.refused) refl) refl, refl)
 
 pub returns-then-not-goes_on-clause-play : goal.returns-then-not-goes_on-clause-play
 returns-then-not-goes_on-clause-play g c =

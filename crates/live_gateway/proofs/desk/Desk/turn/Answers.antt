@@ -1,4 +1,4 @@
-use Rattle.std.proofs.Common.{ap}
+use Rattle.std.proofs.Common.{refl, ap}
 use Rattle.std.specs.Prelude.{not}
 use Rattle.live_gateway.proofs.EndingLemmas.{turn_ends}
 use Rattle.live_gateway.proofs.TurningLemmas.{does_between}
@@ -17,5 +17,5 @@ returns-clause-does g c = (
   rw (c.situation-at.ensures.schedule) at c.next-turn.ensures,
   does_between g.S.Surroundings.receives _ _ c.next-turn.result _ _ _ _ c.situation-at.ensures.admission
       (rw (c.begin.ensures.network, c.begin.ensures.around, c.begin.ensures.faults) c.situation-at.ensures.play)
-      c.tell_watchers.ensures.play c.do_turn.ensures.does,
+      (rw (c.tell.ensures.traffic) refl) c.do_turn.ensures.does,
 )
