@@ -232,13 +232,7 @@ impl<S: Surroundings + Drop> Exchange<S> {
 
     // A datagram has come, with these bytes, so many ms late by the network before the socket: whether it is heard. Another one is a
     // stranger's, which is counted, and told of now and then; one without a port can't be answered, and isn't counted.
-    fn come(
-        &mut self,
-        admission: &Admission,
-        source: SocketAddrV4,
-        bytes: &[u8],
-        late: u64,
-    ) -> bool
+    fn come(&mut self, admission: &Admission, source: SocketAddrV4, bytes: &[u8], late: u64) -> bool
         ensures heard { result ≡ is_heard admission.now source }
         ensures network { self.new.network ≡ self.old.network }
         ensures around { self.new.around ≡ self.old.around }

@@ -111,12 +111,7 @@ fn exchange_of<S: Surroundings + Drop>(
 }
 
 // A gateway that is played, and its trace, which has its head.
-fn play_of(
-    alloc: Global,
-    has_trace: bool,
-    config: &[u8],
-    gateway: Box<Gateway>,
-) -> LivePlay<Trace>
+fn play_of(alloc: Global, has_trace: bool, config: &[u8], gateway: Box<Gateway>) -> LivePlay<Trace>
     ensures { result.gateway ≡ gateway }
 {
     let trace = Trace::new(alloc, has_trace, config, gateway.setup().first);
