@@ -3,8 +3,8 @@ use Rattle.live_gateway.proofs.RunLemmas.{answers_shown, answers_refused}
 use Rattle.live_gateway.proofs.play.put_answer.Goals as goal
 use Rattle.live_gateway.proofs.play.put_answer.Goals.{else-line-ge1-via-then-line-ge1+else-line-lines, else-line-ge1-via-else-line-ge1}
 
-pub returns-then-line-ge1 : goal.returns-then-line-ge1
-returns-then-line-ge1 c = answers_shown c.args.gateway.now c.args.line c.put_shown.result _ _ c.clear.ensures.items c.put_shown.ensures
+pub returns-then-line-lines : goal.returns-then-line-lines
+returns-then-line-lines c = answers_shown c.args.gateway.now c.args.line c.put_shown.result _ _ c.clear.ensures.items c.put_shown.ensures
 
 pub returns : goal.returns
 returns c =
