@@ -224,9 +224,12 @@ impl<'a, R: Net + Clock> Ends<'a, R> {
 
     /// That the gateway doesn't answer, or doesn't serve, is no fault.
     pub(crate) fn forgive(&mut self) {
-        match self.fault {
-            Some(CheckFault::NoAnswer | CheckFault::NotServing) => self.fault = None,
-            _ => {}
+        let is_forgiven = matches!(
+            self.fault,
+            Some(CheckFault::NoAnswer | CheckFault::NotServing)
+        );
+        if is_forgiven {
+            self.fault = None;
         }
     }
 
