@@ -166,17 +166,21 @@ fn line_of(object: Result<String, OutOfMemory>) -> Result<String, OutOfMemory> {
     Ok(line)
 }
 
-// The report of a check, of which this was said, this was due, and this came.
+// The report of a check, of which this was said, this was due, and this came. Where JUnit's XML is wanted its case is put there, too.
 fn report_of(
     alloc: Global,
-    is_json: bool,
+    settings: &CheckSettings<'_>,
+    cases: &mut String,
     check: &Check<'_>,
     verdict: Option<Verdict>,
     said: &str,
     due: &str,
     came: &[Vec<u8>],
 ) -> Result<String, OutOfMemory> {
-    if is_json {
+    if settings.is_junit {
+        put_case(cases, check, verdict, due, said)?;
+    }
+    if settings.is_json {
         return line_of(check_text(alloc, check, verdict, said, due, came));
     }
     let mut text = String::new(alloc);
@@ -199,33 +203,35 @@ impl<'a> Checking<'a> {
         self.base = self.base.saturating_add(IDS);
     }
 
-    // Counts a check, and gives its report: where it was played the player has what came.
-    fn report(&mut self, check: &Check<'_>, is_played: bool) -> Result<String, OutOfMemory> {
-        let settings = self.settings;
+    // Counts a check that was played, of which the player has what came, and gives its report.
+    fn report_played(&mut self, check: &Check<'_>) -> Result<String, OutOfMemory> {
         let player = &*self.player;
-        let nothing: &[Vec<u8>] = &[];
-        let (verdict, said, due, came) = if is_played {
-            (
-                Some(player.verdict()),
-                player.said(),
-                player.due(),
-                player.came(),
-            )
-        } else {
-            (None, "", "", nothing)
-        };
+        let verdict = Some(player.verdict());
         self.tally.count(verdict);
-        if settings.is_junit {
-            put_case(&mut self.cases, check, verdict, due, said)?;
-        }
         report_of(
             self.alloc,
-            settings.is_json,
+            self.settings,
+            &mut self.cases,
             check,
             verdict,
-            said,
-            due,
-            came,
+            player.said(),
+            player.due(),
+            player.came(),
+        )
+    }
+
+    // Counts a check that wasn't played, and gives its report.
+    fn report_unplayed(&mut self, check: &Check<'_>) -> Result<String, OutOfMemory> {
+        self.tally.count(None);
+        report_of(
+            self.alloc,
+            self.settings,
+            &mut self.cases,
+            check,
+            None,
+            "",
+            "",
+            &[],
         )
     }
 
@@ -347,19 +353,19 @@ fn check_one<R: Net + Clock, F: Write + Drop>(
     check: &Check<'static>,
 ) {
     let settings = checking.settings;
-    if !is_named(settings, check) {
+    if ends.fault().is_some() || !is_named(settings, check) {
         return;
     }
-    let is_played = is_wanted(settings, check);
-    if is_played {
-        checking.begin(check, settings.line);
-        ends.play(&mut checking.player);
+    if !is_wanted(settings, check) {
+        return ends.keep(put_out(out, checking.report_unplayed(check)));
     }
+    checking.begin(check, settings.line);
+    ends.play(&mut checking.player);
     if ends.fault().is_some() {
         return;
     }
-    ends.keep(put_out(out, checking.report(check, is_played)));
-    if is_played && check.needs_restart() && ends.fault().is_none() {
+    ends.keep(put_out(out, checking.report_played(check)));
+    if check.needs_restart() && ends.fault().is_none() {
         find(checking, ends);
         ends.forgive();
     }
