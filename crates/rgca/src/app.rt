@@ -107,6 +107,26 @@ fn tell<R: AllocGlobal + Clock, F: Write + Drop>(
     end(rt, outlets, text, ending.status(), ending.is_asked())
 }
 
+// What the program is asked for.
+#[derive(Clone, Copy)]
+enum Part {
+    Serving,
+    Check,
+    Phones,
+}
+
+// What these words ask for, which stand behind the program's name.
+fn part_in(asked: &[String]) -> Part {
+    let Some(word) = asked.first() else {
+        return Part::Serving;
+    };
+    match word.as_str() {
+        "check" => Part::Check,
+        "phones" => Part::Phones,
+        _ => Part::Serving,
+    }
+}
+
 // How the program with these words ends, of which the first is its name.
 fn ending_by<'w, R: AllocGlobal + Files + Net + Clock>(
     rt: &R,
@@ -114,10 +134,10 @@ fn ending_by<'w, R: AllocGlobal + Files + Net + Clock>(
     outlets: &mut Outlets<R::File>,
 ) -> Ending<'w> {
     let asked = words.get(1..).unwrap_or(&[]);
-    match asked {
-        [word, ..] if word.as_str() == "check" => checked(rt, asked, outlets),
-        [word, ..] if word.as_str() == "phones" => played(rt, rt.alloc(), asked),
-        _ => served(rt, words, outlets),
+    match part_in(asked) {
+        Part::Check => checked(rt, asked, outlets),
+        Part::Phones => played(rt, rt.alloc(), asked),
+        Part::Serving => served(rt, words, outlets),
     }
 }
 
