@@ -13,7 +13,7 @@ use crate::stream::{Stream, make_for_owner};
 use mg_bytes::OutOfMemory;
 use std::alloc::Global;
 use std::env;
-use std::io::{self, ErrorKind, Write};
+use std::io::{ErrorKind, Write};
 use std::os::fd::AsRawFd;
 use std::rt::{Clock, Env, Files};
 
@@ -76,7 +76,7 @@ pub struct Begun<F> {
     pub words: Result<Vec<String>, CommonEnding<'static>>,
     pub outlets: Outlets<F>,
     /// What stands at the numbers of standard streams that weren't open, to be kept to the end.
-    pub held: io::Result<Vec<F>>,
+    pub held: Vec<F>,
 }
 
 // Written out: a derived drop, and those of all its parts, are proved anew by each crate that lets one go.
@@ -90,6 +90,20 @@ impl<F: Drop> Drop for Begun<F> {
         drop(words);
         drop(outlets);
         drop(held);
+    }
+}
+
+impl<F> Begun<F> {
+    /// Its words, its outlets, and what is to be kept to the end.
+    pub fn parts(self) -> (Result<Vec<String>, CommonEnding<'static>>, Outlets<F>, Vec<F>)
+        ensures { result ≡ (self.words, self.outlets, self.held) }
+    {
+        let Begun {
+            words,
+            outlets,
+            held,
+        } = self;
+        (words, outlets, held)
     }
 }
 

@@ -8,22 +8,31 @@ use std::rt::Files;
 // The last number of a standard stream.
 const LAST: i32 = 2;
 
+// The null device, opened once more.
+fn null_device<R: Files>(rt: &R) -> io::Result<R::File> {
+    OpenOptions::new()
+        .read(true)
+        .write(true)
+        .open(rt, "/dev/null")
+}
+
 /// Holds the null device at those numbers of standard streams that aren't open, so that no file and no socket that is opened later
-/// comes to stand there. To be called first, and kept to the end.
-pub fn hold_standard<R: Files>(rt: &R, alloc: Global) -> io::Result<Vec<R::File>>
+/// comes to stand there; none where it can't be had. To be called first, and kept to the end.
+pub fn hold_standard<R: Files>(rt: &R, alloc: Global) -> Vec<R::File>
 where
     R::File: AsRawFd,
 {
     let mut held = Vec::new(alloc);
     for _ in 0..=LAST {
-        let file = OpenOptions::new()
-            .read(true)
-            .write(true)
-            .open(rt, "/dev/null")?;
+        let Ok(file) = null_device(rt) else {
+            return Vec::new(alloc);
+        };
         if file.as_raw_fd() > LAST {
             break;
         }
-        held.push(file)?;
+        if held.push(file).is_err() {
+            return Vec::new(alloc);
+        }
     }
-    Ok(held)
+    held
 }
