@@ -11,6 +11,7 @@ ghost use Rattle.live_page.specs.Serving.{Reads, Acts};
 use crate::asked::Asked;
 use crate::asking::asked_of;
 use crate::fields::{Content, put_body, put_kind};
+use crate::files::{page_text, script_text, style_text};
 use crate::health::{alive_text, ready_text, well_status};
 use crate::host_names::HostNames;
 use crate::route::Route;
@@ -18,7 +19,6 @@ use bytes::Bytes;
 use http::{HeaderValue, Request, StatusCode, header};
 use http_server::{Response, Service};
 use page_answers::{ActOutcome, Board};
-use page_files::{PAGE, SCRIPT, STYLE};
 use std::alloc::AllocError;
 use std::net::SocketAddrV4;
 
@@ -101,9 +101,9 @@ fn read(board: &Board, route: Route, response: &mut Response) -> Result<(), Allo
     ensures { OnOk result (Reads board.now route response.new) }
 {
     match route {
-        Route::Page => put_static(response, Content::Page, PAGE),
-        Route::Style => put_static(response, Content::Style, STYLE),
-        Route::Script => put_static(response, Content::Script, SCRIPT),
+        Route::Page => put_static(response, Content::Page, page_text()),
+        Route::Style => put_static(response, Content::Style, style_text()),
+        Route::Script => put_static(response, Content::Script, script_text()),
         Route::State => put_json(response, board.state()?),
         Route::Metrics => put_metrics(response, board.metrics()?),
         Route::Health => put_health(response, board.is_alive()),

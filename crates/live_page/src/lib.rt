@@ -11,6 +11,7 @@ mod asking;
 mod desk;
 mod examples;
 mod fields;
+mod files;
 mod health;
 mod host_names;
 mod laws;
