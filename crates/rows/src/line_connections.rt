@@ -15,9 +15,9 @@ mod asked;
 
 use crate::keeping::{Kept, boxed};
 use crate::texts::{unless_fields, words_of};
-use asked::Asked;
-use connections::{Audited, Connections, Encoding, mode_text, read_encoding};
-use mg_bytes::OutOfMemory;
+use asked::{change_of, creation_of, deletion_of, identifier_in};
+use connections::{Connections, Encoding, mode_text, read_encoding};
+use mg_bytes::{CodeFault, OutOfMemory};
 use scenario_files::{Outcome, Row, Scenario};
 use sdp_subset::{Session, write_sdp};
 use std::alloc::Global;
@@ -32,17 +32,6 @@ fn put_description(given: &mut Outcome, description: &Session) {
     given.put_made(lines.replace(given.alloc, "\r\n", "  "));
 }
 
-// What can be read of a connection, and its description.
-fn put_audited(given: &mut Outcome, audited: &Audited) {
-    given.put_both(b"C ", audited.connection.call.as_slice());
-    given.put_both(b"  M ", mode_text(audited.connection.mode));
-    given.put(match &audited.connection.remote {
-        Some(_) => b"  RTP known  ".as_slice(),
-        None => b"  RTP unknown  ".as_slice(),
-    });
-    put_description(given, &audited.description);
-}
-
 /// The connections of a line, its encoding, and the last answer.
 #[derive(Drop)]
 pub struct ConnectionsScenario {
@@ -53,66 +42,55 @@ pub struct ConnectionsScenario {
 
 impl ConnectionsScenario {
     // The number of the connection, and its description.
-    fn create(&mut self, given: &mut Outcome, asked: &mut Asked<'_>) {
-        let creation = asked.creation();
-        if !asked.is_read(given) {
-            return;
-        }
-        match self.line.create(self.encoding, creation) {
-            Ok(created) => {
-                given.put_behind(b"I ", created.number);
-                given.put(b"  ");
-                put_description(given, &created.description);
-            }
-            Err(fault) => given.put_code(fault),
-        }
+    fn create(&mut self, given: &mut Outcome, fields: &str) -> Result<(), CodeFault> {
+        let creation = creation_of(given.alloc, fields)?;
+        let created = self.line.create(self.encoding, creation)?;
+        given.put_behind(b"I ", created.number);
+        given.put(b"  ");
+        put_description(given, &created.description);
+        Ok(())
     }
 
-    fn modify(&mut self, given: &mut Outcome, asked: &mut Asked<'_>) {
-        let call = asked.identifier("C: ");
-        let id = asked.identifier("I: ");
-        let change = asked.change();
-        if !asked.is_read(given) {
-            return;
+    fn modify(&mut self, given: &mut Outcome, fields: &str) -> Result<(), CodeFault> {
+        let (call, id) = (identifier_in(fields, "C: ")?, identifier_in(fields, "I: ")?);
+        let change = change_of(given.alloc, fields)?;
+        match self.line.modify(self.encoding, &call, &id, change)? {
+            Some(description) => put_description(given, &description),
+            None => given.put(b"-"),
         }
-        match self.line.modify(self.encoding, &call, &id, change) {
-            Ok(Some(description)) => put_description(given, &description),
-            Ok(None) => given.put(b"-"),
-            Err(fault) => given.put_code(fault),
-        }
+        Ok(())
     }
 
-    fn audit(&self, given: &mut Outcome, asked: &mut Asked<'_>) {
-        let id = asked.identifier("I: ");
-        if !asked.is_read(given) {
-            return;
-        }
-        match self.line.audit(&id) {
-            Ok(audited) => put_audited(given, &audited),
-            Err(fault) => given.put_code(fault),
-        }
+    // What can be read of a connection, and its description.
+    fn audit(&self, given: &mut Outcome, fields: &str) -> Result<(), CodeFault> {
+        let audited = self.line.audit(&identifier_in(fields, "I: ")?)?;
+        given.put_both(b"C ", audited.connection.call.as_slice());
+        given.put_both(b"  M ", mode_text(audited.connection.mode));
+        given.put(match &audited.connection.remote {
+            Some(_) => b"  RTP known  ".as_slice(),
+            None => b"  RTP unknown  ".as_slice(),
+        });
+        put_description(given, &audited.description);
+        Ok(())
     }
 
-    fn delete(&mut self, given: &mut Outcome, asked: &mut Asked<'_>) {
-        let deletion = asked.deletion();
-        if !asked.is_read(given) {
-            return;
-        }
-        match self.line.delete(&deletion) {
-            Ok(()) => given.put(b"-"),
-            Err(fault) => given.put_code(fault),
-        }
+    fn delete(&mut self, given: &mut Outcome, fields: &str) -> Result<(), CodeFault> {
+        self.line.delete(&deletion_of(fields)?)?;
+        given.put(b"-");
+        Ok(())
     }
 
     // A command, and what it is answered.
     fn command(&mut self, given: &mut Outcome, word: &str, fields: &str) {
-        let mut asked = Asked::of(given.alloc, fields);
-        match word {
-            "create" => self.create(given, &mut asked),
-            "modify" => self.modify(given, &mut asked),
-            "audit" => self.audit(given, &mut asked),
-            "delete" => self.delete(given, &mut asked),
-            _ => given.unread(),
+        let done = match word {
+            "create" => self.create(given, fields),
+            "modify" => self.modify(given, fields),
+            "audit" => self.audit(given, fields),
+            "delete" => self.delete(given, fields),
+            _ => return given.unread(),
+        };
+        if let Err(fault) = done {
+            given.put_code(fault);
         }
     }
 

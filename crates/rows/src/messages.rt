@@ -30,22 +30,6 @@ fn id_in(row: &mut Row<'_>) -> TransactionId {
     TransactionId::of(number)
 }
 
-// A message with this id and text, which goes to so many addresses from this moment on.
-fn begun(
-    alloc: Global,
-    id: TransactionId,
-    hosts: u32,
-    field: &str,
-    moment: u64,
-) -> Result<Box<Pending>, OutOfMemory> {
-    let text = value_of(alloc, field)?;
-    let route = route_to(hosts).with_port(PORT);
-    boxed(
-        alloc,
-        Pending::begin(alloc, id, route, text.as_bytes(), moment)?,
-    )
-}
-
 /// A message, and how many addresses the next one has.
 #[derive(Drop)]
 pub struct MessageScenario {
@@ -55,39 +39,39 @@ pub struct MessageScenario {
 
 impl MessageScenario {
     // `10000000 at 1000  TEXT`.
-    fn begins(&mut self, row: &mut Row<'_>) {
+    fn begins(&mut self, row: &mut Row<'_>) -> Result<(), OutOfMemory> {
         let (id, moment) = (id_in(row), u64::from(row.number_behind("at")));
-        let field = row.rest().trim_start();
-        match begun(row.given.alloc, id, self.hosts, field, moment) {
-            Ok(message) => self.message = message,
-            Err(_) => row.given.refuse(),
-        }
+        let text = value_of(row.given.alloc, row.rest().trim_start())?;
+        let route = route_to(self.hosts).with_port(PORT);
+        let message = Pending::begin(row.given.alloc, id, route, text.as_bytes(), moment)?;
+        self.message = boxed(row.given.alloc, message)?;
+        Ok(())
     }
 
     // `1500`: what it does then.
-    fn repeat(&mut self, row: &mut Row<'_>) {
+    fn repeat(&mut self, row: &mut Row<'_>) -> &'static str {
         let moment = u64::from(row.number());
         if self.message.due() != moment {
-            return row.given.put_words("not due");
+            return "not due";
         }
-        row.given.put_words(match self.message.repeat(moment) {
+        match self.message.repeat(moment) {
             Repeat::Sent => "sent",
             Repeat::GivenUp => "given up",
-        });
+        }
     }
 
     // `10000000 100 at 1200`: what the response is to it.
-    fn answer(&mut self, row: &mut Row<'_>) {
+    fn answer(&mut self, row: &mut Row<'_>) -> &'static str {
         let id = id_in(row);
         let Ok(code) = u16::try_from(row.number()) else {
-            return row.given.put_words("no code");
+            return "no code";
         };
         let moment = u64::from(row.number_behind("at"));
-        row.given.put_words(match self.message.answer(id, code, moment) {
+        match self.message.answer(id, code, moment) {
             Reply::Answered => "answered",
             Reply::Provisional => "provisional",
             Reply::Stranger => "stranger",
-        });
+        }
     }
 
     // Its id, where it was sent last, and its text.
@@ -101,16 +85,28 @@ impl MessageScenario {
 
 impl Scenario for MessageScenario {
     fn begin(alloc: Global) -> Result<MessageScenario, OutOfMemory> {
-        let message = begun(alloc, TransactionId::of(1), 1, "", 0)?;
+        let route = route_to(1).with_port(PORT);
+        let message = Pending::begin(alloc, TransactionId::of(1), route, b"", 0)?;
+        let message = boxed(alloc, message)?;
         Ok(MessageScenario { message, hosts: 1 })
     }
 
     fn turn(&mut self, row: &mut Row<'_>) {
         match row.before(" ") {
             "hosts" => self.hosts = row.number(),
-            "begins" => self.begins(row),
-            "repeat" => self.repeat(row),
-            "answer" => self.answer(row),
+            "begins" => {
+                if self.begins(row).is_err() {
+                    row.given.refuse();
+                }
+            }
+            "repeat" => {
+                let becomes = self.repeat(row);
+                row.given.put_words(becomes);
+            }
+            "answer" => {
+                let reply = self.answer(row);
+                row.given.put_words(reply);
+            }
             "due" => row.given.put_shown(self.message.due()),
             "to" => row.given.put_shown(self.message.to()),
             "is" => self.put_state(&mut row.given),
