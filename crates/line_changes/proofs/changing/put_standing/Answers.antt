@@ -1,0 +1,10 @@
+use Rattle.line_changes.specs.Changes.{standing}
+use Rattle.line_changes.proofs.PuttingLemmas.{put_one, put_each}
+use Rattle.line_changes.proofs.changing.put_standing.Goals as goal
+
+pub loop-connection-preserved : goal.loop-connection-preserved
+loop-connection-preserved c =
+    put_one (standing c.args.were.now) c.args.are.now c.loop-connection.connection-index _ _ _ _ c.loop-connection-test.true c.in_ok-put_if_standing.ensures c.loop-connection.invariant
+
+pub returns : goal.returns
+returns c = put_each (standing c.args.were.now) c.args.are.now c.loop-connection.connection-index _ _ c.loop-connection-test.false c.loop-connection.invariant
