@@ -224,14 +224,21 @@ fn request_in(lines: &Lines) -> Request {
     Request::Command
 }
 
+// The command that is typed next, as it is issued; empty where nothing is.
+fn command_in(alloc: Global, lines: &Lines) -> Result<Vec<u8>, OutOfMemory> {
+    let Some(line) = lines.line() else {
+        return Ok(Vec::new(alloc));
+    };
+    typed_text(alloc, line, lines.rest())
+}
+
 // Issues the command that is typed next, and answers that.
 fn answer_command<S: Surroundings + Drop>(
     alloc: Global,
     board: &mut Switchboard,
     wire: &mut Wire<S>,
 ) {
-    let line = wire.lines.line().unwrap_or(&[]);
-    match typed_text(alloc, line, wire.lines.rest()) {
+    match command_in(alloc, &wire.lines) {
         Ok(text) => answer_typed(alloc, board, wire, text.as_slice()),
         Err(_) => wire.answer_all(OUT_OF_MEMORY),
     }
