@@ -138,6 +138,32 @@ enum {
     RGW_RSIP = 9
 };
 
+/* What a text was that came. */
+enum { RGW_CAME_NO_MESSAGE = 1, RGW_CAME_COMMAND = 2, RGW_CAME_RESPONSE = 3 };
+
+/* What it got: nothing, an answer, the stored answer once more, silence, since that answer was confirmed, silence, since too many commands
+ * are young, an acknowledgement. */
+enum {
+    RGW_GOT_NOTHING = 0,
+    RGW_GOT_ANSWER = 1,
+    RGW_GOT_AGAIN = 2,
+    RGW_GOT_SILENCE = 3,
+    RGW_GOT_NO_ROOM = 4,
+    RGW_GOT_ACKNOWLEDGEMENT = 5
+};
+
+/* What of a command is at fault: nothing that is known, its verb, its endpoint's name, a parameter line, a parameter that is missing, the
+ * value of one, the description of the remote end. */
+enum {
+    RGW_FAULT_UNKNOWN = 0,
+    RGW_FAULT_VERB = 1,
+    RGW_FAULT_NAME = 2,
+    RGW_FAULT_LINE = 3,
+    RGW_FAULT_MISSING = 4,
+    RGW_FAULT_VALUE = 5,
+    RGW_FAULT_DESCRIPTION = 6
+};
+
 /* Signals (RFC 3660, 2.5 and 2.1): L/dl, L/bz, L/ro, L/rg, L/rs, L/vmwi, G/rt, G/cg, G/cf. */
 enum {
     RGW_DIAL_TONE = 1,
@@ -175,6 +201,26 @@ typedef struct rgw_message_info {
     uint16_t verb;
     uint16_t send;
 } rgw_message_info;
+
+/* What a text was that came: which parameter line is at fault, from 1, or which parameter, by its letter in ASCII; its transaction id; what
+ * it was; its verb; what it got; the return code of the answer; what of it is at fault. Each is 0 where there is no such thing. */
+typedef struct rgw_outcome_info {
+    uint64_t place;
+    uint32_t id;
+    uint16_t came;
+    uint16_t verb;
+    uint16_t got;
+    uint16_t code;
+    uint16_t fault;
+} rgw_outcome_info;
+
+/* A command of the gateway's own that was given up: when, its transaction id, of which line (0: the gateway's), and its verb. */
+typedef struct rgw_given_up_info {
+    uint64_t moment;
+    uint32_t id;
+    uint16_t line;
+    uint16_t verb;
+} rgw_given_up_info;
 
 /* An active signal, and when it ends: that moment where `ends` is 1; where it is 0 no time ends it. */
 typedef struct rgw_signal_info {
@@ -214,6 +260,8 @@ rgw_result rgw_output_nonnull(rgw_gateway *gateway, size_t index, rgw_output_inf
                               size_t *needed);
 rgw_result rgw_messages_nonnull(rgw_gateway *gateway, size_t *count);
 rgw_result rgw_message_nonnull(rgw_gateway *gateway, size_t index, rgw_message_info *message);
+rgw_result rgw_outcome_nonnull(rgw_gateway *gateway, size_t index, rgw_outcome_info *outcome);
+rgw_result rgw_given_up_nonnull(rgw_gateway *gateway, size_t index, rgw_given_up_info *command);
 rgw_result rgw_lines_nonnull(rgw_gateway *gateway, uint16_t *lines);
 rgw_result rgw_hook_nonnull(rgw_gateway *gateway, uint16_t line, uint32_t *hook);
 rgw_result rgw_lost_nonnull(rgw_gateway *gateway, uint16_t line, uint64_t *lost);
@@ -346,6 +394,24 @@ static inline rgw_result rgw_messages(rgw_gateway *gateway, size_t *count) {
  */
 static inline rgw_result rgw_message(rgw_gateway *gateway, size_t index, rgw_message_info *message) {
     return gateway == NULL || message == NULL ? (rgw_result)RGW_NULL : rgw_message_nonnull(gateway, index, message);
+}
+
+/*
+ * What became of a text of the datagram that was the last event that was taken, by its index, in the order in which they stand there; a
+ * datagram of more than RGW_LARGEST_DATAGRAM bytes has none, nor has an act or a tick. RGW_NO_SUCH_PLACE, RGW_NOT_OPEN.
+ * Keep: one call at a time on `gateway`; `outcome` lies outside it.
+ */
+static inline rgw_result rgw_outcome(rgw_gateway *gateway, size_t index, rgw_outcome_info *outcome) {
+    return gateway == NULL || outcome == NULL ? (rgw_result)RGW_NULL : rgw_outcome_nonnull(gateway, index, outcome);
+}
+
+/*
+ * A command of the gateway's own that was given up at the last event that was taken, since nobody answered it (RFC 3435, 4.3), by its index,
+ * in their order. RGW_NO_SUCH_PLACE, RGW_NOT_OPEN.
+ * Keep: one call at a time on `gateway`; `command` lies outside it.
+ */
+static inline rgw_result rgw_given_up(rgw_gateway *gateway, size_t index, rgw_given_up_info *command) {
+    return gateway == NULL || command == NULL ? (rgw_result)RGW_NULL : rgw_given_up_nonnull(gateway, index, command);
 }
 
 /*

@@ -11,7 +11,7 @@ the same bytes. `rgw.world` has a network between a gateway and a call agent, in
 for tests of call agents.
 """
 
-from rgw.gateway import Address, Connection, Gateway, Line, Message, Output, Signal
+from rgw.gateway import Address, Connection, Gateway, GivenUp, Line, Message, Outcome, Output, Signal
 from rgw.numbers import Closed, ConfigFault, EventRefused, Number, OutOfMemory, RgwError
 
 __all__ = [
@@ -21,10 +21,12 @@ __all__ = [
     "Connection",
     "EventRefused",
     "Gateway",
+    "GivenUp",
     "Line",
     "Message",
     "Number",
     "OutOfMemory",
+    "Outcome",
     "Output",
     "RgwError",
     "Signal",

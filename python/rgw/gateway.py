@@ -7,7 +7,8 @@ from socket import inet_aton, inet_ntoa
 from types import TracebackType
 from typing import NamedTuple, cast
 
-from rgw.library import CALLS, ConnectionInfo, Handle, MessageInfo, OutputInfo, SignalInfo
+from rgw.codes import WORDS
+from rgw.library import CALLS, ConnectionInfo, GivenUpInfo, Handle, MessageInfo, OutcomeInfo, OutputInfo, SignalInfo
 from rgw.numbers import Closed, ConfigFault, Number, RgwError, raised
 
 # The acts that are no key, by the words of scripts.
@@ -16,6 +17,18 @@ SIGNALS = ("", "L/dl", "L/bz", "L/ro", "L/rg", "L/rs", "L/vmwi", "G/rt", "G/cg",
 MODES = ("", "sendonly", "recvonly", "sendrecv", "confrnce", "inactive")
 VERBS = ("", "EPCF", "RQNT", "NTFY", "CRCX", "MDCX", "DLCX", "AUEP", "AUCX", "RSIP")
 WHATS = ("", "answer", "again", "command", "resent", "acknowledgement")
+CAMES = ("", "no message", "command", "response")
+GOTS = ("nothing", "answer", "again", "silence", "no room", "acknowledgement")
+# What of a command is at fault, before the number of its parameter line or the letter of its parameter.
+FAULTS = ("", "verb", "endpoint name", "parameter line ", "missing parameter ", "value of parameter ", "remote description")
+LINE_FAULT = 3
+# The least return code that refuses a command, and that of one which comes before the gateway serves, where nothing of it is at fault
+# (RFC 3435, 2.4).
+LEAST_REFUSAL = 400
+NOT_READY = 405
+# So many commands are remembered, and so long a datagram is taken.
+MOST_COMMANDS = 4096
+LARGEST_DATAGRAM = 4000
 PLACES = 4
 # The longest tick, in ms.
 LONGEST_TICK = 1000
@@ -55,6 +68,44 @@ class Message:
     code: int
     verb: str
     send: int
+
+
+@dataclass(frozen=True, slots=True)
+class Outcome:
+    """What a text was that came (a word of CAMES), and what it got (a word of GOTS); of a command its transaction id, its verb where that
+    could be read, the return code of its answer (else 0), and what of it is at fault, where that is known, as "value of parameter R"."""
+
+    came: str
+    got: str
+    id: int
+    verb: str
+    code: int
+    fault: str
+
+    @property
+    def note(self) -> str:
+        """What `rgwd --log` notes behind what was sent: why the command was refused, or wasn't answered; empty where nothing is noted."""
+        if self.got == "silence":
+            return f"repeat of {self.id}, confirmed, not answered"
+        if self.got == "no room":
+            return f"lost: {MOST_COMMANDS:,} commands are young"
+        if self.got != "answer" or self.code < LEAST_REFUSAL:
+            return ""
+        words = WORDS.get(self.code, "")
+        if self.fault and self.code != NOT_READY:
+            return f"refused {self.id}: {self.code} {words}: {self.fault}"
+        return f"refused {self.id}: {self.code} {words}".rstrip()
+
+
+@dataclass(frozen=True, slots=True)
+class GivenUp:
+    """A command of the gateway's own that was given up, since nobody answered it: when, its transaction id, its line, where 0 is the
+    gateway itself, and its verb."""
+
+    moment: int
+    id: int
+    line: int
+    verb: str
 
 
 @dataclass(frozen=True, slots=True)
@@ -290,3 +341,23 @@ class Gateway:
         is_own = info.whose == 2
         line = info.line if is_own or (info.whose == 1 and info.line) else None
         return Message(info.moment, to, info.id, line, WHATS[info.what], info.code, VERBS[info.verb], info.send)
+
+    @property
+    def outcomes(self) -> list[Outcome]:
+        """What each text was of the datagram that was the last event, in their order, and what it got."""
+        found: list[Outcome] = []
+        info = OutcomeInfo()
+        while self._finds("outcome", len(found), byref(info)):
+            place = str(info.place) if info.fault == LINE_FAULT else chr(info.place) if info.place else ""
+            fault = FAULTS[info.fault] + place
+            found.append(Outcome(CAMES[info.came], GOTS[info.got], info.id, VERBS[info.verb], info.code, fault))
+        return found
+
+    @property
+    def given_up(self) -> list[GivenUp]:
+        """The commands of its own that were given up at the last event, in their order."""
+        found: list[GivenUp] = []
+        info = GivenUpInfo()
+        while self._finds("given_up", len(found), byref(info)):
+            found.append(GivenUp(info.moment, info.id, info.line, VERBS[info.verb]))
+        return found

@@ -42,6 +42,26 @@ class MessageInfo(Structure):
     ]
 
 
+class OutcomeInfo(Structure):
+    """rgw_outcome_info"""
+
+    _fields_ = [
+        ("place", c_uint64),
+        ("id", c_uint32),
+        ("came", c_uint16),
+        ("verb", c_uint16),
+        ("got", c_uint16),
+        ("code", c_uint16),
+        ("fault", c_uint16),
+    ]
+
+
+class GivenUpInfo(Structure):
+    """rgw_given_up_info"""
+
+    _fields_ = [("moment", c_uint64), ("id", c_uint32), ("line", c_uint16), ("verb", c_uint16)]
+
+
 class SignalInfo(Structure):
     """rgw_signal_info"""
 
@@ -84,6 +104,8 @@ PARAMETERS = {
     "output": [_AT, c_size_t, POINTER(OutputInfo), *_BUFFER],
     "messages": [_AT, POINTER(c_size_t)],
     "message": [_AT, c_size_t, POINTER(MessageInfo)],
+    "outcome": [_AT, c_size_t, POINTER(OutcomeInfo)],
+    "given_up": [_AT, c_size_t, POINTER(GivenUpInfo)],
     "lines": [_AT, POINTER(c_uint16)],
     "hook": [_AT, c_uint16, POINTER(c_uint32)],
     "lost": [_AT, c_uint16, POINTER(c_uint64)],

@@ -18,7 +18,7 @@ from heapq import heappop, heappush
 from types import TracebackType
 from typing import Protocol
 
-from rgw.gateway import LONGEST_TICK, Address, Gateway, Line, Message, Output, address_of
+from rgw.gateway import LARGEST_DATAGRAM, LONGEST_TICK, Address, Gateway, Line, Message, Outcome, Output, address_of
 from rgw.numbers import OutOfMemory
 
 CONFIG = """domain = "rgw.example.net"
@@ -134,13 +134,18 @@ def value_shown(value: str) -> str:
     return front if len(value) <= LONGEST_VALUE else front + ".."
 
 
-def shown(lines: list[str], domain: str) -> str:
-    """A message in a line, as `rgwd --log` tells it: three words of its header, where a name lacks the gateway's own domain, and what
-    stands in its other lines."""
+def header_shown(lines: list[str], domain: str) -> str:
+    """The header of a message, as `rgwd --log` tells it: three words, where a name lacks the gateway's own domain."""
     words = [word for word in re.split("[ \t]", lines[0]) if word][:3] if lines else []
     if len(words) == 3 and words[2].partition("@")[2].lower() == domain.lower():
         words[2] = words[2].partition("@")[0]
-    return " ".join(value_shown(value) for value in [*words, *lines[1:]] if value)
+    return " ".join(value_shown(word) for word in words)
+
+
+def shown(lines: list[str], domain: str) -> str:
+    """A message in a line, as `rgwd --log` tells it: its header, and what stands in its other lines."""
+    values = [header_shown(lines, domain), *(value_shown(line) for line in lines[1:])]
+    return " ".join(value for value in values if value)
 
 
 def fate_told(late: list[int]) -> str:
@@ -172,8 +177,8 @@ class World:
         # What is on its way: when it arrives, which it is, by how much it is late, whether it goes to the agent, the agent's address.
         self._on_way: list[tuple[int, int, int, bool, Address, bytes]] = []
         self._count = 0
-        # The command that each line sent last, 0 for the gateway's own, and when.
-        self._own: dict[int | None, tuple[int, int]] = {}
+        # The command that each line sent last, 0 for the gateway's own: its id, when that was, where to, and its lines.
+        self._own: dict[int | None, tuple[int, int, Address, list[str]]] = {}
         self._domain = str(tomllib.loads(gateway.config.decode())["domain"])
 
     def __enter__(self) -> "World":
@@ -273,8 +278,12 @@ class World:
         self._send([f"at {moment}"], self.gateway.tick(moment))
 
     def _send(self, step: list[str], outputs: list[Output]) -> None:
-        """The gateway took this step: what it sends because of it goes into the network."""
+        """The gateway took this step: what it gave up is told, and what it sends because of it goes into the network."""
         self._trace += step
+        for command in self.gateway.given_up:
+            if command.line in self._own:
+                _, _, to, lines = self._own[command.line]
+                self._tell(to, "!", f"given up: {header_shown(lines, self._domain)}")
         labels = iter(self.gateway.messages if outputs else ())
         for output in outputs:
             self._trace += trace_of(output)
@@ -295,14 +304,13 @@ class World:
             waited = " +0 ms" if label.what == "answer" else ""
             self._tell(label.to, "<", shown(message, self._domain) + waited)
         if label.what == "command":
-            self._own[label.line] = (label.id, self.now)
+            self._own[label.line] = (label.id, self.now, label.to, message)
 
     def _say(self, own: Address, data: bytes) -> None:
         """A datagram goes from the agent into the network. It is told when it arrives, or where it is lost."""
         late = self.network()
         if not late:
-            self._tell_come(own, data)
-            self._tell(own, "!", fate_told(late))
+            self._tell_untaken(own, data, fate_told(late))
         self._go(late, False, own, data)
 
     def _go(self, late: list[int], is_to_agent: bool, peer: Address, data: bytes) -> None:
@@ -314,24 +322,39 @@ class World:
         if is_to_agent:
             self._speak(peer, self.agent(self.now, GATEWAY_AT, data))
             return
-        self._tell_come(peer, data)
-        if delay:
-            self._tell(peer, "!", fate_told([delay]))
         try:
             outputs = self.gateway.datagram(peer, data)
         except OutOfMemory:
-            self._tell(peer, "!", "out of memory, nothing was done")
+            self._tell_untaken(peer, data, "out of memory, nothing was done")
             return
+        outcomes = self.gateway.outcomes
+        self._tell_come(peer, data, outcomes)
+        if delay:
+            self._tell(peer, "!", fate_told([delay]))
         self._send(step_of(peer, data), outputs)
+        for outcome in outcomes:
+            if outcome.note:
+                self._tell(peer, "!", outcome.note)
 
-    def _tell_come(self, peer: Address, data: bytes) -> None:
+    def _tell_untaken(self, peer: Address, data: bytes, why: str) -> None:
         for message in messages_of(data):
-            self._tell(peer, ">", shown(message, self._domain) + self._waited(message))
+            self._tell(peer, ">", shown(message, self._domain))
+        self._tell(peer, "!", why)
+
+    def _tell_come(self, peer: Address, data: bytes, outcomes: list[Outcome]) -> None:
+        if len(data) > LARGEST_DATAGRAM:
+            self._tell(peer, "!", f"too long: {len(data)} bytes or more")
+        for message, outcome in zip(messages_of(data), outcomes):
+            if outcome.came == "no message":
+                self._tell(peer, "!", outcome.came)
+            else:
+                waited = self._waited(message) if outcome.came == "response" else ""
+                self._tell(peer, ">", shown(message, self._domain) + waited)
 
     def _waited(self, message: list[str]) -> str:
-        """How long the command waited that a response answers, where that is what its line sent last."""
-        kind, id = (message[0].split() + ["", ""])[:2] if message else ("", "")
-        sent = [moment for own, moment in self._own.values() if kind.isdigit() and str(own) == id]
+        """How long the command waited that this response answers, where that is what its line sent last."""
+        id = int(next(line for line in message if line).split()[1])
+        sent = [moment for own, moment, _, _ in self._own.values() if own == id]
         return f" +{self.now - sent[0]} ms" if sent else ""
 
     def _speak(self, own: Address, sent: Sent) -> None:

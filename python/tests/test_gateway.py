@@ -5,7 +5,7 @@ import threading
 
 import pytest
 
-from rgw import Address, Closed, ConfigFault, EventRefused, Gateway, Number, RgwError
+from rgw import Address, Closed, ConfigFault, EventRefused, Gateway, GivenUp, Number, Outcome, RgwError
 from rgw.gateway import flaw_of
 from rgw.world import CONFIG
 
@@ -55,6 +55,31 @@ def test_a_connection_is_told(alone: Gateway) -> None:
     assert others == [None, None, None] and connection is not None
     assert (connection.mode, connection.local, connection.remote) == ("recvonly", Address("127.0.0.1", 3008), None)
     assert (connection.number, connection.packet_time, connection.payloads) == (1, 10, (0, 8))
+
+
+def test_what_came_is_told(alone: Gateway) -> None:
+    assert alone.outcomes == [Outcome("response", "nothing", 0, "", 0, "")]
+    faulty = RQNT.replace(b"RQNT 1", b"RQNT 2").replace(b"L/hd", b"Q/a")
+    alone.datagram(AGENT, RQNT + b".\r\n" + faulty + b".\r\nhello\r\n")
+    done, refused, other = alone.outcomes
+    assert (done, done.note) == (Outcome("command", "answer", 1, "RQNT", 200, ""), "")
+    assert refused == Outcome("command", "answer", 2, "RQNT", 518, "value of parameter R")
+    assert refused.note == "refused 2: 518 unsupported or unknown package: value of parameter R"
+    assert (other.came, other.got) == ("no message", "nothing")
+    alone.datagram(AGENT, RQNT)
+    assert alone.outcomes == [Outcome("command", "again", 1, "RQNT", 200, "")]
+    alone.phone(1, "off")
+    assert alone.outcomes == []
+    assert Outcome("command", "no room", 7, "AUEP", 0, "").note == "lost: 4,096 commands are young"
+
+
+def test_what_is_given_up_is_told(alone: Gateway) -> None:
+    (sent,) = alone.phone(1, "off")
+    assert sent.data.startswith(b"NTFY 10000000 ") and alone.given_up == []
+    alone.wait(23_499)
+    assert alone.given_up == []
+    alone.wait(1)
+    assert alone.given_up == [GivenUp(23_501, 10_000_000, 1, "NTFY")]
 
 
 def test_refusals_change_nothing(alone: Gateway) -> None:

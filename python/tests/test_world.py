@@ -92,6 +92,7 @@ def test_the_conversation_is_as_the_log() -> None:
             "2722 > AUEP 2 aaln/1@other.net X-A: \\x5c" + "a" * 58 + "..",
             "2722 < 200 1 OK +0 ms",
             "2722 < 500 2 +0 ms",
+            "2722 ! refused 2: 500 the endpoint is unknown: endpoint name",
             "2922 > AUEP 3 aaln/1",
             "2922 ! late by 200 ms",
             "2922 < 200 3 OK +0 ms",

@@ -5,4 +5,5 @@ pub mod Stepping
 pub mod Opening
 pub mod Telling
 pub mod Account
+pub mod Outcomes
 pub mod LineTelling

@@ -11,7 +11,7 @@ use gateway_core::{SentMessage, What, Whose};
 use mgcp_text::Verb;
 use std::alloc::Global;
 
-fn verb_number(verb: Verb) -> u16
+pub fn verb_number(verb: Verb) -> u16
     ensures { result ≡ verb_number verb }
 {
     match verb {

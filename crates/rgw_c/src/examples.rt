@@ -14,10 +14,14 @@ ghost use Rattle.plain_machine.specs.declared.refusal.Refusal.TheVariants as ref
 ghost use Rattle.plain_machine.specs.declared.label.Whose.TheVariants as whose;
 ghost use Rattle.plain_machine.specs.declared.label.What.TheVariants as whats;
 ghost use Rattle.plain_machine.specs.Example.{example, elsewhere};
+ghost use Rattle.command_forms.specs.declared.refused.FaultyPart.TheVariants as parts;
+ghost use Rattle.gateway_core.specs.declared.outcome.Reply.TheVariants.{First, Again, Silence, NoRoom};
+ghost use Rattle.gateway_core.specs.declared.outcome.TextOutcome.TheVariants.{NoMessage, Command, Response};
 ghost use Rattle.rgw_c.specs.declared.numbers.TheConstants.{OK, OUT_OF_MEMORY, TOO_LONG, NOT_OPEN, BAD_FIRST, NO_SUCH_PLACE, SMALL_BUFFER, NO_CONNECTION};
 ghost use Rattle.rgw_c.specs.declared.numbers.TheConstants.{NOTHING_DUE, HAS_FLAW};
 ghost use Rattle.rgw_c.specs.Account.{verb_number, whose_number, line_of, what_number, code_of, verb_of, message_number};
 ghost use Rattle.rgw_c.specs.Acts.{act_in};
+ghost use Rattle.rgw_c.specs.Outcomes.{outcome_of, fault_number, fault_place, given_up_of, outcome_number, given_up_number};
 ghost use Rattle.rgw_c.specs.LineTelling.{hook_number, signal_number, signal_of, mode_number, first_payload, last_payload, local_port, place_number};
 ghost use Rattle.rgw_c.specs.Numbers.{refusal_in, config_fault_in, is_read_number, is_told_number, is_checked_number};
 ghost use Rattle.rgw_c.specs.Opening.{unread_number};
@@ -130,4 +134,29 @@ pub fn a_text_is_read_last()
     ensures no_flaw { is_told_number OK ≡ false }
     ensures checked { is_checked_number OK ≡ true }
     ensures nothing_else { is_checked_number NOT_OPEN ≡ false }
+{}
+
+/// A text that came is told by what it was and got, with what of it is at fault; and a command that was given up by whose it was.
+pub fn what_came_and_what_was_given_up_is_told_in_numbers()
+    ensures no_message { outcome_of NoMessage ≡ record { place = 0; id = 0; came = 1; verb = 0; got = 0; code = 0; fault = 0 } }
+    ensures response { outcome_of (Response false) ≡ record { place = 0; id = 0; came = 3; verb = 0; got = 0; code = 0; fault = 0 } }
+    ensures acknowledged { (outcome_of (Response true)).got ≡ 5 }
+    ensures refused { outcome_of (Command (Some verbs.Rqnt) 1207 (First 518 (Some (parts.Value 82))))
+        ≡ record { place = 82; id = 1207; came = 2; verb = 2; got = 1; code = 518; fault = 5 } }
+    ensures again { outcome_of (Command None 1207 (Again 200))
+        ≡ record { place = 0; id = 1207; came = 2; verb = 0; got = 2; code = 200; fault = 0 } }
+    ensures silence { outcome_of (Command (Some verbs.Auep) 7 Silence)
+        ≡ record { place = 0; id = 7; came = 2; verb = 7; got = 3; code = 0; fault = 0 } }
+    ensures no_room { (outcome_of (Command (Some verbs.Auep) 7 NoRoom)).got ≡ 4 }
+    ensures verb { fault_number (Some parts.Verb) ≡ 1 }
+    ensures name { fault_number (Some parts.Name) ≡ 2 }
+    ensures line { fault_number (Some (parts.Line 3)) ≡ 3 }
+    ensures which_line { fault_place (Some (parts.Line 3)) ≡ 3 }
+    ensures missing { fault_number (Some (parts.Missing 88)) ≡ 4 }
+    ensures which_is_missing { fault_place (Some (parts.Missing 88)) ≡ 88 }
+    ensures description { fault_number (Some parts.Description) ≡ 6 }
+    ensures given_up { given_up_of (record { line = 2; id = 20000001; verb = verbs.Ntfy; moment = 24500 })
+        ≡ record { moment = 24500; id = 20000001; line = 2; verb = 3 } }
+    ensures closed { outcome_number None 0 ≡ NOT_OPEN }
+    ensures closed_too { given_up_number None 0 ≡ NOT_OPEN }
 {}

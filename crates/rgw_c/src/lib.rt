@@ -15,6 +15,7 @@ mod instance;
 mod lines;
 mod numbers;
 mod opening;
+mod outcomes;
 mod outputs;
 mod structs;
 mod times;

@@ -26,6 +26,30 @@ pub struct Message {
     pub send: u16,
 }
 
+/// What a text was that came: what of it is at fault, and which parameter line or parameter that is (by its letter), its transaction id,
+/// its verb, what it got, and the return code of the answer; 0 where there is no such thing.
+#[repr(C)]
+#[derive(Clone, Copy)]
+pub struct OutcomeTold {
+    pub place: u64,
+    pub id: u32,
+    pub came: u16,
+    pub verb: u16,
+    pub got: u16,
+    pub code: u16,
+    pub fault: u16,
+}
+
+/// A command of the gateway's own that was given up: when (in ms), its transaction id, of which line, and its verb.
+#[repr(C)]
+#[derive(Clone, Copy)]
+pub struct GivenUpTold {
+    pub moment: u64,
+    pub id: u32,
+    pub line: u16,
+    pub verb: u16,
+}
+
 /// An active signal, by its place in the table from 1, and whether a time ends it: then that moment (in ms), else 0.
 #[repr(C)]
 #[derive(Clone, Copy)]
