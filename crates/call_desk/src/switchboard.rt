@@ -63,7 +63,8 @@ fn put_station(
         name: write_name(alloc, Pattern::One(line), domain)?,
         number: copied(alloc, number)?,
         taken: 0,
-    })
+    })?;
+    Ok(())
 }
 
 // The numbers of the lines, in their order.
