@@ -100,7 +100,8 @@ impl PhoneSettings<'_> {
     // A gateway is named so, and its telephones are there.
     fn add(&mut self, alloc: Global, name: &str, address: SocketAddrV4) -> Result<(), AllocError> {
         self.names.push(copied(alloc, name.as_bytes())?)?;
-        self.addresses.push(address)
+        self.addresses.push(address)?;
+        Ok(())
     }
 }
 
