@@ -3,6 +3,7 @@ use crate::behind::put_behind;
 use crate::ending::Ending;
 use crate::help::of_program;
 use crate::opening::{Opened, open};
+use crate::reception::PageReception;
 use crate::recording::Recording;
 use crate::replaying::{REPLAY, replay_trace};
 use crate::starting::{Begun, Start};
@@ -11,8 +12,7 @@ use crate::words::{Settings, read_words};
 use exchange_log::put_peer;
 use gateway_core::Gateway;
 use live_ends::{
-    CaptureFiles, CommonEnding, Live, Outlets, Parting, SystemFault, begin, end, open_capture,
-    put_pieces, read_file,
+    CaptureFiles, CommonEnding, Outlets, Parting, SystemFault, begin, end, open_capture, read_file,
 };
 use live_gateway::{agents_line, boxed};
 use live_journal::{Journal, Trace};
@@ -21,15 +21,28 @@ use mg_bytes::{Draft, OutOfMemory};
 use rgw_scenes::{flaw_of, read_config, told, told_setup};
 use rgw_scripts::LIMIT;
 use std::alloc::{AllocError, Global};
-use std::io;
-use std::io::Write;
-use std::mem::replace;
-use std::net::{Net, SocketAddr};
+use std::net::{Net, SocketAddrV4};
 use std::os::fd::AsRawFd;
 use std::random::RandomSource;
 use std::rt::{Clock, Env, Files};
 use std::thread::sleep;
 use std::time::Duration;
+use surroundings::Surroundings;
+
+// The addresses of the gateway's socket and of its telephones'; port 0 where one isn't known.
+fn own_of<R: Net + Clock, P: Reception>(opened: &Opened<'_, R, P>) -> [SocketAddrV4; 2] {
+    opened.desk.exchange.around.own()
+}
+
+// Puts where the page is, if there is one: whether that is known.
+fn put_page<P: Reception>(line: &mut Draft, visitors: &Option<Box<PageReception<P>>>) -> bool {
+    let Some(reception) = visitors else {
+        return true;
+    };
+    let page = reception.site.address();
+    put_behind(line, b" http ", page);
+    page.is_some()
+}
 
 // Where the sockets are, and how it starts, as a line; none where a socket doesn't tell where it is.
 fn start_line<R: Net + Clock, P: Reception>(
@@ -37,63 +50,75 @@ fn start_line<R: Net + Clock, P: Reception>(
     opened: &Opened<'_, R, P>,
     begun: Begun,
 ) -> Result<Vec<u8>, AllocError> {
-    let Ok((SocketAddr::V4(listen), SocketAddr::V4(phones))) = opened
-        .desk
-        .exchange
-        .around
-        .addresses()
-    else {
-        return Ok(Vec::new(alloc));
-    };
-    let page = match &opened.visitors {
-        Some(reception) => reception.site.address(),
-        None => None,
-    };
-    if opened.visitors.is_some() && page.is_none() {
-        return Ok(Vec::new(alloc));
-    }
+    let own = own_of(opened);
     let mut line = Draft::new(alloc);
     line.put(b"listen ");
-    put_peer(&mut line, listen);
+    put_peer(&mut line, own[0]);
     line.put(b" phones ");
-    put_peer(&mut line, phones);
-    put_behind(&mut line, b" http ", page);
+    put_peer(&mut line, own[1]);
+    let has_page = put_page(&mut line, &opened.visitors);
     begun.put(&mut line);
     line.put(b"\n");
+    if !has_page || own[0].port() == 0 || own[1].port() == 0 {
+        return Ok(Vec::new(alloc));
+    }
     line.end()
 }
 
 // Says on standard error where the sockets are, and how it starts.
-fn tell_start<R: Net + Clock, P: Reception, F: Write + Drop>(
+fn tell_start<R: Files + Net + Clock, P: Reception>(
     alloc: Global,
-    outlets: &mut Outlets<F>,
     opened: &Opened<'_, R, P>,
     begun: Begun,
+    recording: &mut Recording<R>,
 ) {
     // For want of memory that line alone isn't said.
     if let Ok(line) = start_line(alloc, opened, begun) {
-        outlets.error.say(line.as_slice());
+        recording.say(line.as_slice());
     }
-    outlets.offer();
+    recording.outlets.offer();
 }
 
-// How the program ends that served: whether all its records were written to their ends. Of one that couldn't be written it was said at
-// once.
-fn served_ending<'w, F: Write + Drop>(
-    journal: &Journal,
-    trace: &Trace,
-    outlets: &Outlets<F>,
-) -> Ending<'w> {
-    if trace.record.is_refused()
+// Whether memory was refused for something that was recorded. Of what couldn't be written otherwise it was said at once.
+fn is_refused(journal: &Journal, trace: &Trace) -> bool {
+    trace.record.is_refused()
         || journal.log.record.is_refused()
         || journal.capture.record.is_refused()
-    {
+}
+
+// How the program ends that served: whether all its records were written to their ends.
+fn served_ending<'w>(journal: &Journal, trace: &Trace, faults: u64) -> Ending<'w> {
+    if is_refused(journal, trace) {
         return Ending::Common(CommonEnding::OutOfMemory);
     }
-    if outlets.written().faults() > 0 {
+    if faults > 0 {
         return Ending::Common(CommonEnding::Write);
     }
     Ending::Common(CommonEnding::Served)
+}
+
+// Serves until the end, and writes what was recorded: what was counted.
+fn serve<R: Files + Net + Clock + RandomSource, P: Reception>(
+    opened: &mut Opened<'_, R, P>,
+    recording: &mut Recording<R>,
+) -> Result<Vec<u8>, AllocError> {
+    opened.desk.run(&mut opened.visitors, recording);
+    opened.desk.play.end();
+    opened.desk.write(recording);
+    opened.desk.counts()
+}
+
+// Says what was counted, behind all that was recorded: how the program ends that served.
+fn end_serving<'w, R: Files + Net + Clock, P: Reception>(
+    rt: &R,
+    opened: &Opened<'_, R, P>,
+    counts: &[u8],
+    outlets: &mut Outlets<R::File>,
+) -> Ending<'w> {
+    let exchange = &opened.desk.exchange;
+    outlets.finish(rt, counts, exchange.now.time);
+    let faults = outlets.written().faults();
+    served_ending(&exchange.journal, &opened.desk.play.teller, faults)
 }
 
 // Serves until the end, writes what was recorded, and says what was counted.
@@ -102,50 +127,64 @@ fn serve_to_end<'w, R: Files + Net + Clock + RandomSource, P: Reception>(
     opened: &mut Opened<'_, R, P>,
     recording: &mut Recording<R>,
 ) -> Ending<'w> {
-    opened.desk.run(&mut opened.visitors, recording);
-    opened.desk.play.end();
-    opened.desk.write(recording);
-    let Ok(counts) = opened.desk.counts() else {
+    let Ok(counts) = serve(opened, recording) else {
         return Ending::Common(CommonEnding::OutOfMemory);
     };
-    let exchange = &opened.desk.exchange;
-    let outlets = &mut recording.outlets;
-    outlets.finish(rt, counts.as_slice(), exchange.now.time);
-    served_ending(&exchange.journal, &opened.desk.play.teller, outlets)
+    end_serving(rt, opened, counts.as_slice(), &mut recording.outlets)
 }
 
-// Waits as long as a start waits, before its clock begins: so what is recorded of the gateway doesn't tell it.
-fn wait_first<R: Net + Clock>(rt: &R, live: &mut Live<'_, R>, begun: Begun) -> io::Result<()> {
+// Waits as long as a start waits, before its clock begins: so what is recorded of the gateway doesn't tell it. Whether the clock began.
+fn wait_first<R: Net + Clock, P: Reception>(
+    rt: &R,
+    opened: &mut Opened<'_, R, P>,
+    begun: Begun,
+) -> bool {
     match begun.waits {
         Some(waits) => {
             sleep(rt, Duration::from_millis(waits));
-            live.clock.begin_anew()
+            opened.desk.exchange.around.clock.begin_anew().is_ok()
         }
-        None => Ok(()),
+        None => true,
     }
 }
 
-// Says on standard output what this gateway will be, who may speak to it, and its sockets.
-fn check_gateway<F: Write + Drop>(
+// What this gateway will be, who may speak to it, and its sockets.
+fn setup_text(
     alloc: Global,
     settings: &Settings<'_>,
     gateway: &Gateway,
-    outlets: &mut Outlets<F>,
-) -> Result<(), AllocError> {
+) -> Result<Vec<u8>, AllocError> {
     let lines = told_setup(alloc, gateway.setup())?;
     let agents = agents_line(alloc, settings.sockets.agents, gateway.setup())?;
-    let mut sockets = Draft::new(alloc);
-    sockets.put(b"sockets: --listen ");
-    put_peer(&mut sockets, settings.sockets.listen);
-    sockets.put(b" --phones ");
-    put_peer(&mut sockets, settings.sockets.phones);
-    put_behind(&mut sockets, b" --http ", settings.sockets.http);
-    sockets.put(b"\n");
-    let sockets = sockets.end()?;
-    outlets.output.say(lines.as_slice());
-    outlets.output.say(agents.as_slice());
-    outlets.output.say(sockets.as_slice());
-    Ok(())
+    let mut text = Draft::new(alloc);
+    text.put(lines.as_slice());
+    text.put(agents.as_slice());
+    put_sockets(&mut text, settings);
+    text.end()
+}
+
+// Puts the sockets that words ask for.
+fn put_sockets(text: &mut Draft, settings: &Settings<'_>) {
+    text.put(b"sockets: --listen ");
+    put_peer(text, settings.sockets.listen);
+    text.put(b" --phones ");
+    put_peer(text, settings.sockets.phones);
+    put_behind(text, b" --http ", settings.sockets.http);
+    text.put(b"\n");
+}
+
+// Says on standard output what this gateway will be.
+fn checked<'w, R: Files>(
+    alloc: Global,
+    settings: &Settings<'_>,
+    gateway: &Gateway,
+    recording: &mut Recording<R>,
+) -> Ending<'w> {
+    let Ok(text) = setup_text(alloc, settings, gateway) else {
+        return Ending::Common(CommonEnding::OutOfMemory);
+    };
+    recording.print(text.as_slice());
+    Ending::Checked
 }
 
 // A gateway of the configuration in this text, which has no flaw, at this start: without one memory alone is refused.
@@ -159,58 +198,102 @@ fn gateway_of(alloc: Global, text: &[u8], start: &Start) -> Result<Box<Gateway>,
     }
 }
 
-// The capture's file can't be made, for this reason.
+// What is known of the files of a capture that is parted, in a box: who is lent what is recorded is lent little.
+fn files_of<R: Files + Alloc + Clone + Drop>(
+    rt: &R,
+    alloc: Global,
+    name: &str,
+    parting: Parting,
+) -> Result<Box<CaptureFiles>, SystemFault> {
+    let files = match CaptureFiles::find(rt, alloc, name, parting) {
+        Ok(files) => files,
+        Err(fault) => return Err(fault),
+    };
+    match boxed(alloc, files) {
+        Ok(files) => Ok(files),
+        Err(_) => Err(SystemFault::OutOfMemory),
+    }
+}
+
+// The first file of a capture that is parted, and what is known of the others.
+fn open_parted<R: Files + Alloc + Clone + Drop>(
+    rt: &R,
+    alloc: Global,
+    name: &str,
+    parting: Parting,
+    recording: &mut Recording<R>,
+) -> Result<(), SystemFault> {
+    let mut files = match files_of(rt, alloc, name, parting) {
+        Ok(files) => files,
+        Err(fault) => return Err(fault),
+    };
+    let outlet = match files.next(rt) {
+        Ok(outlet) => outlet,
+        Err(kind) => return Err(SystemFault::of(kind)),
+    };
+    recording.outlets.capture = Some(outlet);
+    recording.files = Some(files);
+    Ok(())
+}
+
+// The file of a capture that isn't parted, if one is asked for.
+fn open_file<R: Files>(
+    rt: &R,
+    alloc: Global,
+    name: Option<&str>,
+    recording: &mut Recording<R>,
+) -> Result<(), SystemFault> {
+    let capture = match open_capture(rt, alloc, name) {
+        Ok(capture) => capture,
+        Err(fault) => return Err(fault),
+    };
+    recording.outlets.capture = capture;
+    Ok(())
+}
+
+// The file of a capture, if one is asked for, and the others, where it is parted.
+fn open_files<R: Files + Alloc + Clone + Drop>(
+    rt: &R,
+    alloc: Global,
+    settings: &Settings<'_>,
+    recording: &mut Recording<R>,
+) -> Result<(), SystemFault> {
+    match (settings.capture, settings.parting) {
+        (Some(name), Some(parting)) => open_parted(rt, alloc, name, parting, recording),
+        (name, _) => open_file(rt, alloc, name, recording),
+    }
+}
+
+// The capture's file can't be made.
 fn unwritable<'w>(settings: &Settings<'w>, fault: SystemFault) -> Ending<'w> {
     let file = settings.capture.unwrap_or("");
     Ending::Common(CommonEnding::unwritable(file, fault))
 }
 
-// The first file of a capture that is parted, whose outlet that is, and what is known of the others, in a box: who is lent what is recorded
-// is lent little.
-fn open_parted<'w, R: Files + Alloc + Clone + Drop>(
+// Serves with what is opened, once there is the file for a capture too: says on standard error where the sockets are, serves until the
+// end, and answers who asked for that once all is written.
+fn serve_opened<'w, R: Files + Net + Clock + RandomSource + Alloc + Clone + Drop, P: Reception>(
     rt: &R,
     alloc: Global,
     settings: &Settings<'w>,
-    name: &str,
-    parting: Parting,
-    outlets: &mut Outlets<R::File>,
-) -> Result<Box<CaptureFiles>, Ending<'w>> {
-    let mut files = match CaptureFiles::find(rt, alloc, name, parting) {
-        Ok(files) => boxed(alloc, files)?,
-        Err(fault) => return Err(unwritable(settings, fault)),
-    };
-    match files.next(rt) {
-        Ok(outlet) => {
-            outlets.capture = Some(outlet);
-            Ok(files)
-        }
-        Err(kind) => Err(unwritable(settings, SystemFault::of(kind))),
-    }
-}
-
-// The file of a capture, if one is asked for, and the others, where it is parted.
-fn open_files<'w, R: Files + Alloc + Clone + Drop>(
-    rt: &R,
-    alloc: Global,
-    settings: &Settings<'w>,
+    begun: Begun,
+    opened: &mut Opened<'_, R, P>,
     recording: &mut Recording<R>,
-) -> Result<(), Ending<'w>> {
-    let outlets = &mut recording.outlets;
-    if let (Some(name), Some(parting)) = (settings.capture, settings.parting) {
-        recording.files = Some(open_parted(rt, alloc, settings, name, parting, outlets)?);
-        return Ok(());
+) -> Ending<'w> {
+    match open_files(rt, alloc, settings, recording) {
+        Ok(()) => {}
+        Err(fault) => return unwritable(settings, fault),
     }
-    match open_capture(rt, alloc, settings.capture) {
-        Ok(capture) => {
-            outlets.capture = capture;
-            Ok(())
-        }
-        Err(fault) => Err(unwritable(settings, fault)),
+    tell_start(alloc, opened, begun, recording);
+    if !wait_first(rt, opened, begun) {
+        return Ending::Common(CommonEnding::Clock);
     }
+    let ending = serve_to_end(rt, opened, recording);
+    opened.desk.answer_stop();
+    ending
 }
 
-// Opens what the settings ask for, the file for a capture once all sockets are had, says on standard error where these are, serves until
-// the end, and answers who asked for that once all is written.
+// Opens what the settings ask for, and serves.
 fn serve_with<'w, R: Files + Net + Clock + RandomSource + Alloc + Clone + Drop, P: Reception>(
     rt: &R,
     alloc: Global,
@@ -225,17 +308,7 @@ fn serve_with<'w, R: Files + Net + Clock + RandomSource + Alloc + Clone + Drop, 
         Ok(opened) => opened,
         Err(ending) => return ending,
     };
-    match open_files(rt, alloc, settings, recording) {
-        Ok(()) => {}
-        Err(ending) => return ending,
-    }
-    tell_start(alloc, &mut recording.outlets, &opened, begun);
-    if wait_first(rt, &mut opened.desk.exchange.around, begun).is_err() {
-        return Ending::Common(CommonEnding::Clock);
-    }
-    let ending = serve_to_end(rt, &mut opened, recording);
-    opened.desk.answer_stop();
-    ending
+    serve_opened(rt, alloc, settings, begun, &mut opened, recording)
 }
 
 // Serves with a gateway of the configuration in this text, which has no flaw; or says what it will be.
@@ -249,35 +322,45 @@ fn serve_config<'w, R: Files + Net + Clock + RandomSource + Alloc + Clone + Drop
     let Some(start) = Start::now(rt, settings) else {
         return Ending::NoTimeOfDay;
     };
-    let gateway = match gateway_of(alloc, text, &start) {
-        Ok(gateway) => gateway,
-        Err(refused) => return Ending::from(refused),
+    let Ok(gateway) = gateway_of(alloc, text, &start) else {
+        return Ending::Common(CommonEnding::OutOfMemory);
     };
     if settings.check {
-        if check_gateway(alloc, settings, &gateway, &mut recording.outlets).is_err() {
-            return Ending::Common(CommonEnding::OutOfMemory);
-        }
-        return Ending::Checked;
+        return checked(alloc, settings, &gateway, recording);
     }
     serve_with::<R, P>(rt, alloc, settings, start, text, gateway, recording)
 }
 
-// Whether the configuration in this text has a flaw: which, is said on standard error.
-fn tell_flaw<F: Write + Drop>(
-    alloc: Global,
-    file: &str,
-    text: &[u8],
-    outlets: &mut Outlets<F>,
-) -> Result<bool, AllocError> {
+// What is said of the flaw that the configuration in this text has, if it has one.
+fn flaw_text(alloc: Global, file: &str, text: &[u8]) -> Result<Option<Vec<u8>>, AllocError> {
     let Some(flaw) = flaw_of(alloc, text)? else {
-        return Ok(false);
+        return Ok(None);
     };
     let line = told(alloc, text, flaw)?;
-    let line = str::from_utf8(line.as_slice()).unwrap_or("");
-    let mut said = Vec::new(alloc);
-    put_pieces(&mut said, &[file, ": ", line, "\n"])?;
-    outlets.error.say(said.as_slice());
-    Ok(true)
+    let mut said = Draft::new(alloc);
+    said.put(file.as_bytes());
+    said.put(b": ");
+    said.put(line.as_slice());
+    said.put(b"\n");
+    Ok(Some(said.end()?))
+}
+
+// Serves with the configuration in this text, or says on standard error which flaw that has.
+fn serve_text<'w, R: Files + Net + Clock + RandomSource + Alloc + Clone + Drop, P: Reception>(
+    rt: &R,
+    alloc: Global,
+    settings: &Settings<'w>,
+    text: &[u8],
+    recording: &mut Recording<R>,
+) -> Ending<'w> {
+    let Ok(flaw) = flaw_text(alloc, settings.config, text) else {
+        return Ending::Common(CommonEnding::OutOfMemory);
+    };
+    let Some(said) = flaw else {
+        return serve_config::<R, P>(rt, alloc, settings, text, recording);
+    };
+    recording.say(said.as_slice());
+    Ending::Common(CommonEnding::Told)
 }
 
 // Does what the settings ask.
@@ -287,19 +370,11 @@ fn perform<'w, R: Files + Net + Clock + RandomSource + Alloc + Clone + Drop, P: 
     settings: &Settings<'w>,
     recording: &mut Recording<R>,
 ) -> Ending<'w> {
-    let file = settings.config;
-    let text = match read_file(rt, alloc, file, LIMIT as u64) {
+    let text = match read_file(rt, alloc, settings.config, LIMIT as u64) {
         Ok(text) => text,
         Err(ending) => return Ending::Common(ending),
     };
-    let has_flaw = match tell_flaw(alloc, file, text.as_slice(), &mut recording.outlets) {
-        Ok(has_flaw) => has_flaw,
-        Err(refused) => return Ending::from(refused),
-    };
-    if has_flaw {
-        return Ending::Common(CommonEnding::Told);
-    }
-    serve_config::<R, P>(rt, alloc, settings, text.as_slice(), recording)
+    serve_text::<R, P>(rt, alloc, settings, text.as_slice(), recording)
 }
 
 // The words behind this one, where that is the first.
@@ -310,13 +385,6 @@ fn words_behind<'w>(first: &str, words: &'w [String]) -> Option<&'w [String]> {
     }
 }
 
-// How it ends, whether what was asked is done or not.
-fn either<'w>(ending: Result<Ending<'w>, Ending<'w>>) -> Ending<'w> {
-    match ending {
-        Ok(ending) | Err(ending) => ending,
-    }
-}
-
 // How the program with these words ends.
 fn ending_by<'w, R: AllocGlobal + Files + Net + Clock + RandomSource + Clone + Drop, P: Reception>(
     rt: &R,
@@ -324,12 +392,12 @@ fn ending_by<'w, R: AllocGlobal + Files + Net + Clock + RandomSource + Clone + D
     recording: &mut Recording<R>,
 ) -> Ending<'w> {
     if let Some(asked) = words_behind(TELL, words) {
-        return either(tell_line(rt, asked, &mut recording.outlets.output));
+        return tell_line(rt, asked, recording);
     }
     if let Some(asked) = words_behind(REPLAY, words) {
-        return either(replay_trace(rt, asked, &mut recording.outlets));
+        return replay_trace(rt, asked, recording);
     }
-    let settings = match read_words(rt.alloc(), words, &mut recording.outlets.error) {
+    let settings = match read_words(rt.alloc(), words, recording) {
         Ok(settings) => settings,
         Err(ending) => return ending,
     };
@@ -374,14 +442,10 @@ pub fn run<R: AllocGlobal + Env + Files + Net + Clock + RandomSource + Clone + D
 where
     R::File: AsRawFd,
 {
-    let Some(mut begun) = begin(rt) else {
+    let Some(begun) = begin(rt) else {
         return CommonEnding::OutOfMemory.status();
     };
-    let words = replace(&mut begun.words, Err(CommonEnding::Usage));
-    // What is recorded has outlets of its own: what it began with can't be taken apart here.
-    let Ok(outlets) = Outlets::open(rt, rt.alloc()) else {
-        return CommonEnding::OutOfMemory.status();
-    };
+    let (words, outlets, _held) = begun.parts();
     let Ok(runtime) = rt.clone() else {
         return CommonEnding::OutOfMemory.status();
     };

@@ -8,10 +8,10 @@ ghost use Rattle.rgwd.specs.Statuses.{status_of, is_asked};
 ghost use Rattle.rgwd.specs.Texts.{unanswered_text, ending_text};
 
 use crate::parted::{MOST_FILES, MOST_MEGABYTES};
-use exchange_log::peer_text;
+use exchange_log::put_peer;
 use gateway_core::FIRSTS;
 use live_ends::{About, CommonEnding, SystemFault, put_around, put_pieces};
-use mg_bytes::OutOfMemory;
+use mg_bytes::{Draft, OutOfMemory};
 use new_start::LONGEST_SPREAD;
 use std::alloc::{AllocError, Global};
 use std::io::ErrorKind;
@@ -194,6 +194,8 @@ fn put_unanswered(
 ) -> Result<(), OutOfMemory>
     ensures { OnOk result (out.new.items ≡ out.old.items ++ unanswered_text address) }
 {
-    let address = peer_text(alloc, address)?;
-    put_pieces(out, &[address.as_str(), NO_ANSWER])
+    let mut text = Draft::new(alloc);
+    put_peer(&mut text, address);
+    text.put(NO_ANSWER.as_bytes());
+    text.append_to(out)
 }

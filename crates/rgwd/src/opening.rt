@@ -7,12 +7,12 @@ use crate::ending::Ending;
 use crate::reception::PageReception;
 use crate::words::{Settings, hosts_in, speakers_in};
 use gateway_core::Gateway;
-use live_ends::{Live, SocketWanted};
+use live_ends::{CommonEnding, Live, SocketWanted};
 use live_gateway::{Admission, Desk, DeskSettings, boxed, open_desk, speakers_of};
 use live_journal::Trace;
 use live_page::{HostNames, Reception};
 use std::alloc::Global;
-use std::net::{Ipv4Addr, Net, SocketAddr, SocketAddrV4};
+use std::net::{Ipv4Addr, Net, SocketAddrV4};
 use std::rt::Clock;
 use surroundings::Surroundings;
 
@@ -21,6 +21,32 @@ use surroundings::Surroundings;
 pub struct Opened<'a, R, P> {
     pub desk: Box<Desk<Live<'a, R>, Trace>>,
     pub visitors: Option<Box<PageReception<P>>>,
+}
+
+// The further names of the site, if words say some.
+fn names_of<'w>(alloc: Global, settings: &Settings<'w>) -> Result<HostNames, Ending<'w>> {
+    match settings.sockets.http_hosts {
+        Some(text) => hosts_in(alloc, text),
+        None => Ok(HostNames::none(alloc)),
+    }
+}
+
+// The site at this address, and under these further names.
+fn site_at<'w, R: Net, P: Reception>(
+    rt: &R,
+    alloc: Global,
+    address: SocketAddrV4,
+    names: HostNames,
+    live: &Live<'_, R>,
+) -> Result<Box<PageReception<P>>, Ending<'w>> {
+    let site = match P::at(rt, alloc, address, names, &live.ready) {
+        Ok(site) => site,
+        Err(fault) => return Err(Ending::unbound("--http", address, fault.kind())),
+    };
+    match boxed(alloc, PageReception { site }) {
+        Ok(reception) => Ok(reception),
+        Err(_) => Err(Ending::Common(CommonEnding::OutOfMemory)),
+    }
 }
 
 // The site, if one is asked for.
@@ -33,14 +59,9 @@ fn open_site<'w, R: Net, P: Reception>(
     let Some(address) = settings.sockets.http else {
         return Ok(None);
     };
-    let names = match settings.sockets.http_hosts {
-        Some(text) => hosts_in(alloc, text)?,
-        None => HostNames::none(alloc),
-    };
-    match P::at(rt, alloc, address, names, &live.ready) {
-        Ok(site) => Ok(Some(boxed(alloc, PageReception { site })?)),
-        Err(fault) => Err(Ending::unbound("--http", address, fault.kind())),
-    }
+    let names = names_of(alloc, settings)?;
+    let reception = site_at(rt, alloc, address, names, live)?;
+    Ok(Some(reception))
 }
 
 // Whom this gateway hears, whose sockets are at these addresses, and who may type.
@@ -75,24 +96,63 @@ fn captured_address(socket: SocketAddrV4, media: Ipv4Addr) -> SocketAddrV4
     }
 }
 
+// Where the gateway's socket is, or was to be where it doesn't tell that.
+fn socket_of<R: Net + Clock>(settings: &Settings<'_>, live: &Live<'_, R>) -> SocketAddrV4 {
+    let own = live.own();
+    if own[0].port() == 0 {
+        settings.sockets.listen
+    } else {
+        own[0]
+    }
+}
+
 // What is asked of this gateway, whose socket is where that one is.
 fn desk_settings<'w, R: Net + Clock>(
     settings: &Settings<'w>,
     gateway: &Gateway,
     live: &Live<'_, R>,
 ) -> DeskSettings<'w> {
-    let socket = match live.addresses() {
-        Ok((SocketAddr::V4(socket), _)) => socket,
-        _ => settings.sockets.listen,
-    };
     DeskSettings {
         has_trace: settings.trace,
         has_log: settings.log,
         capture: settings.capture,
-        here: captured_address(socket, gateway.setup().media_address),
+        here: captured_address(socket_of(settings, live), gateway.setup().media_address),
         has_page: settings.sockets.http.is_some(),
         network: settings.network,
         end: settings.stop_after,
+    }
+}
+
+// The sockets that are asked for.
+fn open_live<'a, 'w, R: Net + Clock>(
+    rt: &'a R,
+    alloc: Global,
+    settings: &Settings<'w>,
+) -> Result<Box<Live<'a, R>>, CommonEnding<'w>> {
+    let datagrams = SocketWanted {
+        word: "--listen",
+        address: settings.sockets.listen,
+    };
+    let lines = SocketWanted {
+        word: "--phones",
+        address: settings.sockets.phones,
+    };
+    Live::open(rt, alloc, datagrams, lines)
+}
+
+// A desk for this gateway over these sockets, whose trace has begun with this configuration.
+fn desk_over<'a, 'w, R: Net + Clock>(
+    alloc: Global,
+    settings: &Settings<'w>,
+    config: &[u8],
+    gateway: Box<Gateway>,
+    live: Box<Live<'a, R>>,
+) -> Result<Box<Desk<Live<'a, R>, Trace>>, Ending<'w>> {
+    let admission = admission_of(alloc, settings, &gateway, live.own())?;
+    let asked = desk_settings(settings, &gateway, &live);
+    match open_desk(alloc, &asked, config, gateway, live, admission) {
+        Ok(desk) => Ok(desk),
+        Err(_) => Err(Ending::Common(CommonEnding::OutOfMemory)),
     }
 }
 
@@ -104,18 +164,8 @@ pub fn open<'a, 'w, R: Net + Clock, P: Reception>(
     config: &[u8],
     gateway: Box<Gateway>,
 ) -> Result<Opened<'a, R, P>, Ending<'w>> {
-    let datagrams = SocketWanted {
-        word: "--listen",
-        address: settings.sockets.listen,
-    };
-    let lines = SocketWanted {
-        word: "--phones",
-        address: settings.sockets.phones,
-    };
-    let live = Live::open(rt, alloc, datagrams, lines)?;
+    let live = open_live(rt, alloc, settings)?;
     let visitors = open_site(rt, alloc, settings, &live)?;
-    let admission = admission_of(alloc, settings, &gateway, live.own())?;
-    let asked = desk_settings(settings, &gateway, &live);
-    let desk = open_desk(alloc, &asked, config, gateway, live, admission)?;
+    let desk = desk_over(alloc, settings, config, gateway, live)?;
     Ok(Opened { desk, visitors })
 }

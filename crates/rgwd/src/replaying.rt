@@ -1,12 +1,14 @@
 //! Replays a trace, and says whether each line that went out is what the gateway sends for the lines before it.
 use crate::ending::Ending;
+use crate::recording::Recording;
 use crate::words::unless_help;
-use live_ends::{CommonEnding, Outlets, put_pieces};
+use live_ends::CommonEnding;
+use mg_bytes::Draft;
 use std::alloc::{AllocError, Global};
 use std::fs::File;
-use std::io::{BufReader, Write};
+use std::io;
+use std::io::BufReader;
 use std::rt::Files;
-use std::{io, str};
 use traces::{ReplayFault, Verdict, put_verdict, replay};
 
 /// The word that asks for it, which is the first.
@@ -30,41 +32,76 @@ fn verdict_of<'w, R: Files>(rt: &R, alloc: Global, file: &'w str) -> Result<Verd
     }
 }
 
+// What is found, as a text.
+fn verdict_text(alloc: Global, verdict: &Verdict) -> Result<Vec<u8>, AllocError> {
+    let mut text = Vec::new(alloc);
+    put_verdict(alloc, &mut text, verdict)?;
+    Ok(text)
+}
+
+// A line of this file.
+fn line_of(alloc: Global, file: &str, line: &[u8]) -> Result<Vec<u8>, AllocError> {
+    let mut text = Draft::new(alloc);
+    text.put(file.as_bytes());
+    text.put(b": ");
+    text.put(line);
+    text.end()
+}
+
 // Says on standard output what is found; of what is no trace on standard error.
-fn tell_verdict<F: Write + Drop>(
+fn tell_verdict<R: Files>(
     alloc: Global,
     file: &str,
     verdict: &Verdict,
-    outlets: &mut Outlets<F>,
+    recording: &mut Recording<R>,
 ) -> Result<(), AllocError> {
-    let mut text = Vec::new(alloc);
-    put_verdict(alloc, &mut text, verdict)?;
+    let text = verdict_text(alloc, verdict)?;
     if matches!(verdict, Verdict::Broken { .. }) {
-        let line = str::from_utf8(text.as_slice()).unwrap_or("");
-        let mut said = Vec::new(alloc);
-        put_pieces(&mut said, &[file, ": ", line])?;
-        outlets.error.say(said.as_slice());
+        let line = line_of(alloc, file, text.as_slice())?;
+        recording.say(line.as_slice());
     } else {
-        outlets.output.say(text.as_slice());
+        recording.print(text.as_slice());
     }
     Ok(())
+}
+
+// How the program ends that found this, and said so.
+fn ending_by<'w>(verdict: &Verdict) -> Ending<'w> {
+    match verdict {
+        Verdict::AsTold { .. } => Ending::Replayed,
+        Verdict::Differs { .. } => Ending::Differs,
+        Verdict::Broken { .. } => Ending::NoTrace,
+    }
+}
+
+// Replays the trace in this file, and says what is found: how the program ends by that.
+fn replayed<'w, R: AllocGlobal + Files>(
+    rt: &R,
+    file: &'w str,
+    recording: &mut Recording<R>,
+) -> Ending<'w> {
+    let verdict = match verdict_of(rt, rt.alloc(), file) {
+        Ok(verdict) => verdict,
+        Err(ending) => return ending,
+    };
+    if tell_verdict(rt.alloc(), file, &verdict, recording).is_err() {
+        return Ending::Common(CommonEnding::OutOfMemory);
+    }
+    ending_by(&verdict)
 }
 
 /// Replays the trace in the file that the words behind `--replay` name, and says what is found: how the program ends by that.
 pub fn replay_trace<'w, R: AllocGlobal + Files>(
     rt: &R,
     words: &'w [String],
-    outlets: &mut Outlets<R::File>,
-) -> Result<Ending<'w>, Ending<'w>> {
+    recording: &mut Recording<R>,
+) -> Ending<'w> {
     let [file] = words else {
-        return Err(Ending::Common(CommonEnding::Usage));
+        return Ending::Common(CommonEnding::Usage);
     };
-    let file = unless_help(file.as_str())?;
-    let verdict = verdict_of(rt, rt.alloc(), file)?;
-    tell_verdict(rt.alloc(), file, &verdict, outlets)?;
-    Ok(match &verdict {
-        Verdict::AsTold { .. } => Ending::Replayed,
-        Verdict::Differs { .. } => Ending::Differs,
-        Verdict::Broken { .. } => Ending::NoTrace,
-    })
+    let file = match unless_help(file.as_str()) {
+        Ok(file) => file,
+        Err(ending) => return ending,
+    };
+    replayed(rt, file, recording)
 }

@@ -1,11 +1,11 @@
 //! Sends a line to a gateway's telephones, and prints what they answer.
 use crate::ending::Ending;
+use crate::recording::Recording;
 use crate::words::unless_help;
-use live_ends::{AskFault, CommonEnding, Outlet, address_in, ask};
+use live_ends::{AskFault, CommonEnding, address_in, ask};
 use std::alloc::Global;
-use std::io::Write;
 use std::net::{Net, SocketAddrV4};
-use std::rt::Clock;
+use std::rt::{Clock, Files};
 
 /// The word that asks for it, which is the first.
 pub const TELL: &str = "--tell";
@@ -20,16 +20,24 @@ struct Telling {
     line: String,
 }
 
-// What the words behind `--tell` say: an address, where no socket has port 0, and the words of a line.
+// The address of telephones that a word is: no socket has port 0.
+fn telephones_in<'w>(word: &'w str) -> Result<SocketAddrV4, Ending<'w>> {
+    let address = address_in(TELL, unless_help(word)?)?;
+    if address.port() == 0 {
+        return Err(Ending::Common(CommonEnding::BadAddress { word: TELL }));
+    }
+    Ok(address)
+}
+
+// What the words behind `--tell` say: an address, and the words of a line.
 fn telling_of<'w>(alloc: Global, words: &'w [String]) -> Result<Telling, Ending<'w>> {
     let (Some(word), Some(line)) = (words.first(), words.get(1..)) else {
         return Err(Ending::Common(CommonEnding::Usage));
     };
-    let address = address_in(TELL, unless_help(word.as_str())?)?;
-    if address.port() == 0 {
-        return Err(Ending::Common(CommonEnding::BadAddress { word: TELL }));
-    }
-    let line = line.join(alloc, " ")?;
+    let address = telephones_in(word.as_str())?;
+    let Ok(line) = line.join(alloc, " ") else {
+        return Err(Ending::Common(CommonEnding::OutOfMemory));
+    };
     if line.as_str().trim_ascii().is_empty() {
         return Err(Ending::Common(CommonEnding::Usage));
     }
@@ -37,7 +45,7 @@ fn telling_of<'w>(alloc: Global, words: &'w [String]) -> Result<Telling, Ending<
 }
 
 // How the program ends where the line isn't answered.
-fn ending_by<'w>(address: SocketAddrV4, fault: AskFault) -> Ending<'w> {
+fn unanswered<'w>(address: SocketAddrV4, fault: AskFault) -> Ending<'w> {
     match fault {
         AskFault::NoAnswer => Ending::NoAnswer { address },
         AskFault::Clock => Ending::Common(CommonEnding::Clock),
@@ -45,21 +53,34 @@ fn ending_by<'w>(address: SocketAddrV4, fault: AskFault) -> Ending<'w> {
     }
 }
 
-/// Sends the line that the words behind `--tell` say to the telephones at the address that they name, and prints the answer: how
-/// the program ends by that.
-pub fn tell_line<'w, R: AllocGlobal + Net + Clock, F: Write + Drop>(
+// Sends a line, and prints the answer: how the program ends by that.
+fn told<'w, R: AllocGlobal + Files + Net + Clock>(
     rt: &R,
-    words: &'w [String],
-    printed: &mut Outlet<F>,
-) -> Result<Ending<'w>, Ending<'w>> {
-    let alloc = rt.alloc();
-    let telling = telling_of(alloc, words)?;
-    let mut room = vec![in alloc; 0u8; ROOM]?;
+    telling: &Telling,
+    recording: &mut Recording<R>,
+) -> Ending<'w> {
+    let Ok(mut room) = vec![in rt.alloc(); 0u8; ROOM] else {
+        return Ending::Common(CommonEnding::OutOfMemory);
+    };
     match ask(rt, telling.address, telling.line.as_bytes(), &mut room) {
         Ok(()) => {
-            printed.say(room.as_slice());
-            Ok(Ending::Answered)
+            recording.print(room.as_slice());
+            Ending::Answered
         }
-        Err(fault) => Err(ending_by(telling.address, fault)),
+        Err(fault) => unanswered(telling.address, fault),
     }
+}
+
+/// Sends the line that the words behind `--tell` say to the telephones at the address that they name, and prints the answer: how
+/// the program ends by that.
+pub fn tell_line<'w, R: AllocGlobal + Files + Net + Clock>(
+    rt: &R,
+    words: &'w [String],
+    recording: &mut Recording<R>,
+) -> Ending<'w> {
+    let telling = match telling_of(rt.alloc(), words) {
+        Ok(telling) => telling,
+        Err(ending) => return ending,
+    };
+    told(rt, &telling, recording)
 }

@@ -6,15 +6,16 @@ ghost use Rattle.surroundings.specs.Speaking.{admitted_by, admitted_in};
 use crate::ending::Ending;
 use crate::help::{LISTEN, PHONES, USAGE};
 use crate::parted::parting_of;
+use crate::recording::Recording;
 use bad_network::Spoiling;
 use clap::error::ErrorKind;
 use clap::{Arg, ArgAction, ArgMatches, Command, Error};
-use live_ends::{CommonEnding, Outlet, Parting, VERSION, address_in, boxed, network_in};
+use live_ends::{CommonEnding, Parting, VERSION, address_in, boxed, network_in};
 use live_page::HostNames;
 use new_start::{FirstNumber, spread_in};
 use std::alloc::{AllocError, Global};
-use std::io::Write;
-use std::net::SocketAddrV4;
+use std::net::{Ipv4Addr, SocketAddrV4};
+use std::rt::Files;
 use surroundings::Speakers;
 
 /// The sockets that the program is asked to open, and whom it is to hear there.
@@ -93,27 +94,51 @@ const WORDS: [(&str, Kind); 17] = [
     ("spread", Kind::Text),
 ];
 
+// What clap is told stands in functions of few steps each: a check pays at each step for all that a word, or the command, holds inline.
+
+// A word with this name behind two hyphens.
+fn named<'a>(alloc: Global, name: &'static str) -> Arg<'a> {
+    Arg::new(alloc, name).long(name)
+}
+
 // What clap is told of a word.
 fn arg_of<'a>(alloc: Global, name: &'static str, kind: Kind) -> Arg<'a> {
     match kind {
         Kind::Bare => Arg::new(alloc, name).required(true),
-        Kind::Number => {
-            let arg = Arg::new(alloc, name).long(name);
-            arg.value_parser(clap::value_parser!(u64))
-        }
-        Kind::Flag => Arg::new(alloc, name).long(name).action(ArgAction::SetTrue),
-        Kind::Text => Arg::new(alloc, name).long(name),
+        Kind::Number => named(alloc, name).value_parser(clap::value_parser!(u64)),
+        Kind::Flag => named(alloc, name).action(ArgAction::SetTrue),
+        Kind::Text => named(alloc, name),
     }
 }
 
-fn command<'a>(alloc: Global) -> Result<Command<'a>, AllocError> {
-    let mut command = Command::new(alloc, "rgwd")
+// The command without its words.
+fn bare_command<'a>(alloc: Global) -> Command<'a> {
+    Command::new(alloc, "rgwd")
         .version(VERSION)
-        .override_usage(USAGE);
+        .override_usage(USAGE)
+}
+
+// The command with one word more.
+fn with_word<'a>(
+    command: Command<'a>,
+    alloc: Global,
+    name: &'static str,
+    kind: Kind,
+) -> Result<Command<'a>, AllocError> {
+    command.arg(arg_of(alloc, name, kind))
+}
+
+fn command<'a>(alloc: Global) -> Result<Command<'a>, AllocError> {
+    let mut command = bare_command(alloc);
     for (name, kind) in WORDS.iter() {
-        command = command.arg(arg_of(alloc, *name, *kind))?;
+        command = with_word(command, alloc, *name, *kind)?;
     }
     Ok(command)
+}
+
+// What clap makes of the words of a command line.
+fn matched<'a>(alloc: Global, words: &'a [String]) -> Result<ArgMatches<'a>, Error> {
+    command(alloc)?.try_get_matches_from(words)
 }
 
 /// A word that doesn't ask how the program is used.
@@ -129,24 +154,71 @@ pub fn unless_help<'w>(word: &'w str) -> Result<&'w str, Ending<'w>>
     Ok(word)
 }
 
-// The address of the site, if that stands there: one of the machine's, since the page answers only those who name its address; or where
-// it has further names, any. What says these, if that stands there, does say names.
-fn site_in<'a>(
-    alloc: Global,
-    matches: &ArgMatches<'a>,
-) -> Result<Option<SocketAddrV4>, Ending<'a>> {
-    let names = matches.get_str("http-host");
-    let site = match matches.get_str("http") {
-        Some(text) => Some(address_in("--http", text)?),
-        None => None,
+// Of what is wrong with words the first is kept, and told once all are read: so no word is an error by itself.
+fn note<'a>(fault: &mut Option<Ending<'a>>, ending: Ending<'a>) {
+    if fault.is_none() {
+        *fault = Some(ending);
+    }
+}
+
+// What was read; this where it wasn't, for a fault that is noted.
+fn noted<'a, T: Drop>(
+    fault: &mut Option<Ending<'a>>,
+    read: Result<T, Ending<'a>>,
+    otherwise: T,
+) -> T {
+    let ending = match read {
+        Ok(value) => return value,
+        Err(ending) => ending,
     };
-    if names.is_none() && matches!(site, Some(address) if address.ip().is_unspecified()) {
-        return Err(Ending::AnyAddress);
+    note(fault, ending);
+    otherwise
+}
+
+// The address that stands behind a word; that of no socket where none does.
+fn address_at<'a>(
+    fault: &mut Option<Ending<'a>>,
+    word: &'static str,
+    text: &str,
+) -> SocketAddrV4 {
+    let ending = match address_in(word, text) {
+        Ok(address) => return address,
+        Err(ending) => ending,
+    };
+    note(fault, Ending::Common(ending));
+    SocketAddrV4::new(Ipv4Addr::UNSPECIFIED, 0)
+}
+
+// Sees that what says who may speak, if that stands there, does so.
+fn check_agents<'a>(fault: &mut Option<Ending<'a>>, alloc: Global, text: Option<&str>) {
+    if let Some(text) = text {
+        if let Err(ending) = speakers_in(alloc, text) {
+            note(fault, ending);
+        }
     }
-    if let Some(names) = names {
-        let _ = hosts_in(alloc, names)?;
+}
+
+// Sees that what says further names, if that stands there, does so.
+fn check_names<'a>(fault: &mut Option<Ending<'a>>, alloc: Global, text: Option<&str>) {
+    if let Some(text) = text {
+        if let Err(ending) = hosts_in(alloc, text) {
+            note(fault, ending);
+        }
     }
-    Ok(site)
+}
+
+// The address of the site, if that stands there: one of the machine's, since the page answers only those who name its address; or where
+// it has further names, any.
+fn site_in<'a>(
+    fault: &mut Option<Ending<'a>>,
+    matches: &ArgMatches<'a>,
+) -> Option<SocketAddrV4> {
+    let text = matches.get_str("http")?;
+    let address = address_at(fault, "--http", text);
+    if matches.get_str("http-host").is_none() && address.ip().is_unspecified() {
+        note(fault, Ending::AnyAddress);
+    }
+    Some(address)
 }
 
 /// Who may speak, as this text says it.
@@ -177,9 +249,22 @@ fn bytes_in<'m>(matches: &'m ArgMatches<'_>, word: &str) -> Option<&'m [u8]> {
     }
 }
 
-// The number with which ids begin, if that stands there and is one.
-fn first_in(matches: &ArgMatches<'_>) -> Option<FirstNumber> {
-    FirstNumber::read(matches.get_str("first")?.as_bytes())
+// The number with which ids begin, if that stands there.
+fn first_in<'a>(matches: &ArgMatches<'a>) -> Result<Option<FirstNumber>, Ending<'a>> {
+    let Some(text) = matches.get_str("first") else {
+        return Ok(None);
+    };
+    match FirstNumber::read(text.as_bytes()) {
+        Some(first) => Ok(Some(first)),
+        None => Err(Ending::BadFirst),
+    }
+}
+
+// How a capture is parted, if that stands there.
+fn parting_in<'a>(matches: &ArgMatches<'a>) -> Result<Option<Parting>, Ending<'a>> {
+    let has_capture = matches.get_str("capture").is_some();
+    let size = bytes_in(matches, "capture-size");
+    parting_of(has_capture, size, bytes_in(matches, "capture-files"))
 }
 
 // How long it waits at most before its clock begins, if that stands there.
@@ -193,21 +278,34 @@ fn longest_wait_in<'a>(matches: &ArgMatches<'a>) -> Result<Option<u32>, Ending<'
     }
 }
 
-fn sockets_in<'a>(alloc: Global, matches: &ArgMatches<'a>) -> Result<Sockets<'a>, Ending<'a>> {
-    let listen = address_in("--listen", matches.get_str("listen").unwrap_or(LISTEN))?;
-    let phones = address_in("--phones", matches.get_str("phones").unwrap_or(PHONES))?;
+fn sockets_in<'a>(
+    fault: &mut Option<Ending<'a>>,
+    alloc: Global,
+    matches: &ArgMatches<'a>,
+) -> Sockets<'a> {
+    let listen = address_at(fault, "--listen", matches.get_str("listen").unwrap_or(LISTEN));
+    let phones = address_at(fault, "--phones", matches.get_str("phones").unwrap_or(PHONES));
     let agents = matches.get_str("agents");
-    if let Some(text) = agents {
-        let _ = speakers_in(alloc, text)?;
-    }
-    Ok(Sockets {
+    check_agents(fault, alloc, agents);
+    let http = site_in(fault, matches);
+    let http_hosts = matches.get_str("http-host");
+    check_names(fault, alloc, http_hosts);
+    Sockets {
         listen,
         phones,
         agents,
         phones_open: matches.get_flag("phones-open"),
-        http: site_in(alloc, matches)?,
-        http_hosts: matches.get_str("http-host"),
-    })
+        http,
+        http_hosts,
+    }
+}
+
+// How a network spoils datagrams, if that stands there.
+fn spoiling_in<'a>(matches: &ArgMatches<'a>) -> Result<Option<Spoiling>, Ending<'a>> {
+    match network_in(matches.get_str("network")) {
+        Ok(network) => Ok(network),
+        Err(ending) => Err(Ending::Common(ending)),
+    }
 }
 
 // They stand in a box: whoever holds them, or may have an ending in their place, holds little.
@@ -218,56 +316,72 @@ fn settings_in<'a>(
     let Some(config) = matches.get_str("config") else {
         return Err(Ending::Common(CommonEnding::Usage));
     };
-    let first = first_in(matches);
-    if first.is_none() && matches.get_str("first").is_some() {
-        return Err(Ending::BadFirst);
+    let mut fault = None;
+    let first = noted(&mut fault, first_in(matches), None);
+    let sockets = sockets_in(&mut fault, alloc, matches);
+    let parting = noted(&mut fault, parting_in(matches), None);
+    let network = noted(&mut fault, spoiling_in(matches), None);
+    let spread = noted(&mut fault, longest_wait_in(matches), None);
+    if let Some(ending) = fault {
+        return Err(ending);
     }
-    let capture = matches.get_str("capture");
-    let size = bytes_in(matches, "capture-size");
     let settings = Settings {
         config,
         check: matches.get_flag("check"),
-        sockets: sockets_in(alloc, matches)?,
+        sockets,
         trace: matches.get_flag("trace"),
         log: matches.get_flag("log"),
-        capture,
-        parting: parting_of(capture.is_some(), size, bytes_in(matches, "capture-files"))?,
-        network: network_in(matches.get_str("network"))?,
+        capture: matches.get_str("capture"),
+        parting,
+        network,
         first,
-        spread: longest_wait_in(matches)?,
+        spread,
         stop_after: matches.get_one::<u64>("stop-after"),
     };
-    Ok(boxed(alloc, settings)?)
-}
-
-// How the program ends where there are no settings in words, by clap's error: an outlet says which words are wrong.
-fn ending_by<'a, F: Write + Drop>(
-    alloc: Global,
-    fault: &Error,
-    said: &mut Outlet<F>,
-) -> CommonEnding<'a> {
-    match fault.kind() {
-        ErrorKind::OutOfMemory => CommonEnding::OutOfMemory,
-        ErrorKind::DisplayHelp => CommonEnding::Help,
-        ErrorKind::DisplayVersion => CommonEnding::Version,
-        _ => {
-            let Ok(text) = format!(in alloc; "{fault}") else {
-                return CommonEnding::OutOfMemory;
-            };
-            said.say(text.as_bytes());
-            CommonEnding::Told
-        }
+    match boxed(alloc, settings) {
+        Ok(settings) => Ok(settings),
+        Err(_) => Err(Ending::Common(CommonEnding::OutOfMemory)),
     }
 }
 
-/// Reads the words of a command line, of which the first is the program's name; this outlet says which are wrong.
-pub fn read_words<'a, F: Write + Drop>(
+// What clap says of words that are wrong.
+fn fault_text(alloc: Global, fault: &Error) -> Result<String, AllocError> {
+    format!(in alloc; "{fault}")
+}
+
+// How the program ends where there are no settings in words, by clap's error: standard error says which words are wrong.
+fn ending_by<'a, R: Files>(
+    alloc: Global,
+    fault: &Error,
+    recording: &mut Recording<R>,
+) -> CommonEnding<'a> {
+    let kind = fault.kind();
+    if kind == ErrorKind::OutOfMemory {
+        return CommonEnding::OutOfMemory;
+    }
+    if kind == ErrorKind::DisplayHelp {
+        return CommonEnding::Help;
+    }
+    if kind == ErrorKind::DisplayVersion {
+        return CommonEnding::Version;
+    }
+    match fault_text(alloc, fault) {
+        Ok(text) => {
+            recording.say(text.as_bytes());
+            CommonEnding::Told
+        }
+        Err(_) => CommonEnding::OutOfMemory,
+    }
+}
+
+/// Reads the words of a command line, of which the first is the program's name; standard error says which are wrong.
+pub fn read_words<'a, R: Files>(
     alloc: Global,
     words: &'a [String],
-    said: &mut Outlet<F>,
+    recording: &mut Recording<R>,
 ) -> Result<Box<Settings<'a>>, Ending<'a>> {
-    match command(alloc)?.try_get_matches_from(words) {
+    match matched(alloc, words) {
         Ok(matches) => settings_in(alloc, &matches),
-        Err(fault) => Err(Ending::Common(ending_by(alloc, &fault, said))),
+        Err(fault) => Err(Ending::Common(ending_by(alloc, &fault, recording))),
     }
 }
