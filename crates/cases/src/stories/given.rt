@@ -1,6 +1,7 @@
 //! What a program sent and answered, over surroundings by a script.
 use crate::stories::transcript::Transcript;
-use mg_bytes::{OutOfMemory, lines};
+use exchange_log::put_peer;
+use mg_bytes::{Draft, lines};
 use std::alloc::Global;
 use std::net::{Ipv4Addr, SocketAddr, SocketAddrV4};
 use surroundings::{Answer, Scripted, SentDatagram};
@@ -11,25 +12,20 @@ pub fn typist() -> SocketAddrV4 {
 }
 
 // Puts the lines of a datagram.
-fn put_lines(text: &mut Vec<u8>, bytes: &[u8]) -> Result<(), OutOfMemory> {
+fn put_lines(text: &mut Draft, bytes: &[u8]) {
     for line in lines(bytes) {
-        text.extend_from_slice(line)?;
-        text.push(b'\n')?;
+        text.put(line);
+        text.put(b"\n");
     }
-    Ok(())
 }
 
 // Puts a datagram, as a story tells it.
-fn put_datagram(
-    alloc: Global,
-    text: &mut Vec<u8>,
-    datagram: &SentDatagram,
-) -> Result<(), OutOfMemory> {
-    let to = datagram.to;
-    let head = format!(in alloc; "> {to}\n")?;
-    text.extend_from_slice(head.as_bytes())?;
-    put_lines(text, datagram.bytes.as_slice())?;
-    text.extend_from_slice(b"--\n")
+fn put_datagram(text: &mut Draft, datagram: &SentDatagram) {
+    text.put(b"> ");
+    put_peer(text, datagram.to);
+    text.put(b"\n");
+    put_lines(text, datagram.bytes.as_slice());
+    text.put(b"--\n");
 }
 
 // Puts those from this place on and before the other, but what couldn't be sent.
@@ -39,9 +35,9 @@ fn put_sent(alloc: Global, given: &mut Transcript, around: &Scripted, from: usiz
             continue;
         }
         if let Some(datagram) = around.sent.get(place) {
-            let mut text = Vec::new(alloc);
-            let put = put_datagram(alloc, &mut text, datagram);
-            given.put(datagram.moment, put, text);
+            let mut text = Draft::new(alloc);
+            put_datagram(&mut text, datagram);
+            given.put(datagram.moment, text);
         }
     }
 }

@@ -2,9 +2,10 @@
 use crate::stories::given::typist;
 use crate::stories::late_log::Reading;
 use crate::stories::transcript::Transcript;
+use exchange_log::put_peer;
 use live_ends::{TEXT_ROOM, Written};
 use live_gateway::boxed;
-use mg_bytes::OutOfMemory;
+use mg_bytes::{Draft, OutOfMemory};
 use scenario_files::{bytes_of, in_full, number_in, put_line};
 use std::alloc::Global;
 use std::collections::VecDeque;
@@ -128,12 +129,11 @@ fn value_in(alloc: Global, words: &str) -> Result<Vec<u8>, OutOfMemory> {
 }
 
 // Puts the lines of a datagram that comes, without the blanks round them.
-fn put_heard(bytes: &mut Vec<u8>, text: &str) -> Result<(), OutOfMemory> {
+fn put_heard(bytes: &mut Draft, text: &str) {
     for line in text.lines() {
-        bytes.extend_from_slice(line.trim().as_bytes())?;
-        bytes.extend_from_slice(b"\r\n")?;
+        bytes.put(line.trim().as_bytes());
+        bytes.put(b"\r\n");
     }
-    Ok(())
 }
 
 impl Story {
@@ -283,8 +283,9 @@ impl Story {
     fn end_heard(&mut self) -> Result<(), OutOfMemory> {
         self.place = LinePlace::Between;
         let full = in_full(self.alloc, self.datagram.as_str())?;
-        let mut bytes = Vec::new(self.alloc);
-        put_heard(&mut bytes, full.as_str())?;
+        let mut bytes = Draft::new(self.alloc);
+        put_heard(&mut bytes, full.as_str());
+        let bytes = bytes.end()?;
         let source = self.peer;
         self.add(Happening::Datagram { source, bytes })
     }
@@ -293,11 +294,13 @@ impl Story {
     fn end_sent(&mut self) -> Result<(), OutOfMemory> {
         self.place = LinePlace::Between;
         let full = in_full(self.alloc, self.datagram.as_str())?;
-        let peer = self.peer;
-        let text = format!(in self.alloc; "> {peer}\n{full}--\n")?;
-        let mut bytes = Vec::new(self.alloc);
-        let put = bytes.extend_from_slice(text.as_bytes());
-        self.wanted.put(self.moment, put, bytes);
+        let mut text = Draft::new(self.alloc);
+        text.put(b"> ");
+        put_peer(&mut text, self.peer);
+        text.put(b"\n");
+        text.put(full.as_bytes());
+        text.put(b"--\n");
+        self.wanted.put(self.moment, text);
         Ok(())
     }
 

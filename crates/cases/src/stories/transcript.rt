@@ -1,5 +1,5 @@
 //! What a program gives, by moments.
-use mg_bytes::{OutOfMemory, put_decimal};
+use mg_bytes::{Draft, OutOfMemory};
 use std::alloc::{AllocError, Global};
 
 // What stands before the lines of each kind, in the order in which those of one moment are told, behind what is sent and answered.
@@ -34,28 +34,27 @@ fn rank_of(text: &[u8]) -> usize {
 }
 
 // Puts a line behind this.
-fn put_line(out: &mut Vec<u8>, before: &[u8], line: &[u8]) -> Result<(), OutOfMemory> {
-    out.extend_from_slice(before)?;
-    out.extend_from_slice(line)?;
-    Ok(out.push(b'\n')?)
+fn put_line(out: &mut Draft, before: &[u8], line: &[u8]) {
+    out.put(before);
+    out.put(line);
+    out.put(b"\n");
 }
 
 // Puts the lines of a text but empty ones, each behind this.
-fn put_lines(out: &mut Vec<u8>, before: &[u8], text: &[u8]) -> Result<(), OutOfMemory> {
+fn put_lines(out: &mut Draft, before: &[u8], text: &[u8]) {
     for line in text.split(|byte| *byte == b'\n') {
         let line = line.strip_suffix(b"\r".as_slice()).unwrap_or(line);
         if !line.is_empty() {
-            put_line(out, before, line)?;
+            put_line(out, before, line);
         }
     }
-    Ok(())
 }
 
 // Puts the line that a moment is.
-fn put_moment(alloc: Global, out: &mut Vec<u8>, moment: u64) -> Result<(), OutOfMemory> {
-    out.extend_from_slice(b"at ")?;
-    put_decimal(alloc, out, moment)?;
-    Ok(out.push(b'\n')?)
+fn put_moment(out: &mut Draft, moment: u64) {
+    out.put(b"at ");
+    out.put_decimal(moment);
+    out.put(b"\n");
 }
 
 impl Transcript {
@@ -74,8 +73,15 @@ impl Transcript {
     }
 
     /// This text was given then, where memory was there to put it.
-    pub fn put(&mut self, moment: u64, put: Result<(), OutOfMemory>, text: Vec<u8>) {
-        self.is_refused = self.is_refused || put.is_err();
+    pub fn put(&mut self, moment: u64, text: Draft) {
+        match text.end() {
+            Ok(text) => self.add(moment, text),
+            Err(_) => self.refuse(),
+        }
+    }
+
+    // This text was given then.
+    fn add(&mut self, moment: u64, text: Vec<u8>) {
         if text.is_empty() {
             return;
         }
@@ -88,9 +94,9 @@ impl Transcript {
     /// The lines of this text were given then, each behind this.
     pub fn tell(&mut self, moment: u64, before: &[u8], text: &[u8]) {
         if !text.is_empty() {
-            let mut lines = Vec::new(self.alloc);
-            let put = put_lines(&mut lines, before, text);
-            self.put(moment, put, lines);
+            let mut lines = Draft::new(self.alloc);
+            put_lines(&mut lines, before, text);
+            self.put(moment, lines);
         }
     }
 
@@ -103,26 +109,35 @@ impl Transcript {
     }
 
     // From the first moment to the last; what was given at one stands by kinds, and of one kind in the order in which it was put.
-    fn put_in_order(&mut self, out: &mut Vec<u8>) -> Result<(), OutOfMemory> {
-        self.entries
-            .sort_by_key(|entry| (entry.moment, entry.rank))?;
+    fn sort(&mut self) {
+        let sorted = self
+            .entries
+            .sort_by_key(|entry| (entry.moment, entry.rank));
+        if sorted.is_err() {
+            self.refuse();
+        }
+    }
+
+    // All of it, as it stands.
+    fn put_entries(&self, out: &mut Draft) {
         let mut last = None;
         for entry in self.entries.iter() {
             if last != Some(entry.moment) {
                 last = Some(entry.moment);
-                put_moment(self.alloc, out, entry.moment)?;
+                put_moment(out, entry.moment);
             }
-            out.extend_from_slice(entry.text.as_slice())?;
+            out.put(entry.text.as_slice());
         }
-        Ok(())
     }
 
     /// All of it, behind a line with its moment, in order. Its only error is want of memory, also for what was given.
     pub fn text(&mut self) -> Result<Vec<u8>, OutOfMemory> {
-        let mut out = Vec::new(self.alloc);
-        if self.put_in_order(&mut out).is_err() || self.is_refused {
+        self.sort();
+        if self.is_refused {
             return Err(AllocError);
         }
-        Ok(out)
+        let mut out = Draft::new(self.alloc);
+        self.put_entries(&mut out);
+        out.end()
     }
 }
