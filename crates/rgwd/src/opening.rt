@@ -23,32 +23,6 @@ pub struct Opened<'a, R, P> {
     pub visitors: Option<Box<PageReception<P>>>,
 }
 
-// The further names of the site, if words say some.
-fn names_of<'w>(alloc: Global, settings: &Settings<'w>) -> Result<HostNames, Ending<'w>> {
-    match settings.sockets.http_hosts {
-        Some(text) => hosts_in(alloc, text),
-        None => Ok(HostNames::none(alloc)),
-    }
-}
-
-// The site at this address, and under these further names.
-fn site_at<'w, R: Net, P: Reception>(
-    rt: &R,
-    alloc: Global,
-    address: SocketAddrV4,
-    names: HostNames,
-    live: &Live<'_, R>,
-) -> Result<Box<PageReception<P>>, Ending<'w>> {
-    let site = match P::at(rt, alloc, address, names, &live.ready) {
-        Ok(site) => site,
-        Err(fault) => return Err(Ending::unbound("--http", address, fault.kind())),
-    };
-    match boxed(alloc, PageReception { site }) {
-        Ok(reception) => Ok(reception),
-        Err(_) => Err(Ending::Common(CommonEnding::OutOfMemory)),
-    }
-}
-
 // The site, if one is asked for.
 fn open_site<'w, R: Net, P: Reception>(
     rt: &R,
@@ -59,9 +33,14 @@ fn open_site<'w, R: Net, P: Reception>(
     let Some(address) = settings.sockets.http else {
         return Ok(None);
     };
-    let names = names_of(alloc, settings)?;
-    let reception = site_at(rt, alloc, address, names, live)?;
-    Ok(Some(reception))
+    let names = match settings.sockets.http_hosts {
+        Some(text) => hosts_in(alloc, text)?,
+        None => HostNames::none(alloc),
+    };
+    match P::at(rt, alloc, address, names, &live.ready) {
+        Ok(site) => Ok(Some(boxed(alloc, PageReception { site })?)),
+        Err(fault) => Err(Ending::unbound("--http", address, fault.kind())),
+    }
 }
 
 // Whom this gateway hears, whose sockets are at these addresses, and who may type.

@@ -14,7 +14,7 @@ use live_ends::{CommonEnding, Parting, VERSION, address_in, boxed, network_in};
 use live_page::HostNames;
 use new_start::{FirstNumber, spread_in};
 use std::alloc::{AllocError, Global};
-use std::net::{Ipv4Addr, SocketAddrV4};
+use std::net::SocketAddrV4;
 use std::rt::Files;
 use surroundings::Speakers;
 
@@ -154,71 +154,24 @@ pub fn unless_help<'w>(word: &'w str) -> Result<&'w str, Ending<'w>>
     Ok(word)
 }
 
-// Of what is wrong with words the first is kept, and told once all are read: so no word is an error by itself.
-fn note<'a>(fault: &mut Option<Ending<'a>>, ending: Ending<'a>) {
-    if fault.is_none() {
-        *fault = Some(ending);
-    }
-}
-
-// What was read; this where it wasn't, for a fault that is noted.
-fn noted<'a, T: Drop>(
-    fault: &mut Option<Ending<'a>>,
-    read: Result<T, Ending<'a>>,
-    otherwise: T,
-) -> T {
-    let ending = match read {
-        Ok(value) => return value,
-        Err(ending) => ending,
-    };
-    note(fault, ending);
-    otherwise
-}
-
-// The address that stands behind a word; that of no socket where none does.
-fn address_at<'a>(
-    fault: &mut Option<Ending<'a>>,
-    word: &'static str,
-    text: &str,
-) -> SocketAddrV4 {
-    let ending = match address_in(word, text) {
-        Ok(address) => return address,
-        Err(ending) => ending,
-    };
-    note(fault, Ending::Common(ending));
-    SocketAddrV4::new(Ipv4Addr::UNSPECIFIED, 0)
-}
-
-// Sees that what says who may speak, if that stands there, does so.
-fn check_agents<'a>(fault: &mut Option<Ending<'a>>, alloc: Global, text: Option<&str>) {
-    if let Some(text) = text {
-        if let Err(ending) = speakers_in(alloc, text) {
-            note(fault, ending);
-        }
-    }
-}
-
-// Sees that what says further names, if that stands there, does so.
-fn check_names<'a>(fault: &mut Option<Ending<'a>>, alloc: Global, text: Option<&str>) {
-    if let Some(text) = text {
-        if let Err(ending) = hosts_in(alloc, text) {
-            note(fault, ending);
-        }
-    }
-}
-
 // The address of the site, if that stands there: one of the machine's, since the page answers only those who name its address; or where
-// it has further names, any.
+// it has further names, any. What says these, if that stands there, does say names.
 fn site_in<'a>(
-    fault: &mut Option<Ending<'a>>,
+    alloc: Global,
     matches: &ArgMatches<'a>,
-) -> Option<SocketAddrV4> {
-    let text = matches.get_str("http")?;
-    let address = address_at(fault, "--http", text);
-    if matches.get_str("http-host").is_none() && address.ip().is_unspecified() {
-        note(fault, Ending::AnyAddress);
+) -> Result<Option<SocketAddrV4>, Ending<'a>> {
+    let names = matches.get_str("http-host");
+    let site = match matches.get_str("http") {
+        Some(text) => Some(address_in("--http", text)?),
+        None => None,
+    };
+    if names.is_none() && matches!(site, Some(address) if address.ip().is_unspecified()) {
+        return Err(Ending::AnyAddress);
     }
-    Some(address)
+    if let Some(names) = names {
+        let _ = hosts_in(alloc, names)?;
+    }
+    Ok(site)
 }
 
 /// Who may speak, as this text says it.
@@ -249,22 +202,9 @@ fn bytes_in<'m>(matches: &'m ArgMatches<'_>, word: &str) -> Option<&'m [u8]> {
     }
 }
 
-// The number with which ids begin, if that stands there.
-fn first_in<'a>(matches: &ArgMatches<'a>) -> Result<Option<FirstNumber>, Ending<'a>> {
-    let Some(text) = matches.get_str("first") else {
-        return Ok(None);
-    };
-    match FirstNumber::read(text.as_bytes()) {
-        Some(first) => Ok(Some(first)),
-        None => Err(Ending::BadFirst),
-    }
-}
-
-// How a capture is parted, if that stands there.
-fn parting_in<'a>(matches: &ArgMatches<'a>) -> Result<Option<Parting>, Ending<'a>> {
-    let has_capture = matches.get_str("capture").is_some();
-    let size = bytes_in(matches, "capture-size");
-    parting_of(has_capture, size, bytes_in(matches, "capture-files"))
+// The number with which ids begin, if that stands there and is one.
+fn first_in(matches: &ArgMatches<'_>) -> Option<FirstNumber> {
+    FirstNumber::read(matches.get_str("first")?.as_bytes())
 }
 
 // How long it waits at most before its clock begins, if that stands there.
@@ -278,34 +218,21 @@ fn longest_wait_in<'a>(matches: &ArgMatches<'a>) -> Result<Option<u32>, Ending<'
     }
 }
 
-fn sockets_in<'a>(
-    fault: &mut Option<Ending<'a>>,
-    alloc: Global,
-    matches: &ArgMatches<'a>,
-) -> Sockets<'a> {
-    let listen = address_at(fault, "--listen", matches.get_str("listen").unwrap_or(LISTEN));
-    let phones = address_at(fault, "--phones", matches.get_str("phones").unwrap_or(PHONES));
+fn sockets_in<'a>(alloc: Global, matches: &ArgMatches<'a>) -> Result<Sockets<'a>, Ending<'a>> {
+    let listen = address_in("--listen", matches.get_str("listen").unwrap_or(LISTEN))?;
+    let phones = address_in("--phones", matches.get_str("phones").unwrap_or(PHONES))?;
     let agents = matches.get_str("agents");
-    check_agents(fault, alloc, agents);
-    let http = site_in(fault, matches);
-    let http_hosts = matches.get_str("http-host");
-    check_names(fault, alloc, http_hosts);
-    Sockets {
+    if let Some(text) = agents {
+        let _ = speakers_in(alloc, text)?;
+    }
+    Ok(Sockets {
         listen,
         phones,
         agents,
         phones_open: matches.get_flag("phones-open"),
-        http,
-        http_hosts,
-    }
-}
-
-// How a network spoils datagrams, if that stands there.
-fn spoiling_in<'a>(matches: &ArgMatches<'a>) -> Result<Option<Spoiling>, Ending<'a>> {
-    match network_in(matches.get_str("network")) {
-        Ok(network) => Ok(network),
-        Err(ending) => Err(Ending::Common(ending)),
-    }
+        http: site_in(alloc, matches)?,
+        http_hosts: matches.get_str("http-host"),
+    })
 }
 
 // They stand in a box: whoever holds them, or may have an ending in their place, holds little.
@@ -316,32 +243,26 @@ fn settings_in<'a>(
     let Some(config) = matches.get_str("config") else {
         return Err(Ending::Common(CommonEnding::Usage));
     };
-    let mut fault = None;
-    let first = noted(&mut fault, first_in(matches), None);
-    let sockets = sockets_in(&mut fault, alloc, matches);
-    let parting = noted(&mut fault, parting_in(matches), None);
-    let network = noted(&mut fault, spoiling_in(matches), None);
-    let spread = noted(&mut fault, longest_wait_in(matches), None);
-    if let Some(ending) = fault {
-        return Err(ending);
+    let first = first_in(matches);
+    if first.is_none() && matches.get_str("first").is_some() {
+        return Err(Ending::BadFirst);
     }
+    let capture = matches.get_str("capture");
+    let size = bytes_in(matches, "capture-size");
     let settings = Settings {
         config,
         check: matches.get_flag("check"),
-        sockets,
+        sockets: sockets_in(alloc, matches)?,
         trace: matches.get_flag("trace"),
         log: matches.get_flag("log"),
-        capture: matches.get_str("capture"),
-        parting,
-        network,
+        capture,
+        parting: parting_of(capture.is_some(), size, bytes_in(matches, "capture-files"))?,
+        network: network_in(matches.get_str("network"))?,
         first,
-        spread,
+        spread: longest_wait_in(matches)?,
         stop_after: matches.get_one::<u64>("stop-after"),
     };
-    match boxed(alloc, settings) {
-        Ok(settings) => Ok(settings),
-        Err(_) => Err(Ending::Common(CommonEnding::OutOfMemory)),
-    }
+    Ok(boxed(alloc, settings)?)
 }
 
 // What clap says of words that are wrong.
