@@ -1,2 +1,3 @@
 pub mod Computing
 pub mod ExpectingLaws
+mod PuttingLemmas
