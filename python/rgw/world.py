@@ -343,7 +343,8 @@ class World:
 
     def _tell_come(self, peer: Address, data: bytes, outcomes: list[Outcome]) -> None:
         if len(data) > LARGEST_DATAGRAM:
-            self._tell(peer, "!", f"too long: {len(data)} bytes or more")
+            # Of a longer one no more is read.
+            self._tell(peer, "!", f"too long: {LARGEST_DATAGRAM + 1} bytes or more")
         for message, outcome in zip(messages_of(data), outcomes):
             if outcome.came == "no message":
                 self._tell(peer, "!", outcome.came)
