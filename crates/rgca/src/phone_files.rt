@@ -40,11 +40,11 @@ fn text_in<'p, R: Files>(rt: &R, alloc: Global, path: &'p str) -> Result<Text, E
     Ok(Text::of(text))
 }
 
-// How the program ends by a script that can't be played.
-fn script_ending<'w>(alloc: Global, files: &[Text], fault: ScriptFault) -> Ending<'w> {
+// What is said of a script that can't be played.
+fn script_text(alloc: Global, files: &[Text], fault: ScriptFault) -> Result<Text, OutOfMemory> {
     match fault {
-        ScriptFault::OutOfMemory => Ending::Common(CommonEnding::OutOfMemory),
-        ScriptFault::Line { place, fault } => bad_script(fault_line(alloc, files, place, fault)),
+        ScriptFault::OutOfMemory => Err(AllocError),
+        ScriptFault::Line { place, fault } => fault_line(alloc, files, place, fault),
     }
 }
 
@@ -128,11 +128,14 @@ fn read_on<'w, R: Files>(
     reader: &mut Reader<'_>,
 ) -> Option<Ending<'w>> {
     for _ in 0..u64::MAX {
-        let ending = match reader.go_on() {
-            Ok(Wanted::File { place }) => give_include(rt, alloc, script, reader, place),
+        let place = match reader.go_on() {
+            Ok(Wanted::File { place }) => place,
             Ok(Wanted::Nothing) => return None,
-            Err(fault) => Some(script_ending(alloc, reader.files(), fault)),
+            Err(fault) => {
+                return Some(bad_script(script_text(alloc, reader.files(), fault)));
+            }
         };
+        let ending = give_include(rt, alloc, script, reader, place);
         if ending.is_some() {
             return ending;
         }
