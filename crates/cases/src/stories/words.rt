@@ -34,61 +34,28 @@ fn address_in(value: &str) -> SocketAddrV4 {
 }
 
 impl Words {
-    // Takes a word that stands alone: whether it is one.
-    fn take_flag(&mut self, name: &str) -> bool {
-        match name {
-            "--phones-open" => self.are_phones_open = true,
-            "--log" => self.has_log = true,
-            "--trace" => self.has_trace = true,
-            "--route" => self.is_routed = true,
-            _ => return false,
-        }
-        true
-    }
-
-    // Takes a word with an address: whether it is one.
-    fn take_address(&mut self, name: &str, value: &str) -> bool {
+    // Takes a word, with its value: whether there is such a word.
+    fn take(&mut self, alloc: Global, name: &str, value: &str) -> Result<bool, OutOfMemory> {
         match name {
             "--listen" => self.own[0] = address_in(value),
             "--phones" | "--control" => self.own[1] = address_in(value),
             "--http" => self.http = Some(address_in(value)),
-            _ => return false,
-        }
-        true
-    }
-
-    // Takes a word with numbers: whether it is one, and what it has to have.
-    fn take_numbers(&mut self, name: &str, value: &str) -> bool {
-        match name {
+            "--http-host" => self.http_hosts = HostNames::read(alloc, value.as_bytes())?,
+            "--agents" => self.agents = Speakers::read(alloc, value.as_bytes())?,
+            "--phones-open" => self.are_phones_open = true,
+            "--log" => self.has_log = true,
+            "--trace" => self.has_trace = true,
+            "--route" => self.is_routed = true,
+            "--capture" => self.capture = Some(value.to_string(alloc)?),
             "--network" => self.network = Spoiling::read(value.as_bytes()).ok(),
             "--first" => match FirstNumber::read(value.as_bytes()) {
                 Some(first) => self.first = first,
-                None => return false,
+                None => return Ok(false),
             },
             "--stop-after" => self.stop_after = decimal(value.as_bytes()),
-            _ => return false,
-        }
-        true
-    }
-
-    // Takes a word with a text that is kept: whether it is one.
-    fn take_text(&mut self, alloc: Global, name: &str, value: &str) -> Result<bool, OutOfMemory> {
-        match name {
-            "--http-host" => self.http_hosts = HostNames::read(alloc, value.as_bytes())?,
-            "--agents" => self.agents = Speakers::read(alloc, value.as_bytes())?,
-            "--capture" => self.capture = Some(value.to_string(alloc)?),
             _ => return Ok(false),
         }
         Ok(true)
-    }
-
-    // Takes a word, with its value: whether there is such a word.
-    fn take(&mut self, alloc: Global, name: &str, value: &str) -> Result<bool, OutOfMemory> {
-        if self.take_flag(name) || self.take_address(name, value) || self.take_numbers(name, value)
-        {
-            return Ok(true);
-        }
-        self.take_text(alloc, name, value)
     }
 }
 
