@@ -4,20 +4,18 @@ use Rattle.std.specs.Prelude.{All, AllPairs}
 use Rattle.std.proofs.lemmas.Bool.{and_parts, cases_Bool, eqb-true, eqb-false}
 use Rattle.std.proofs.lemmas.Bool.Decides.{nat_tests}
 use Rattle.plain_machine.specs.declared.setup.Setup.{Setup}
-use Rattle.plain_machine.specs.Setup.{IsSetUp, firsts}
-use Rattle.plain_machine.specs.Machine.{opening}
-use Rattle.plain_machine.specs.Lists.{are_taken, sent_of}
+use Rattle.plain_machine.specs.Setup.{firsts}
+use Rattle.plain_machine.specs.Lists.{sent_of}
 use Rattle.plain_machine.specs.Posting.{numbers, first_number, id_on, line_of_id}
 use Rattle.machine_laws.specs.Numbering.{start_on, IsBehind, IsInTurn}
 use Rattle.machine_laws.specs.Saying.{Begun, HasNumbersLeft, begun_in, count_of}
 use Rattle.machine_laws.specs.Starting.{BeganUnder, first_at, longest_life, most_after}
-use Rattle.machine_laws.proofs.EachLemmas.{Each, all_from_each, each_back, each_from_all, each_mapped, each_weaker}
-use Rattle.machine_laws.proofs.GatewayLists.{each_in_turn}
+use Rattle.machine_laws.proofs.EachLemmas.{Each, EachAfter, all_from_each, each_after_at, each_back, each_from_all, each_mapped, each_weaker}
 use Rattle.machine_laws.proofs.GoingRound.{first_low}
 use Rattle.machine_laws.proofs.PostLogs.{count_both, count_none, count_one}
 use Rattle.life_laws.specs.Lives.{Life, LivesStep, lives_are_taken, lives_of, lives_opening, plain_lives}
 use Rattle.life_laws.specs.Apart.{BeganByTime, IsByTime, KeepsPace, LieApart, StartsByTime, StartsLater, begun_of, keeps_pace, moved, own_of}
-use Rattle.life_laws.proofs.GatewaysOfLives.{gateways_take}
+use Rattle.life_laws.proofs.OwnEvents.{all_in_turn}
 use Rattle.life_laws.proofs.PairLemmas.{each_and}
 use Rattle.life_laws.proofs.TimeOfDay.{by_time_they_lie_apart}
 
@@ -96,9 +94,9 @@ start_is day life line starts = ap (λ (n : ℕ). first_number line + n) (omega 
 since_start : (day start moment : ℕ) → (day + (start + moment)) - (day + start) ≡ moment
 since_start day start moment = omega arith
 
-one_by_time : (day : ℕ) (life : Life) (before after : List Begun) (one : Begun) → IsSetUp life.setup → are_taken life.setup (opening life.setup) life.took ≡ true
-    → StartsByTime day life → KeepsPace life → own_of life ≡ before ++ one ∷ after → BeganByTime day life.start (moved life.start one)
-one_by_time day life before after one set_up taken starts pace is = record {
+one_by_time : (day : ℕ) (life : Life) (before after : List Begun) (one : Begun) → StartsByTime day life → KeepsPace life → own_of life ≡ before ++ one ∷ after
+    → BeganByTime day life.start (moved life.start one)
+one_by_time day life before after one starts pace is = record {
   line = line;
   number = turn.number;
   below = turn.below;
@@ -116,31 +114,25 @@ one_by_time day life before after one set_up taken starts pace is = record {
   line = line_of_id one.id
 
   turn : IsInTurn life.setup before one
-  turn = each_in_turn life.setup life.took before after one set_up taken (paced_left life pace) is
+  turn =
+      each_after_at (IsInTurn life.setup) [] before one after
+      (subst (λ (log : List Begun). EachAfter (IsInTurn life.setup) [] log) is (all_in_turn life.setup life.took (paced_left life pace)))
 
-life_by_time : (day : ℕ) (life : Life) → IsSetUp life.setup × (are_taken life.setup (opening life.setup) life.took ≡ true) → StartsByTime day life → KeepsPace life → IsByTime day life
-life_by_time day life takes starts pace =
+-- so it is of any life, whatever was refused
+pub paced_follow : (day : ℕ) (life : Life) → StartsByTime day life → KeepsPace life → IsByTime day life
+paced_follow day life starts pace =
     all_from_each (BeganByTime day life.start) (begun_of life)
     (each_mapped (BeganByTime day life.start) (moved life.start) (own_of life)
     (at_each (λ (b : Begun). BeganByTime day life.start (moved life.start b)) (own_of life) [] (own_of life) refl
-    (λ before after one is. one_by_time day life before after one takes.0 takes.1 starts pace is)))
+    (λ before after one is. one_by_time day life before after one starts pace is)))
 
-abbrev Takes : Life → Type 0
-Takes life = IsSetUp life.setup × (are_taken life.setup (opening life.setup) life.took ≡ true)
-
-pub paced_follow : (day : ℕ) (setup : Setup) (steps : List LivesStep) → IsSetUp setup → lives_are_taken setup (lives_opening setup) steps ≡ true
-    → All (StartsByTime day) (lives_of (plain_lives setup steps)) → All KeepsPace (lives_of (plain_lives setup steps)) → All (IsByTime day) (lives_of (plain_lives setup steps))
-paced_follow day setup steps set_up taken starts paces =
-    all_from_each (IsByTime day) lives
-    (each_weaker (λ (life : Life). Takes life × (StartsByTime day life × KeepsPace life)) (IsByTime day) (λ life is. life_by_time day life is.0 is.1.0 is.1.1) lives
-    (each_and Takes (λ (life : Life). StartsByTime day life × KeepsPace life) lives
-    (each_from_all Takes lives (gateways_take setup steps set_up taken))
-    (each_and (StartsByTime day) KeepsPace lives (each_from_all (StartsByTime day) lives starts) (each_from_all KeepsPace lives paces)))) where
-      lives : List Life
-      lives = lives_of (plain_lives setup steps)
-
-pub paced_lie_apart : (day : ℕ) (setup : Setup) (steps : List LivesStep) → IsSetUp setup → lives_are_taken setup (lives_opening setup) steps ≡ true
+pub paced_lie_apart : (day : ℕ) (setup : Setup) (steps : List LivesStep) → lives_are_taken setup (lives_opening setup) steps ≡ true
     → All (StartsByTime day) (lives_of (plain_lives setup steps)) → All KeepsPace (lives_of (plain_lives setup steps)) → AllPairs StartsLater (lives_of (plain_lives setup steps))
     → LieApart (lives_of (plain_lives setup steps))
-paced_lie_apart day setup steps set_up taken starts paces later =
-    by_time_they_lie_apart day setup steps taken (paced_follow day setup steps set_up taken starts paces) later
+paced_lie_apart day setup steps taken starts paces later =
+    by_time_they_lie_apart day setup steps taken
+    (all_from_each (IsByTime day) lives
+    (each_weaker (λ (life : Life). StartsByTime day life × KeepsPace life) (IsByTime day) (λ life is. paced_follow day life is.0 is.1) lives
+    (each_and (StartsByTime day) KeepsPace lives (each_from_all (StartsByTime day) lives starts) (each_from_all KeepsPace lives paces)))) later where
+      lives : List Life
+      lives = lives_of (plain_lives setup steps)

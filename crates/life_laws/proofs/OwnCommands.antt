@@ -1,6 +1,7 @@
--- What a gateway has in flight is a command that began, and what it sends of its own is the text of one; with a setup as
--- configurations give it each of them is read as a command. So it is at each turn, whatever was refused.
-use Rattle.std.proofs.Common.{◌≡◌, ℕ, ◌<◌, ◌≤◌, true, ◌==◌, ◌&&◌, List, [], ◌∷◌, ◌++◌, Option, Some, None, Ok, inl, refl, sym, ap, ◌∙◌, subst, arith, append-nil, codes}
+-- What a gateway has in flight is a command that began, and what it sends of its own is the text of one; each began under the number
+-- behind as many as its line began before it; with a setup as configurations give it each of them is read as a command. So it is at
+-- each turn, whatever was refused.
+use Rattle.std.proofs.Common.{◌≡◌, ◌≢◌, ℕ, ◌+◌, ◌<◌, ◌≤◌, true, ◌==◌, ◌&&◌, List, [], ◌∷◌, ◌++◌, Option, Some, None, Ok, inl, refl, sym, ap, ◌∙◌, subst, arith, append-nil, codes}
 use Rattle.std.specs.Prelude.{IfSome, option_map}
 use Rattle.std.specs.Option.{unwrap_or}
 use Rattle.std.specs.Str.{bytes_eq}
@@ -48,26 +49,31 @@ use Rattle.plain_machine.specs.Effect.{Effect, silently}
 use Rattle.plain_machine.specs.Falling.{happened_on, happened_under}
 use Rattle.plain_machine.specs.Message.{Sent, own_of, resent, text_of}
 use Rattle.plain_machine.specs.Notifying.{noted, notification, posted, with_notice}
-use Rattle.plain_machine.specs.Posting.{given_up, id_on, numbers, repeated_as, resent_by, resent_on, with_command}
+use Rattle.plain_machine.specs.Posting.{first_number, given_up, id_on, line_of_id, number_after, numbers, repeated_as, resent_by, resent_on, with_command}
 use Rattle.plain_machine.specs.Requesting.{asked_if, deed_on, with_connections, with_entity}
 use Rattle.plain_machine.specs.Responding.{opened_on, redirected_on, responded_as, responded_on}
 use Rattle.plain_machine.specs.Setup.{IsSetUp, most_lines}
 use Rattle.outbound.specs.Issued.{is_command_as}
-use Rattle.machine_laws.specs.Saying.{Begun, OneOf}
+use Rattle.machine_laws.specs.Numbering.{start_on, IsBehind, IsInTurn}
+use Rattle.machine_laws.specs.Saying.{Begun, OneOf, count_of}
 use Rattle.machine_laws.proofs.AnnouncementLemmas.{announcement_writable}
 use Rattle.machine_laws.proofs.CommandLaws.{OwnSound, Sound, asked_if_done, noted_sound, own_responded_sound, responded_sound, sound_own_turns, sound_turns}
-use Rattle.machine_laws.proofs.EachLemmas.{Each, each_push, one_before, one_behind, one_weaker}
+use Rattle.machine_laws.proofs.EachLemmas.{Each, EachAfter, each_after_push, each_push, one_before, one_behind, one_weaker}
 use Rattle.machine_laws.proofs.FlightLaws.{next_below}
 use Rattle.machine_laws.proofs.FlightLemmas.{IsSame}
+use Rattle.machine_laws.proofs.GoingRound.{behind_next, start_below}
 use Rattle.machine_laws.proofs.KeepLemmas.{EffectKeeps, silent_keeps, whole_keeps}
 use Rattle.machine_laws.proofs.LogTurns.{Good, LogTurns, OwnGood}
 use Rattle.machine_laws.proofs.NoticeLemmas.{IsDone, IsTold, answered_done, fired_done, opened_done, phoned_done}
 use Rattle.machine_laws.proofs.NotificationLemmas.{told_writable}
+use Rattle.machine_laws.proofs.PostLogs.{AllFew, Few, count_both, count_none, count_one, few_before}
 use Rattle.machine_laws.proofs.TellsLemmas.{IsCommand}
 
--- what a post has in flight is one of these, and its next number is one of a line's
-pub record Flies (log : List Begun) (post : Post) : Type 0 where
+-- what a post has in flight is one of these, and its next number is one of a line's: that behind as many as the line began, while
+-- not all are used up
+pub record Flies (setup : Setup) (line : ℕ) (log : List Begun) (post : Post) : Type 0 where
   pub below : post.number < numbers
+  pub behind : Few line log → IsBehind line (start_on setup line) (count_of line log) post.number
   pub flight : IfSome post.pending (λ (message : InFlight). OneOf (IsSame message) log)
 
 -- what is sent is the text of one of these, and sent by this moment
@@ -75,20 +81,21 @@ pub record IsOwn (until : ℕ) (log : List Begun) (sent : Sent) : Type 0 where
   pub text : OneOf (λ (b : Begun). text_of sent.said ≡ b.text) log
   pub early : sent.moment ≤ until
 
--- with a setup as configurations give it each of these is read as a command
-abbrev pub AreCommands : Setup → List Begun → Type 0
-AreCommands setup log = IsSetUp setup → Each IsCommand log
+-- with a setup as configurations give it each of these is read as a command; and each began in turn, while not all numbers are used up
+pub record AreCommands (setup : Setup) (log : List Begun) : Type 0 where
+  pub read : IsSetUp setup → Each IsCommand log
+  pub turns : AllFew log → EachAfter (IsInTurn setup) [] log
 
 pub record LineFlies (setup : Setup) (log : List Begun) (line : ℕ) (endpoint : Endpoint) : Type 0 where
-  pub post : Flies log endpoint.post
+  pub post : Flies setup line log endpoint.post
   pub sound : IsSetUp setup → Sound line endpoint
 
 pub record OwnFlies (setup : Setup) (log : List Begun) (own : Post) : Type 0 where
-  pub post : Flies log own
+  pub post : Flies setup 0 log own
   pub sound : IsSetUp setup → OwnSound own
 
 abbrev PostGood : Setup → ℕ → List Begun → ℕ → Effect Post → Type 0
-PostGood setup until log line turn = EffectKeeps Flies (IsOwn until) (AreCommands setup) log line turn
+PostGood setup until log line turn = EffectKeeps (Flies setup line) (IsOwn until) (AreCommands setup) log line turn
 
 abbrev GoodTurn : Setup → ℕ → List Begun → ℕ → Effect Endpoint → Type 0
 GoodTurn setup until log line turn = Good (LineFlies setup) (IsOwn until) (AreCommands setup) log line turn
@@ -102,8 +109,16 @@ flight_on : (log new : List Begun) (found : Option InFlight) → IfSome found (�
 flight_on log new None is = tt
 flight_on log new (Some message) is = one_before (IsSame message) log new is
 
-flies_on : (log new : List Begun) (post : Post) → Flies log post → Flies (log ++ new) post
-flies_on log new post f = record { below = f.below; flight = flight_on log new post.pending f.flight }
+-- what other lines begin changes nothing
+flies_on : (setup : Setup) (line : ℕ) (log new : List Begun) (post : Post) → Each (λ (b : Begun). line_of_id b.id ≢ line) new → Flies setup line log post
+    → Flies setup line (log ++ new) post
+flies_on setup line log new post apart f = record {
+  below = f.below;
+  behind = λ few. subst (λ (n : ℕ). IsBehind line (start_on setup line) n post.number) (sym as_many) (f.behind (few_before line log new few));
+  flight = flight_on log new post.pending f.flight;
+} where
+  as_many : count_of line (log ++ new) ≡ count_of line log
+  as_many = let both = count_both line log new in let none = count_none line new apart in omega (arith, both, none)
 
 pub own_on : (until : ℕ) (log new : List Begun) (sent : Sent) → IsOwn until log sent → IsOwn until (log ++ new) sent
 own_on until log new sent own = record { text = one_before (λ (b : Begun). text_of sent.said ≡ b.text) log new own.text; early = own.early }
@@ -115,24 +130,29 @@ same_known log was is same known =
 
 -- A post
 
-post_still : (setup : Setup) (until : ℕ) (log : List Begun) (line : ℕ) (post : Post) → AreCommands setup log → Flies log post → PostGood setup until log line (silently post)
-post_still setup until log line post commands f = silent_keeps Flies (IsOwn until) (AreCommands setup) log line post commands f
+post_still : (setup : Setup) (until : ℕ) (log : List Begun) (line : ℕ) (post : Post) → AreCommands setup log → Flies setup line log post → PostGood setup until log line (silently post)
+post_still setup until log line post commands f = silent_keeps (Flies setup line) (IsOwn until) (AreCommands setup) log line post commands f
 
 same_command : (id : ℕ) (name : List ℕ) → (id == id && bytes_eq name name) ≡ true
 same_command id name = and_from (id == id) (bytes_eq name name) (eq-eqb id id refl) ((bytes_eq-Decides name name).1 refl)
 
 -- a command begins
 command_flies : (setup : Setup) (until : ℕ) (log : List Begun) (line moment : ℕ) (post : Post) (verb : Verb) (name : List ℕ) (params : List Param) (body : List ℕ)
-    → (IsSetUp setup → is_writable (messages.Command verb (id_on line post.number) name params body) ≡ true) → moment ≤ until → AreCommands setup log → Flies log post
+    → (IsSetUp setup → is_writable (messages.Command verb (id_on line post.number) name params body) ≡ true) → moment ≤ until → AreCommands setup log → Flies setup line log post
     → PostGood setup until log line (with_command line moment post (messages.Command verb (id_on line post.number) name params body))
 command_flies setup until log line moment post verb name params body writable past commands f = record {
-  log_holds = λ set_up. each_push IsCommand log b (commands set_up) (record {
-    name = name;
-    reads = ap (is_command_as id name) (read_again (messages.Command verb (id_on line post.number) name params body) (writable set_up)) ∙ same_command id name;
-  });
-  of = (div-mul-add line numbers post.number f.below, tt);
+  log_holds = record {
+    read = λ set_up. each_push IsCommand log b (commands.read set_up) (record {
+      name = name;
+      reads = ap (is_command_as id name) (read_again (messages.Command verb (id_on line post.number) name params body) (writable set_up)) ∙ same_command id name;
+    });
+    turns = λ few. each_after_push (IsInTurn setup) [] log b (commands.turns (λ i. few_before i log (b ∷ []) (few i)))
+        (in_turn (f.behind (few_before line log (b ∷ []) (few line))));
+  };
+  of = (of_line, tt);
   holds = record {
     below = next_below line post.number f.below;
+    behind = next_behind;
     flight = one_behind (IsSame flight) log (b ∷ []) (inl (record { id = refl; text = refl; moment = refl }));
   };
   sent_holds = (record { text = one_behind (λ (a : Begun). text ≡ a.text) log (b ∷ []) (inl refl); early = past }, tt);
@@ -149,17 +169,35 @@ command_flies setup until log line moment post verb name params body writable pa
   flight : InFlight
   flight = sent_first id post.entity.route text moment
 
+  of_line : line_of_id (id_on line post.number) ≡ line
+  of_line = div-mul-add line numbers post.number f.below
+
+  in_turn : IsBehind line (start_on setup line) (count_of line log) post.number → IsInTurn setup log b
+  in_turn behind = record {
+    number = post.number;
+    below = f.below;
+    behind = subst (λ (l : ℕ). IsBehind l (start_on setup l) (count_of l log) post.number) (sym of_line) behind;
+    is = ap (λ (l : ℕ). id_on l post.number) (sym of_line);
+  }
+
+  next_behind : Few line (log ++ b ∷ []) → IsBehind line (start_on setup line) (count_of line (log ++ b ∷ [])) (number_after line post.number)
+  next_behind few =
+      let total : count_of line (log ++ b ∷ []) ≡ count_of line log + 1 = count_both line log (b ∷ []) ∙ ap (λ (x : ℕ). count_of line log + x) (count_one line b of_line) in
+      let left : first_number line + (count_of line log + 1) < numbers = (let all : first_number line + count_of line (log ++ b ∷ []) < numbers = few in omega (arith, all, total)) in
+      subst (λ (n : ℕ). IsBehind line (start_on setup line) n (number_after line post.number)) (sym total)
+      (behind_next line (start_on setup line) (count_of line log) post.number (start_below setup line) left (f.behind (few_before line log (b ∷ []) few)))
+
 -- it is sent again, or given up
-resent_flies : (setup : Setup) (until : ℕ) (log : List Begun) (line moment : ℕ) (post : Post) → moment ≤ until → AreCommands setup log → Flies log post
+resent_flies : (setup : Setup) (until : ℕ) (log : List Begun) (line moment : ℕ) (post : Post) → moment ≤ until → AreCommands setup log → Flies setup line log post
     → PostGood setup until log line (resent_on setup line moment post)
 resent_flies setup until log line moment post past commands f = by_pending post.pending f.flight where
   by_repeat : (flight : InFlight) → OneOf (IsSame flight) log → (repeat : Repeat) → PostGood setup until log line (repeated_as repeat setup line moment post flight)
-  by_repeat flight known GivenUp = post_still setup until log line (given_up setup line moment post) commands (record { below = f.below; flight = tt })
+  by_repeat flight known GivenUp = post_still setup until log line (given_up setup line moment post) commands (record { below = f.below; behind = f.behind; flight = tt })
   by_repeat flight known SentAgain = record {
     log_holds = subst (AreCommands setup) (sym (append-nil log)) commands;
     of = tt;
-    holds = subst (λ (x : List Begun). Flies x (record post { pending = Some (repeated flight moment) })) (sym (append-nil log))
-        (record { below = f.below; flight = same_known log flight (repeated flight moment) (repeat_same flight moment) known });
+    holds = subst (λ (x : List Begun). Flies setup line x (record post { pending = Some (repeated flight moment) })) (sym (append-nil log))
+        (record { below = f.below; behind = f.behind; flight = same_known log flight (repeated flight moment) (repeat_same flight moment) known });
     sent_holds = subst (λ (x : List Begun). IsOwn until x (record { to = sent_to (repeated flight moment); moment = moment; owner = own_of line; said = resent flight }) × Unit {0}) (sym (append-nil log))
         (record { text = one_weaker (IsSame flight) (λ (b : Begun). flight.text ≡ b.text) (λ b e. sym e.text) log known; early = past }, tt);
   }
@@ -172,16 +210,16 @@ resent_flies setup until log line moment post past commands f = by_pending post.
 abbrev CanAnnounce : Setup → ℕ → Post → Type 0
 CanAnnounce setup line post = IsSetUp setup → (line ≤ most_lines) × (1 ≤ id_on line post.number)
 
-announced_flies : (setup : Setup) (until : ℕ) (log : List Begun) (line moment : ℕ) (post : Post) → CanAnnounce setup line post → moment ≤ until → AreCommands setup log → Flies log post
+announced_flies : (setup : Setup) (until : ℕ) (log : List Begun) (line moment : ℕ) (post : Post) → CanAnnounce setup line post → moment ≤ until → AreCommands setup log → Flies setup line log post
     → PostGood setup until log line (announced setup line moment post)
 unfolding announced announcement
 announced_flies setup until log line moment post can past commands f =
     command_flies setup until log line moment (record post { restart = Announced }) Rsip (name_text (announced_lines line) setup.names.domain)
     ((record { code = codes "RM"; value = method_of line }) ∷ []) []
     (λ set_up. announcement_writable setup line post.number set_up (can set_up).0 f.below (can set_up).1) past commands
-    (record { below = f.below; flight = f.flight })
+    (record { below = f.below; behind = f.behind; flight = f.flight })
 
-announcing_flies : (setup : Setup) (until : ℕ) (log : List Begun) (line moment : ℕ) (post : Post) → CanAnnounce setup line post → moment ≤ until → AreCommands setup log → Flies log post
+announcing_flies : (setup : Setup) (until : ℕ) (log : List Begun) (line moment : ℕ) (post : Post) → CanAnnounce setup line post → moment ≤ until → AreCommands setup log → Flies setup line log post
     → PostGood setup until log line (announced_on setup line moment post)
 announcing_flies setup until log line moment post can past commands f = by_restart post.restart where
   by_restart : (restart : Restart) → PostGood setup until log line (announced_by restart setup line moment post)
@@ -189,31 +227,32 @@ announcing_flies setup until log line moment post can past commands f = by_resta
   by_restart Announced = post_still setup until log line post commands f
   by_restart Serving = post_still setup until log line post commands f
 
-put_off_flies : (log : List Begun) (until : ℕ) (response : Response) (post : Post) → Flies log post → Flies log (put_off response until post)
-put_off_flies log until response post f = by_pending post.pending f.flight where
+put_off_flies : (setup : Setup) (line : ℕ) (log : List Begun) (until : ℕ) (response : Response) (post : Post) → Flies setup line log post
+    → Flies setup line log (put_off response until post)
+put_off_flies setup line log until response post f = by_pending post.pending f.flight where
   by_pending : (pending : Option InFlight) → IfSome pending (λ (message : InFlight). OneOf (IsSame message) log)
-      → Flies log (record post { pending = option_map (λ message. heard message response.id response.code until) pending })
-  by_pending None known = record { below = f.below; flight = tt }
+      → Flies setup line log (record post { pending = option_map (λ message. heard message response.id response.code until) pending })
+  by_pending None known = record { below = f.below; behind = f.behind; flight = tt }
   by_pending (Some flight) known =
-      record { below = f.below; flight = same_known log flight (heard flight response.id response.code until) (reply_same flight response.id response.code until) known }
+      record { below = f.below; behind = f.behind; flight = same_known log flight (heard flight response.id response.code until) (reply_same flight response.id response.code until) known }
 
-replied_flies : (heard : Heard) (setup : Setup) (until : ℕ) (log : List Begun) (line : ℕ) (response : Response) (post : Post) → CanAnnounce setup line post → AreCommands setup log → Flies log post
+replied_flies : (heard : Heard) (setup : Setup) (until : ℕ) (log : List Begun) (line : ℕ) (response : Response) (post : Post) → CanAnnounce setup line post → AreCommands setup log → Flies setup line log post
     → PostGood setup until log line (replied heard setup line until response post)
 unfolding replied
 replied_flies Nothing setup until log line response post can commands f = post_still setup until log line post commands f
 replied_flies PutOff setup until log line response post can commands f =
-    post_still setup until log line (put_off response until post) commands (put_off_flies log until response post f)
+    post_still setup until log line (put_off response until post) commands (put_off_flies setup line log until response post f)
 replied_flies (Redirected agent) setup until log line response post can commands f =
-    announced_flies setup until log line until (record post { entity = agent }) can (omega arith) commands (record { below = f.below; flight = f.flight })
+    announced_flies setup until log line until (record post { entity = agent }) can (omega arith) commands (record { below = f.below; behind = f.behind; flight = f.flight })
 replied_flies (Answered agent) setup until log line response post can commands f =
-    post_still setup until log line (record post { entity = unwrap_or agent post.entity; pending = None; restart = Serving }) commands (record { below = f.below; flight = tt })
+    post_still setup until log line (record post { entity = unwrap_or agent post.entity; pending = None; restart = Serving }) commands (record { below = f.below; behind = f.behind; flight = tt })
 
 -- An endpoint, and the gateway itself
 
 post_turn : (setup : Setup) (until : ℕ) (log : List Begun) (line : ℕ) (endpoint : Endpoint) (turn : Effect Post) → (IsSetUp setup → Sound line (posted endpoint turn).value)
     → PostGood setup until log line turn → GoodTurn setup until log line (posted endpoint turn)
 post_turn setup until log line endpoint turn sound good =
-    whole_keeps Flies (λ (x : List Begun). LineFlies setup x line) (IsOwn until) (AreCommands setup) log line
+    whole_keeps (Flies setup line) (λ (x : List Begun). LineFlies setup x line) (IsOwn until) (AreCommands setup) log line
     (λ (post : Post). record endpoint { post = post }) turn (λ flies. record { post = flies; sound = sound }) good
 
 still : (setup : Setup) (until : ℕ) (log : List Begun) (line : ℕ) (endpoint : Endpoint) → AreCommands setup log → LineFlies setup log line endpoint → GoodTurn setup until log line (silently endpoint)
@@ -231,7 +270,7 @@ own_can setup log own f set_up = (omega arith, (f.sound set_up).some)
 
 entity_flies : (setup : Setup) (log : List Begun) (line : ℕ) (endpoint : Endpoint) (agent : Option Entity) → LineFlies setup log line endpoint → LineFlies setup log line (with_entity agent endpoint)
 entity_flies setup log line endpoint agent f = record {
-  post = record { below = f.post.below; flight = f.post.flight };
+  post = record { below = f.post.below; behind = f.post.behind; flight = f.post.flight };
   sound = λ set_up. let s = f.sound set_up in record { some = s.some; few = s.few; below = s.below; fine = s.fine; flight = s.flight };
 }
 
@@ -296,7 +335,7 @@ responded_flies setup until log line response endpoint commands f =
           let post : Post = record endpoint.post { entity = unwrap_or agent endpoint.post.entity; pending = None; restart = Serving } in
           noted_flies setup until log line until (record endpoint { post = post }) (answered endpoint.line until) (omega arith) commands
           (record {
-            post = record { below = f.post.below; flight = tt };
+            post = record { below = f.post.below; behind = f.post.behind; flight = tt };
             sound = λ set_up. let s = f.sound set_up in record { some = s.some; few = s.few; below = s.below; fine = s.fine; flight = tt };
           })
           (λ set_up. answered_done endpoint.line until (f.sound set_up).fine)
@@ -352,7 +391,7 @@ own_turns setup until = record {
   own_happening = λ log item own commands f due past.
       own_happened_flies setup until log item.kind item.moment own past commands f
       (λ set_up. ((sound_own_turns setup set_up).happening item.kind item.moment own (f.sound set_up)).0);
-  others = λ log new line endpoint apart f. record { post = flies_on log new endpoint.post f.post; sound = f.sound };
-  own_others = λ log new own apart f. record { post = flies_on log new own f.post; sound = f.sound };
+  others = λ log new line endpoint apart f. record { post = flies_on setup line log new endpoint.post apart f.post; sound = f.sound };
+  own_others = λ log new own apart f. record { post = flies_on setup 0 log new own apart f.post; sound = f.sound };
   more = own_on until;
 }

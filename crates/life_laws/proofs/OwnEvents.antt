@@ -36,11 +36,13 @@ use Rattle.plain_machine.specs.Refusing.{refusal_of}
 use Rattle.plain_machine.specs.Responding.{acknowledged, responded, response_with}
 use Rattle.plain_machine.specs.Setup.{IsSetUp, most_lines}
 use Rattle.plain_machine.proofs.EffectLaws.{effect_now, handled_now}
-use Rattle.machine_laws.specs.Saying.{Begun, Gives, OneOf, begun_at, begun_by, begun_in}
+use Rattle.machine_laws.specs.Numbering.{IsInTurn}
+use Rattle.machine_laws.specs.Saying.{Begun, Gives, HasNumbersLeft, OneOf, begun_at, begun_by, begun_in}
 use Rattle.machine_laws.proofs.AllLemmas.{OnAll}
 use Rattle.machine_laws.proofs.CommandLaws.{opening_is_sound}
-use Rattle.machine_laws.proofs.EachLemmas.{Each, each_both, each_flat, each_weaker, is_none-None, one_before, one_of_each, one_to}
+use Rattle.machine_laws.proofs.EachLemmas.{Each, EachAfter, each_both, each_flat, each_weaker, is_none-None, one_before, one_of_each, one_to}
 use Rattle.machine_laws.proofs.GatewayEvents.{gateway_forward}
+use Rattle.machine_laws.proofs.GoingRound.{begins_there, own_begins_there}
 use Rattle.machine_laws.proofs.LogTurns.{Goes, Stands, acted_goes, command_goes, log_both, pass_goes, responded_goes}
 use Rattle.machine_laws.proofs.MessageLaws.{Fits, code_is, command_answered, event_fits, handled_fits, opening_fits}
 use Rattle.machine_laws.proofs.FlightLemmas.{IsSame}
@@ -341,14 +343,14 @@ opening_flies : (setup : Setup) → MachineFlies setup [] (opening setup)
 opening_flies setup = record {
   fits = opening_fits setup;
   fly = record {
-    commands = λ set_up. tt;
+    commands = record { read = λ set_up. tt; turns = λ few. tt };
     list = on_made (LineFlies setup []) (opening_endpoint setup) 1 setup.names.lines
         (λ i low high. record {
-          post = record { below = omega arith; flight = tt };
+          post = record { below = omega arith; behind = λ few. inl (begins_there setup i low); flight = tt };
           sound = λ set_up. let lines : setup.names.lines ≤ most_lines = set_up.lines in
               record { some = low; few = omega (arith, high, lines); below = omega arith; fine = opening_is_fine; flight = tt };
         });
-    own = record { post = record { below = omega arith; flight = tt }; sound = λ set_up. (opening_is_sound setup set_up).own };
+    own = record { post = record { below = omega arith; behind = λ few. inl (own_begins_there setup); flight = tt }; sound = λ set_up. (opening_is_sound setup set_up).own };
   };
   answers = λ set_up. tt;
 }
@@ -370,7 +372,11 @@ own_in_flight setup events = (all_fly setup events).flies.fly.own.post.flight
 -- what is sent
 
 pub all_commands : (setup : Setup) (events : List GatewayEvent) → IsSetUp setup → Each IsCommand (begun_in (sent_of setup events))
-all_commands setup events set_up = (all_fly setup events).flies.fly.commands set_up
+all_commands setup events set_up = (all_fly setup events).flies.fly.commands.read set_up
+
+-- each began in turn, whatever was refused, while not all numbers are used up
+pub all_in_turn : (setup : Setup) (events : List GatewayEvent) → HasNumbersLeft (begun_in (sent_of setup events)) → EachAfter (IsInTurn setup) [] (begun_in (sent_of setup events))
+all_in_turn setup events few = (all_fly setup events).flies.fly.commands.turns few
 
 pub all_say : (setup : Setup) (events : List GatewayEvent) → Each (λ (sent : Sent). IsSaid setup (begun_in (sent_of setup events)) (text_of sent.said)) (sent_of setup events)
 all_say setup events = (all_fly setup events).says

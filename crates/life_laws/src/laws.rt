@@ -89,14 +89,12 @@ pub fn lives_by_the_time_of_day_lie_apart()
         AllPairs StartsLater (lives_of (plain_lives setup steps)) → LieApart (lives_of (plain_lives setup steps)) }
 {}
 
-/// Counted so: where each life's first number is that of the time of day at its start, and by each of its ms a line, or the gateway
-/// itself, began 10 commands and one for each 100 ms at most, none of them five days after its start, their numbers follow the time of
-/// day. So such lives lie apart, where starts are a second apart.
+/// Counted so: where a life's first number is that of the time of day at its start, and by each of its ms a line, or the gateway
+/// itself, began 10 commands and one for each 100 ms at most, none of them five days after its start, its numbers follow the time of
+/// day, whatever it took. So such lives lie apart, where starts are a second apart.
 pub fn lives_that_keep_pace_follow_the_time_of_day()
-    ensures follow { (day : ℕ) (setup : Setup) (steps : List LivesStep) → IsSetUp setup →
-        lives_are_taken setup (lives_opening setup) steps ≡ true → All (StartsByTime day) (lives_of (plain_lives setup steps)) →
-        All KeepsPace (lives_of (plain_lives setup steps)) → All (IsByTime day) (lives_of (plain_lives setup steps)) }
-    ensures apart { (day : ℕ) (setup : Setup) (steps : List LivesStep) → IsSetUp setup →
+    ensures follow { (day : ℕ) (life : Life) → StartsByTime day life → KeepsPace life → IsByTime day life }
+    ensures apart { (day : ℕ) (setup : Setup) (steps : List LivesStep) →
         lives_are_taken setup (lives_opening setup) steps ≡ true → All (StartsByTime day) (lives_of (plain_lives setup steps)) →
         All KeepsPace (lives_of (plain_lives setup steps)) → AllPairs StartsLater (lives_of (plain_lives setup steps)) →
         LieApart (lives_of (plain_lives setup steps)) }
