@@ -60,16 +60,16 @@ pub starts_later : (w : LivesWorld) (earlier : Life) → w.over ≡ earlier ∷ 
 starts_later w earlier one later =
     pairs_to StartsLater (lives_of w) (subst (λ (over : List Life). Pairs StartsLater (over ++ w.life ∷ [])) (sym one) ((later, tt), (tt, tt)))
 
-at_place : (P : Begun → Type 0) (log : List Begun) (place : ℕ) (b : Begun) → Each P log → slice_get log place ≡ Some b → P b
+pub at_place : (P : Begun → Type 0) (log : List Begun) (place : ℕ) (b : Begun) → Each P log → slice_get log place ≡ Some b → P b
 at_place P log place b all at = let found = each_at P log place all in subst (λ (x : Option Begun). IfSome x P) at found
 
--- two lives that begin with one id within 60,000 ms don't lie apart, wherever it stands among the first one's
-pub not_apart_at : (w : LivesWorld) (earlier : Life) (place : ℕ) (a b : Begun) (others : List Begun) → w.over ≡ earlier ∷ [] → slice_get (begun_of earlier) place ≡ Some a → begun_of w.life ≡ b ∷ others
+-- two lives that begin one id within 60,000 ms don't lie apart, wherever it stands among their commands
+pub not_apart_at : (w : LivesWorld) (earlier : Life) (place other : ℕ) (a b : Begun) → w.over ≡ earlier ∷ [] → slice_get (begun_of earlier) place ≡ Some a → slice_get (begun_of w.life) other ≡ Some b
     → a.id ≡ b.id → b.moment < a.moment + safe_time → LieApart (lives_of w) → ⊥
-not_apart_at w earlier place a b others one first second same near apart =
+not_apart_at w earlier place other a b one first second same near apart =
     let pairs = pairs_from AreApart (earlier ∷ w.life ∷ []) (subst (λ (over : List Life). LieApart (lives_of (record w { over = over }))) one apart) in
     let each : All (BeginsLater a) (begun_of w.life) =
     at_place (λ (x : Begun). All (BeginsLater x) (begun_of w.life)) (begun_of earlier) place a
     (each_from_all (λ (x : Begun). All (BeginsLater x) (begun_of w.life)) (begun_of earlier) pairs.0.0) first in
-    let other : Each (BeginsLater a) (b ∷ others) = subst (Each (BeginsLater a)) second (each_from_all (BeginsLater a) (begun_of w.life) each) in
-    absurd (let far = other.0 same in omega (arith, far, near))
+    let later : BeginsLater a b = at_place (BeginsLater a) (begun_of w.life) other b (each_from_all (BeginsLater a) (begun_of w.life) each) second in
+    absurd (let far = later same in omega (arith, far, near))

@@ -1,11 +1,13 @@
 -- What worked examples of lives need beside computing.
-use Rattle.std.proofs.Common.{◌≡◌, ℕ, ◌+◌, ◌<◌, List, [], ◌∷◌, ◌++◌, inl, inr, sym, subst, arith}
-use Rattle.std.specs.Prelude.{All}
+use Rattle.std.proofs.Common.{◌≡◌, ℕ, ◌+◌, ◌<◌, ◌≤◌, true, List, [], ◌∷◌, ◌++◌, inl, inr, sym, subst, arith}
+use Rattle.std.specs.Prelude.{All, nat_le}
+use Rattle.std.specs.List.{list_all}
+use Rattle.std.proofs.lemmas.Bool.{and_parts, leb-true}
 use Rattle.machine_laws.specs.Saying.{Begun, OneOf}
-use Rattle.machine_laws.specs.Starting.{safe_time}
+use Rattle.machine_laws.specs.Starting.{longest_life, safe_time}
 use Rattle.machine_laws.proofs.EachLemmas.{Each, all_from_each, each_from_all}
 use Rattle.life_laws.specs.Lives.{Life, LivesWorld, lives_of}
-use Rattle.life_laws.specs.Apart.{AreApart, BeganByTime, BeginsLater, IsByTime, LieApart, begun_of}
+use Rattle.life_laws.specs.Apart.{AreApart, BeganByTime, BeginsLater, IsByTime, KeepsPace, LieApart, begun_of, keeps_pace, own_of}
 use Rattle.life_laws.proofs.PairLemmas.{Pairs, pairs_from, pairs_to}
 
 -- two lives that begin with one id within 60,000 ms don't lie apart
@@ -30,6 +32,15 @@ apart_by w earlier a b one first second other =
           all_from_each (λ (x : Begun). All (BeginsLater x) (begun_of w.life)) (begun_of earlier)
           (subst (Each (λ (x : Begun). All (BeginsLater x) (begun_of w.life))) (sym first) (later, tt))
 
+-- two lives lie apart of which the first began nothing
+pub apart_by_none : (w : LivesWorld) (earlier : Life) → w.over ≡ earlier ∷ [] → begun_of earlier ≡ [] → LieApart (lives_of w)
+apart_by_none w earlier one none =
+    pairs_to AreApart (lives_of w) (subst (λ (over : List Life). Pairs AreApart (over ++ w.life ∷ [])) (sym one) ((here, tt), (tt, tt))) where
+      here : AreApart earlier w.life
+      here =
+          all_from_each (λ (x : Begun). All (BeginsLater x) (begun_of w.life)) (begun_of earlier)
+          (subst (Each (λ (x : Begun). All (BeginsLater x) (begun_of w.life))) (sym none) tt)
+
 -- a datagram with one text has no copy of another
 pub none_of_one : (text other : List ℕ) → (text ≡ other → ⊥) → OneOf (λ (one : List ℕ). one ≡ other) (text ∷ []) → ⊥
 none_of_one text other apart (inl same) = apart same
@@ -44,3 +55,13 @@ pub by_time_of : (day start : ℕ) (life : Life) (a b : Begun) → life.start �
 by_time_of day start life a b at is one other =
     all_from_each (BeganByTime day life.start) (begun_of life)
     (subst (λ (s : ℕ). Each (BeganByTime day s) (begun_of life)) (sym at) (subst (Each (BeganByTime day start)) (sym is) (one, (other, tt))))
+
+-- a life keeps pace where its tests say so
+each_within : (log : List Begun) → list_all (λ (b : Begun). nat_le b.moment longest_life) log ≡ true → Each (λ (b : Begun). b.moment ≤ longest_life) log
+each_within [] all = tt
+each_within (b ∷ log) all =
+    let both = and_parts (nat_le b.moment longest_life) (list_all (λ (x : Begun). nat_le x.moment longest_life) log) all in
+    (leb-true b.moment longest_life both.0, each_within log both.1)
+
+pub paced_by : (life : Life) → keeps_pace [] (own_of life) ≡ true → list_all (λ (b : Begun). nat_le b.moment longest_life) (own_of life) ≡ true → KeepsPace life
+paced_by life few within = record { few = few; within = all_from_each (λ (b : Begun). b.moment ≤ longest_life) (own_of life) (each_within (own_of life) within) }

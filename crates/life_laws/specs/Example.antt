@@ -1,7 +1,8 @@
 -- The lives of the worked examples: the gateway of two lines is announced and starts again.
-use Rattle.std.specs.Prelude.{ℕ, List, [], ◌∷◌, ◌++◌, map, codes, Bool, Option, ◌+◌}
+use Rattle.std.specs.Prelude.{ℕ, List, [], ◌∷◌, ◌++◌, map, flat_map, codes, Bool, Option, ◌+◌, ◌*◌}
+use Rattle.std.specs.List.{range_with_len}
 use Rattle.event_values.specs.declared.observed.Observed.{Observed}
-use Rattle.mg_line.specs.declared.phone.Act.TheVariants.{OffHook}
+use Rattle.mg_line.specs.declared.phone.Act.TheVariants.{Flash, OffHook}
 use Rattle.mgcp_text.specs.Reading.{bad_body}
 use Rattle.plain_machine.specs.declared.setup.Setup.{Setup}
 use Rattle.plain_machine.specs.Machine.{serves}
@@ -75,6 +76,22 @@ gone_back = in_one_life (ticking 5 ∷ []) ++ restarting 20 ∷ stepping (tickin
 -- it starts again a second after its start, and with the same number
 abbrev pub started_alike : List LivesStep
 started_alike = first_life ++ stepping (ticking 1001) ∷ restarting 0 ∷ stepping (ticking 1002) ∷ []
+
+-- line 1 is lifted, which is notified by packet 2 and answered, and asked by packet 4 to notify each flash at once
+abbrev pub asked_for_flashes : List WorldStep
+asked_for_flashes =
+    announced ++ dialling 1 OffHook ∷ delivering 2 ∷ delivering 3
+    ∷ issuing (codes "RQNT") (codes "aaln/1@rgw.example.net") (codes "X: 1\r\nR: L/hf(N)\r\nQ: loop\r\n") ∷ delivering 4 ∷ delivering 5 ∷ []
+
+-- it flashes, and the notification of that and its answer are handed over at once
+abbrev pub flashes : ℕ → List WorldStep
+flashes number = dialling 1 Flash ∷ delivering (6 + 2 * number) ∷ delivering (7 + 2 * number) ∷ []
+
+-- so it does twenty times; the gateway starts again a second later, announces that, by packets 46 and 47, and line 1 is lifted
+abbrev pub hurried : List LivesStep
+hurried =
+    in_one_life (asked_for_flashes ++ flat_map flashes (range_with_len 0 20) ++ ticking 1001 ∷ [])
+    ++ restarting 20 ∷ in_one_life (ticking 1002 ∷ delivering 46 ∷ delivering 47 ∷ dialling 1 OffHook ∷ [])
 
 -- it answers an audit, starts again, and announces that under the id of the audit
 abbrev pub audited_first : List LivesStep

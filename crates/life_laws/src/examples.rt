@@ -22,7 +22,7 @@ ghost use Rattle.agent_core.specs.World.{agent_of, gateway_address, ticking, del
 ghost use Rattle.world_laws.specs.Reached.{issued_in};
 ghost use Rattle.life_laws.specs.Lives.{Life, handed_from, said_to, sent_by, stepping, restarting, lives_opening, lives_of, lives_are_taken, new_life, agent_side, clock_of, gateway_of, plain_lives, as_step, no_such_first};
 ghost use Rattle.life_laws.specs.Apart.{AllHaveNumbersLeft, added_as, ArePaced, KeepsPace, StartsByTime, keeps_pace, own_of, BringsCopy, moved, begun_of, OfLife, BeginsLater, LieApart, IsByTime, BeganByTime, StartsLater, IsTakenFor, firsts_of_lives, taken_after};
-ghost use Rattle.life_laws.specs.Example.{lives, packet_to, two_addresses, first_life, both_lives, answered_late, audited_twice, audited_too_late, heard_late, audited_later, started_far, announced_too_late, gone_back, started_alike, audited_first, issued_two, broken, broken_after, broken_notified, started_late, started_back, serves_after, told_after, texts_after, owners_after, moments_after, began_after, starts_after, brought_key, brought_after, firsts_after, keys_of, refused_then, bringing, beginning, begun_key, ten_at};
+ghost use Rattle.life_laws.specs.Example.{lives, packet_to, two_addresses, first_life, both_lives, answered_late, audited_twice, audited_too_late, heard_late, audited_later, started_far, announced_too_late, gone_back, started_alike, audited_first, hurried, issued_two, broken, broken_after, broken_notified, started_late, started_back, serves_after, told_after, texts_after, owners_after, moments_after, began_after, starts_after, brought_key, brought_after, firsts_after, keys_of, refused_then, bringing, beginning, begun_key, ten_at};
 
 /// Where both lives' numbers begin alike, all that the second says is taken for repeats: the agent never hears that line 1 was lifted
 /// again. Their ids don't lie apart.
@@ -94,6 +94,7 @@ pub fn steps_that_are_refused_may_do_more()
 /// life any more.
 pub fn steps_that_are_refused_may_bring_more()
     ensures refused { lives_are_taken two_lines (lives_opening two_lines) announced_too_late ≡ false }
+    ensures left { AllHaveNumbersLeft (lives_of (lives announced_too_late)) }
     ensures twice { firsts_after announced_too_late ≡ (0, 1) ∷ (0, 1) ∷ [] }
     ensures no_gateways { are_taken two_lines (opening two_lines) (lives announced_too_late).life.took ≡ false }
     ensures no_agents { agent_takes (agent_of two_lines) (agent_opening (agent_of two_lines)) (lives announced_too_late).agent_took ≡ false }
@@ -111,8 +112,10 @@ pub fn steps_that_are_refused_may_mix_lives()
     ensures brought { brought_after (started_far ++ stepping (delivering 2) ∷ stepping (delivering 0) ∷ [])
         ≡ (0, 1) ∷ (1, 1) ∷ (0, 1) ∷ [] }
     ensures firsts { firsts_after (started_far ++ stepping (delivering 2) ∷ stepping (delivering 0) ∷ []) ≡ (0, 1) ∷ (1, 1) ∷ [] }
+    ensures apart_then { LieApart (lives_of (lives (started_far ++ stepping (delivering 2) ∷ stepping (delivering 0) ∷ []))) }
     ensures waits { serves_after started_far ≡ false }
     ensures counts { serves_after (started_far ++ stepping (delivering 1) ∷ []) ≡ true }
+    ensures apart_too { LieApart (lives_of (lives (started_far ++ stepping (delivering 1) ∷ []))) }
 {}
 
 /// What a life answers itself may have the id of a command of the next: that is no answer of the agent's.
@@ -122,6 +125,8 @@ pub fn an_answer_of_a_life_may_have_an_id_of_the_next()
         ∷ codes "RSIP 1 *@rgw.example.net MGCP 1.0\r\nRM: restart\r\n" ∷ [] }
     ensures owners { owners_after audited_first ≡ 0 ∷ 0 ∷ 1 ∷ [] }
     ensures began { began_after audited_first ≡ [] ∷ ((1, 1) ∷ []) ∷ [] }
+    ensures handed { lives_are_taken two_lines (lives_opening two_lines) (audited_first ++ stepping (delivering 1) ∷ []) ≡ true }
+    ensures apart { LieApart (lives_of (lives (audited_first ++ stepping (delivering 1) ∷ []))) }
 {}
 
 /// Lives whose numbers follow the time of day, and start a millisecond apart, begin one id soon; and so do lives that start a second
@@ -134,6 +139,20 @@ pub fn lives_that_start_too_soon_or_alike_share_ids()
     ensures starts_alike { starts_after started_alike ≡ 0 ∷ 1001 ∷ [] }
     ensures began_alike { began_after started_alike ≡ ((1, 1) ∷ (10000000, 1) ∷ []) ∷ ((1, 1002) ∷ []) ∷ [] }
     ensures not_apart { ¬ LieApart (lives_of (lives started_alike)) }
+    ensures starts_by_time { All (StartsByTime 0) (lives_of (lives (both_lives 0))) }
+    ensures paced { All KeepsPace (lives_of (lives (both_lives 0))) }
+    ensures paced_alike { All KeepsPace (lives_of (lives started_alike)) }
+{}
+
+/// A life that begins 21 commands of a line at once begins the last of them under the number of the next life's first, though both start
+/// with the number of the time of day, and a second apart.
+pub fn a_life_that_hurries_shares_an_id()
+    ensures taken { lives_are_taken two_lines (lives_opening two_lines) hurried ≡ true }
+    ensures starts_by_time { All (StartsByTime 0) (lives_of (lives hurried)) }
+    ensures starts { starts_after hurried ≡ 0 ∷ 1001 ∷ [] }
+    ensures hurries { map (λ life. keeps_pace [] (own_of life)) (lives_of (lives hurried)) ≡ false ∷ true ∷ [] }
+    ensures not_by_time { ¬ All (IsByTime 0) (lives_of (lives hurried)) }
+    ensures not_apart { ¬ LieApart (lives_of (lives hurried)) }
 {}
 
 /// Where the setup is one that no configuration gives, a life may say more than it began: its ids lie apart from those of the next, and
@@ -152,6 +171,7 @@ pub fn a_setup_of_no_configuration_may_say_more()
 pub fn a_setup_of_no_configuration_is_heard_twice()
     ensures taken { lives_are_taken broken (lives_opening broken) broken_notified ≡ true }
     ensures began { map begun_key (begun_of (plain_lives broken broken_notified).life) ≡ (1, 1) ∷ (10000000, 30001) ∷ [] }
+    ensures left { AllHaveNumbersLeft (lives_of (plain_lives broken broken_notified)) }
     ensures firsts { map brought_key (firsts_of_lives (plain_lives broken broken_notified))
         ≡ (0, 1) ∷ (0, 21) ∷ (0, 10000000) ∷ (0, 21) ∷ [] }
 {}
@@ -161,6 +181,8 @@ pub fn a_setup_of_no_configuration_is_heard_twice()
 pub fn a_clock_that_goes_back_lets_lives_share_an_id()
     ensures refused { lives_are_taken two_lines (lives_opening two_lines) started_back ≡ false }
     ensures by_time { All (IsByTime 0) (lives_of (lives started_back)) }
+    ensures starts_by_time { All (StartsByTime 0) (lives_of (lives started_back)) }
+    ensures paced { All KeepsPace (lives_of (lives started_back)) }
     ensures starts { AllPairs StartsLater (lives_of (lives started_back)) }
     ensures began { map begun_key (begun_of (lives started_back).life) ≡ (21, 1001) ∷ [] }
     ensures not_apart { ¬ LieApart (lives_of (lives started_back)) }

@@ -25,6 +25,7 @@ pub fn a_gateway_may_be_another_life()
     ensures took_less { (opened 0).machine.now ≢ (gateway_of (lives first_life).life).now }
     ensures not_that_number { ¬ IsLifeOf (opened 20) (lives_opening two_lines).life }
     ensures not_with_less { ¬ IsLifeOf (opened 0) (lives first_life).life }
+    ensures not_again { ¬ IsLifeOf (opened 0) (lives (first_life ++ restarting 20 ∷ [])).life }
     ensures other_configuration { setup_from configuration 20 ≢ Ok (record two_lines { first = 20 }) }
 {}
 

@@ -2,9 +2,9 @@ use Rattle.std.proofs.Common.{ℕ, [], ◌∷◌, ◌++◌, codes, inl, refl, ar
 use Rattle.agent_core.specs.World.{ticking}
 use Rattle.machine_laws.specs.Saying.{Begun}
 use Rattle.life_laws.specs.Lives.{stepping}
-use Rattle.life_laws.specs.Apart.{BeganByTime, IsByTime}
+use Rattle.life_laws.specs.Apart.{BeganByTime, IsByTime, KeepsPace, StartsByTime}
 use Rattle.life_laws.specs.Example.{both_lives, first_life, lives, started_alike}
-use Rattle.life_laws.proofs.ExampleLemmas.{both_are, by_time_of, not_apart_by}
+use Rattle.life_laws.proofs.ExampleLemmas.{both_are, by_time_of, not_apart_by, paced_by}
 use Rattle.life_laws.proofs.Computing.{on_examples}
 use Rattle.life_laws.proofs.examples.lives_that_start_too_soon_or_alike_share_ids.Goals as goal
 
@@ -42,4 +42,8 @@ returns c = record {
   began_alike = refl;
   not_apart = λ apart. not_apart_by (lives started_alike) (lives (first_life ++ stepping (ticking 1001) ∷ [])).life
       (announced_at 1) (announced_at 1002) (notified_at 1 ∷ []) [] refl refl refl refl (omega arith) apart;
+  starts_by_time = both_are (StartsByTime 0) (lives (both_lives 0)) (lives first_life).life refl refl refl;
+  paced = both_are KeepsPace (lives (both_lives 0)) (lives first_life).life refl (paced_by (lives first_life).life refl refl) (paced_by (lives (both_lives 0)).life refl refl);
+  paced_alike = both_are KeepsPace (lives started_alike) (lives (first_life ++ stepping (ticking 1001) ∷ [])).life refl
+      (paced_by (lives (first_life ++ stepping (ticking 1001) ∷ [])).life refl refl) (paced_by (lives started_alike).life refl refl);
 }

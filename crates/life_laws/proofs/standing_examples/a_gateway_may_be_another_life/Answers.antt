@@ -27,5 +27,6 @@ returns c = record {
   took_less = λ same. absurd (let e : 0 ≡ 1 = same in omega (arith, e));
   not_that_number = λ is. absurd (let e : 20 ≡ 0 = ap (λ (setup : Setup). setup.first) is.setup in omega (arith, e));
   not_with_less = λ is. absurd (let e : 0 ≡ 1 = life_now (opened 0) (lives first_life).life is in omega (arith, e));
+  not_again = λ is. absurd (let e : 0 ≡ 20 = ap (λ (setup : Setup). setup.first) is.setup in omega (arith, e));
   other_configuration = λ same. absurd (let e : 16 ≡ 2 = ap lines_in same in omega (arith, e));
 }
