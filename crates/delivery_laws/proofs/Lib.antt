@@ -59,6 +59,7 @@ pub mod ServingLaws
 pub mod SoonTurns
 pub mod AskingLaws
 pub mod NumberLemmas
+pub mod UsedUpLemmas
 pub mod Computing
 pub mod ExampleLemmas
 pub mod PacketExamples

@@ -1,8 +1,10 @@
 -- A line whose commands nobody answers uses its numbers up, one in 28,500 ms, and behind the last the first comes again.
-use Rattle.std.proofs.Common.{◌≡◌, ℕ, zero, suc, ◌+◌, ◌-◌, ◌*◌, ◌^◌, ◌<◌, ◌≤◌, Bool, true, ◌&&◌, if◌then◌else◌, List, [], ◌∷◌, Option, Some, None, refl, sym, ap, ◌∙◌, subst, arith}
-use Rattle.std.specs.Prelude.{nat_lt, is_none, option_map, option_and_then}
+use Rattle.std.proofs.Common.{◌≡◌, ℕ, zero, suc, ◌+◌, ◌-◌, ◌*◌, ◌^◌, ◌<◌, ◌≤◌, Bool, true, ◌&&◌, if◌then◌else◌, List, [], ◌∷◌, ◌++◌, Option, Some, None, refl, sym, ap, ◌∙◌, subst, arith}
+use Rattle.std.specs.Prelude.{map, length, nat_lt, is_none, option_map, option_and_then, slice_get}
 use Rattle.std.proofs.lemmas.Bool.{and_from, le-leb, lt-leb, le-ltb, lt-ltb, ne_eqb}
+use Rattle.std.specs.declared.net.socket_addr.SocketAddrV4.{SocketAddrV4}
 use Rattle.endpoint_names.specs.declared.entity.Entity.{Entity}
+use Rattle.endpoint_names.specs.Route.{at as address_at}
 use Rattle.mgcp_text.specs.Writing.{written}
 use Rattle.history.specs.Entry.{Entry}
 use Rattle.outbound.specs.declared.repeat.Repeat.{Repeat}
@@ -10,6 +12,7 @@ use Rattle.outbound.specs.declared.repeat.Repeat.TheVariants.{Sent as SentAgain,
 use Rattle.outbound.specs.Flight.{InFlight, repeat_of, repeated, sent_first}
 use Rattle.outbound.specs.Sends.{most_repeats, sending_time, wait_after}
 use Rattle.outbound.proofs.LifeLaws.{sent_later}
+use Rattle.transmission.specs.Packing.{packed_after}
 use Rattle.restart.specs.declared.restart.Restart.{Restart}
 use Rattle.restart.specs.declared.restart.Restart.TheVariants.{Waiting, Announced}
 use Rattle.restart.specs.Restarting.{announced_at}
@@ -27,11 +30,15 @@ use Rattle.plain_machine.specs.Event.{tick}
 use Rattle.plain_machine.specs.Falling.{announcement_item, command_item, due_by, due_on, first_due, happened, happened_on, if_by, line_item, pass, post_due}
 use Rattle.plain_machine.specs.Happening.{effect, ticked}
 use Rattle.plain_machine.specs.Machine.{Endpoints, Machine, endpoint_at, on_line, opening}
+use Rattle.plain_machine.specs.Message.{Sent, command, datagram_of, own_of}
+use Rattle.plain_machine.specs.Packing.{put_out}
 use Rattle.plain_machine.specs.Posting.{id_on, number_after, numbers, repeated_as}
 use Rattle.plain_machine.specs.Refusing.{refusal_of, tick_refusal}
 use Rattle.plain_machine.proofs.FallingLaws.{pass_none, pass_some}
 use Rattle.plain_machine.proofs.ListLaws.{machine_on}
-use Rattle.agent_core.specs.World.{World, WorldStep, gateway_in, gateway_refused, step_refusal, steps_are_taken, ticking, went, world_after}
+use Rattle.agent_core.specs.declared.packet.End.TheVariants.{GatewayEnd}
+use Rattle.agent_core.specs.declared.packet.Posted.{Posted}
+use Rattle.agent_core.specs.World.{World, WorldStep, gateway_address, gateway_in, gateway_refused, now_in, posted_as, step_refusal, steps_are_taken, ticking, went, world_after}
 use Rattle.world_laws.proofs.WorldLaws.{gateway_alone}
 use Rattle.delivery_laws.proofs.WaitLemmas.{again_is, offset, offset_first, offset_last, offset_next, offset_rises}
 
@@ -44,27 +51,83 @@ tick_taken now moment on near below = rw (le-ltb (now + 1000) moment near, lt-le
 
 -- Steps
 
-module _ (setup : Setup) where
+-- the clock goes on through these moments
+abbrev pub ticks : List ℕ → List WorldStep
+ticks moments = map ticking moments
+
+-- what line 1 sends at this moment under the first of its ids
+abbrev pub first_again : Setup → SocketAddrV4 → ℕ → Sent
+first_again setup to moment = record { to = to; moment = moment; owner = own_of 1; said = command (announcement setup 1 numbers) }
+
+-- the first id of line 1 is in flight, and went out just now, by this packet, nearly a minute after the opening or later
+pub record IsBack (setup : Setup) (to : SocketAddrV4) (w : World) : Type 0 where
+  pub flies : flying_in (gateway_in setup w) ≡ Some numbers
+  pub moment : ℕ
+  pub now : now_in setup w ≡ moment
+  pub late : 57000 ≤ moment
+  pub number : ℕ
+  pub found : slice_get w.posted number ≡ Some (posted_as GatewayEnd (gateway_address setup) (datagram_of (first_again setup to moment)))
+
+place_behind : {X : Type 0} (xs : List X) (x : X) (more : List X) → slice_get ((xs ++ x ∷ []) ++ more) (length xs) ≡ Some x
+place_behind [] x more = refl
+place_behind (y ∷ xs) x more = place_behind xs x more
+
+module _ (setup : Setup) (to : SocketAddrV4) where
   -- where the gateway stands so, the clock brings line 1 the first of its ids
   abbrev Comes : Machine → Type 0
   Comes m = (w : World) → gateway_in setup w ≡ m
-      → (later : List WorldStep) × (steps_are_taken setup w later ≡ true) × (flying_in (gateway_in setup (world_after setup w later)) ≡ Some numbers)
-
-  it_flies : (m : Machine) → flying_in m ≡ Some numbers → Comes m
-  unfolding steps_are_taken world_after
-  it_flies m flies = λ w is. ([], refl, ap flying_in is ∙ flies)
+      → (moments : List ℕ) × (steps_are_taken setup w (ticks moments) ≡ true) × IsBack setup to (world_after setup w (ticks moments))
 
   -- the agent has no part in it: the gateway alone judges a tick
-  comes_at : (m : Machine) (moment : ℕ) → refusal_of m (tick moment) ≡ None → Comes (effect setup m (tick moment)).value → Comes m
-  unfolding steps_are_taken world_after step_refusal went
-  comes_at m moment fine comes = λ w is.
-      let becomes : gateway_in setup (went setup w (ticking moment)) ≡ (effect setup m (tick moment)).value =
+  none_refused : (m : Machine) (moment : ℕ) → refusal_of m (tick moment) ≡ None → (w : World) → gateway_in setup w ≡ m → is_none (step_refusal setup w (ticking moment)) ≡ true
+  unfolding step_refusal
+  none_refused m moment fine w is =
+      ap (λ (x : Machine). is_none (gateway_refused (refusal_of x (tick moment)))) is ∙ ap (λ (r : Option Refusal). is_none (gateway_refused r)) fine
+
+  becomes_then : (m : Machine) (moment : ℕ) (w : World) → gateway_in setup w ≡ m → gateway_in setup (went setup w (ticking moment)) ≡ (effect setup m (tick moment)).value
+  unfolding went
+  becomes_then m moment w is =
       machine_on setup (opening setup) w.gateway_took (tick moment ∷ []) ∙ gateway_alone setup (gateway_in setup w) (tick moment)
-      ∙ ap (λ (x : Machine). (effect setup x (tick moment)).value) is in
-      let none : is_none (step_refusal setup w (ticking moment)) ≡ true =
-      ap (λ (x : Machine). is_none (gateway_refused (refusal_of x (tick moment)))) is ∙ ap (λ (r : Option Refusal). is_none (gateway_refused r)) fine in
-      let more = comes (went setup w (ticking moment)) becomes in
-      (ticking moment ∷ more.0, and_from _ _ none more.1, more.2)
+      ∙ ap (λ (x : Machine). (effect setup x (tick moment)).value) is
+
+  comes_at : (m : Machine) (moment : ℕ) → refusal_of m (tick moment) ≡ None → Comes (effect setup m (tick moment)).value → Comes m
+  unfolding steps_are_taken world_after
+  comes_at m moment fine comes = λ w is.
+      let more = comes (went setup w (ticking moment)) (becomes_then m moment w is) in
+      (moment ∷ more.0, and_from _ _ (none_refused m moment fine w is) more.1, more.2)
+
+  -- what the gateway says at a tick is posted then, before what the agent sends
+  said_there : (posted more : List Posted) (said : List Sent) (sent : Sent) → said ≡ sent ∷ []
+      → slice_get ((posted ++ map (posted_as GatewayEnd (gateway_address setup)) (put_out said)) ++ more) (length posted)
+      ≡ Some (posted_as GatewayEnd (gateway_address setup) (datagram_of sent))
+  unfolding packed_after
+  said_there posted more said sent is =
+      ap (λ (all : List Sent). slice_get ((posted ++ map (posted_as GatewayEnd (gateway_address setup)) (put_out all)) ++ more) (length posted)) is
+      ∙ place_behind posted (posted_as GatewayEnd (gateway_address setup) (datagram_of sent)) more
+
+  posted_then : (moment : ℕ) (w : World) (sent : Sent) → (effect setup (gateway_in setup w) (tick moment)).sent ≡ sent ∷ []
+      → slice_get (went setup w (ticking moment)).posted (length w.posted) ≡ Some (posted_as GatewayEnd (gateway_address setup) (datagram_of sent))
+  unfolding went
+  posted_then moment w sent is = said_there w.posted _ (effect setup (gateway_in setup w) (tick moment)).sent sent is
+
+  -- at this tick it goes out
+  goes_at : (m : Machine) (moment : ℕ) → refusal_of m (tick moment) ≡ None
+      → (effect setup m (tick moment)).sent ≡ first_again setup to moment ∷ []
+      → flying_in (effect setup m (tick moment)).value ≡ Some numbers → (effect setup m (tick moment)).value.now ≡ moment → 57000 ≤ moment → Comes m
+  unfolding steps_are_taken world_after
+  goes_at m moment fine sends flies clock late = λ w is.
+      let becomes = becomes_then m moment w is in (
+        moment ∷ [],
+        and_from _ _ (none_refused m moment fine w is) refl,
+        record {
+          flies = ap flying_in becomes ∙ flies;
+          moment = moment;
+          now = ap (λ (x : Machine). x.now) becomes ∙ clock;
+          late = late;
+          number = length w.posted;
+          found = posted_then moment w (first_again setup to moment) (ap (λ (x : Machine). (effect setup x (tick moment)).sent) is ∙ sends);
+        },
+      )
 
 -- Flights
 
@@ -157,20 +220,25 @@ module _ (setup : Setup) (waits : setup.disconnected_wait ≡ 5000) (one two : E
       ∙ ap (λ (endpoints : Endpoints). (ticked (machine_with now post) moment (pass setup endpoints moment)).value) turn.becomes
       ∙ waits_on now moment next (none_yet next turn.following moment turn.next_due turn.later)
 
-  -- so ms by ms the clock comes there
-  comes_by : (item : DueItem) (post next : Post) → Turns item post next → item.moment < 2 ^ 62 → Comes setup (machine_with item.moment next) → (wait now : ℕ) → now + suc wait ≡ item.moment
-      → Comes setup (machine_with now post)
-  comes_by item post next turn below comes zero now last =
-      comes_at setup (machine_with now post) item.moment (taken_at now item.moment post (omega (arith, last)) (omega (arith, last)) below)
-      (subst (Comes setup) (sym (turns_at now item post next turn)) comes)
-  comes_by item post next turn below comes (suc wait) now more =
-      comes_at setup (machine_with now post) (now + 1) (taken_at now (now + 1) post (omega arith) (omega arith) (omega (arith, more, below)))
-      (subst (Comes setup) (sym (waits_on now (now + 1) post (none_yet post item (now + 1) turn.due (omega (arith, more)))))
-      (comes_by item post next turn below comes wait (now + 1) (omega (arith, more))))
+  abbrev Back : Machine → Type 0
+  Back m = Comes setup (address_at entity.route 0) m
 
-  comes_before : (item : DueItem) (post next : Post) → Turns item post next → (now : ℕ) → now < item.moment → item.moment < 2 ^ 62 → Comes setup (machine_with item.moment next)
-      → Comes setup (machine_with now post)
-  comes_before item post next turn now soon below comes = comes_by item post next turn below comes (item.moment - now - 1) now (omega (arith, soon))
+  -- ms by ms the clock comes to where something falls due
+  comes_there : (item : DueItem) (post : Post) → post_due 1 post ≡ Some item → item.moment < 2 ^ 62 → ((last : ℕ) → last + 1 ≡ item.moment → Back (machine_with last post))
+      → (wait now : ℕ) → now + suc wait ≡ item.moment → Back (machine_with now post)
+  comes_there item post due below there zero now last = there now (omega (arith, last))
+  comes_there item post due below there (suc wait) now more =
+      comes_at setup (address_at entity.route 0) (machine_with now post) (now + 1) (taken_at now (now + 1) post (omega arith) (omega arith) (omega (arith, more, below)))
+      (subst Back (sym (waits_on now (now + 1) post (none_yet post item (now + 1) due (omega (arith, more)))))
+      (comes_there item post due below there wait (now + 1) (omega (arith, more))))
+
+  comes_before : (item : DueItem) (post next : Post) → Turns item post next → (now : ℕ) → now < item.moment → item.moment < 2 ^ 62 → Back (machine_with item.moment next)
+      → Back (machine_with now post)
+  comes_before item post next turn now soon below comes =
+      comes_there item post turn.due below
+      (λ last sum. comes_at setup (address_at entity.route 0) (machine_with last post) item.moment
+      (taken_at last item.moment post (omega (arith, sum)) (omega (arith, sum)) below)
+      (subst Back (sym (turns_at last item post next turn)) comes)) (item.moment - now - 1) now (omega (arith, soon))
 
   -- A post
 
@@ -232,27 +300,61 @@ module _ (setup : Setup) (waits : setup.disconnected_wait ≡ 5000) (one two : E
   -- A round: what is in flight is repeated as often as may be and given up, and then the line announces itself
 
   until_given_up : (left repeats n : ℕ) (restart : Restart) (f : InFlight) (first : ℕ) → announced_at restart ≡ None → IsAt f first repeats → repeats + left ≡ most_repeats
-      → first + 23500 < 2 ^ 62 → Comes setup (machine_with (first + 23500) (waiting n (first + 23500 + setup.disconnected_wait))) → (now : ℕ) → now < f.due
-      → Comes setup (machine_with now (flying n restart f))
+      → first + 23500 < 2 ^ 62 → Back (machine_with (first + 23500) (waiting n (first + 23500 + setup.disconnected_wait))) → (now : ℕ) → now < f.due
+      → Back (machine_with now (flying n restart f))
   until_given_up zero repeats n restart f first silent at sum below comes now soon =
       let last : offset (repeats + 1) ≡ offset (most_repeats + 1) = ap (λ (r : ℕ). offset (r + 1)) (let e : repeats ≡ most_repeats = omega (arith, sum) in e) in
       let over : f.due ≡ first + 23500 = omega (arith, at.due, last, offset_last) in
       comes_before (command_item 1 f) (flying n restart f) (waiting n (f.due + setup.disconnected_wait)) (gives_up n restart f silent (no_more f (omega (arith, at.count, sum)))) now soon
-      (omega (arith, over, below)) (subst (λ (moment : ℕ). Comes setup (machine_with moment (waiting n (moment + setup.disconnected_wait)))) (sym over) comes)
+      (omega (arith, over, below)) (subst (λ (moment : ℕ). Back (machine_with moment (waiting n (moment + setup.disconnected_wait)))) (sym over) comes)
   until_given_up (suc left) repeats n restart f first silent at sum below comes now soon =
       let is = may_again f first repeats at (omega (arith, sum)) in
       let last = offset_rises (repeats + 1) (most_repeats + 1) (omega (arith, sum)) in
       comes_before (command_item 1 f) (flying n restart f) (flying n restart (repeated f f.due)) (goes_again n restart f silent is) now soon (omega (arith, at.due, last, offset_last, below))
       (until_given_up left (repeats + 1) n restart (repeated f f.due) first silent (again_at f first repeats at is) (omega (arith, sum)) below comes f.due (sent_later f f.due is))
 
-  round : (n : ℕ) (restart : Restart) (f : InFlight) (first : ℕ) → announced_at restart ≡ None → IsAt f first 0 → first + 28500 < 2 ^ 62
-      → Comes setup (machine_with (first + 28500) (announcing n (first + 28500))) → (now : ℕ) → now < f.due → Comes setup (machine_with now (flying n restart f))
-  round n restart f first silent at below comes =
-      let until = first + 23500 + setup.disconnected_wait in
-      let over : until ≡ first + 28500 = omega (arith, waits) in
+  until_waiting : (n : ℕ) (restart : Restart) (f : InFlight) (first : ℕ) → announced_at restart ≡ None → IsAt f first 0 → first + 28500 < 2 ^ 62
+      → Back (machine_with (first + 23500) (waiting n (first + 28500))) → (now : ℕ) → now < f.due → Back (machine_with now (flying n restart f))
+  until_waiting n restart f first silent at below comes =
+      let over : first + 23500 + setup.disconnected_wait ≡ first + 28500 = omega (arith, waits) in
       until_given_up most_repeats 0 n restart f first silent at refl (omega (arith, below))
-      (comes_before (announcement_item 1 until) (waiting n until) (announcing n until) (announces n until) (first + 23500) (omega (arith, waits)) (omega (arith, over, below))
-      (subst (λ (moment : ℕ). Comes setup (machine_with moment (announcing n moment))) (sym over) comes))
+      (subst (λ (until : ℕ). Back (machine_with (first + 23500) (waiting n until))) (sym over) comes)
+
+  round : (n : ℕ) (restart : Restart) (f : InFlight) (first : ℕ) → announced_at restart ≡ None → IsAt f first 0 → first + 28500 < 2 ^ 62
+      → Back (machine_with (first + 28500) (announcing n (first + 28500))) → (now : ℕ) → now < f.due → Back (machine_with now (flying n restart f))
+  round n restart f first silent at below comes =
+      let until = first + 28500 in
+      until_waiting n restart f first silent at below
+      (comes_before (announcement_item 1 until) (waiting n until) (announcing n until) (announces n until) (first + 23500) (omega arith) below comes)
+
+  -- The last of them: the announcement under the first number goes out
+
+  goes_out : (until : ℕ) → (happened setup (lines_with (waiting 0 until)) (announcement_item 1 until)).sent
+      ≡ first_again setup (address_at entity.route 0) until ∷ []
+  unfolding happened_on on_line announced
+  goes_out until = refl
+
+  sends_at : (now until : ℕ) → (effect setup (machine_with now (waiting 0 until)) (tick until)).sent
+      ≡ first_again setup (address_at entity.route 0) until ∷ []
+  unfolding effect
+  sends_at now until =
+      let item = announcement_item 1 until in
+      let turn = announces 0 until in
+      ap (λ (is : Effect Endpoints). is.sent) (pass_some setup (lines_with (waiting 0 until)) until item (due_then (waiting 0 until) item until (wait_due 0 until) (omega arith)))
+      ∙ ap (λ (endpoints : Endpoints). (happened setup (lines_with (waiting 0 until)) item).sent ++ (pass setup endpoints until).sent) turn.becomes
+      ∙ ap (λ (is : Effect Endpoints). (happened setup (lines_with (waiting 0 until)) item).sent ++ is.sent)
+      (pass_none setup (lines_with (announcing 0 until)) until (none_yet (announcing 0 until) turn.following until turn.next_due turn.later))
+      ∙ ap (λ (sent : List Sent). sent ++ []) (goes_out until)
+
+  first_goes : (until : ℕ) → 57000 ≤ until → until < 2 ^ 62 → (now : ℕ) → now < until → Back (machine_with now (waiting 0 until))
+  first_goes until late below now soon =
+      comes_there (announcement_item 1 until) (waiting 0 until) (wait_due 0 until) below
+      (λ last sum. let at : last + 1 ≡ until = sum in
+      let becomes : (effect setup (machine_with last (waiting 0 until)) (tick until)).value ≡ machine_with until (announcing 0 until) =
+      turns_at last (announcement_item 1 until) (waiting 0 until) (announcing 0 until) (announces 0 until) in
+      goes_at setup (address_at entity.route 0) (machine_with last (waiting 0 until)) until
+      (taken_at last until (waiting 0 until) (omega (arith, at)) (omega (arith, at)) below) (sends_at last until)
+      (ap flying_in becomes) (ap (λ (m : Machine). m.now) becomes) late) (until - now - 1) now (omega (arith, soon))
 
   announced_first : (n moment : ℕ) → IsAt (first_sent n moment) moment 0
   unfolding offset
@@ -260,25 +362,26 @@ module _ (setup : Setup) (waits : setup.disconnected_wait ≡ 5000) (one two : E
 
   -- so many rounds, of which the last two are under the last number and the first
   pub rounds : (k n : ℕ) (restart : Restart) (f : InFlight) (first : ℕ) → announced_at restart ≡ None → IsAt f first 0 → n + suc k ≡ numbers → first + (k + 2) * 28500 < 2 ^ 62
-      → (now : ℕ) → now < f.due → Comes setup (machine_with now (flying n restart f))
+      → (now : ℕ) → now < f.due → Back (machine_with now (flying n restart f))
   rounds zero n restart f first silent at last below =
       let over : number_after 1 n ≡ 0 = ap (number_after 1) (let e : n ≡ 9999999 = omega (arith, last) in e) in
       let next = first + 28500 in
       let flight = first_sent n next in
       round n restart f first silent at (omega (arith, below))
-      (subst (λ (m : ℕ). Comes setup (machine_with next (flying m Announced flight))) (sym over)
-      (round 0 Announced flight next refl (announced_first n next) (omega (arith, below))
-      (it_flies setup (machine_with (next + 28500) (announcing 0 (next + 28500))) refl) next (omega arith)))
+      (subst (λ (m : ℕ). Back (machine_with next (flying m Announced flight))) (sym over)
+      (until_waiting 0 Announced flight next refl (announced_first n next) (omega (arith, below))
+      (first_goes (next + 28500) (omega arith) (omega (arith, below)) (next + 23500) (omega arith)) next (omega arith)))
   rounds (suc k) n restart f first silent at more below =
       let on : number_after 1 n ≡ n + 1 = ap (λ (b : Bool). if b then 0 else n + 1) (ne_eqb (n + 1) numbers (λ same. absurd (omega (arith, same, more)))) in
       let next = first + 28500 in
       let flight = first_sent n next in
       round n restart f first silent at (omega (arith, below))
-      (subst (λ (m : ℕ). Comes setup (machine_with next (flying m Announced flight))) (sym on)
+      (subst (λ (m : ℕ). Back (machine_with next (flying m Announced flight))) (sym on)
       (rounds k (n + 1) Announced flight next refl (announced_first n next) (omega (arith, more)) (omega (arith, below)) next (omega arith)))
 
--- a gateway of two lines where nothing falls due but the command of line 1 that just went out, and the number of its next one
-pub record HasJustSent (m : Machine) (moment next : ℕ) : Type 0 where
+-- a gateway of two lines where nothing falls due but the command of line 1 that just went out, the number of its next one, and where
+-- that goes first
+pub record HasJustSent (to : SocketAddrV4) (m : Machine) (moment next : ℕ) : Type 0 where
   pub now : m.now ≡ moment
   pub one : Endpoint
   pub two : Endpoint
@@ -289,18 +392,21 @@ pub record HasJustSent (m : Machine) (moment next : ℕ) : Type 0 where
   pub count : flight.repeats ≡ 0
   pub due : flight.due ≡ moment + 500
   pub number : one.post.number ≡ next
+  pub goes : address_at one.post.entity.route 0 ≡ to
   pub silent : announced_at one.post.restart ≡ None
   pub line_rests : due_of one.line ≡ None
   pub other_rests : due_on (2, two) ≡ None
   pub own_rests : post_due 0 m.endpoints.own ≡ None
 
-pub first_id_comes : (setup : Setup) (m : Machine) (moment next k : ℕ) → setup.disconnected_wait ≡ 5000 → HasJustSent m moment next → next + suc k ≡ numbers → moment + (k + 2) * 28500 < 2 ^ 62
-    → Comes setup m
-first_id_comes setup m moment next k waits is sum below = λ w here.
+pub first_id_comes : (setup : Setup) (to : SocketAddrV4) (m : Machine) (moment next k : ℕ) → setup.disconnected_wait ≡ 5000 → HasJustSent to m moment next → next + suc k ≡ numbers
+    → moment + (k + 2) * 28500 < 2 ^ 62 → Comes setup to m
+first_id_comes setup to m moment next k waits is sum below =
     let one = is.one in
     let standing : Option InFlight → Machine =
     λ pending. machine_with setup waits one is.two m.endpoints.own m.history one.post.entity is.line_rests is.other_rests is.own_rests m.now (record one.post { pending = pending }) in
     let lines : m ≡ standing one.post.pending = ap (λ (list : List Endpoint). let some : Machine = record m { endpoints = record m.endpoints { list = list } } in some) is.lines in
+    subst (λ (address : SocketAddrV4). Comes setup address m) is.goes
+    (λ w here.
     rounds setup waits one is.two m.endpoints.own m.history one.post.entity is.line_rests is.other_rests is.own_rests k one.post.number one.post.restart is.flight moment is.silent
     (record { begins = is.begins; count = is.count; due = omega (arith, is.due, offset_first) }) (omega (arith, is.number, sum)) below m.now (omega (arith, is.now, is.due)) w
-    (here ∙ lines ∙ ap standing is.flies)
+    (here ∙ lines ∙ ap standing is.flies))

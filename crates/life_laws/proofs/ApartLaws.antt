@@ -84,12 +84,12 @@ none_is_taken_for_another setup steps set_up taken apart =
 -- Answers that come to a life
 
 -- the steps before one are taken, and it is
-record TakenThen (setup : Setup) (w : LivesWorld) (steps : List LivesStep) (step : LivesStep) : Type 0 where
-  before : lives_are_taken setup w steps ≡ true
-  none : lived_refusal setup (lives_after setup w steps) step ≡ None
-  last : lives_after setup w (steps ++ step ∷ []) ≡ lived setup (lives_after setup w steps) step
+pub record TakenThen (setup : Setup) (w : LivesWorld) (steps : List LivesStep) (step : LivesStep) : Type 0 where
+  pub before : lives_are_taken setup w steps ≡ true
+  pub none : lived_refusal setup (lives_after setup w steps) step ≡ None
+  pub last : lives_after setup w (steps ++ step ∷ []) ≡ lived setup (lives_after setup w steps) step
 
-taken_then : (setup : Setup) (w : LivesWorld) (steps : List LivesStep) (step : LivesStep) → lives_are_taken setup w (steps ++ step ∷ []) ≡ true → TakenThen setup w steps step
+pub taken_then : (setup : Setup) (w : LivesWorld) (steps : List LivesStep) (step : LivesStep) → lives_are_taken setup w (steps ++ step ∷ []) ≡ true → TakenThen setup w steps step
 unfolding lives_after lives_are_taken
 taken_then setup w [] step taken = record { before = refl; none = is_none-None (lived_refusal setup w step) (and_parts (is_none (lived_refusal setup w step)) true taken).0; last = refl }
 taken_then setup w (first ∷ steps) step taken =

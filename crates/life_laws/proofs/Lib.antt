@@ -21,3 +21,4 @@ pub mod ExampleLemmas
 pub mod ClockBack
 pub mod GatewaysOfLives
 pub mod CountedLives
+pub mod UsedUp

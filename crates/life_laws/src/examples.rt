@@ -2,12 +2,13 @@
 //! in which it is missing and the law fails.
 #![tactic(auto, unfolding(crate::proofs::Computing::on_examples))]
 
-ghost use Rattle.std.specs.Prelude.{◌≡◌, ◌++◌, codes, [], ◌∷◌, map, fold, length, replicate, ⊤, true, false, None, Some, All, AllPairs};
+ghost use Rattle.std.specs.Prelude.{◌≡◌, ◌++◌, List, codes, [], ◌∷◌, map, fold, length, replicate, ⊤, true, false, None, Some, All, AllPairs};
 ghost use Rattle.mg_packages.specs.declared.event.LineEvent.TheVariants as events;
 ghost use Rattle.mg_line.specs.declared.phone.Act.TheVariants as acts;
 ghost use Rattle.event_values.specs.declared.observed.Observed.TheVariants.{Happened};
 ghost use Rattle.plain_machine.specs.declared.refusal.Refusal.TheVariants as refusals;
 ghost use Rattle.endpoint_names.specs.Table.{is_domain};
+ghost use Rattle.plain_machine.specs.Setup.{IsSetUp};
 ghost use Rattle.plain_machine.specs.Event.{datagram, phone, tick};
 ghost use Rattle.plain_machine.specs.Machine.{opening, serves};
 ghost use Rattle.plain_machine.specs.Lists.{are_taken};
@@ -20,7 +21,7 @@ ghost use Rattle.machine_laws.specs.Saying.{HasNumbersLeft};
 ghost use Rattle.agent_core.specs.declared.packet.End.TheVariants.{AgentEnd, GatewayEnd};
 ghost use Rattle.agent_core.specs.World.{agent_of, gateway_address, ticking, delivering, dialling, by_gateway, by_agent, no_such_packet, packet_too_old};
 ghost use Rattle.world_laws.specs.Reached.{issued_in};
-ghost use Rattle.life_laws.specs.Lives.{Life, handed_from, said_to, sent_by, stepping, restarting, lives_opening, lives_of, lives_are_taken, new_life, agent_side, clock_of, gateway_of, plain_lives, as_step, no_such_first};
+ghost use Rattle.life_laws.specs.Lives.{Life, LivesStep, handed_from, said_to, sent_by, stepping, restarting, lives_opening, lives_of, lives_are_taken, new_life, agent_side, clock_of, gateway_of, plain_lives, as_step, no_such_first};
 ghost use Rattle.life_laws.specs.Apart.{AllHaveNumbersLeft, added_as, ArePaced, KeepsPace, StartsByTime, keeps_pace, own_of, BringsCopy, moved, begun_of, OfLife, BeginsLater, LieApart, IsByTime, BeganByTime, StartsLater, IsTakenFor, firsts_of_lives, taken_after};
 ghost use Rattle.life_laws.specs.Example.{lives, packet_to, two_addresses, first_life, both_lives, answered_late, audited_twice, audited_too_late, heard_late, audited_later, started_far, announced_too_late, gone_back, started_alike, audited_first, hurried, issued_two, broken, broken_after, broken_notified, started_late, started_back, serves_after, told_after, texts_after, owners_after, moments_after, began_after, starts_after, brought_key, brought_after, firsts_after, keys_of, refused_then, bringing, beginning, begun_key, ten_at};
 
@@ -188,9 +189,14 @@ pub fn a_clock_that_goes_back_lets_lives_share_an_id()
     ensures not_apart { ¬ LieApart (lives_of (lives started_back)) }
 {}
 
-/// Where a life begins two commands under one id, as one does whose numbers are used up, both are firsts. Such a life is too long to
-/// compute: these are commands as they would come.
+/// Where a life begins two commands under one id, as one does whose numbers are used up, both are firsts, though none of its steps is
+/// refused: nobody answers line 1 any more, which announces itself again and again, and after nine years under the id of its first
+/// notification. Those steps are too many to compute; that there are some is shown by induction. And so it is of commands as they
+/// would come.
 pub fn a_life_without_numbers_is_heard_twice()
+    ensures over_steps { (steps : List LivesStep) × (lives_are_taken two_lines (lives_opening two_lines) steps ≡ true)
+        × (firsts_after steps ≡ (0, 1) ∷ (0, 10000000) ∷ (0, 10000000) ∷ []) × (¬ AllHaveNumbersLeft (lives_of (lives steps))) }
+    ensures set_up { IsSetUp two_lines }
     ensures twice { map brought_key (fold taken_after [] (bringing 0 10000000 5 ∷ bringing 0 10000000 30005 ∷ [])) ≡ (0, 10000000) ∷ (0, 10000000) ∷ [] }
     ensures repeat { map brought_key (fold taken_after [] (bringing 0 10000000 5 ∷ bringing 0 10000000 30004 ∷ [])) ≡ (0, 10000000) ∷ [] }
     ensures any_life { map brought_key (fold taken_after [] (bringing 0 5 5 ∷ bringing 1 5 6 ∷ bringing 1 6 6 ∷ [])) ≡ (0, 5) ∷ (1, 6) ∷ [] }

@@ -8,9 +8,9 @@ use Rattle.outbound.specs.Flight.{InFlight}
 use Rattle.plain_machine.specs.declared.endpoint.Endpoint.{Endpoint}
 use Rattle.plain_machine.specs.Example.{two_lines}
 use Rattle.machine_laws.specs.Saying.{HasNumbersLeft}
-use Rattle.plain_machine.specs.Machine.{Machine, endpoint_at}
+use Rattle.plain_machine.specs.Machine.{endpoint_at}
 use Rattle.agent_core.specs.declared.packet.End.TheVariants.{AgentEnd}
-use Rattle.agent_core.specs.World.{World, WorldStep, delivering, gateway_in, steps_are_taken, world_after, world_opening}
+use Rattle.agent_core.specs.World.{WorldStep, delivering, gateway_in, steps_are_taken, world_opening}
 use Rattle.world_laws.specs.Reached.{own_in}
 use Rattle.world_laws.specs.Example.{world}
 use Rattle.delivery_laws.specs.Copies.{IsCopy}
@@ -18,44 +18,9 @@ use Rattle.delivery_laws.specs.Example.{brought, flying_after, hung_up, notified
 use Rattle.delivery_laws.proofs.AnsweredLaws.{over_once_answered}
 use Rattle.delivery_laws.proofs.Computing.{on_examples}
 use Rattle.delivery_laws.proofs.ExampleLemmas.{copy_at, two_lines_set_up}
-use Rattle.delivery_laws.proofs.NumberLemmas.{HasJustSent, first_id_comes, flying_in}
-use Rattle.delivery_laws.proofs.StepLemmas.{steps_more, taken_both}
+use Rattle.delivery_laws.proofs.NumberLemmas.{ticks}
+use Rattle.delivery_laws.proofs.UsedUpLemmas.{comes_again, first_steps, is_back, taken_again}
 use Rattle.delivery_laws.proofs.examples.numbers_that_are_used_up_come_again.Goals as goal
-
-abbrev first_steps : List WorldStep
-first_steps = brought ++ hung_up
-
--- what then stands: the notification of line 1 alone falls due
-abbrev gateway_then : Machine
-gateway_then = gateway_in two_lines (world first_steps)
-
-taken_first : steps_are_taken two_lines world_opening first_steps ≡ true
-unfolding on_examples
-taken_first = refl
-
-just_sent : HasJustSent gateway_then 1 2
-unfolding on_examples
-just_sent = record {
-  now = refl;
-  one = _;
-  two = _;
-  flight = _;
-  lines = refl;
-  flies = refl;
-  begins = refl;
-  count = refl;
-  due = refl;
-  number = refl;
-  silent = refl;
-  line_rests = refl;
-  other_rests = refl;
-  own_rests = refl;
-}
-
--- behind 9,999,997 rounds comes the last number, and then the first
-comes_again : (later : List WorldStep) × (steps_are_taken two_lines (world first_steps) later ≡ true)
-    × (flying_in (gateway_in two_lines (world_after two_lines (world first_steps) later)) ≡ Some 10000000)
-comes_again = first_id_comes two_lines gateway_then 1 2 9999997 refl just_sent refl (omega arith) (world first_steps) refl
 
 -- The law would say otherwise, of which all other premises hold
 
@@ -82,9 +47,9 @@ none_left later taken (Some endpoint) at flies few =
 
 pub returns : goal.returns
 returns c =
-    let later = hung_up ++ comes_again.0 in
-    let order : first_steps ++ comes_again.0 ≡ brought ++ later = append_assoc brought hung_up comes_again.0 in
-    let taken = subst (λ (steps : List WorldStep). steps_are_taken two_lines world_opening steps ≡ true) order (taken_both two_lines world_opening first_steps comes_again.0 taken_first comes_again.1) in
-    let flies = subst (λ (steps : List WorldStep). flying_after steps ≡ Some 10000000) order
-    (ap (λ (w : World). flying_in (gateway_in two_lines w)) (steps_more two_lines world_opening first_steps comes_again.0) ∙ comes_again.2) in
+    let waits = ticks comes_again.0 in
+    let later = hung_up ++ waits in
+    let order : first_steps ++ waits ≡ brought ++ later = append_assoc brought hung_up waits in
+    let taken = subst (λ (steps : List WorldStep). steps_are_taken two_lines world_opening steps ≡ true) order taken_again in
+    let flies = subst (λ (steps : List WorldStep). flying_after steps ≡ Some 10000000) order is_back.flies in
     (later, taken, flies, none_left later taken _ refl flies)
