@@ -4,8 +4,6 @@ use Rattle.std.specs.Prelude.{All, AllPairs}
 use Rattle.std.proofs.lemmas.Bool.{and_parts, cases_Bool, eqb-true, eqb-false}
 use Rattle.std.proofs.lemmas.Bool.Decides.{nat_tests}
 use Rattle.plain_machine.specs.declared.setup.Setup.{Setup}
-use Rattle.plain_machine.specs.Setup.{firsts}
-use Rattle.plain_machine.specs.Lists.{sent_of}
 use Rattle.plain_machine.specs.Posting.{numbers, first_number, id_on, line_of_id}
 use Rattle.machine_laws.specs.Numbering.{start_on, IsBehind, IsInTurn}
 use Rattle.machine_laws.specs.Saying.{Begun, HasNumbersLeft, begun_in, count_of}
