@@ -21,18 +21,14 @@ use mg_bytes::{Draft, OutOfMemory};
 use rgw_scenes::{flaw_of, read_config, told, told_setup};
 use rgw_scripts::LIMIT;
 use std::alloc::{AllocError, Global};
-use std::net::{Net, SocketAddrV4};
+use std::io::Write;
+use std::net::Net;
 use std::os::fd::AsRawFd;
 use std::random::RandomSource;
 use std::rt::{Clock, Env, Files};
 use std::thread::sleep;
 use std::time::Duration;
 use surroundings::Surroundings;
-
-// The addresses of the gateway's socket and of its telephones'; port 0 where one isn't known.
-fn own_of<R: Net + Clock, P: Reception>(opened: &Opened<'_, R, P>) -> [SocketAddrV4; 2] {
-    opened.desk.exchange.around.own()
-}
 
 // Puts where the page is, if there is one: whether that is known.
 fn put_page<P: Reception>(line: &mut Draft, visitors: &Option<Box<PageReception<P>>>) -> bool {
@@ -50,7 +46,7 @@ fn start_line<R: Net + Clock, P: Reception>(
     opened: &Opened<'_, R, P>,
     begun: Begun,
 ) -> Result<Vec<u8>, AllocError> {
-    let own = own_of(opened);
+    let own = opened.desk.exchange.around.own();
     let mut line = Draft::new(alloc);
     line.put(b"listen ");
     put_peer(&mut line, own[0]);
@@ -79,46 +75,23 @@ fn tell_start<R: Files + Net + Clock, P: Reception>(
     recording.outlets.offer();
 }
 
-// Whether memory was refused for something that was recorded. Of what couldn't be written otherwise it was said at once.
-fn is_refused(journal: &Journal, trace: &Trace) -> bool {
-    trace.record.is_refused()
+// How the program ends that served: whether all its records were written to their ends. Of one that couldn't be written it was said at
+// once.
+fn served_ending<'w, F: Write + Drop>(
+    journal: &Journal,
+    trace: &Trace,
+    outlets: &Outlets<F>,
+) -> Ending<'w> {
+    if trace.record.is_refused()
         || journal.log.record.is_refused()
         || journal.capture.record.is_refused()
-}
-
-// How the program ends that served: whether all its records were written to their ends.
-fn served_ending<'w>(journal: &Journal, trace: &Trace, faults: u64) -> Ending<'w> {
-    if is_refused(journal, trace) {
+    {
         return Ending::Common(CommonEnding::OutOfMemory);
     }
-    if faults > 0 {
+    if outlets.written().faults() > 0 {
         return Ending::Common(CommonEnding::Write);
     }
     Ending::Common(CommonEnding::Served)
-}
-
-// Serves until the end, and writes what was recorded: what was counted.
-fn serve<R: Files + Net + Clock + RandomSource, P: Reception>(
-    opened: &mut Opened<'_, R, P>,
-    recording: &mut Recording<R>,
-) -> Result<Vec<u8>, AllocError> {
-    opened.desk.run(&mut opened.visitors, recording);
-    opened.desk.play.end();
-    opened.desk.write(recording);
-    opened.desk.counts()
-}
-
-// Says what was counted, behind all that was recorded: how the program ends that served.
-fn end_serving<'w, R: Files + Net + Clock, P: Reception>(
-    rt: &R,
-    opened: &Opened<'_, R, P>,
-    counts: &[u8],
-    outlets: &mut Outlets<R::File>,
-) -> Ending<'w> {
-    let exchange = &opened.desk.exchange;
-    outlets.finish(rt, counts, exchange.now.time);
-    let faults = outlets.written().faults();
-    served_ending(&exchange.journal, &opened.desk.play.teller, faults)
 }
 
 // Serves until the end, writes what was recorded, and says what was counted.
@@ -127,10 +100,16 @@ fn serve_to_end<'w, R: Files + Net + Clock + RandomSource, P: Reception>(
     opened: &mut Opened<'_, R, P>,
     recording: &mut Recording<R>,
 ) -> Ending<'w> {
-    let Ok(counts) = serve(opened, recording) else {
+    opened.desk.run(&mut opened.visitors, recording);
+    opened.desk.play.end();
+    opened.desk.write(recording);
+    let Ok(counts) = opened.desk.counts() else {
         return Ending::Common(CommonEnding::OutOfMemory);
     };
-    end_serving(rt, opened, counts.as_slice(), &mut recording.outlets)
+    let exchange = &opened.desk.exchange;
+    let outlets = &mut recording.outlets;
+    outlets.finish(rt, counts.as_slice(), exchange.now.time);
+    served_ending(&exchange.journal, &opened.desk.play.teller, outlets)
 }
 
 // Waits as long as a start waits, before its clock begins: so what is recorded of the gateway doesn't tell it. Whether the clock began.
@@ -159,18 +138,13 @@ fn setup_text(
     let mut text = Draft::new(alloc);
     text.put(lines.as_slice());
     text.put(agents.as_slice());
-    put_sockets(&mut text, settings);
-    text.end()
-}
-
-// Puts the sockets that words ask for.
-fn put_sockets(text: &mut Draft, settings: &Settings<'_>) {
     text.put(b"sockets: --listen ");
-    put_peer(text, settings.sockets.listen);
+    put_peer(&mut text, settings.sockets.listen);
     text.put(b" --phones ");
-    put_peer(text, settings.sockets.phones);
-    put_behind(text, b" --http ", settings.sockets.http);
+    put_peer(&mut text, settings.sockets.phones);
+    put_behind(&mut text, b" --http ", settings.sockets.http);
     text.put(b"\n");
+    text.end()
 }
 
 // Says on standard output what this gateway will be.
@@ -198,24 +172,7 @@ fn gateway_of(alloc: Global, text: &[u8], start: &Start) -> Result<Box<Gateway>,
     }
 }
 
-// What is known of the files of a capture that is parted, in a box: who is lent what is recorded is lent little.
-fn files_of<R: Files + Alloc + Clone + Drop>(
-    rt: &R,
-    alloc: Global,
-    name: &str,
-    parting: Parting,
-) -> Result<Box<CaptureFiles>, SystemFault> {
-    let files = match CaptureFiles::find(rt, alloc, name, parting) {
-        Ok(files) => files,
-        Err(fault) => return Err(fault),
-    };
-    match boxed(alloc, files) {
-        Ok(files) => Ok(files),
-        Err(_) => Err(SystemFault::OutOfMemory),
-    }
-}
-
-// The first file of a capture that is parted, and what is known of the others.
+// The first file of a capture that is parted, and what is known of the others, in a box: who is lent what is recorded is lent little.
 fn open_parted<R: Files + Alloc + Clone + Drop>(
     rt: &R,
     alloc: Global,
@@ -223,9 +180,12 @@ fn open_parted<R: Files + Alloc + Clone + Drop>(
     parting: Parting,
     recording: &mut Recording<R>,
 ) -> Result<(), SystemFault> {
-    let mut files = match files_of(rt, alloc, name, parting) {
+    let files = match CaptureFiles::find(rt, alloc, name, parting) {
         Ok(files) => files,
         Err(fault) => return Err(fault),
+    };
+    let Ok(mut files) = boxed(alloc, files) else {
+        return Err(SystemFault::OutOfMemory);
     };
     let outlet = match files.next(rt) {
         Ok(outlet) => outlet,
@@ -236,21 +196,6 @@ fn open_parted<R: Files + Alloc + Clone + Drop>(
     Ok(())
 }
 
-// The file of a capture that isn't parted, if one is asked for.
-fn open_file<R: Files>(
-    rt: &R,
-    alloc: Global,
-    name: Option<&str>,
-    recording: &mut Recording<R>,
-) -> Result<(), SystemFault> {
-    let capture = match open_capture(rt, alloc, name) {
-        Ok(capture) => capture,
-        Err(fault) => return Err(fault),
-    };
-    recording.outlets.capture = capture;
-    Ok(())
-}
-
 // The file of a capture, if one is asked for, and the others, where it is parted.
 fn open_files<R: Files + Alloc + Clone + Drop>(
     rt: &R,
@@ -258,10 +203,15 @@ fn open_files<R: Files + Alloc + Clone + Drop>(
     settings: &Settings<'_>,
     recording: &mut Recording<R>,
 ) -> Result<(), SystemFault> {
-    match (settings.capture, settings.parting) {
-        (Some(name), Some(parting)) => open_parted(rt, alloc, name, parting, recording),
-        (name, _) => open_file(rt, alloc, name, recording),
+    if let (Some(name), Some(parting)) = (settings.capture, settings.parting) {
+        return open_parted(rt, alloc, name, parting, recording);
     }
+    let capture = match open_capture(rt, alloc, settings.capture) {
+        Ok(capture) => capture,
+        Err(fault) => return Err(fault),
+    };
+    recording.outlets.capture = capture;
+    Ok(())
 }
 
 // The capture's file can't be made.

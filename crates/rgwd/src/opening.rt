@@ -7,7 +7,7 @@ use crate::ending::Ending;
 use crate::reception::PageReception;
 use crate::words::{Settings, hosts_in, speakers_in};
 use gateway_core::Gateway;
-use live_ends::{CommonEnding, Live, SocketWanted};
+use live_ends::{Live, SocketWanted};
 use live_gateway::{Admission, Desk, DeskSettings, boxed, open_desk, speakers_of};
 use live_journal::Trace;
 use live_page::{HostNames, Reception};
@@ -75,63 +75,27 @@ fn captured_address(socket: SocketAddrV4, media: Ipv4Addr) -> SocketAddrV4
     }
 }
 
-// Where the gateway's socket is, or was to be where it doesn't tell that.
-fn socket_of<R: Net + Clock>(settings: &Settings<'_>, live: &Live<'_, R>) -> SocketAddrV4 {
-    let own = live.own();
-    if own[0].port() == 0 {
-        settings.sockets.listen
-    } else {
-        own[0]
-    }
-}
-
 // What is asked of this gateway, whose socket is where that one is.
 fn desk_settings<'w, R: Net + Clock>(
     settings: &Settings<'w>,
     gateway: &Gateway,
     live: &Live<'_, R>,
 ) -> DeskSettings<'w> {
+    // Where it doesn't tell where it is, that is where it was to be.
+    let own = live.own();
+    let socket = if own[0].port() == 0 {
+        settings.sockets.listen
+    } else {
+        own[0]
+    };
     DeskSettings {
         has_trace: settings.trace,
         has_log: settings.log,
         capture: settings.capture,
-        here: captured_address(socket_of(settings, live), gateway.setup().media_address),
+        here: captured_address(socket, gateway.setup().media_address),
         has_page: settings.sockets.http.is_some(),
         network: settings.network,
         end: settings.stop_after,
-    }
-}
-
-// The sockets that are asked for.
-fn open_live<'a, 'w, R: Net + Clock>(
-    rt: &'a R,
-    alloc: Global,
-    settings: &Settings<'w>,
-) -> Result<Box<Live<'a, R>>, CommonEnding<'w>> {
-    let datagrams = SocketWanted {
-        word: "--listen",
-        address: settings.sockets.listen,
-    };
-    let lines = SocketWanted {
-        word: "--phones",
-        address: settings.sockets.phones,
-    };
-    Live::open(rt, alloc, datagrams, lines)
-}
-
-// A desk for this gateway over these sockets, whose trace has begun with this configuration.
-fn desk_over<'a, 'w, R: Net + Clock>(
-    alloc: Global,
-    settings: &Settings<'w>,
-    config: &[u8],
-    gateway: Box<Gateway>,
-    live: Box<Live<'a, R>>,
-) -> Result<Box<Desk<Live<'a, R>, Trace>>, Ending<'w>> {
-    let admission = admission_of(alloc, settings, &gateway, live.own())?;
-    let asked = desk_settings(settings, &gateway, &live);
-    match open_desk(alloc, &asked, config, gateway, live, admission) {
-        Ok(desk) => Ok(desk),
-        Err(_) => Err(Ending::Common(CommonEnding::OutOfMemory)),
     }
 }
 
@@ -143,8 +107,18 @@ pub fn open<'a, 'w, R: Net + Clock, P: Reception>(
     config: &[u8],
     gateway: Box<Gateway>,
 ) -> Result<Opened<'a, R, P>, Ending<'w>> {
-    let live = open_live(rt, alloc, settings)?;
+    let datagrams = SocketWanted {
+        word: "--listen",
+        address: settings.sockets.listen,
+    };
+    let lines = SocketWanted {
+        word: "--phones",
+        address: settings.sockets.phones,
+    };
+    let live = Live::open(rt, alloc, datagrams, lines)?;
     let visitors = open_site(rt, alloc, settings, &live)?;
-    let desk = desk_over(alloc, settings, config, gateway, live)?;
+    let admission = admission_of(alloc, settings, &gateway, live.own())?;
+    let asked = desk_settings(settings, &gateway, &live);
+    let desk = open_desk(alloc, &asked, config, gateway, live, admission)?;
     Ok(Opened { desk, visitors })
 }

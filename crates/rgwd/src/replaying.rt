@@ -32,22 +32,6 @@ fn verdict_of<'w, R: Files>(rt: &R, alloc: Global, file: &'w str) -> Result<Verd
     }
 }
 
-// What is found, as a text.
-fn verdict_text(alloc: Global, verdict: &Verdict) -> Result<Vec<u8>, AllocError> {
-    let mut text = Vec::new(alloc);
-    put_verdict(alloc, &mut text, verdict)?;
-    Ok(text)
-}
-
-// A line of this file.
-fn line_of(alloc: Global, file: &str, line: &[u8]) -> Result<Vec<u8>, AllocError> {
-    let mut text = Draft::new(alloc);
-    text.put(file.as_bytes());
-    text.put(b": ");
-    text.put(line);
-    text.end()
-}
-
 // Says on standard output what is found; of what is no trace on standard error.
 fn tell_verdict<R: Files>(
     alloc: Global,
@@ -55,10 +39,15 @@ fn tell_verdict<R: Files>(
     verdict: &Verdict,
     recording: &mut Recording<R>,
 ) -> Result<(), AllocError> {
-    let text = verdict_text(alloc, verdict)?;
+    let mut text = Vec::new(alloc);
+    put_verdict(alloc, &mut text, verdict)?;
     if matches!(verdict, Verdict::Broken { .. }) {
-        let line = line_of(alloc, file, text.as_slice())?;
-        recording.say(line.as_slice());
+        let mut said = Draft::new(alloc);
+        said.put(file.as_bytes());
+        said.put(b": ");
+        said.put(text.as_slice());
+        let said = said.end()?;
+        recording.say(said.as_slice());
     } else {
         recording.print(text.as_slice());
     }

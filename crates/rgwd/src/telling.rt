@@ -20,21 +20,15 @@ struct Telling {
     line: String,
 }
 
-// The address of telephones that a word is: no socket has port 0.
-fn telephones_in<'w>(word: &'w str) -> Result<SocketAddrV4, Ending<'w>> {
-    let address = address_in(TELL, unless_help(word)?)?;
-    if address.port() == 0 {
-        return Err(Ending::Common(CommonEnding::BadAddress { word: TELL }));
-    }
-    Ok(address)
-}
-
-// What the words behind `--tell` say: an address, and the words of a line.
+// What the words behind `--tell` say: an address, where no socket has port 0, and the words of a line.
 fn telling_of<'w>(alloc: Global, words: &'w [String]) -> Result<Telling, Ending<'w>> {
     let (Some(word), Some(line)) = (words.first(), words.get(1..)) else {
         return Err(Ending::Common(CommonEnding::Usage));
     };
-    let address = telephones_in(word.as_str())?;
+    let address = address_in(TELL, unless_help(word.as_str())?)?;
+    if address.port() == 0 {
+        return Err(Ending::Common(CommonEnding::BadAddress { word: TELL }));
+    }
     let Ok(line) = line.join(alloc, " ") else {
         return Err(Ending::Common(CommonEnding::OutOfMemory));
     };
@@ -53,24 +47,6 @@ fn unanswered<'w>(address: SocketAddrV4, fault: AskFault) -> Ending<'w> {
     }
 }
 
-// Sends a line, and prints the answer: how the program ends by that.
-fn told<'w, R: AllocGlobal + Files + Net + Clock>(
-    rt: &R,
-    telling: &Telling,
-    recording: &mut Recording<R>,
-) -> Ending<'w> {
-    let Ok(mut room) = vec![in rt.alloc(); 0u8; ROOM] else {
-        return Ending::Common(CommonEnding::OutOfMemory);
-    };
-    match ask(rt, telling.address, telling.line.as_bytes(), &mut room) {
-        Ok(()) => {
-            recording.print(room.as_slice());
-            Ending::Answered
-        }
-        Err(fault) => unanswered(telling.address, fault),
-    }
-}
-
 /// Sends the line that the words behind `--tell` say to the telephones at the address that they name, and prints the answer: how
 /// the program ends by that.
 pub fn tell_line<'w, R: AllocGlobal + Files + Net + Clock>(
@@ -82,5 +58,14 @@ pub fn tell_line<'w, R: AllocGlobal + Files + Net + Clock>(
         Ok(telling) => telling,
         Err(ending) => return ending,
     };
-    told(rt, &telling, recording)
+    let Ok(mut room) = vec![in rt.alloc(); 0u8; ROOM] else {
+        return Ending::Common(CommonEnding::OutOfMemory);
+    };
+    match ask(rt, telling.address, telling.line.as_bytes(), &mut room) {
+        Ok(()) => {
+            recording.print(room.as_slice());
+            Ending::Answered
+        }
+        Err(fault) => unanswered(telling.address, fault),
+    }
 }
