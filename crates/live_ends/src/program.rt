@@ -95,7 +95,13 @@ impl<F: Drop> Drop for Begun<F> {
 
 impl<F> Begun<F> {
     /// Its words, its outlets, and what is to be kept to the end.
-    pub fn parts(self) -> (Result<Vec<String>, CommonEnding<'static>>, Outlets<F>, Vec<F>)
+    pub fn parts(
+        self,
+    ) -> (
+        Result<Vec<String>, CommonEnding<'static>>,
+        Outlets<F>,
+        Vec<F>,
+    )
         ensures { result ≡ (self.words, self.outlets, self.held) }
     {
         let Begun {

@@ -116,13 +116,7 @@ fn confirm_all(history: &mut History, alloc: Global, ids: IdSpan) -> Result<(), 
 }
 
 // Puts what commands with these ids are, where one is something else than the row says, and says whether one is.
-fn put_unlike(
-    history: &History,
-    given: &mut Outcome,
-    ids: IdSpan,
-    now: u64,
-    wanted: &str,
-) -> bool {
+fn put_unlike(history: &History, given: &mut Outcome, ids: IdSpan, now: u64, wanted: &str) -> bool {
     for id in ids.first..=ids.last {
         let told = told(history, id, now);
         if told != wanted {

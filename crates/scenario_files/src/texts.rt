@@ -71,11 +71,7 @@ const PAIRS: [(&str, &str); 2] = [("''", ""), ("¶", "\r\n")];
 const SAID: [(&str, &str); 3] = [("\r\n", "¶"), ("\t", "\\t"), ("\n", "\\n")];
 
 // A text with something else in place of each of these pieces.
-fn replaced(
-    alloc: Global,
-    text: String,
-    pieces: &[(&str, &str)],
-) -> Result<String, OutOfMemory> {
+fn replaced(alloc: Global, text: String, pieces: &[(&str, &str)]) -> Result<String, OutOfMemory> {
     let mut text = text;
     for (piece, other) in pieces {
         text = text.replace(alloc, *piece, *other)?;

@@ -26,7 +26,9 @@ fn lines_of<'a>(pieces: &'a [Piece<'_>], name: &str) -> &'a str {
 }
 
 // The places that values stand in, as many as a piece may have.
-const PLACES: [&str; 9] = ["{1}", "{2}", "{3}", "{4}", "{5}", "{6}", "{7}", "{8}", "{9}"];
+const PLACES: [&str; 9] = [
+    "{1}", "{2}", "{3}", "{4}", "{5}", "{6}", "{7}", "{8}", "{9}",
+];
 
 // A text with these values, which have a `|` between them, in its places.
 fn filled(alloc: Global, lines: &str, values: &str) -> Result<String, OutOfMemory> {

@@ -110,9 +110,7 @@ impl Transcript {
 
     // From the first moment to the last; what was given at one stands by kinds, and of one kind in the order in which it was put.
     fn sort(&mut self) {
-        let sorted = self
-            .entries
-            .sort_by_key(|entry| (entry.moment, entry.rank));
+        let sorted = self.entries.sort_by_key(|entry| (entry.moment, entry.rank));
         if sorted.is_err() {
             self.refuse();
         }
