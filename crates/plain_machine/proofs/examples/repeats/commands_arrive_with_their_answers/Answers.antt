@@ -1,6 +1,6 @@
 use Rattle.std.proofs.Common.{refl}
 use Rattle.plain_machine.proofs.Computing.{on_examples}
-use Rattle.plain_machine.proofs.examples.transactions.commands_arrive_with_their_answers.Goals as goal
+use Rattle.plain_machine.proofs.examples.repeats.commands_arrive_with_their_answers.Goals as goal
 
 -- all computed at once
 
