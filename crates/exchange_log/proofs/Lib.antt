@@ -6,3 +6,4 @@ pub mod LineLaws
 pub mod CalendarLemmas
 pub mod Computing
 mod FileLemmas
+mod DraftLemmas
