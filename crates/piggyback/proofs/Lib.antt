@@ -4,3 +4,4 @@ pub mod PartingLaws
 pub mod PackingLaws
 pub mod GroupLaws
 pub mod Computing
+mod JoinLemmas
