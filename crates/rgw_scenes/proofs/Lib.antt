@@ -4,3 +4,4 @@ pub mod FlawLemmas
 pub mod PieceLemmas
 pub mod WordingLemmas
 pub mod Computing
+mod SettingsLemmas
