@@ -1,3 +1,4 @@
 pub mod Computing
 pub mod CountLemmas
 pub mod RecordLemmas
+mod PuttingLemmas
