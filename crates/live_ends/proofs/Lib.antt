@@ -1,3 +1,4 @@
 pub mod Computing
 pub mod BacklogLaws
 pub mod WrittenLemmas
+mod PuttingLemmas
