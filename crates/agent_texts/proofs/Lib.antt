@@ -1,2 +1,3 @@
 pub mod Computing
 mod TellingLemmas
+mod PuttingLemmas
