@@ -14,29 +14,21 @@ use Rattle.mg_bytes.specs.Words.{words}
 abbrev pub is_marked : List ℕ → Bool
 is_marked line = starts_with nat_eq line (codes "?") || starts_with nat_eq line (codes "!")
 
--- what was asked for was done or issued, or a line is shown
-abbrev pub tells_outcome : List ℕ → Bool
-tells_outcome word = bytes_eq word (codes "done") || bytes_eq word (codes "issued") || bytes_eq word (codes "line")
+-- a word is one of these
+abbrev pub is_among : List ℕ → List ℕ → Bool
+is_among known word = list_any (bytes_eq word) (words known)
 
--- somebody watches, or is told what changed
-abbrev pub tells_watcher : List ℕ → Bool
-tells_watcher word = bytes_eq word (codes "watching") || bytes_eq word (codes "change")
+-- what was asked for was done or issued, a line is shown, somebody watches, or is told what changed
+unfoldable pub outcomes : List ℕ
+outcomes = codes "done issued line watching change"
 
--- the counts of messages
-abbrev pub tells_messages : List ℕ → Bool
-tells_messages word =
-    bytes_eq word (codes "datagrams") || bytes_eq word (codes "commands") || bytes_eq word (codes "responses")
-    || bytes_eq word (codes "answers") || bytes_eq word (codes "notifications") || bytes_eq word (codes "announcements")
-
--- the counts of what was lost, failed or wasn't recorded, and of calls
-abbrev pub tells_losses : List ℕ → Bool
-tells_losses word =
-    bytes_eq word (codes "lost") || bytes_eq word (codes "faults") || bytes_eq word (codes "network")
-    || bytes_eq word (codes "strangers") || bytes_eq word (codes "records") || bytes_eq word (codes "calls")
+-- the counts of messages, of what was lost, failed or wasn't recorded, and of calls
+unfoldable pub counts : List ℕ
+counts = codes "datagrams commands responses answers notifications announcements lost faults network strangers records calls"
 
 -- a line of an answer begins with this word
 abbrev pub is_answer_word : List ℕ → Bool
-is_answer_word word = tells_outcome word || tells_watcher word || tells_messages word || tells_losses word
+is_answer_word word = is_among outcomes word || is_among counts word
 
 abbrev pub begins_answer : List (List ℕ) → Bool
 begins_answer [] = false

@@ -4,11 +4,18 @@ ghost use Rattle.std.specs.Prelude.{◌≡◌};
 ghost use Rattle.std.specs.declared.net.socket_addr.SocketAddr.{SocketAddr};
 ghost use Rattle.mg_bytes.specs.Lines.{cut};
 ghost use Rattle.mg_bytes.specs.Words.{words as words_of};
-ghost use Rattle.surroundings.specs.Requests.{is_marked, tells_outcome, tells_watcher, tells_messages, tells_losses, is_answer_word, begins_answer, is_answer, is_request, requests_from, is_host, is_from, is_from_any, is_own};
+ghost use Rattle.surroundings.specs.Requests.{is_marked, is_among, is_answer_word, begins_answer, is_answer, is_request, requests_from, is_host, is_from, is_from_any, is_own};
 ghost use Rattle.surroundings.specs.Typing.{EndsWith};
 
 use mg_bytes::{lines, words};
 use std::net::{SocketAddr, SocketAddrV4};
+
+// What was asked for was done or issued, a line is shown, somebody watches, or is told what changed.
+const OUTCOMES: &[u8] = b"done issued line watching change";
+
+// The counts of messages, of what was lost, failed or wasn't recorded, and of calls.
+const COUNTS: &[u8] =
+    b"datagrams commands responses answers notifications announcements lost faults network strangers records calls";
 
 fn is_marked(line: &[u8]) -> bool
     ensures { result ≡ is_marked line.now }
@@ -16,45 +23,24 @@ fn is_marked(line: &[u8]) -> bool
     line.starts_with(b"?") || line.starts_with(b"!")
 }
 
-fn tells_outcome(word: &[u8]) -> bool
-    ensures { result ≡ tells_outcome word.now }
+// Whether a word is one of these.
+fn is_among(known: &[u8], word: &[u8]) -> bool
+    ensures { result ≡ is_among known.now word.now }
 {
-    word == b"done".as_slice() || word == b"issued".as_slice() || word == b"line".as_slice()
-}
-
-fn tells_watcher(word: &[u8]) -> bool
-    ensures { result ≡ tells_watcher word.now }
-{
-    word == b"watching".as_slice() || word == b"change".as_slice()
-}
-
-fn tells_messages(word: &[u8]) -> bool
-    ensures { result ≡ tells_messages word.now }
-{
-    word == b"datagrams".as_slice()
-        || word == b"commands".as_slice()
-        || word == b"responses".as_slice()
-        || word == b"answers".as_slice()
-        || word == b"notifications".as_slice()
-        || word == b"announcements".as_slice()
-}
-
-fn tells_losses(word: &[u8]) -> bool
-    ensures { result ≡ tells_losses word.now }
-{
-    word == b"lost".as_slice()
-        || word == b"faults".as_slice()
-        || word == b"network".as_slice()
-        || word == b"strangers".as_slice()
-        || word == b"records".as_slice()
-        || word == b"calls".as_slice()
+    for one in words(known) {
+        if word == one {
+            return true;
+        }
+    }
+    false
 }
 
 // Whether a line of an answer begins with this word.
+#[tactic(auto, unfolding(crate::specs::Requests::outcomes, crate::specs::Requests::counts))]
 fn is_answer_word(word: &[u8]) -> bool
     ensures { result ≡ is_answer_word word.now }
 {
-    tells_outcome(word) || tells_watcher(word) || tells_messages(word) || tells_losses(word)
+    is_among(OUTCOMES, word) || is_among(COUNTS, word)
 }
 
 fn begins_answer(line: &[u8]) -> bool

@@ -173,30 +173,46 @@ impl Scripted {
         }
     }
 
+    // When what comes first happens, if it does by then.
+    fn next_by(&self, until: u64) -> Option<u64> {
+        let coming = self.coming.front()?;
+        let next = coming.moment.max(self.moment);
+        if next > until { None } else { Some(next) }
+    }
+
+    // What comes first stops the program, or lets a send fail, if it is of that kind: whether it is.
+    fn is_disturbed(&mut self) -> bool
+        ensures sent { self.new.sent ≡ self.old.sent }
+        ensures whole { self.new.is_whole ≡ self.old.is_whole }
+        ensures received { self.new.received ≡ self.old.received }
+    {
+        let Some(coming) = self.coming.front() else {
+            return false;
+        };
+        match &coming.what {
+            Happening::Pause { ms } => self.moment = self.moment.saturating_add(*ms),
+            Happening::SendFault => self.is_failing = true,
+            Happening::Datagram { .. } | Happening::Lines { .. } | Happening::ReceiveFault => {
+                return false;
+            }
+        }
+        true
+    }
+
     // The program goes on: what stops it, or lets a send fail, happens if it is next, and by then.
     fn go_on(&mut self, until: u64)
         ensures sent { self.new.sent ≡ self.old.sent }
         ensures whole { self.new.is_whole ≡ self.old.is_whole }
         ensures received { self.new.received ≡ self.old.received }
     {
-        let Some(coming) = self.coming.front() else {
+        let Some(next) = self.next_by(until) else {
             self.moment = until;
             return;
         };
-        let next = coming.moment.max(self.moment);
-        if next > until {
-            self.moment = until;
-            return;
-        }
         self.moment = next;
-        match &coming.what {
-            Happening::Pause { ms } => self.moment = next.saturating_add(*ms),
-            Happening::SendFault => self.is_failing = true,
-            Happening::Datagram { .. } | Happening::Lines { .. } | Happening::ReceiveFault => {
-                return;
-            }
+        if self.is_disturbed() {
+            let _ = self.take(0);
         }
-        let _ = self.take(0);
     }
 
     // What was handed over last can't be sent.
