@@ -1,6 +1,6 @@
 use Rattle.std.proofs.Common.{◌≡◌, ℕ, ◌+◌, ◌<◌, List, [], ◌∷◌, ◌++◌, length, get_or, take, map, sym, ap, ◌∙◌}
 use Rattle.std.proofs.lemmas.List.{take_more, take_all, map-append}
-use Rattle.history.specs.declared.span.IdSpan.{IdSpan}
+use Rattle.transactions.specs.declared.span.IdSpan.{IdSpan}
 use Rattle.mgcp_text.specs.declared.confirmation.IdRange.{IdRange}
 use Rattle.transmission.specs.Confirming.{span_of, spans_of}
 use Rattle.transmission.proofs.confirming.spans_of.Goals as goal
