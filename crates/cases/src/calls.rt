@@ -6,14 +6,12 @@
 //! - `script  LINE  LINE ..  script line 3` a script with the usual settings, from the opening;
 //! - `command  LINE  LINE ..  510 1` a datagram from the agent at Ready, and what is sent to it;
 //! - `request  LINE  LINE ..  518 1` the same of a request of line 1 that has an X, and these lines besides;
-//! - `words  loopback --port 4000  loopback 4000` what words ask for;
 //! - `sequence  1000  2  1002` how many values a list has that grew by so many one by one, and then by a list of so many.
 //!
 //! Where nothing is printed the answer is `ok`; more than a line is all that is printed, with `\n` for each line end.
-use crate::played::{simulated, words_of};
+use crate::played::simulated;
 use gateway_core::Gateway;
 use mg_bytes::{OutOfMemory, Sequence};
-use rgw_play::{Task, WordFault, asked};
 use rgw_scenes::{flaw_of, read_config, told, told_setup};
 use scenario_files::{
     Outcome, Row, Scenario, TextDraft, WrittenScenario, input_of, number_in, read_scenario,
@@ -22,21 +20,6 @@ use scenario_files::{
 use std::alloc::{AllocError, Global};
 
 const REQUEST: &str = "RQNT 1 aaln/1@rgw.example.net MGCP 1.0\nX: 1\n";
-
-// Puts what words ask for.
-fn put_task(given: &mut Outcome, line: &str) -> Result<(), OutOfMemory> {
-    let line = value_of(given.alloc, line)?;
-    match asked(given.alloc, Ok(words_of(given.alloc, line.as_str())?)) {
-        Ok(Task::Simulate) => given.put(b"simulate"),
-        Ok(Task::Loopback { port }) => {
-            given.put(b"loopback ");
-            given.put_shown(port);
-        }
-        Err(WordFault::Usage) => given.put(b"usage"),
-        Err(WordFault::OutOfMemory) => given.refuse(),
-    }
-    Ok(())
-}
 
 // A list of so many values, which grew by one after the other.
 fn numbers(alloc: Global, count: u64) -> Result<Sequence<u64>, OutOfMemory> {
@@ -174,7 +157,6 @@ impl Scenario for Calls {
         row.left = wanted;
         let given = &mut row.given;
         let done = match call {
-            "words" => put_task(given, values),
             "sequence" => put_length(given, values),
             "fault" => put_flaw(given, values),
             "setup" => put_setup(given, values),

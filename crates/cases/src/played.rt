@@ -1,21 +1,19 @@
 //! A scenario as it is played.
 use mg_bytes::{OutOfMemory, split_once};
-use rgw_play::{Ending, asked, perform, simulate};
+use rgw_play::{Ending, Task, WordFault, perform, simulate};
 use scenario_files::{WrittenScenario, input_of};
 use std::alloc::{AllocError, Global};
 use std::io::Write;
 use std::net::Net;
 
-/// The words of a command line with the program's name before them.
-pub fn words_of(alloc: Global, line: &str) -> Result<Vec<String>, OutOfMemory> {
-    let mut words = Vec::new(alloc);
-    words.push("rgw".to_string(alloc)?)?;
-    for word in line.split(' ') {
-        if !word.is_empty() {
-            words.push(word.to_string(alloc)?)?;
-        }
+// The task that a scenario names; any other words ask for none. What words the program takes its own rows say, which are played by
+// itself: whoever reads words links all of a reader.
+fn task_of(words: &str) -> Result<Task, WordFault> {
+    match words {
+        "simulate" => Ok(Task::Simulate),
+        "loopback" => Ok(Task::Loopback { port: 0 }),
+        _ => Err(WordFault::Usage),
     }
-    Ok(words)
 }
 
 // What the program says on standard error, and its exit status, where that isn't 0.
@@ -74,17 +72,16 @@ pub fn simulated(alloc: Global, scenario: &WrittenScenario) -> Result<Vec<u8>, O
     told_of(alloc, scenario, printed, ending)
 }
 
-/// What the program with these words prints of a scenario.
+/// What the program prints of a scenario, where its words ask for this.
 pub fn printed_by<R: AllocGlobal + Net>(
     rt: &R,
     scenario: &WrittenScenario,
     words: &str,
 ) -> Result<Vec<u8>, OutOfMemory> {
     let alloc = rt.alloc();
-    let task = asked(alloc, Ok(words_of(alloc, words)?));
     let input = input_of(alloc, scenario)?;
     let mut reader = input.as_bytes();
     let mut printed = Vec::new(alloc);
-    let ending = perform(rt, task, &mut reader, &mut printed);
+    let ending = perform(rt, task_of(words), &mut reader, &mut printed);
     told_of(alloc, scenario, printed, ending)
 }
