@@ -1,4 +1,5 @@
-//! The gateway for programs in C: each export calls one public function of the libraries below and states its clauses again.
+//! The gateway for programs in C: behind a look at what is out of range each export calls one public function of the libraries below, or
+//! two (`rgw_open`, `rgw_check`, `rgw_connection`), and states their clauses again.
 //!
 //! A program keeps a handle, one word, which begins as null. `include/rgw.h` says what C has to keep at each call, since nothing here
 //! can check it: pointers that are not null and have their room, and one call at a time on a handle. All else that can go wrong has a
