@@ -230,8 +230,21 @@ impl<S: Surroundings + Drop> Exchange<S> {
         }
     }
 
-    // A datagram has come, with these bytes, so many ms late by the network before the socket: whether it is heard. Another one is a
-    // stranger's, which is counted, and told of now and then; one without a port can't be answered, and isn't counted.
+    // A datagram has come from a stranger, which is counted, and told of now and then; one without a port can't be answered, and isn't
+    // counted.
+    fn turn_away(&mut self, source: SocketAddrV4)
+        ensures network { self.new.network ≡ self.old.network }
+        ensures around { self.new.around ≡ self.old.around }
+        ensures faults { self.new.faults ≡ self.old.faults }
+        ensures read { self.new.read ≡ self.old.read }
+        ensures turn { IsSameTurn self.old self.new }
+    {
+        if 0 < source.port() {
+            self.journal.stranger(self.now, source);
+        }
+    }
+
+    // A datagram has come, with these bytes, so many ms late by the network before the socket: whether it is heard.
     fn come(&mut self, admission: &Admission, source: SocketAddrV4, bytes: &[u8], late: u64) -> bool
         ensures heard { result ≡ is_heard admission.now source }
         ensures network { self.new.network ≡ self.old.network }
@@ -240,13 +253,12 @@ impl<S: Surroundings + Drop> Exchange<S> {
         ensures read { self.new.read ≡ self.old.read }
         ensures turn { IsSameTurn self.old self.new }
     {
-        let is_taken = admission.hears(source);
-        if is_taken {
-            self.journal.came(self.now, source, bytes, late);
-        } else if 0 < source.port() {
-            self.journal.stranger(self.now, source);
+        if !admission.hears(source) {
+            self.turn_away(source);
+            return false;
         }
-        is_taken
+        self.journal.came(self.now, source, bytes, late);
+        true
     }
 
     // A datagram that the network hands to the gateway now, if there is one, from who is heard. Those that go out now are sent; one that
@@ -305,8 +317,7 @@ impl<S: Surroundings + Drop> Exchange<S> {
         }
     }
 
-    // A datagram that has come goes over the network, which may lose it, or hand over another one. So does a stranger's: it is dropped
-    // where it comes out.
+    // A datagram of who is heard goes over the network, which may lose it, or hand over another one.
     #[tactic(auto, using(crate::proofs::HearingLemmas::hears_none, crate::proofs::HearingLemmas::hears_after, crate::proofs::CountingLemmas::same_turn))]
     fn pass(
         &mut self,
@@ -315,7 +326,8 @@ impl<S: Surroundings + Drop> Exchange<S> {
         len: usize,
         room: &mut [u8],
     ) -> Option<(SocketAddrV4, usize)>
-        requires { len ≤ length room.old }
+        requires within { len ≤ length room.old }
+        requires heard { is_heard admission.now source ≡ true }
         ensures length { length room.new ≡ length room.old }
         ensures within { IfSome result (λ p. p.1 ≤ length room.new) }
         ensures admitted { IfSome result (λ p. is_heard admission.now p.0 ≡ true) }
@@ -328,10 +340,8 @@ impl<S: Surroundings + Drop> Exchange<S> {
             (received_by self.new.network (S.traffic self.new.around).received) }
     {
         if self.is_lost(source, &room[..len]) {
-            if admission.hears(source) {
-                self.journal
-                    .untaken(self.now, source, &room[..len], Note::Lost);
-            }
+            self.journal
+                .untaken(self.now, source, &room[..len], Note::Lost);
             return None;
         }
         self.handed_over(admission, room)
@@ -387,7 +397,7 @@ impl<S: Surroundings + Drop> Exchange<S> {
     }
 
     // A datagram that the network before the socket hands over from who is heard, if one is due. What comes of the socket goes over that
-    // network, but what has no port.
+    // network, but a stranger's: so nothing that one sends changes what becomes of what others send.
     #[tactic(auto, using(crate::proofs::HearingLemmas::still_over, crate::proofs::HearingLemmas::heard_still, crate::proofs::HearingLemmas::hears_past_a_look, crate::proofs::CountingLemmas::nothing_read, crate::proofs::CountingLemmas::read_behind_others, crate::proofs::CountingLemmas::same_turn))]
     fn receive_spoilt(
         &mut self,
@@ -409,7 +419,8 @@ impl<S: Surroundings + Drop> Exchange<S> {
             return Some(found);
         }
         let (source, len) = self.read_socket(room)?;
-        if source.port() == 0 {
+        if !admission.hears(source) {
+            self.turn_away(source);
             return None;
         }
         self.pass(admission, source, len, room)
