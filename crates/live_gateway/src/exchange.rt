@@ -261,8 +261,20 @@ impl<S: Surroundings + Drop> Exchange<S> {
         true
     }
 
-    // A datagram that the network hands to the gateway now, if there is one, from who is heard. Those that go out now are sent; one that
-    // can't be is lost.
+    // A datagram that the network hands out now is sent. That it couldn't be the log alone tells: the turn that it is of is over.
+    fn send_late(&mut self, to: SocketAddrV4, bytes: &[u8])
+        ensures network { self.new.network ≡ self.old.network }
+        ensures received { (S.traffic self.new.around).received ≡ (S.traffic self.old.around).received }
+        ensures faults { self.new.faults ≡ self.old.faults }
+        ensures read { self.new.read ≡ self.old.read }
+        ensures turn { IsSameTurn self.old self.new }
+    {
+        if self.around.send(to, bytes).is_err() {
+            self.journal.unsent(self.now, to);
+        }
+    }
+
+    // A datagram that the network hands to the gateway now, if there is one, from who is heard. Those that go out now are sent.
     #[tactic(auto, using(crate::proofs::HearingLemmas::hears_none, crate::proofs::HearingLemmas::outgoing, crate::proofs::HearingLemmas::strange, crate::proofs::HearingLemmas::incoming, crate::proofs::HearingLemmas::hears_further, crate::proofs::CountingLemmas::same_turn))]
     fn handed_over(
         &mut self,
@@ -283,9 +295,7 @@ impl<S: Surroundings + Drop> Exchange<S> {
         for _ in 0..u16::MAX {
             let (packet, len) = self.take_due(room)?;
             match packet.way {
-                Way::Out => {
-                    let _ = self.around.send(packet.peer, packet.bytes.as_bytes());
-                }
+                Way::Out => self.send_late(packet.peer, packet.bytes.as_bytes()),
                 Way::In => {
                     let late = packet.due.saturating_sub(packet.offered);
                     if self.come(admission, packet.peer, &room[..len], late) {

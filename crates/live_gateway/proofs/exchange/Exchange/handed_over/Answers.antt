@@ -22,7 +22,7 @@ loop-preserved g c = elim c.match-packet.branch [
     came = rw w.self-is
         (heard_still c.args.admission.now _ _ _ _
         (outgoing c.args.admission.now _ _ _ c.in_ok-packet.packet.way c.in_ok-packet.packet.peer _ c.loop.invariant.came c.in_ok-packet.ensures.came w.in-Out.is)
-        (rw (w.send.ensures.received) refl));
+        (rw (w.send_late.ensures.network, w.send_late.ensures.received) refl));
   }
   | in-In+else-come w ↦ record {
     length = search rules;
