@@ -8,9 +8,10 @@ use Rattle.std.proofs.lemmas.Grind.{flat_map-append}
 use Rattle.transmission.specs.declared.output.OutDatagram.{OutDatagram}
 use Rattle.plain_machine.specs.declared.setup.Setup.{Setup}
 use Rattle.plain_machine.specs.Event.{GatewayEvent}
+use Rattle.gateway_rules.specs.Turning.{is_last}
 use Rattle.gateway_core.specs.declared.served.Served.{Served}
-use Rattle.gateway_core.specs.declared.serving.TurnEnd.{TurnEnd}
-use Rattle.gateway_core.specs.declared.serving.TurnEnd.TheVariants as ends
+use Rattle.gateway_rules.specs.declared.turning.TurnEnd.{TurnEnd}
+use Rattle.gateway_rules.specs.declared.turning.TurnEnd.TheVariants as ends
 use Rattle.gateway_core.specs.GatewayState.{GatewayState}
 use Rattle.gateway_core.specs.Stands.{Took}
 use Rattle.gateway_core.specs.Wire.{Grows, counted, WireLog, Carries, end, takes, gives}
@@ -163,36 +164,36 @@ counted_none : (n : ℕ) → n ≡ counted n 0
 counted_none n = omega arith
 
 pub goes_on : (g h k : GatewayState) (a b c : WireLog) (turns : List Turn) (n : ℕ) (served : Served) (e : TurnEnd) → Serving g a turns n served h b → n < 2 ^ 64 - 1
-    → Turned e h b k c → (noted served e).ended ≡ false → (more : List Turn) × Serving g a more (n + 1) (noted served e) k c
+    → Turned e h b k c → is_last e ≡ false → (more : List Turn) × Serving g a more (n + 1) (noted served e) k c
 goes_on g h k a b c turns n served (ends.Took faults) s lt t off = (
   turns ++ took t.0 t.1 faults ∷ [],
   record {
-    serves = serves_push g h k a b c turns (took t.0 t.1 faults) served (noted served (ends.Took faults)) s.serves s.running t.2 off
+    serves = serves_push g h k a b c turns (took t.0 t.1 faults) served (noted served (ends.Took faults)) s.serves s.running t.2 s.running
         (rw s.count (one_more n lt)) (omega arith) (omega arith) refl;
     count = rw s.count (one_more n lt);
-    running = off;
+    running = s.running;
   },
 )
 goes_on g h k a b c turns n served ends.Refused s lt t off = (
   turns ++ refused t.0 t.1 ∷ [],
   record {
-    serves = serves_push g h k a b c turns (refused t.0 t.1) served (noted served ends.Refused) s.serves s.running t.2 off
+    serves = serves_push g h k a b c turns (refused t.0 t.1) served (noted served ends.Refused) s.serves s.running t.2 s.running
         (rw s.count (one_more n lt))
         (rw s.serves.refused (few n (count_by is_refused turns) turns served (turns_so_far g a turns n served h b s) (count_refused turns) lt))
         (omega arith) (counted_none served.send_faults);
     count = rw s.count (one_more n lt);
-    running = off;
+    running = s.running;
   },
 )
 goes_on g h k a b c turns n served ends.Failed s lt t off = (
   turns ++ failed ∷ [],
   record {
-    serves = serves_push g h k a b c turns failed served (noted served ends.Failed) s.serves s.running t off
+    serves = serves_push g h k a b c turns failed served (noted served ends.Failed) s.serves s.running t s.running
         (rw s.count (one_more n lt)) (omega arith)
         (rw s.serves.receive_faults (few n (count_by is_failed turns) turns served (turns_so_far g a turns n served h b s) (count_failed turns) lt))
         (counted_none served.send_faults);
     count = rw s.count (one_more n lt);
-    running = off;
+    running = s.running;
   },
 )
 goes_on g h k a b c turns n served ends.Ended s lt t off = absurd (false≢true (sym off))
@@ -217,20 +218,30 @@ ends_so g h k a b c turns n served s lt e = record {
 
 -- a turn more, after which it goes on
 pub turned_on : (g h k : GatewayState) (a b c : WireLog) (n : ℕ) (served next : Served) (e : TurnEnd) → (turns : List Turn) × Serving g a turns n served h b → n < 2 ^ 64 - 1
-    → Turned e h b k c → next ≡ noted served e → next.ended ≡ false → (turns : List Turn) × Serving g a turns (n + 1) next k c
-turned_on g h k a b c n served next e s lt t is off = rw is (goes_on g h k a b c s.0 n served e s.1 lt t (rw is at off))
+    → Turned e h b k c → next ≡ noted served e → is_last e ≡ false → (turns : List Turn) × Serving g a turns (n + 1) next k c
+turned_on g h k a b c n served next e s lt t is off = rw is (goes_on g h k a b c s.0 n served e s.1 lt t off)
 
 -- a turn at which the end came
 ended_by : (g h k : GatewayState) (a b c : WireLog) (n : ℕ) (served : Served) (e : TurnEnd) → (turns : List Turn) × Serving g a turns n served h b → n < 2 ^ 64 - 1
-    → Turned e h b k c → (noted served e).ended ≡ true → (turns : List Turn) × Serves g a turns (noted served e) k c
-ended_by g h k a b c n served (ends.Took faults) s lt t on = absurd (false≢true (sym s.1.running ∙ on))
-ended_by g h k a b c n served ends.Refused s lt t on = absurd (false≢true (sym s.1.running ∙ on))
-ended_by g h k a b c n served ends.Failed s lt t on = absurd (false≢true (sym s.1.running ∙ on))
+    → Turned e h b k c → is_last e ≡ true → (turns : List Turn) × Serves g a turns (noted served e) k c
+ended_by g h k a b c n served (ends.Took faults) s lt t on = absurd (false≢true on)
+ended_by g h k a b c n served ends.Refused s lt t on = absurd (false≢true on)
+ended_by g h k a b c n served ends.Failed s lt t on = absurd (false≢true on)
 ended_by g h k a b c n served ends.Ended s lt t on = (s.0, ends_so g h k a b c s.0 n served s.1 lt t)
 
 pub turned_out : (g h k : GatewayState) (a b c : WireLog) (n : ℕ) (served next : Served) (e : TurnEnd) → (turns : List Turn) × Serving g a turns n served h b → n < 2 ^ 64 - 1
-    → Turned e h b k c → next ≡ noted served e → next.ended ≡ true → (turns : List Turn) × Serves g a turns next k c
-turned_out g h k a b c n served next e s lt t is on = rw is (ended_by g h k a b c n served e s lt t (rw is at on))
+    → Turned e h b k c → next ≡ noted served e → is_last e ≡ true → (turns : List Turn) × Serves g a turns next k c
+turned_out g h k a b c n served next e s lt t is on = rw is (ended_by g h k a b c n served e s lt t on)
+
+noted_end : (served : Served) (e : TurnEnd) → is_last e ≡ true → (noted served e).ended ≡ true
+noted_end served (ends.Took faults) on = absurd (false≢true on)
+noted_end served ends.Refused on = absurd (false≢true on)
+noted_end served ends.Failed on = absurd (false≢true on)
+noted_end served ends.Ended on = refl
+
+-- at the last turn the end came
+pub end_noted : (served next : Served) (e : TurnEnd) → next ≡ noted served e → is_last e ≡ true → next.ended ≡ true
+end_noted served next e is on = rw is (noted_end served e on)
 
 noted_turns : (served : Served) (e : TurnEnd) → (noted served e).turns ≡ counted served.turns 1
 noted_turns served (ends.Took faults) = refl

@@ -4,8 +4,8 @@ use Rattle.transmission.specs.declared.output.OutDatagram.{OutDatagram}
 use Rattle.plain_machine.specs.declared.refusal.Refusal.{Refusal}
 use Rattle.plain_machine.specs.Event.{GatewayEvent}
 use Rattle.gateway_core.specs.declared.served.Served.{Served}
-use Rattle.gateway_core.specs.declared.serving.TurnEnd.{TurnEnd}
-use Rattle.gateway_core.specs.declared.serving.TurnEnd.TheVariants as ends
+use Rattle.gateway_rules.specs.declared.turning.TurnEnd.{TurnEnd}
+use Rattle.gateway_rules.specs.declared.turning.TurnEnd.TheVariants as ends
 use Rattle.gateway_core.specs.GatewayState.{GatewayState}
 use Rattle.gateway_core.specs.Stands.{Stands, Took}
 use Rattle.gateway_core.specs.Wire.{WireLog, Traffic, Carries, end, counted, gives}

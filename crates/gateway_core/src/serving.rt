@@ -8,20 +8,8 @@ ghost use Rattle.gateway_core.specs.Turning.{handing, noted, Turned};
 use crate::gateway::Gateway;
 use crate::served::Served;
 use crate::wire::{DATAGRAM_ROOM, Input, Wire, WireFault};
+use gateway_rules::{TurnEnd, is_last};
 use plain_machine::{Event, OutDatagram};
-
-// How a turn ended.
-#[derive(Clone, Copy)]
-enum TurnEnd {
-    // The gateway took the event; so many sends failed.
-    Took { send_faults: u64 },
-    // It refused the event.
-    Refused,
-    // The wire failed to give one.
-    Failed,
-    // The end came.
-    Ended,
-}
 
 // The event that an input is, but for the end.
 fn event_in(input: Input, room: &[u8]) -> Option<Event<'_>>
@@ -114,7 +102,7 @@ impl Gateway {
         for _ in 0..turns {
             let turn = self.turn(wire, &mut room);
             served.note(turn);
-            if served.ended {
+            if is_last(turn) {
                 return served;
             }
         }

@@ -1,7 +1,6 @@
-use Rattle.std.proofs.Common.{[], refl, arith, rules}
-use Rattle.std.proofs.lemmas.Grind.{common_steps}
+use Rattle.std.proofs.Common.{[], refl, sym, ◌∙◌, inl, arith}
 use Rattle.gateway_core.proofs.StandLemmas.{took_none}
-use Rattle.gateway_core.proofs.ServeLemmas.{serves_nothing, carries_nothing, turned_on}
+use Rattle.gateway_core.proofs.ServeLemmas.{serves_nothing, carries_nothing, turned_on, turned_out, end_noted}
 use Rattle.gateway_core.proofs.gateway.Gateway.serve.Goals as goal
 
 pub loop-init : goal.loop-init
@@ -19,9 +18,12 @@ loop-init g c = record {
 
 pub loop-preserved : goal.loop-preserved
 loop-preserved g c = record {
-  turns = turned_on _ _ _ _ _ _ _ _ _ _ c.loop.invariant.turns (omega (arith, c.loop-test.true, c.ranges.turns.fits)) c.turn-turn.ensures.turn c.note.ensures c.if-served.false;
+  turns = turned_on _ _ _ _ _ _ _ _ _ _ c.loop.invariant.turns (omega (arith, c.loop-test.true, c.ranges.turns.fits)) c.turn-turn.ensures.turn c.note.ensures (sym c.is_last.ensures ∙ c.if-is_last.false);
   room = c.turn-turn.ensures.room;
 }
 
-pub returns-then-served-clause-serves : goal.returns-then-served-clause-serves
-returns-then-served-clause-serves g c = first_of (search rules, grind (arith, common_steps))
+pub returns-then-is_last-clause-serves : goal.returns-then-is_last-clause-serves
+returns-then-is_last-clause-serves g c = turned_out _ _ _ _ _ _ _ _ _ _ c.loop.invariant.turns (omega (arith, c.loop-test.true, c.ranges.turns.fits)) c.turn-turn.ensures.turn c.note.ensures (sym c.is_last.ensures ∙ c.if-is_last.true)
+
+pub returns-then-is_last-clause-stops : goal.returns-then-is_last-clause-stops
+returns-then-is_last-clause-stops g c = inl (end_noted _ _ _ c.note.ensures (sym c.is_last.ensures ∙ c.if-is_last.true))
