@@ -9,9 +9,10 @@ ghost use Rattle.call_agent.specs.State.{kept_in, Flies, Happens};
 
 use crate::state::{Context, State};
 use flights::Flights;
+use gateway_rules::tick_refusal;
 use mg_bytes::{OutOfMemory, Text};
 use outbound::{Pending, Repeat};
-use plain_machine::{OutDatagram, Refusal, tick_refusal};
+use plain_machine::{OutDatagram, Refusal};
 use std::alloc::Global;
 use transmission::send;
 

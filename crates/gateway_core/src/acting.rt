@@ -8,6 +8,7 @@ ghost use Rattle.gateway_core.specs.State.{machine_in, Happens};
 
 use crate::state::State;
 use endpoints::{Context, Occasion, acted_on};
+use gateway_rules::act_refusal;
 use mg_line::Act;
 use plain_machine::{OutMessage, Refusal};
 
@@ -28,8 +29,8 @@ pub(crate) fn act_on(
     let Some(endpoint) = state.store.endpoint(line) else {
         return Err(Refusal::NoSuchLine);
     };
-    if !endpoint.line.takes(act) {
-        return Err(Refusal::PhoneState);
+    if let Some(refusal) = act_refusal(endpoint, act) {
+        return Err(refusal);
     }
     let mut out = Vec::new(context.alloc);
     if !endpoint.line.heeds(act) {

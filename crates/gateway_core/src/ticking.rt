@@ -10,7 +10,8 @@ ghost use Rattle.gateway_core.specs.State.{machine_in, Happens};
 
 use crate::state::State;
 use endpoints::{Context, is_due, pass};
-use plain_machine::{GivenUpCommand, OutMessage, Refusal, tick_refusal};
+use gateway_rules::tick_refusal;
+use plain_machine::{GivenUpCommand, OutMessage, Refusal};
 
 /// A tick to a moment: what is sent; and what is given up is noted behind what was given up before. One up to which nothing is
 /// due takes no memory.
