@@ -4,6 +4,7 @@ ghost use Rattle.endpoint_names.specs.Route.{route_of, place_of, at, with_port};
 
 use std::alloc::AllocError;
 use std::net::{Ipv4Addr, SocketAddrV4};
+use transmission_rules::place_in_turn;
 
 /// The most addresses of one receiver (this gateway's profile).
 pub const MOST_ADDRESSES: usize = 4;
@@ -41,7 +42,7 @@ fn place_of(count: usize, send: u64) -> usize
     ensures value { result ≡ place_of count send }
     ensures within { result < count }
 {
-    (send / SENDS_EACH) as usize % count
+    place_in_turn(count, SENDS_EACH, send)
 }
 
 impl<A: Copy> Route<A> {

@@ -13,6 +13,7 @@ use mgcp_text::TransactionId;
 use std::alloc::Global;
 use std::marker::Model;
 use std::net::SocketAddrV4;
+use transmission_rules::is_final;
 
 // How long an answer is waited for after a provisional response, in ms (this gateway's profile).
 const PROVISIONAL_WAIT: u64 = 5_000;
@@ -242,8 +243,8 @@ fn reply_by(code: u16) -> Reply
     ensures { result ≡ reply_by code }
 {
     match code {
+        _ if is_final(code) => Reply::Answered,
         100..=199 => Reply::Provisional,
-        200..=999 => Reply::Answered,
         _ => Reply::Stranger,
     }
 }

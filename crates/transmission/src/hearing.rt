@@ -16,6 +16,7 @@ use mgcp_text::{AnswerContent, Message, TextFault};
 use piggyback::{Parts, parts};
 use std::alloc::{AllocError, Global};
 use std::net::SocketAddrV4;
+use transmission_rules::is_too_long;
 
 /// The texts of a datagram in their order; none where it is too long (RFC 3435, 3.5.4 and 3.5.5). This takes no memory.
 #[tactic(auto, unfolding(crate::specs::Texts::texts_of), using(crate::proofs::TextLaws::few_within))]
@@ -24,7 +25,7 @@ pub fn texts(datagram: &[u8]) -> Option<Parts<'_>>
     ensures long { is_none result ≡ nat_lt largest_datagram (length datagram.now) }
     ensures few { IfSome result (λ texts. length texts ≤ most_texts) }
 {
-    if datagram.len() > LARGEST_DATAGRAM {
+    if is_too_long(datagram.len(), LARGEST_DATAGRAM) {
         return None;
     }
     Some(parts(datagram))

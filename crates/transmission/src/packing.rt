@@ -10,6 +10,7 @@ use mg_bytes::{OutOfMemory, Sequence, Text};
 use std::alloc::Global;
 use std::mem;
 use std::net::SocketAddrV4;
+use transmission_rules::share_a_datagram;
 
 // The line that parts the messages of a datagram (RFC 3435, 3.5.5).
 const DOT_LINE: &[u8] = b".\r\n";
@@ -31,9 +32,12 @@ fn has_room(begun: &[u8], text: &[u8]) -> bool
 fn joins(begun: &OutDatagram, next: &OutDatagram) -> bool
     ensures { result ≡ joins begun.now next.now }
 {
-    same_address(begun.to, next.to)
-        && begun.moment == next.moment
-        && has_room(begun.bytes.as_bytes(), next.bytes.as_bytes())
+    share_a_datagram(
+        same_address(begun.to, next.to),
+        begun.moment,
+        next.moment,
+        has_room(begun.bytes.as_bytes(), next.bytes.as_bytes()),
+    )
 }
 
 fn joined(begun: OutDatagram, next: &OutDatagram) -> Result<OutDatagram, OutOfMemory>

@@ -1,9 +1,10 @@
 //! How a command that arrives is answered (RFC 3435, 3.5.1): each is executed once, and its repeats get the stored answer.
 ghost use Rattle.std.specs.Prelude.{◌≡◌, ◌++◌, ◌∷◌, [], IfOk, OnOk, OnErr};
 ghost use Rattle.history.specs.Memory.{most_firsts};
-ghost use Rattle.history.specs.Looking.{look_of};
+ghost use Rattle.history.specs.Looking.{looked_in, look_of};
 ghost use Rattle.mgcp_text.specs.Answer.{response_of};
 ghost use Rattle.mgcp_text.specs.Writing.{written};
+ghost use Rattle.transmission_rules.specs.Rules.{is_executed};
 ghost use Rattle.transmission.specs.Transacting.{message_to, is_new, answered_again, with_first};
 
 use crate::output::OutDatagram;
@@ -13,6 +14,7 @@ use mg_bytes::{OutOfMemory, Sequence, Text};
 use mgcp_text::{AnswerContent, TransactionId};
 use std::alloc::Global;
 use std::net::SocketAddrV4;
+use transmission_rules::{Standing, is_executed};
 
 /// Where a message came from, and its transaction id.
 #[derive(Clone, Copy)]
@@ -25,6 +27,18 @@ fn copy_of(alloc: Global, text: &[u8]) -> Result<Text, OutOfMemory>
     ensures { IfOk result (λ copy. copy ≡ text.now) }
 {
     Ok(Text::of(Vec::from_slice(alloc, text)?))
+}
+
+// What a command is, by what the history tells of it.
+fn standing_of(look: &Look<'_>) -> Standing
+    ensures { is_executed result ≡ is_new (looked_in look.now) }
+{
+    match look {
+        Look::New => Standing::New,
+        Look::Repeat(_) => Standing::Repeat,
+        Look::Confirmed => Standing::Confirmed,
+        Look::Full => Standing::Full,
+    }
 }
 
 /// Admits a command that arrives now (in ms): whether it is new, and is to be executed. The stored answer of a repeat goes out
@@ -41,13 +55,14 @@ pub fn admit(
         ++ answered_again (look_of most_firsts history.now.kept origin.id now) origin.source now) }
     ensures err { OnErr result (out.new.items ≡ out.old.items) }
 {
-    let stored = match history.look(origin.id.number(), now) {
-        Look::New => return Ok(true),
-        Look::Confirmed | Look::Full => return Ok(false),
-        Look::Repeat(answer) => copy_of(alloc, answer.as_bytes())?,
+    let look = history.look(origin.id.number(), now);
+    let executed = is_executed(standing_of(&look));
+    let Look::Repeat(answer) = look else {
+        return Ok(executed);
     };
+    let stored = copy_of(alloc, answer.as_bytes())?;
     send(out, origin.source, now, stored)?;
-    Ok(false)
+    Ok(executed)
 }
 
 /// A new command has its answer now (in ms): what its K names is confirmed, and the answer is kept. Its text is to go to where
