@@ -23,6 +23,7 @@ mod recorder;
 mod seeing;
 mod spoilt_way;
 mod telephones;
+mod telling;
 mod trace_text;
 mod visitors;
 mod watch;

@@ -1,5 +1,5 @@
 //! The play.
-ghost use Rattle.std.specs.Prelude.{◌≡◌, ◌+◌, ◌≤◌, ◌++◌, ◌∷◌, [], List, Option, Some, None, IfSome, IfOk, IfErr, OnOk, OnErr, ℕ};
+ghost use Rattle.std.specs.Prelude.{◌≡◌, ◌+◌, ◌∷◌, [], List, Option, Some, None, IfOk, IfErr, OnOk, OnErr, ℕ};
 ghost use Rattle.std.specs.Result.{result_err};
 ghost use Rattle.surroundings.specs.Sending.{Sent, Grows};
 ghost use Rattle.mg_bytes.specs.Words.{words};
@@ -9,16 +9,14 @@ ghost use Rattle.plain_machine.specs.Refusing.{Ends, refusal_of};
 ghost use Rattle.gateway_core.specs.Stands.{Stands, Took};
 ghost use Rattle.rgw_scripts.specs.declared.step.ScriptStep.TheVariants.{Phone, Show};
 ghost use Rattle.rgw_scripts.specs.declared.step.ScriptLine.TheVariants.{Whole};
-ghost use Rattle.rgw_scripts.specs.Moves.{sends};
-ghost use Rattle.rgw_scripts.specs.Printing.{printed_line, refusal_line};
 ghost use Rattle.rgw_scripts.specs.Script.{line_in};
-ghost use Rattle.traces.specs.Telling.{told_mark, told_text};
-ghost use Rattle.traces.specs.Writing.{Entry, arrived, typed, passed, tick_text, after_tick, input_text, at_clock, clock_text, opening_script};
-ghost use Rattle.live_gateway.specs.Running.{live, Ran, HeardFrom, HandsOut, Takes, Refuses, Asked, IsAnswer, TellsRefusal};
+ghost use Rattle.traces.specs.Writing.{Entry, arrived, typed, passed, clock_text, opening_script};
+ghost use Rattle.live_gateway.specs.Running.{live, Ran, HeardFrom, HandsOut, Takes, Refuses, Asked, IsAnswer};
 
 use crate::answering::put_shown;
 use crate::ends::Outlet;
-use crate::placed::{Placed, tell_trace, untold};
+use crate::placed::Placed;
+use crate::telling::{refuse, tell, tell_act, tell_answered, tell_datagram, tell_mark, tell_tick};
 use gateway_core::{Event, Gateway, OutDatagram, Outputs, Refusal};
 use mg_bytes::OutOfMemory;
 use mg_line::Act;
@@ -26,7 +24,7 @@ use rgw_scripts::put_refusal;
 use std::alloc::Global;
 use std::net::SocketAddrV4;
 use surroundings::Teller;
-use traces::{Mark, Script, put_mark};
+use traces::Script;
 
 /// A gateway that runs, and its trace.
 pub struct LivePlay<T> {
@@ -108,98 +106,6 @@ impl<T: Teller + Drop> LivePlay<T> {
         self.printed.as_slice()
     }
 
-    // The trace is told what was put for it, if memory was there for that.
-    #[tactic(auto, using(crate::proofs::RunLemmas::ends_all, crate::proofs::RunLemmas::if_none))]
-    fn tell(&mut self, put: Result<(), OutOfMemory>) -> Placed
-        ensures told { (text : List ℕ) → OnOk put (self.old.text.items ≡ text) → Grows (T.told self.old.teller) text (T.told self.new.teller) }
-        ensures broken_off { OnErr put (T.told self.new.teller ≡ None) }
-        ensures gateway { self.new.gateway ≡ self.old.gateway }
-        ensures script { self.new.script ≡ self.old.script }
-        ensures printed { self.new.printed ≡ self.old.printed }
-    {
-        tell_trace(&mut self.teller, put, self.text.as_slice())
-    }
-
-    // A tick, and what was sent at it.
-    #[tactic(auto, using(crate::proofs::RunLemmas::ends_all, crate::proofs::RunLemmas::if_none))]
-    fn tell_tick(&mut self, moment: u64, sent: &[OutDatagram]) -> Placed
-        ensures told { Grows (T.told self.old.teller) (tick_text self.old.script moment sent.now) (T.told self.new.teller) }
-        ensures script { IfSome (T.told self.new.teller) (λ text. self.new.script ≡ after_tick self.old.script moment sent.now) }
-        ensures gateway { self.new.gateway ≡ self.old.gateway }
-    {
-        if !self.teller.is_telling() {
-            return untold(&self.teller);
-        }
-        self.text.clear();
-        let put = self
-            .script
-            .put_tick(self.alloc, &mut self.text, moment, sent);
-        self.tell(put)
-    }
-
-    // A datagram that came, and what was sent at it.
-    #[tactic(auto, using(crate::proofs::RunLemmas::ends_all, crate::proofs::RunLemmas::if_none))]
-    fn tell_datagram(&mut self, source: SocketAddrV4, bytes: &[u8], sent: &[OutDatagram]) -> Placed
-        ensures told { Grows (T.told self.old.teller) (input_text self.old.script (arrived source bytes.now) (sends sent.now)) (T.told self.new.teller) }
-        ensures script { IfSome (T.told self.new.teller) (λ text. self.new.script ≡ at_clock self.old.script) }
-        ensures gateway { self.new.gateway ≡ self.old.gateway }
-    {
-        if !self.teller.is_telling() {
-            return untold(&self.teller);
-        }
-        self.text.clear();
-        let put = self
-            .script
-            .put_datagram(self.alloc, &mut self.text, source, bytes, sent);
-        self.tell(put)
-    }
-
-    // A line by which something was done, and what was sent at it.
-    #[tactic(auto, using(crate::proofs::RunLemmas::ends_all, crate::proofs::RunLemmas::if_none))]
-    fn tell_act(&mut self, line: &[u8], sent: &[OutDatagram]) -> Placed
-        ensures told { Grows (T.told self.old.teller) (input_text self.old.script (typed line.now) (sends sent.now)) (T.told self.new.teller) }
-        ensures script { IfSome (T.told self.new.teller) (λ text. self.new.script ≡ at_clock self.old.script) }
-        ensures gateway { self.new.gateway ≡ self.old.gateway }
-    {
-        if !self.teller.is_telling() {
-            return untold(&self.teller);
-        }
-        self.text.clear();
-        let put = self.script.put_act(self.alloc, &mut self.text, line, sent);
-        self.tell(put)
-    }
-
-    // A line, and what is answered to it.
-    #[tactic(auto, using(crate::proofs::RunLemmas::ends_all, crate::proofs::RunLemmas::if_none))]
-    fn tell_answered(&mut self, line: &[u8])
-        ensures told { Grows (T.told self.old.teller) (clock_text self.old.script ++ printed_line line.now ++ told_text self.old.printed.items) (T.told self.new.teller) }
-        ensures script { IfSome (T.told self.new.teller) (λ text. self.new.script ≡ at_clock self.old.script) }
-        ensures gateway { self.new.gateway ≡ self.old.gateway }
-        ensures printed { self.new.printed ≡ self.old.printed }
-    {
-        if self.teller.is_telling() {
-            self.text.clear();
-            let put = self
-                .script
-                .put_answered(self.alloc, &mut self.text, line, self.printed.as_slice());
-            let _ = self.tell(put);
-        }
-    }
-
-    // What became of the datagram at this place among those of this turn.
-    #[tactic(auto, using(crate::proofs::RunLemmas::ends_all, crate::proofs::RunLemmas::if_none))]
-    fn tell_mark(&mut self, mark: Mark, place: u64)
-        ensures told { Grows (T.told self.old.teller) (told_mark mark place) (T.told self.new.teller) }
-        ensures script { self.new.script ≡ self.old.script }
-        ensures gateway { self.new.gateway ≡ self.old.gateway }
-    {
-        if self.teller.is_telling() {
-            self.text.clear();
-            let put = put_mark(self.alloc, &mut self.text, mark, place);
-            let _ = self.tell(put);
-        }
-    }
-
     // The datagram at this place is handed out.
     #[tactic(auto, using(crate::proofs::RunLemmas::one_handed))]
     fn hand<O: Outlet>(&mut self, out: &mut O, datagram: &OutDatagram, place: u64)
@@ -209,7 +115,7 @@ impl<T: Teller + Drop> LivePlay<T> {
         ensures came { O.came out.new ≡ O.came out.old }
     {
         if let Some(mark) = out.hand(datagram.to, datagram.bytes.as_bytes()) {
-            self.tell_mark(mark, place);
+            tell_mark(self.alloc, &mut self.text, &mut self.teller, mark, place);
         }
     }
 
@@ -258,7 +164,14 @@ impl<T: Teller + Drop> LivePlay<T> {
         match take(&mut self.gateway, Event::Tick { moment }) {
             Ok(outputs) => {
                 let sent = outputs.as_slice();
-                let told = self.tell_tick(moment, sent);
+                let told = tell_tick(
+                    self.alloc,
+                    &mut self.script,
+                    &mut self.text,
+                    &mut self.teller,
+                    moment,
+                    sent,
+                );
                 self.hand_out(out, sent, told);
                 Ok(())
             }
@@ -290,41 +203,19 @@ impl<T: Teller + Drop> LivePlay<T> {
         match take(&mut self.gateway, Event::Datagram { source, bytes }) {
             Ok(outputs) => {
                 let sent = outputs.as_slice();
-                let told = self.tell_datagram(source, bytes, sent);
+                let told = tell_datagram(
+                    self.alloc,
+                    &mut self.script,
+                    &mut self.text,
+                    &mut self.teller,
+                    source,
+                    bytes,
+                    sent,
+                );
                 self.hand_out(out, sent, told);
                 Ok(())
             }
             Err(refusal) => Err(refusal),
-        }
-    }
-
-    // An act was refused, and not for want of memory: why is put, and told.
-    fn tell_refusal(&mut self, line: &[u8], refusal: Refusal) -> Result<(), OutOfMemory>
-        ensures ok { OnOk result (Grows (T.told self.old.teller)
-            (clock_text self.old.script ++ printed_line line.now ++ told_text (printed_line (refusal_line refusal))) (T.told self.new.teller)) }
-        ensures ok_script { OnOk result (IfSome (T.told self.new.teller) (λ text. self.new.script ≡ at_clock self.old.script)) }
-        ensures ok_printed { OnOk result (self.new.printed.items ≡ printed_line (refusal_line refusal)) }
-        ensures err { OnErr result (T.told self.new.teller ≡ T.told self.old.teller) }
-        ensures err_script { OnErr result (self.new.script ≡ self.old.script) }
-        ensures gateway { self.new.gateway ≡ self.old.gateway }
-    {
-        self.printed.clear();
-        put_refusal(self.alloc, &mut self.printed, refusal)?;
-        self.tell_answered(line);
-        Ok(())
-    }
-
-    // The same, but that nothing is told where the refusal is want of memory.
-    fn refuse(&mut self, line: &[u8], refusal: Refusal) -> Refusal
-        ensures told { TellsRefusal line.now refusal result self.new.printed.items (T.told self.old.teller) self.old.script (T.told self.new.teller) self.new.script }
-        ensures gateway { self.new.gateway ≡ self.old.gateway }
-    {
-        if refusal == Refusal::OutOfMemory {
-            return refusal;
-        }
-        match self.tell_refusal(line, refusal) {
-            Ok(()) => refusal,
-            Err(_) => Refusal::OutOfMemory,
         }
     }
 
@@ -355,11 +246,26 @@ impl<T: Teller + Drop> LivePlay<T> {
         match take(&mut self.gateway, Event::Phone { line, act }) {
             Ok(outputs) => {
                 let sent = outputs.as_slice();
-                let told = self.tell_act(text, sent);
+                let told = tell_act(
+                    self.alloc,
+                    &mut self.script,
+                    &mut self.text,
+                    &mut self.teller,
+                    text,
+                    sent,
+                );
                 self.hand_out(out, sent, told);
                 Ok(())
             }
-            Err(refusal) => Err(self.refuse(text, refusal)),
+            Err(refusal) => Err(refuse(
+                self.alloc,
+                &mut self.script,
+                &mut self.text,
+                &mut self.teller,
+                &mut self.printed,
+                text,
+                refusal,
+            )),
         }
     }
 
@@ -372,7 +278,7 @@ impl<T: Teller + Drop> LivePlay<T> {
         if self.teller.is_telling() {
             self.text.clear();
             let put = self.script.put_clock(self.alloc, &mut self.text);
-            let _ = self.tell(put);
+            let _ = tell(&mut self.teller, put, self.text.as_slice());
         }
     }
 
@@ -387,7 +293,15 @@ impl<T: Teller + Drop> LivePlay<T> {
             (live self.new.gateway.value self.new.script (T.told self.new.teller) handed)) }
     {
         put_answer(self.alloc, &self.gateway, line, &mut self.printed)?;
-        self.tell_answered(text);
+        let printed = self.printed.as_slice();
+        tell_answered(
+            self.alloc,
+            &mut self.script,
+            &mut self.text,
+            &mut self.teller,
+            text,
+            printed,
+        );
         Ok(())
     }
 }

@@ -10,11 +10,11 @@ returns-in_err-put_answer-clause-ran g c = λ handed. stays (λ (nobody : Socket
 
 pub returns-clause-answered : goal.returns-clause-answered
 returns-clause-answered g c =
-    λ handed. answers_so _ _ c.args.text.now c.args.line c.tell_answered.new.self.printed.items c.requires
-    (rw (c.tell_answered.ensures.printed) (subst (λ (gateway : GatewayState). IsAnswer gateway c.args.line c.put_answer.new.out.items) c.deref.ensures c.in_ok-put_answer.ensures))
-    (ap (λ gateway. gateway.value) c.tell_answered.ensures.gateway) refl (rw (c.tell_answered.ensures.printed) c.tell_answered.ensures.told) c.tell_answered.ensures.script
+    λ handed. answers_so _ _ c.args.text.now c.args.line c.put_answer.new.out.items c.requires
+    (subst (λ (gateway : GatewayState). IsAnswer gateway c.args.line c.put_answer.new.out.items) c.deref.ensures c.in_ok-put_answer.ensures)
+    refl refl (rw (c.as_slice-printed.ensures.value) at c.tell_answered.ensures.told) c.tell_answered.ensures.script
 
 pub returns-clause-ran : goal.returns-clause-ran
 returns-clause-ran g c =
-    λ handed. goes_on_answered (λ (nobody : SocketAddrV4). ⊥) _ _ c.args.text.now c.args.line c.tell_answered.new.self.printed.items
+    λ handed. goes_on_answered (λ (nobody : SocketAddrV4). ⊥) _ _ c.args.text.now c.args.line c.put_answer.new.out.items
     (returns-clause-answered g c handed)

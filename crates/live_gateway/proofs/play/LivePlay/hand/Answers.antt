@@ -4,8 +4,8 @@ use Rattle.live_gateway.proofs.play.LivePlay.hand.Goals as goal
 
 pub returns-in-Some-clause-handed : goal.returns-in-Some-clause-handed
 returns-in-Some-clause-handed g c =
-    λ before here. one_marked _ _ before c.args.datagram.now c.in-Some.mark c.args.place here (ap (λ gateway. gateway.value) c.tell_mark.ensures.gateway)
-    (rw (c.as_bytes.ensures) at c.hand.ensures.handed) c.tell_mark.ensures.told c.tell_mark.ensures.script
+    λ before here. one_marked _ _ before c.args.datagram.now c.in-Some.mark c.args.place here refl
+    (rw (c.as_bytes.ensures) at c.hand.ensures.handed) c.tell_mark.ensures refl
 
 pub returns-in_default-clause-handed : goal.returns-in_default-clause-handed
 returns-in_default-clause-handed g c =
