@@ -6,7 +6,8 @@ ghost use Rattle.std.specs.Prelude.{◌≡◌, ◌&&◌, ◌==◌, nat_lt};
 pub fn share_a_datagram(same_address: bool, begun: u64, next: u64, has_room: bool) -> bool
     ensures { result ≡ (same_address && begun == next && has_room) }
 {
-    same_address && begun == next && has_room
+    let same_moment = begun == next;
+    same_address && same_moment && has_room
 }
 
 /// Whether a datagram of this length is not taken, where this is the largest that is (RFC 3435, 3.5.4).
