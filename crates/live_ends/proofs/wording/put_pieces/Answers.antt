@@ -6,7 +6,7 @@ use Rattle.live_ends.proofs.wording.put_pieces.Goals as goal
 pub loop-piece-preserved : goal.loop-piece-preserved
 loop-piece-preserved c =
     put_one piece_text c.args.pieces.now c.loop-piece.piece-index _ _ _ _ c.loop-piece-test.true
-    (rw (c.as_bytes.ensures) at c.in_ok-extend_from_slice.ensures.items) c.loop-piece.invariant
+    (rw (c.as_bytes.ensures.value) at c.in_ok-extend_from_slice.ensures.items) c.loop-piece.invariant
 
 pub returns : goal.returns
 returns c = put_each piece_text c.args.pieces.now c.loop-piece.piece-index _ _ c.loop-piece-test.false c.loop-piece.invariant
