@@ -5,6 +5,7 @@ ghost use Rattle.outbound.specs.Issued.{is_command_as, answered_with};
 
 use mg_bytes::Text;
 use mgcp_text::{Message, TransactionId};
+use transmission_rules::{is_answered, is_command_issued};
 
 /// The answer to a command that was issued.
 #[derive(Drop)]
@@ -31,7 +32,7 @@ pub fn is_command_with(id: TransactionId, name: &[u8], said: &Message<'_>) -> bo
             id: other,
             name: of,
             ..
-        } => other.number() == id.number() && of.as_slice() == name,
+        } => is_command_issued(other.number(), id.number(), of.as_slice() == name),
         Message::Response { .. } => false,
     }
 }
@@ -40,6 +41,6 @@ pub fn is_command_with(id: TransactionId, name: &[u8], said: &Message<'_>) -> bo
 pub fn answer_with(answers: &[Answered], id: u32) -> Option<&Answer>
     ensures { option_copied result ≡ answered_with id answers.now }
 {
-    let one = answers.iter().find(|one| one.id == id)?;
+    let one = answers.iter().find(|one| is_answered(one.id, id))?;
     Some(&one.answer)
 }
