@@ -6,8 +6,9 @@ use Rattle.gateway_checks.specs.declared.hearing.Heard.{Heard}
 use Rattle.gateway_checks.specs.declared.hearing.Heard.TheVariants as heard
 use Rattle.gateway_checks.specs.declared.inbox.Arrived.{Arrived}
 use Rattle.gateway_checks.specs.declared.socket.Socket.{Socket}
+use Rattle.gateway_checks.specs.declared.step.Asks.{Asks}
+use Rattle.gateway_checks.specs.declared.step.Asks.TheVariants as steps
 use Rattle.gateway_checks.specs.declared.step.Step.{Step}
-use Rattle.gateway_checks.specs.declared.step.Step.TheVariants as steps
 use Rattle.gateway_checks.specs.Judging.{is_provisional}
 
 -- behind a provisional response the answer is still to come (RFC 3435, 3.5.6)
@@ -39,25 +40,30 @@ abbrev pub is_own : ℕ → ℕ → Bool
 is_own base id = nat_le base id || nat_lt id (base - 1000)
 
 -- an answer is waited for, and not silence
+abbrev pub awaits : Asks → Bool
+awaits steps.Send = true
+awaits steps.Answer = true
+awaits steps.AnswerIfDone = true
+awaits steps.Same = true
+awaits steps.Silence = false
+awaits steps.Wait = false
+awaits steps.Has = true
+awaits steps.Unlike = true
+awaits steps.Tells = true
+awaits steps.Keep = true
+awaits steps.Differ = true
+awaits steps.Notified = true
+awaits steps.Announced = true
+awaits steps.Again = true
+awaits steps.Slower = true
+awaits steps.Quiet = true
+awaits steps.Act = true
+awaits steps.Restart = true
+awaits steps.Unknown = true
+
 abbrev pub awaits_answer : Option Step → Bool
 awaits_answer None = true
-awaits_answer (Some (steps.Send from text)) = true
-awaits_answer (Some (steps.SendAgain from)) = true
-awaits_answer (Some (steps.Answer codes id is_optional)) = true
-awaits_answer (Some (steps.Same id)) = true
-awaits_answer (Some (steps.Silence ms)) = false
-awaits_answer (Some (steps.Wait ms)) = false
-awaits_answer (Some (steps.Has code value)) = true
-awaits_answer (Some (steps.Unlike code value)) = true
-awaits_answer (Some (steps.Tells text)) = true
-awaits_answer (Some (steps.Keep name code)) = true
-awaits_answer (Some (steps.Differ first second)) = true
-awaits_answer (Some (steps.Notified at name due)) = true
-awaits_answer (Some (steps.Announced at name method)) = true
-awaits_answer (Some (steps.Again times grows)) = true
-awaits_answer (Some (steps.Quiet ms)) = true
-awaits_answer (Some (steps.Act act)) = true
-awaits_answer (Some steps.Unknown) = true
+awaits_answer (Some step) = awaits step.asks
 
 -- what is no message counts as an answer to nothing
 abbrev pub to_nothing : Socket → List ℕ → Came

@@ -7,8 +7,8 @@ ghost use Rattle.gateway_checks.specs.declared.judging.Verdict.TheVariants as ve
 ghost use Rattle.gateway_checks.specs.declared.socket.Socket.TheVariants.{First, Second};
 ghost use Rattle.mgcp_text.specs.Reading.{read_text};
 ghost use Rattle.gateway_checks.specs.declared.hearing.Heard.TheVariants as heard;
-ghost use Rattle.gateway_checks.specs.declared.step.Step.TheVariants as steps;
-ghost use Rattle.gateway_checks.specs.Hearing.{heard_of, is_own, awaits_answer, kept_in, to_nothing};
+ghost use Rattle.gateway_checks.specs.declared.step.Asks.TheVariants as steps;
+ghost use Rattle.gateway_checks.specs.Hearing.{heard_of, is_own, awaits, awaits_answer, kept_in, to_nothing};
 ghost use Rattle.gateway_checks.specs.Judging.{is_provisional, judged, settled, fault_of, verdict_of};
 ghost use Rattle.gateway_checks.specs.Matching.{is_among, code_fault, has_value, has_another};
 ghost use Rattle.gateway_checks.specs.Reporting.{word_of, greatest_count, one_more, with_verdict};
@@ -54,10 +54,10 @@ pub fn each_sentence_has_an_example()
     ensures answers_wait_for_a_step_provisional { kept_in 3000 true First (codes "100 3001\n" ∷ []) ≡ [] }
     ensures silence { kept_in 3000 false First (codes "100 3001\n" ∷ []) ≡ to_nothing First (codes "100 3001\n") ∷ [] }
     ensures to_nothing { to_nothing First (codes "x") ≡ record { at = First; id = 0; code = 0; text = codes "x" } }
-    ensures silent { awaits_answer (Some (steps.Silence 500)) ≡ false }
-    ensures waits { awaits_answer (Some (steps.Wait 500)) ≡ false }
+    ensures silent { awaits steps.Silence ≡ false }
+    ensures waits { awaits steps.Wait ≡ false }
     ensures answers_wait_for_a_step_none { awaits_answer None ≡ true }
-    ensures unknown { awaits_answer (Some steps.Unknown) ≡ true }
+    ensures unknown { awaits steps.Unknown ≡ true }
 {}
 
 /// Each sentence at an example.

@@ -14,7 +14,7 @@ use crate::mailbox::Mailbox;
 use crate::matching::{code_fault, has_another, has_value};
 use crate::names::Names;
 use crate::socket::Socket;
-use crate::step::{Step, step_of};
+use crate::step::{Asks, Step, step_of};
 use crate::texts::append;
 use crate::unasked::{Expected, Unasked, is_for_check};
 use crate::waiting::{UNASKED_TIME, is_prolonged, waited_until};
@@ -381,25 +381,25 @@ impl<'a> Player<'a> {
 
     // Plays a step: what it asks for, or nothing where it is done.
     fn play(&mut self, step: Step<'a>, now: u64) -> Option<Turn> {
-        match step {
-            Step::Send { from, text } => self.send(from, text),
-            Step::SendAgain { from } => self.send_now(from),
-            Step::Answer {
-                codes,
-                id,
-                is_optional,
-            } => self.answered(codes, id, is_optional, now),
-            Step::Same { id } => self.answered_again(id, now),
-            Step::Silence { ms } => self.quiet(ms, false, now),
-            Step::Wait { ms } => self.waited(ms, true, now),
-            Step::Notified { at, name, due } => self.notified(at, name, due, now),
-            Step::Announced { at, name, method } => {
-                let method = method.as_bytes();
-                self.find(at, &Expected::Announcement { method }, name, now)
+        let line = self.line;
+        let (at, first, second) = (step.at, step.first, step.second);
+        match step.asks {
+            Asks::Send => self.send(at, step.rest),
+            Asks::Answer => self.answered(first, second, false, now),
+            Asks::AnswerIfDone => self.answered(first, second, true, now),
+            Asks::Same => self.answered_again(first, now),
+            Asks::Silence => self.quiet(step.number, false, now),
+            Asks::Wait => self.waited(step.number, true, now),
+            Asks::Notified => self.notified(at, first, second, now),
+            Asks::Announced => {
+                let method = second.as_bytes();
+                self.find(at, &Expected::Announcement { method }, first, now)
             }
-            Step::Again { times, grows } => self.came_again(times, grows, now),
-            Step::Quiet { ms } => self.quiet(ms, true, now),
-            Step::Act { act } => self.ask_for(act),
+            Asks::Again => self.came_again(step.number, false, now),
+            Asks::Slower => self.came_again(step.number, true, now),
+            Asks::Quiet => self.quiet(step.number, true, now),
+            Asks::Act => self.ask_for(first),
+            Asks::Restart => self.ask_for(line),
             _ => self.play_at_once(step),
         }
     }
@@ -407,18 +407,14 @@ impl<'a> Player<'a> {
     // Plays a step that is met or not at once: by what the last answer holds, or by what names stand for.
     fn play_at_once(&mut self, step: Step<'a>) -> Option<Turn> {
         let alloc = self.alloc;
-        let is_met = match step {
-            Step::Has { code, value } => {
-                is_as_due(alloc, &self.names, self.inbox.last(), code, value, false)
-            }
-            Step::Unlike { code, value } => {
-                is_as_due(alloc, &self.names, self.inbox.last(), code, value, true)
-            }
-            Step::Tells { text } => is_told(alloc, self.inbox.last(), text),
-            Step::Keep { name, code } => {
-                keep_value(alloc, &mut self.names, self.inbox.last(), name, code)
-            }
-            Step::Differ { first, second } => self.names.differ(first, second),
+        let (first, second) = (step.first, step.second);
+        let answer = self.inbox.last();
+        let is_met = match step.asks {
+            Asks::Has => is_as_due(alloc, &self.names, answer, first, second, false),
+            Asks::Unlike => is_as_due(alloc, &self.names, answer, first, second, true),
+            Asks::Tells => is_told(alloc, answer, step.rest),
+            Asks::Keep => keep_value(alloc, &mut self.names, answer, first, second),
+            Asks::Differ => self.names.differ(first, second),
             _ => Ok(false),
         };
         match is_met {
@@ -441,7 +437,11 @@ impl<'a> Player<'a> {
         Some(Turn::Send { from })
     }
 
+    // This goes out from a socket, or what went out last does again.
     fn send(&mut self, from: Socket, text: &str) -> Option<Turn> {
+        if text == "again" {
+            return self.send_now(from);
+        }
         match self.names.datagram(text) {
             Ok(sent) => {
                 self.sent = sent;
@@ -625,17 +625,22 @@ impl<'a> Player<'a> {
         ensures { result ≡ awaits_answer self.now.step }
     {
         match self.step {
-            Some(Step::Silence { .. } | Step::Wait { .. }) => false,
-            _ => true,
+            Some(step) => !matches!(step.asks, Asks::Silence | Asks::Wait),
+            None => true,
         }
     }
 
     // The id of the command whose answer is waited for.
     fn awaited_id(&self) -> Result<Option<u32>, OutOfMemory> {
-        match self.step {
-            Some(Step::Answer { id, .. } | Step::Same { id }) => Ok(Some(self.names.id_in(id)?)),
-            _ => Ok(None),
-        }
+        let Some(step) = self.step else {
+            return Ok(None);
+        };
+        let id = match step.asks {
+            Asks::Answer | Asks::AnswerIfDone => step.second,
+            Asks::Same => step.first,
+            _ => return Ok(None),
+        };
+        Ok(Some(self.names.id_in(id)?))
     }
 
     // A provisional response has come to a socket: behind one to the same command the answer is waited for anew.

@@ -2,227 +2,109 @@
 use crate::check::parted;
 use crate::socket::Socket;
 
-/// A step.
+/// What a step asks for, by the first word of its line.
 #[derive(Clone, Copy)]
-pub(crate) enum Step<'a> {
-    /// This text is sent.
-    Send {
-        from: Socket,
-        text: &'a str,
-    },
-    /// What was sent last is sent again.
-    SendAgain {
-        from: Socket,
-    },
+pub(crate) enum Asks {
+    /// A text is sent, or what was sent last is sent again.
+    Send,
     /// The answer with this id comes, with one of these codes.
-    Answer {
-        codes: &'a str,
-        id: &'a str,
-        is_optional: bool,
-    },
+    Answer,
+    /// It comes so, or says that this isn't done.
+    AnswerIfDone,
     /// The answer with this id comes again.
-    Same {
-        id: &'a str,
-    },
+    Same,
     /// No answer comes for so long, in ms.
-    Silence {
-        ms: u64,
-    },
+    Silence,
     /// So long nothing is asked, in ms.
-    Wait {
-        ms: u64,
-    },
+    Wait,
     /// The last answer has this parameter, and this value in it; without a value any.
-    Has {
-        code: &'a str,
-        value: &'a str,
-    },
+    Has,
     /// It has this parameter with another value.
-    Unlike {
-        code: &'a str,
-        value: &'a str,
-    },
+    Unlike,
     /// It holds this text.
-    Tells {
-        text: &'a str,
-    },
-    /// Its parameter's value has this name from here on.
-    Keep {
-        name: &'a str,
-        code: &'a str,
-    },
+    Tells,
+    /// A name stands from here on for the value of its parameter.
+    Keep,
     /// This name and that one stand for other values.
-    Differ {
-        first: &'a str,
-        second: &'a str,
-    },
-    /// A notification of this endpoint comes to that socket, with this X and this O, and its id has this name from here on.
-    Notified {
-        at: Socket,
-        name: &'a str,
-        due: &'a str,
-    },
-    /// An announcement with this method comes to that socket, and its id has this name from here on.
-    Announced {
-        at: Socket,
-        name: &'a str,
-        method: &'a str,
-    },
-    /// What a step asked for last comes so often again, and in growing gaps or in any.
-    Again {
-        times: u64,
-        grows: bool,
-    },
+    Differ,
+    /// A notification of this endpoint comes, with this X and this O, and its id has this name from here on.
+    Notified,
+    /// An announcement with this method comes, and its id has this name from here on.
+    Announced,
+    /// What a step asked for last comes so often again.
+    Again,
+    /// It does, in growing gaps.
+    Slower,
     /// The gateway says nothing by itself for so long, in ms.
-    Quiet {
-        ms: u64,
-    },
-    /// This is done at the line's telephone, or with the gateway.
-    Act {
-        act: &'a str,
-    },
+    Quiet,
+    /// This is done at the line's telephone.
+    Act,
+    /// The gateway is restarted.
+    Restart,
     /// The line is no step.
     Unknown,
 }
 
-// A word with which a line begins.
+/// A step: what it asks for, and what stands in its line.
 #[derive(Clone, Copy)]
-enum Word {
-    Send,
-    SendThere,
-    Answer,
-    AnswerIfDone,
-    Same,
-    Silence,
-    Wait,
-    Has,
-    Unlike,
-    Tells,
-    Keep,
-    Differ,
-    Notified,
-    NotifiedThere,
-    Announced,
-    AnnouncedThere,
-    Again,
-    Slower,
-    Quiet,
-    Act,
-    Restart,
-    Unknown,
+pub(crate) struct Step<'a> {
+    pub asks: Asks,
+    /// The socket that it speaks of.
+    pub at: Socket,
+    /// All behind the first word; the word there, and what stands behind that.
+    pub rest: &'a str,
+    pub first: &'a str,
+    pub second: &'a str,
+    /// The number that the second word is; 0 where it is none.
+    pub number: u64,
 }
 
-const WORDS: [(&str, Word); 22] = [
-    (">", Word::Send),
-    (">>", Word::SendThere),
-    ("<", Word::Answer),
-    ("<?", Word::AnswerIfDone),
-    ("same", Word::Same),
-    ("silence", Word::Silence),
-    ("wait", Word::Wait),
-    ("pause", Word::Wait),
-    ("has", Word::Has),
-    ("unlike", Word::Unlike),
-    ("tells", Word::Tells),
-    ("keep", Word::Keep),
-    ("differ", Word::Differ),
-    ("notified", Word::Notified),
-    ("notified-there", Word::NotifiedThere),
-    ("announced", Word::Announced),
-    ("announced-there", Word::AnnouncedThere),
-    ("again", Word::Again),
-    ("slower", Word::Slower),
-    ("quiet", Word::Quiet),
-    ("act", Word::Act),
-    ("restart", Word::Restart),
+const WORDS: [(&str, Asks, Socket); 22] = [
+    (">", Asks::Send, Socket::First),
+    (">>", Asks::Send, Socket::Second),
+    ("<", Asks::Answer, Socket::First),
+    ("<?", Asks::AnswerIfDone, Socket::First),
+    ("same", Asks::Same, Socket::First),
+    ("silence", Asks::Silence, Socket::First),
+    ("wait", Asks::Wait, Socket::First),
+    ("pause", Asks::Wait, Socket::First),
+    ("has", Asks::Has, Socket::First),
+    ("unlike", Asks::Unlike, Socket::First),
+    ("tells", Asks::Tells, Socket::First),
+    ("keep", Asks::Keep, Socket::First),
+    ("differ", Asks::Differ, Socket::First),
+    ("notified", Asks::Notified, Socket::First),
+    ("notified-there", Asks::Notified, Socket::Second),
+    ("announced", Asks::Announced, Socket::First),
+    ("announced-there", Asks::Announced, Socket::Second),
+    ("again", Asks::Again, Socket::First),
+    ("slower", Asks::Slower, Socket::First),
+    ("quiet", Asks::Quiet, Socket::First),
+    ("act", Asks::Act, Socket::First),
+    ("restart", Asks::Restart, Socket::First),
 ];
 
-fn word_of(text: &str) -> Word {
-    for (name, word) in WORDS.iter() {
-        if *name == text {
-            return *word;
+// What a word asks for, and of which socket.
+fn asked_by(word: &str) -> (Asks, Socket) {
+    for (name, asks, at) in WORDS.iter() {
+        if *name == word {
+            return (*asks, *at);
         }
     }
-    Word::Unknown
-}
-
-// What is sent from a socket: a text, or the last one again.
-fn sent(from: Socket, text: &str) -> Step<'_> {
-    match text {
-        "again" => Step::SendAgain { from },
-        _ => Step::Send { from, text },
-    }
-}
-
-// So long, where these are digits.
-fn so_long(digits: &str) -> u64 {
-    digits.parse::<u64>().unwrap_or(0)
-}
-
-// The step that a line is which speaks of what the gateway says by itself.
-fn unasked_step<'a>(line: &'a str, word: Word, first: &'a str, second: &'a str) -> Step<'a> {
-    match word {
-        Word::Notified => Step::Notified {
-            at: Socket::First,
-            name: first,
-            due: second,
-        },
-        Word::NotifiedThere => Step::Notified {
-            at: Socket::Second,
-            name: first,
-            due: second,
-        },
-        Word::Announced => Step::Announced {
-            at: Socket::First,
-            name: first,
-            method: second,
-        },
-        Word::AnnouncedThere => Step::Announced {
-            at: Socket::Second,
-            name: first,
-            method: second,
-        },
-        Word::Again | Word::Slower => Step::Again {
-            times: so_long(first),
-            grows: matches!(word, Word::Slower),
-        },
-        Word::Quiet => Step::Quiet { ms: so_long(first) },
-        Word::Act => Step::Act { act: first },
-        Word::Restart => Step::Act { act: line },
-        _ => Step::Unknown,
-    }
+    (Asks::Unknown, Socket::First)
 }
 
 /// The step that a line is.
 pub(crate) fn step_of(line: &str) -> Step<'_> {
     let (word, rest) = parted(line, " ");
     let (first, second) = parted(rest, " ");
-    let word = word_of(word);
-    match word {
-        Word::Send => sent(Socket::First, rest),
-        Word::SendThere => sent(Socket::Second, rest),
-        Word::Answer | Word::AnswerIfDone => Step::Answer {
-            codes: first,
-            id: second,
-            is_optional: matches!(word, Word::AnswerIfDone),
-        },
-        Word::Same => Step::Same { id: rest },
-        Word::Silence => Step::Silence { ms: so_long(rest) },
-        Word::Wait => Step::Wait { ms: so_long(rest) },
-        Word::Has => Step::Has {
-            code: first,
-            value: second,
-        },
-        Word::Unlike => Step::Unlike {
-            code: first,
-            value: second,
-        },
-        Word::Tells => Step::Tells { text: rest },
-        Word::Keep => Step::Keep {
-            name: first,
-            code: second,
-        },
-        Word::Differ => Step::Differ { first, second },
-        _ => unasked_step(line, word, first, second),
+    let (asks, at) = asked_by(word);
+    Step {
+        asks,
+        at,
+        rest,
+        first,
+        second,
+        number: first.parse::<u64>().unwrap_or(0),
     }
 }
