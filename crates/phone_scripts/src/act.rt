@@ -4,6 +4,7 @@ ghost use Rattle.std.specs.List.{list_all};
 ghost use Rattle.phone_scripts.specs.Words.{is_key, are_keys, key_of, act_of};
 
 use crate::limits::MOST_KEYS;
+use crate::spelling::is_word;
 
 /// What is done at a telephone.
 #[derive(Clone, Copy)]
@@ -47,13 +48,13 @@ pub(crate) fn are_keys(word: &[u8]) -> bool
 pub(crate) fn act_of(word: &[u8]) -> Option<PhoneAct>
     ensures { result ≡ act_of word.now }
 {
-    if word == b"off".as_slice() {
+    if is_word(word, b"off") {
         return Some(PhoneAct::Off);
     }
-    if word == b"on".as_slice() {
+    if is_word(word, b"on") {
         return Some(PhoneAct::On);
     }
-    if word == b"flash".as_slice() {
+    if is_word(word, b"flash") {
         return Some(PhoneAct::Flash);
     }
     key_of(word)

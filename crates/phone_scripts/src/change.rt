@@ -3,6 +3,7 @@ ghost use Rattle.std.specs.Prelude.{◌≡◌, IfOk, option_map};
 ghost use Rattle.mg_bytes.specs.Words.{words as words_of};
 ghost use Rattle.phone_scripts.specs.Pushed.{signal_named, hook_in, connection_in, changed_in, what_in, head_in, telling_by, telling_in, watching_of, watching_in};
 
+use crate::spelling::is_word;
 use crate::telephone::{Connected, What};
 use crate::words::{are_words, line_of};
 use connections::read_mode;
@@ -38,9 +39,9 @@ fn signal_named(word: &[u8]) -> Option<Signal>
 fn hook_in(word: &[u8]) -> Option<What>
     ensures { result ≡ hook_in word.now }
 {
-    if word == b"off".as_slice() {
+    if is_word(word, b"off") {
         Some(What::Hook { is_off_hook: true })
-    } else if word == b"on".as_slice() {
+    } else if is_word(word, b"on") {
         Some(What::Hook { is_off_hook: false })
     } else {
         None
@@ -77,7 +78,7 @@ fn connection_in(
     let Some(word) = rest.next() else {
         return Ok(None);
     };
-    if word == b"over".as_slice() {
+    if is_word(word, b"over") {
         let id = text_of(alloc, id)?;
         return Ok(Some(What::Over { id }));
     }
@@ -97,11 +98,11 @@ fn changed_in(
 ) -> Result<Option<What>, OutOfMemory>
     ensures { IfOk result (λ found. found ≡ changed_in word.now name.now rest.old) }
 {
-    if word == b"begins".as_slice() {
+    if is_word(word, b"begins") {
         Ok(begins_in(name))
-    } else if word == b"ends".as_slice() {
+    } else if is_word(word, b"ends") {
         Ok(ends_in(name))
-    } else if word == b"connection".as_slice() {
+    } else if is_word(word, b"connection") {
         connection_in(alloc, name, rest)
     } else {
         Ok(None)

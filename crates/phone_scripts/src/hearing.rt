@@ -6,6 +6,7 @@ use crate::gateways::{Known, Numbered};
 use crate::player::Player;
 use crate::runner::{ASKED_AGAIN, Pending, Runner, Waits};
 use crate::shown::{Shown, shown_in};
+use crate::spelling::is_word;
 use crate::statement::{Phone, Place};
 use crate::telephone::Telephone;
 use crate::wording::words_of;
@@ -207,7 +208,7 @@ impl Player {
 
     // What a runner did at a telephone is answered so. Where that is refused the play fails.
     fn hear_done(&mut self, runner: &Runner, line: &[u8]) {
-        if line == b"done".as_slice() {
+        if is_word(line, b"done") {
             return;
         }
         let place = self.place_of(runner);

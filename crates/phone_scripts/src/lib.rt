@@ -21,6 +21,7 @@ mod runner;
 mod said;
 mod script;
 mod shown;
+mod spelling;
 mod statement;
 mod telephone;
 mod wording;

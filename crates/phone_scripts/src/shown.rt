@@ -1,4 +1,5 @@
 //! Reads what `show *` tells of a line: `line 1 off signals L/dl:17000 connections 1:recvonly lost 0`.
+use crate::spelling::is_word;
 use crate::telephone::{Connected, Telephone, What};
 use crate::words::line_of;
 use connections::read_mode;
@@ -69,7 +70,7 @@ fn parts_of(line: &[u8]) -> Option<(u16, &[u8], &[u8], &[u8])> {
     let (Some(_), Some(connections)) = (rest.next(), rest.next()) else {
         return None;
     };
-    if word != b"line".as_slice() {
+    if !is_word(word, b"line") {
         return None;
     }
     let number = line_of(number)?;
@@ -82,7 +83,7 @@ pub fn shown_in(alloc: Global, line: &[u8]) -> Result<Option<Shown>, OutOfMemory
         return Ok(None);
     };
     let mut telephone = Telephone::new(alloc);
-    telephone.is_off_hook = hook == b"off".as_slice();
+    telephone.is_off_hook = is_word(hook, b"off");
     put_lists(alloc, &mut telephone, signals, connections)?;
     Ok(Some(Shown { line, telephone }))
 }

@@ -11,6 +11,7 @@ use crate::expecting::Expected;
 use crate::fault::LineFault;
 use crate::limits::{LONGEST_TIME, MOST_TIMES};
 use crate::said::Said;
+use crate::spelling::is_word;
 use crate::statement::Phone;
 use connections::read_mode;
 use mg_bytes::{OutOfMemory, Text, decimal, split_once, words};
@@ -96,7 +97,7 @@ fn times_of(text: &[u8]) -> Option<u64>
 fn expected_of(word: &[u8]) -> Option<Expected>
     ensures { result ≡ expected_of word.now }
 {
-    if word == b"silent".as_slice() {
+    if is_word(word, b"silent") {
         return Some(Expected::Silent);
     }
     match signal_of(word) {
@@ -242,7 +243,7 @@ fn includes(alloc: Global, file: &[u8]) -> Result<Result<Said, LineFault>, OutOf
 fn line_of_one(a: &[u8]) -> Result<Said, LineFault>
     ensures { result ≡ line_of_one a.now }
 {
-    if a == b"end".as_slice() {
+    if is_word(a, b"end") {
         Ok(Said::End)
     } else {
         Err(LineFault::Line)
@@ -258,9 +259,9 @@ fn line_of_two(
 ) -> Result<Result<Said, LineFault>, OutOfMemory>
     ensures { IfOk result (λ said. said ≡ line_of_two names.now a.now b.now) }
 {
-    if a == b"wait".as_slice() {
+    if is_word(a, b"wait") {
         Ok(waits(b))
-    } else if a == b"include".as_slice() {
+    } else if is_word(a, b"include") {
         includes(alloc, b)
     } else {
         Ok(acts_on(names, a, b))
@@ -277,11 +278,11 @@ fn line_of_three(
 ) -> Result<Result<Said, LineFault>, OutOfMemory>
     ensures { IfOk result (λ said. said ≡ line_of_three names.now a.now b.now c.now) }
 {
-    if b == b"dial".as_slice() {
+    if is_word(b, b"dial") {
         dials(alloc, names, a, c, Some(USUAL_GAP))
-    } else if a == b"expect".as_slice() {
+    } else if is_word(a, b"expect") {
         Ok(expects(names, b, signals(c), Some(0)))
-    } else if a == b"repeat".as_slice() && c == b"times".as_slice() {
+    } else if is_word(a, b"repeat") && is_word(c, b"times") {
         Ok(repeats(b))
     } else if are_words(a, b, c, b"side", b"by", b"side") {
         Ok(Ok(Said::Beside))
@@ -301,9 +302,9 @@ fn line_of_four(
 ) -> Result<Result<Said, LineFault>, OutOfMemory>
     ensures { IfOk result (λ said. said ≡ line_of_four names.now a.now b.now c.now d.now) }
 {
-    if b == b"dial".as_slice() {
+    if is_word(b, b"dial") {
         dials(alloc, names, a, c, time_of(d))
-    } else if a == b"expect".as_slice() && c == b"connection".as_slice() {
+    } else if is_word(a, b"expect") && is_word(c, b"connection") {
         Ok(expects(names, b, modes(d), Some(0)))
     } else {
         Ok(Err(LineFault::Line))
@@ -321,7 +322,7 @@ fn line_of_five(
 ) -> Result<Said, LineFault>
     ensures { result ≡ line_of_five names.now a.now b.now c.now d.now e.now }
 {
-    if a == b"expect".as_slice() && d == b"within".as_slice() {
+    if is_word(a, b"expect") && is_word(d, b"within") {
         expects(names, b, signals(c), time_of(e))
     } else {
         Err(LineFault::Line)
