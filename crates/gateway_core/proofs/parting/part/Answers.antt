@@ -16,7 +16,7 @@ moved of front next whole left rest message made steps is put so_far =
 
 pub loop-message-preserved : goal.loop-message-preserved
 loop-message-preserved c = record {
-  datagrams = moved (λ (message : OutMessage). message.datagram) _ _ _ _ _ _ _ c.in-Some.ensures.steps refl c.in_ok-push-2.ensures.items
+  datagrams = moved (λ (message : OutMessage). message.datagram) _ _ _ _ _ _ _ c.in-Some.ensures.steps.0 refl c.in_ok-push-2.ensures.items
       c.loop-message.invariant.datagrams;
-  told = moved told_of _ _ _ _ _ _ _ c.in-Some.ensures.steps refl c.in_ok-push.ensures.items c.loop-message.invariant.told;
+  told = moved told_of _ _ _ _ _ _ _ c.in-Some.ensures.steps.0 refl c.in_ok-push.ensures.items c.loop-message.invariant.told;
 }
