@@ -119,6 +119,9 @@ pub fn hear(
             refuse(alloc, history, Origin { source, id: *id }, now, code, out)?;
             Ok(false)
         }
-        Ok(said) => Ok(is_left(alloc, history, source, now, said, out)?),
+        Ok(said) => {
+            let left = is_left(alloc, history, source, now, said, out)?;
+            Ok(left)
+        }
     }
 }
