@@ -10,8 +10,7 @@ use Rattle.std.proofs.Math.Seq.{drop-cons}
 use Rattle.outbound.specs.Flight.{InFlight}
 use Rattle.flights.specs.declared.flights.Saved.{Saved}
 use Rattle.flights.specs.Choosing.{has_id, sooner, first_flight, with_flight, without_flight}
-use Rattle.flights.specs.Growing.{Grown}
-use Rattle.flights.specs.Flights.{flight_in, flights_in, holds_id, exchanged, sooner_of, sooner_at, put_back, restored}
+use Rattle.flights.specs.Flights.{Commands, flight_in, flights_in, holds_id, exchanged, sooner_of, sooner_at, put_back, restored, settled, undone}
 
 abbrev value_or : ℕ → Option ℕ → ℕ
 value_or n None = n
@@ -216,39 +215,40 @@ kept_flights (Some flight ∷ places) = ap (λ (x : List InFlight). flight ∷ x
 
 -- ---- what is kept
 
-abbrev pub kept : List (Option InFlight) → List Saved → Grown InFlight
-kept places log = record { is = flights_in places; found = flights_in (restored log places) }
+abbrev pub kept : ℕ → List (Option InFlight) → List Saved → Commands
+kept next places log = record { next = next; is = flights_in places; found = flights_in (restored log places) }
 
-pub untouched : (now : Grown InFlight) (id : ℕ) (becomes : Option InFlight) (places : List (Option InFlight)) (log : List Saved) → now ≡ kept places log → position (holds_id id) places ≡ None
-    → now ≡ record { is = exchanged id becomes now.is; found = now.found }
-untouched now id becomes places log is none =
-    ap (λ (x : List InFlight). let g : Grown InFlight = record { is = x; found = now.found } in g)
-    (ap (λ (g : Grown InFlight). g.is) is ∙ sym (exchanged_nowhere id becomes places none) ∙ sym (ap (λ (g : Grown InFlight). exchanged id becomes g.is) is))
+pub untouched : (now : Commands) (id next : ℕ) (becomes : Option InFlight) (places : List (Option InFlight)) (log : List Saved) → now ≡ kept next places log → position (holds_id id) places ≡ None
+    → now ≡ record now { is = exchanged id becomes now.is }
+untouched now id next becomes places log is none =
+    ap (λ (x : List InFlight). let g : Commands = record now { is = x } in g)
+    (ap (λ (g : Commands). g.is) is ∙ sym (exchanged_nowhere id becomes places none) ∙ sym (ap (λ (g : Commands). exchanged id becomes g.is) is))
 
-pub exchanged_done : (now : Grown InFlight) (id place : ℕ) (becomes was : Option InFlight) (places is : List (Option InFlight)) (log log' : List Saved) (saved : Saved) → now ≡ kept places log
+pub exchanged_done : (now : Commands) (id next place : ℕ) (becomes was : Option InFlight) (places is : List (Option InFlight)) (log log' : List Saved) (saved : Saved) → now ≡ kept next places log
     → position (holds_id id) places ≡ Some place → was ≡ get_or places place was → is ≡ slice_set places place becomes → log' ≡ log ++ saved ∷ []
-    → saved ≡ record { place = place; flight = was } → kept is log' ≡ record { is = exchanged id becomes now.is; found = now.found }
-exchanged_done now id place becomes was places is log log' saved here found had set grown it = rw here
-    (ap (λ (x : List InFlight). let g : Grown InFlight = record { is = x; found = flights_in (restored log' is) } in g) (exchanged_there id place becomes places is found set)
-    ∙ ap (λ (x : List (Option InFlight)). let g : Grown InFlight = record { is = exchanged id becomes (flights_in places); found = flights_in x } in g)
+    → saved ≡ record { place = place; flight = was } → kept next is log' ≡ record now { is = exchanged id becomes now.is }
+exchanged_done now id next place becomes was places is log log' saved here found had set grown it = rw here
+    (ap (λ (x : List InFlight). let g : Commands = record { next = next; is = x; found = flights_in (restored log' is) } in g) (exchanged_there id place becomes places is found set)
+    ∙ ap (λ (x : List (Option InFlight)). let g : Commands = record { next = next; is = exchanged id becomes (flights_in places); found = flights_in x } in g)
     (saved_more log log' saved places is place was becomes it had set grown))
 
-pub exchanged_undone : (now : Grown InFlight) (place : ℕ) (becomes was : Option InFlight) (places is back : List (Option InFlight)) (log log' : List Saved) (saved : Saved) → now ≡ kept places log
-    → was ≡ get_or places place was → is ≡ slice_set places place becomes → back ≡ put_back saved is → saved ≡ record { place = place; flight = was } → log' ≡ log → kept back log' ≡ now
-exchanged_undone now place becomes was places is back log log' saved here had set put it same =
-    ap (kept back) same ∙ ap (λ (x : List (Option InFlight)). kept x log) (not_saved saved places is back place was becomes it had set put) ∙ sym here
+pub exchanged_undone : (now : Commands) (next place : ℕ) (becomes was : Option InFlight) (places is back : List (Option InFlight)) (log log' : List Saved) (saved : Saved) → now ≡ kept next places log
+    → was ≡ get_or places place was → is ≡ slice_set places place becomes → back ≡ put_back saved is → saved ≡ record { place = place; flight = was } → log' ≡ log → kept next back log' ≡ now
+exchanged_undone now next place becomes was places is back log log' saved here had set put it same =
+    ap (kept next back) same ∙ ap (λ (x : List (Option InFlight)). kept next x log) (not_saved saved places is back place was becomes it had set put) ∙ sym here
 
-pub settled_kept : (now : Grown InFlight) (places is : List (Option InFlight)) (log none : List Saved) → now ≡ kept places log → is ≡ filter is_some places → none ≡ []
-    → kept is none ≡ record { is = now.is; found = now.is }
-settled_kept now places is log none here filtered empty = rw (here, empty)
-    (ap (λ (x : List (Option InFlight)). let g : Grown InFlight = record { is = flights_in is; found = flights_in x } in g) (restored_none [] is refl)
-    ∙ ap (λ (x : List InFlight). let g : Grown InFlight = record { is = x; found = x } in g) (ap flights_in filtered ∙ kept_flights places))
+pub settled_kept : (now : Commands) (next : ℕ) (places is : List (Option InFlight)) (log none : List Saved) → now ≡ kept next places log → is ≡ filter is_some places → none ≡ []
+    → kept next is none ≡ settled now
+settled_kept now next places is log none here filtered empty = rw (here, empty)
+    (ap (λ (x : List (Option InFlight)). let g : Commands = record { next = next; is = flights_in is; found = flights_in x } in g) (restored_none [] is refl)
+    ∙ ap (λ (x : List InFlight). let g : Commands = record { next = next; is = x; found = x } in g) (ap flights_in filtered ∙ kept_flights places))
 
-pub all_put_back : (now : Grown InFlight) (places : List (Option InFlight)) (log : List Saved) → log ≡ [] → flights_in (restored log places) ≡ now.found
-    → kept places log ≡ record { is = now.found; found = now.found }
-all_put_back now places log empty same =
-    ap (λ (x : List InFlight). let g : Grown InFlight = record { is = x; found = flights_in (restored log places) } in g) (sym (ap flights_in (restored_none log places empty)) ∙ same)
-    ∙ ap (λ (x : List InFlight). let g : Grown InFlight = record { is = now.found; found = x } in g) same
+pub all_put_back : (now : Commands) (next : ℕ) (places : List (Option InFlight)) (log : List Saved) → next ≡ now.next → log ≡ [] → flights_in (restored log places) ≡ now.found
+    → kept next places log ≡ undone now
+all_put_back now next places log still empty same =
+    ap (λ (n : ℕ). kept n places log) still
+    ∙ ap (λ (x : List InFlight). let g : Commands = record { next = now.next; is = x; found = flights_in (restored log places) } in g) (sym (ap flights_in (restored_none log places empty)) ∙ same)
+    ∙ ap (λ (x : List InFlight). let g : Commands = record { next = now.next; is = now.found; found = x } in g) same
 
 -- the first so far goes on over one place
 pub first_next : (places : List (Option InFlight)) (i : ℕ) (here first next : Option InFlight) → i < length places → here ≡ get_or places i here → next ≡ sooner_at first here

@@ -1,8 +1,30 @@
 -- The commands in flight as they are kept: what landed leaves its place empty until the event is over.
-use Rattle.std.specs.Prelude.{ℕ, ◌==◌, if◌then◌else◌, List, [], ◌∷◌, ◌++◌, flat_map, Option, Some, None, Bool, false, nat_le, slice_set}
+use Rattle.std.specs.Prelude.{ℕ, ◌+◌, ◌==◌, if◌then◌else◌, List, [], ◌∷◌, ◌++◌, flat_map, Option, Some, None, Bool, false, nat_le, slice_set}
 use Rattle.outbound.specs.Flight.{InFlight}
 use Rattle.flights.specs.declared.flights.Saved.{Saved}
 use Rattle.flights.specs.Choosing.{has_id}
+
+-- which id the next command has, those in flight, and those that the event found
+pub record Commands : Type 0 where
+  pub next : ℕ
+  pub is : List InFlight
+  pub found : List InFlight
+
+-- nothing is in flight, and the ids begin with this
+abbrev pub none_from : ℕ → Commands
+none_from first = record { next = first; is = []; found = [] }
+
+-- a command begins, behind those that there are; the id behind its own is the next, whatever becomes of it (RFC 3435, 3.2.1.2)
+abbrev pub begun : InFlight → Commands → Commands
+begun flight was = record { next = flight.id + 1; is = was.is ++ flight ∷ []; found = was.is ++ flight ∷ [] }
+
+-- the event is over
+abbrev pub settled : Commands → Commands
+settled was = record was { found = was.is }
+
+-- the event failed
+abbrev pub undone : Commands → Commands
+undone was = record was { is = was.found }
 
 abbrev pub flight_in : Option InFlight → List InFlight
 flight_in None = []

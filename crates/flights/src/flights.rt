@@ -1,7 +1,6 @@
-//! The commands in flight.
+//! The commands in flight, and the id of the next.
 ghost use Rattle.std.specs.Prelude.{◌≡◌, ◌<◌, ◌≤◌, ◌*◌, ◌++◌, ◌∷◌, [], length, find, position, slice_set, slice_index_or, OnOk, OnErr, OnSome, option_copied, option_map};
-ghost use Rattle.flights.specs.Growing.{grown_to, committed, rolled_back};
-ghost use Rattle.flights.specs.Flights.{flights_in, holds_id, exchanged, sooner_at, put_back};
+ghost use Rattle.flights.specs.Flights.{flights_in, holds_id, exchanged, sooner_at, put_back, none_from, begun, settled, undone};
 ghost use Rattle.flights.specs.Choosing.{has_id, first_flight, if_due, with_flight, without_flight};
 
 use mg_bytes::OutOfMemory;
@@ -18,12 +17,14 @@ struct Saved {
     flight: Option<Pending>,
 }
 
-/// The commands in flight, in the order of their ids. A contract sees their list, and as the event that happens found it.
+/// The commands in flight, in the order of their ids, and the id of the next. A contract sees that, and their list, as it is
+/// and as the event that happens found it.
 ///
 /// What was there before a change is saved, so that it can be put back; that takes no memory. What landed leaves its place
 /// empty until the event is over.
 pub struct Flights {
     alloc: Global,
+    next: u32,
     places: Vec<Option<Pending>>,
     saved: Vec<Saved>,
 }
@@ -33,6 +34,7 @@ impl Drop for Flights {
     fn drop(self) {
         let Flights {
             alloc: _,
+            next: _,
             places,
             saved,
         } = self;
@@ -42,29 +44,36 @@ impl Drop for Flights {
 }
 
 impl Model for Flights {
-    ghost use Rattle.outbound.specs.Flight.{InFlight};
-    ghost use Rattle.flights.specs.Growing.{Grown};
-    ghost use Rattle.flights.specs.Flights.{flights_in, restored};
+    ghost use Rattle.flights.specs.Flights.{Commands, flights_in, restored};
 
-    ghost Value = { Grown InFlight };
+    ghost Value = { Commands };
 
     ghost view = { λ f. record {
+      next = f.next;
       is = flights_in f.places.items;
       found = flights_in (restored f.saved.items f.places.items);
     } };
 }
 
 impl Flights {
-    /// Nothing is in flight. This takes no memory yet.
+    /// Nothing is in flight, and the ids begin with the first. This takes no memory yet.
     #[tactic(auto, unfolding(crate::specs::Flights::restored))]
-    pub fn none(alloc: Global) -> Flights
-        ensures { result ≡ grown_to [] }
+    pub fn none(alloc: Global, first: u32) -> Flights
+        ensures { result ≡ none_from first }
     {
         Flights {
             alloc,
+            next: first,
             places: Vec::new(alloc),
             saved: Vec::new(alloc),
         }
+    }
+
+    /// The id of the next command.
+    pub fn next_id(&self) -> u32
+        ensures { result ≡ self.now.next }
+    {
+        self.next
     }
 
     /// The flight with this id.
@@ -109,12 +118,21 @@ impl Flights {
         self.exchange(flight.id(), Some(flight))
     }
 
-    /// The flight with this id landed, or was given up: it is gone. After an error all is as it was.
+    /// The command with this id was answered: it isn't in flight any more. After an error all is as it was.
     pub fn land(&mut self, id: TransactionId) -> Result<(), OutOfMemory>
         ensures ok { OnOk result (self.new ≡ record self.old { is = without_flight id self.old.is }) }
         ensures err { OnErr result (self.new ≡ self.old) }
     {
         self.exchange(id, None)
+    }
+
+    /// The command with this id is given up: it isn't in flight any more, and its id isn't used again (RFC 3435, 3.2.1.2).
+    /// After an error all is as it was.
+    pub fn give_up(&mut self, id: TransactionId) -> Result<(), OutOfMemory>
+        ensures ok { OnOk result (self.new ≡ record self.old { is = without_flight id self.old.is }) }
+        ensures err { OnErr result (self.new ≡ self.old) }
+    {
+        self.land(id)
     }
 
     // What is in flight with this id becomes this.
@@ -135,21 +153,24 @@ impl Flights {
         }
     }
 
-    /// A flight begins, behind those that there are, and nothing is saved any more. After an error these are as they were.
+    /// A command begins, behind those that there are, and nothing is saved any more; the id behind its own is the next. After an
+    /// error these are as they were.
     #[tactic(auto, unfolding(crate::specs::Flights::restored))]
     pub fn begin(&mut self, flight: Pending) -> Result<(), OutOfMemory>
-        ensures ok { OnOk result (self.new ≡ grown_to (self.old.is ++ flight ∷ [])) }
-        ensures err { OnErr result (self.new ≡ committed self.old) }
+        ensures ok { OnOk result (self.new ≡ begun flight self.old) }
+        ensures err { OnErr result (self.new ≡ settled self.old) }
     {
+        let id = flight.id();
         self.saved = Vec::new(self.alloc);
         self.places.push(Some(flight))?;
+        self.next = id.number() + 1;
         Ok(())
     }
 
     /// What the next event finds is what is there: nothing is saved any more. This takes no memory.
     #[tactic(auto, unfolding(crate::specs::Flights::restored))]
     pub fn commit(&mut self)
-        ensures { self.new ≡ committed self.old }
+        ensures { self.new ≡ settled self.old }
     {
         self.saved = Vec::new(self.alloc);
         self.places.retain(|place| place.is_some());
@@ -157,7 +178,7 @@ impl Flights {
 
     /// An event failed: all is again what it found. This takes no memory.
     pub fn rollback(&mut self)
-        ensures { self.new ≡ rolled_back self.old }
+        ensures { self.new ≡ undone self.old }
     {
         while let Some(saved) = self.saved.pop() {
             put_back(&mut self.places, saved);
