@@ -1,11 +1,12 @@
 -- What an agent stands for, an event later.
-use Rattle.std.proofs.Common.{◌≡◌, ℕ, ◌+◌, ◌≤◌, ◌<◌, ◌^◌, Bool, true, false, ◌&&◌, ◌||◌, ◌==◌, List, [], ◌∷◌, ◌++◌, map, Option, Some, None, refl, sym, ◌∙◌, ap, subst, arith, append_assoc}
-use Rattle.std.specs.Prelude.{cond, find, is_none, nat_lt, nat_le, option_map, Result, Ok, Err, IfOk, OnErr, if◌then◌else◌}
+use Rattle.std.proofs.Common.{◌≡◌, inl, inr, ℕ, ◌+◌, ◌<◌, ◌^◌, Bool, true, false, ◌&&◌, ◌||◌, ◌==◌, List, [], ◌∷◌, ◌++◌, map, Option, Some, None, refl, sym, ◌∙◌, ap, subst, arith, append_assoc}
+use Rattle.std.specs.Prelude.{cond, find, is_none, nat_lt, nat_le, option_map, Result, Ok, Err, IfOk, OnOk, OnErr, if◌then◌else◌}
 use Rattle.std.specs.Result.{result_err}
 use Rattle.std.proofs.lemmas.Bool.{leb-false}
-use Rattle.std.proofs.lemmas.Bool.Decides.{nat_tests}
 use Rattle.mg_bytes.specs.Bytes.{space}
-use Rattle.outbound.specs.Flight.{InFlight}
+use Rattle.endpoint_names.specs.declared.route.Route.TheVariants.{One}
+use Rattle.outbound.specs.Flight.{InFlight, sent_first}
+use Rattle.flights.specs.Flights.{Commands, begun, settled}
 use Rattle.transactions.proofs.RecallLaws.{recalls_itself, recalls_purged}
 use Rattle.plain_machine.specs.declared.refusal.Refusal.{Refusal}
 use Rattle.plain_machine.specs.declared.refusal.Refusal.TheVariants.{TickTooFar, ClockBack}
@@ -20,12 +21,14 @@ use Rattle.outbound.specs.declared.issued.Answered.{Answered}
 use Rattle.call_agent.specs.declared.state.State.{State}
 use Rattle.call_agent.specs.Agent.{AgentMachine, AgentEffect, FinalAnswer, agent_opening, answer_for, observed_on}
 use Rattle.call_agent.specs.Flying.{first_flight, if_due}
-use Rattle.call_agent.specs.Issuing.{command_text, is_good, greatest_id, issued, issue_refusal}
+use Rattle.call_agent.specs.declared.issuing.Issued.{Issued}
+use Rattle.call_agent.specs.declared.issuing.IssueFault.{IssueFault}
+use Rattle.call_agent.specs.Issuing.{IssueRefusal, no_more_ids, bad_command, command_text, is_good, greatest_id, issued, issue_refusal, refusal_under}
 use Rattle.call_agent.specs.Hearing.{AgentEvent, issues, hears, agent_after, agent_effect, agent_refusal, event_refused, issue_refused, hearing_refusal, agent_takes_none, AgentEnds, plain_agent}
 use Rattle.call_agent.specs.AgentAlike.{AgentAlike}
 use Rattle.outbound.specs.Issued.{answered_with}
 use Rattle.call_agent.specs.State.{final_of, answer_in, kept_in, purged_in, AllOr, GoesOnAs}
-use Rattle.call_agent.specs.AgentStands.{AgentState, agent_takes, AgentStands, AgentTook, AgentStays, IsAgentSound}
+use Rattle.call_agent.specs.AgentStands.{AgentState, agent_takes, AgentStands, AgentTook, AgentStays, GoodEnds, IssueEnds, IsAgentSound}
 use Rattle.call_agent.proofs.EventLemmas.{after_on}
 use Rattle.call_agent.proofs.AgentStands.{effect_alike}
 use Rattle.call_agent.proofs.HearingLemmas.{texts_stay}
@@ -95,30 +98,75 @@ command_is verb digits name line rest =
     ∙ append_assoc (verb ++ space ∷ []) digits (space ∷ (name ++ (line ++ rest)))
     ∙ append_assoc verb (space ∷ []) (digits ++ space ∷ (name ++ (line ++ rest)))
 
-issue_taken : (m : AgentMachine) (verb name rest : List ℕ) → m.next ≤ greatest_id → is_good m.next name (command_text verb m.next name rest) ≡ true → agent_refusal m (issues verb name rest) ≡ None
+issue_taken : (m : AgentMachine) (verb name rest : List ℕ) → issue_refusal m verb name rest ≡ None → agent_refusal m (issues verb name rest) ≡ None
 unfolding agent_refusal
-issue_taken m verb name rest most good =
-    let few : nat_lt greatest_id m.next ≡ false = grind (arith, nat_tests, most) in
-    rw (few, good) refl
+issue_taken m verb name rest none = ap issue_refused none
 
 alone_packed : (d : OutDatagram) → d ∷ [] ≡ packed (d ∷ [])
 unfolding packed_after
 alone_packed d = refl
 
-pub issue_took : (a a' : AgentState) (verb name rest text : List ℕ) → a'.setup ≡ a.setup → a.machine.next ≤ greatest_id → text ≡ command_text verb a.machine.next name rest
-    → is_good a.machine.next name text ≡ true → a'.machine ≡ (issued a.setup a.machine text).machine
-    → AgentTook a (issues verb name rest) a' (message_to a.setup.gateway a.machine.now text ∷ [])
+issue_took : (a a' : AgentState) (verb name rest : List ℕ) → a'.setup ≡ a.setup → issue_refusal a.machine verb name rest ≡ None
+    → a'.machine ≡ (issued a.setup a.machine (command_text verb a.machine.next name rest)).machine
+    → AgentTook a (issues verb name rest) a' (message_to a.setup.gateway a.machine.now (command_text verb a.machine.next name rest) ∷ [])
 unfolding agent_effect
-issue_took a a' verb name rest text same most is good goes =
-    let none = issue_taken a.machine verb name rest most (subst (λ (x : List ℕ). is_good a.machine.next name x ≡ true) is good) in
-    took_event a a' (issues verb name rest) (message_to a.setup.gateway a.machine.now text ∷ []) same none
+issue_took a a' verb name rest same fine goes =
+    let none = issue_taken a.machine verb name rest fine in
+    took_event a a' (issues verb name rest) (message_to a.setup.gateway a.machine.now (command_text verb a.machine.next name rest) ∷ []) same none
     (λ m alike.
     let both = effect_alike a.setup a.machine m (issues verb name rest) alike none in
     record {
-      alike = subst (λ (k : AgentMachine). AgentAlike k (agent_effect a.setup m (issues verb name rest)).machine)
-          (sym (goes ∙ ap (λ (x : List ℕ). (issued a.setup a.machine x).machine) is)) both.alike;
-      outputs = ap (λ (x : List ℕ). message_to a.setup.gateway a.machine.now x ∷ []) is ∙ alone_packed (message_to a.setup.gateway a.machine.now (command_text verb a.machine.next name rest)) ∙ ap packed (sym both.sent);
+      alike = subst (λ (k : AgentMachine). AgentAlike k (agent_effect a.setup m (issues verb name rest)).machine) (sym goes) both.alike;
+      outputs = alone_packed (message_to a.setup.gateway a.machine.now (command_text verb a.machine.next name rest)) ∙ ap packed (sym both.sent);
     })
+
+-- a text that can't be issued, or for which memory is refused, ends what was to be issued
+pub good_ends : (next : ℕ) (verb name rest : List ℕ) (given : Option IssueFault) → nat_lt greatest_id next ≡ false → GoodEnds (is_good next name (command_text verb next name rest)) given
+    → IssueEnds (refusal_under next verb name rest) given
+good_ends next verb name rest given few ends = rw few (by_test (is_good next name (command_text verb next name rest)) ends) where
+  by_test : (b : Bool) → GoodEnds b given → IssueEnds (if b then None else Some bad_command) given
+  by_test true e = e
+  by_test false e = e
+
+-- what was issued is refused for nothing
+no_refusal : (refusal : Option IssueRefusal) → IssueEnds refusal None → refusal ≡ None
+no_refusal None e = refl
+no_refusal (Some no_more_ids) e = absurd cc
+no_refusal (Some bad_command) (inl e) = absurd cc
+no_refusal (Some bad_command) (inr e) = absurd cc
+
+-- the agent with these commands in the place of its own
+abbrev pub agent_of : AgentSetup → State → Commands → AgentState
+agent_of setup was commands = record { setup = setup; machine = kept_in (record was { flights = commands }) }
+
+pub issues_so : (setup : AgentSetup) (was : State) (is : Commands) (verb name rest : List ℕ) (result : Result Issued IssueFault)
+    → IssueEnds (refusal_under was.flights.next verb name rest) (result_err result)
+    → IfOk result (λ given. given.datagram ≡ message_to setup.gateway was.clock (command_text verb was.flights.next name rest))
+    → OnOk result (is ≡ begun (sent_first was.flights.next (One setup.gateway) (command_text verb was.flights.next name rest) was.clock) was.flights)
+    → IfOk result (λ given. AgentTook (agent_of setup was was.flights) (issues verb name rest) (agent_of setup was is) (given.datagram ∷ []))
+issues_so setup was is verb name rest (Ok given) ends says flies =
+    subst (λ (d : OutDatagram). AgentTook (agent_of setup was was.flights) (issues verb name rest) (agent_of setup was is) (d ∷ [])) (sym says)
+    (issue_took (agent_of setup was was.flights) (agent_of setup was is) verb name rest refl (no_refusal (refusal_under was.flights.next verb name rest) ends)
+    (ap (λ (commands : Commands). kept_in (record was { flights = commands })) flies))
+issues_so setup was is verb name rest (Err fault) ends says flies = tt
+
+pub next_id_is : (a : AgentState) (before : List AgentEvent) (result : Result Issued IssueFault) → AgentStands a before → IfOk result (λ given. given.id ≡ a.machine.next)
+    → IfOk result (λ given. given.id ≡ (plain_agent a.setup before).next)
+next_id_is a before (Ok given) s is = is ∙ sym (ap (λ (m : AgentMachine). m.next) s.alike.same)
+next_id_is a before (Err fault) s is = tt
+
+-- no id was used: the agent is as it was
+pub issue_stays : (setup : AgentSetup) (was : State) (is : Commands) (result : Result Issued IssueFault) → OnErr result (settled is ≡ settled was.flights)
+    → OnErr result (AgentStays (agent_of setup was was.flights) (agent_of setup was is))
+issue_stays setup was is (Ok given) same = tt
+issue_stays setup was is (Err fault) same =
+    stays_so (agent_of setup was was.flights) (agent_of setup was is) refl
+    (λ m alike. subst (λ (k : AgentMachine). AgentAlike k m) (sym (ap (λ (commands : Commands). kept_in (record was { flights = commands })) same)) alike)
+
+pub issue_ends : (a : AgentState) (verb name rest : List ℕ) (given : Option IssueFault) (before : List AgentEvent) → AgentStands a before
+    → IssueEnds (issue_refusal a.machine verb name rest) given → IssueEnds (issue_refusal (plain_agent a.setup before) verb name rest) given
+issue_ends a verb name rest given before s e =
+    subst (λ (next : ℕ). IssueEnds (refusal_under next verb name rest) given) (sym (ap (λ (m : AgentMachine). m.next) s.alike.same)) e
 
 -- ---- reading
 

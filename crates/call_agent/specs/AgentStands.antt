@@ -1,5 +1,5 @@
 -- An agent as contracts see it, and what it stands for: a list of events, which it needn't store.
-use Rattle.std.specs.Prelude.{◌≡◌, ◌⊎◌, ◌≤◌, ◌<◌, ◌^◌, Bool, true, ◌&&◌, is_none, List, [], ◌∷◌, ◌++◌, Option, Some, None, IfSome}
+use Rattle.std.specs.Prelude.{◌≡◌, ◌⊎◌, ◌≤◌, ◌<◌, ◌^◌, Bool, true, false, ◌&&◌, is_none, List, [], ◌∷◌, ◌++◌, Option, Some, None, IfSome}
 use Rattle.transmission.specs.declared.output.OutDatagram.{OutDatagram}
 use Rattle.transmission.specs.Packing.{packed}
 use Rattle.call_agent.specs.declared.setup.AgentSetup.{AgentSetup}
@@ -43,6 +43,11 @@ abbrev pub IssueEnds : Option IssueRefusal → Option IssueFault → Type 0
 IssueEnds (Some no_more_ids) given = given ≡ Some NoMoreIds
 IssueEnds (Some bad_command) given = (given ≡ Some BadCommand) ⊎ (given ≡ Some OutOfMemory)
 IssueEnds None given = IfSome given (λ fault. fault ≡ OutOfMemory)
+
+-- a text can be issued; or it isn't since it can't be, or for want of memory
+abbrev pub GoodEnds : Bool → Option IssueFault → Type 0
+GoodEnds true given = IfSome given (λ fault. fault ≡ OutOfMemory)
+GoodEnds false given = (given ≡ Some BadCommand) ⊎ (given ≡ Some OutOfMemory)
 
 -- what holds of every agent
 pub record IsAgentSound (setup : AgentSetup) (m : AgentMachine) : Type 0 where

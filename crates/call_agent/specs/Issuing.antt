@@ -31,10 +31,14 @@ pub data IssueRefusal : Type 0 where
   no_more_ids : IssueRefusal
   bad_command : IssueRefusal
 
+-- under the id that is next
+abbrev pub refusal_under : ℕ → List ℕ → List ℕ → List ℕ → Option IssueRefusal
+refusal_under next verb name rest =
+    if nat_lt greatest_id next then Some no_more_ids else
+    (if is_good next name (command_text verb next name rest) then None else Some bad_command)
+
 abbrev pub issue_refusal : AgentMachine → List ℕ → List ℕ → List ℕ → Option IssueRefusal
-issue_refusal m verb name rest =
-    if nat_lt greatest_id m.next then Some no_more_ids else
-    (if is_good m.next name (command_text verb m.next name rest) then None else Some bad_command)
+issue_refusal m verb name rest = refusal_under m.next verb name rest
 
 -- the command goes out at once, and is in flight; the next has the next id
 abbrev pub issued : AgentSetup → AgentMachine → List ℕ → AgentEffect

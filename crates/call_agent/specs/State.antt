@@ -12,7 +12,7 @@ use Rattle.plain_machine.specs.declared.refusal.Refusal.{Refusal}
 use Rattle.outbound.specs.declared.issued.Answer.{Answer}
 use Rattle.outbound.specs.declared.issued.Answered.{Answered}
 use Rattle.call_agent.specs.declared.state.State.{State}
-use Rattle.call_agent.specs.Growing.{Grown}
+use Rattle.flights.specs.Flights.{Commands}
 use Rattle.call_agent.specs.Flying.{Flown}
 use Rattle.call_agent.specs.Agent.{FinalAnswer, AgentMachine, AgentEffect}
 use Rattle.call_agent.specs.AgentAlike.{AgentAlike}
@@ -28,7 +28,7 @@ answer_in one = record { code = one.code; text = one.text }
 abbrev pub kept_in : State → AgentMachine
 kept_in state = record {
   now = state.clock;
-  next = state.next;
+  next = state.flights.next;
   flights = state.flights.is;
   answers = map final_of state.answers.is;
   history = state.history.kept;
@@ -45,7 +45,7 @@ pub record Found : Type 0 where
 
 abbrev pub found_in : State → Found
 found_in state = record {
-  next = state.next;
+  next = state.flights.next;
   flights = state.flights.found;
   answers = state.answers.found;
   history = state.history.settled;
@@ -98,13 +98,18 @@ pub record GoesOnAs (effect : AgentEffect) (kept : AgentMachine) (out : List Out
   pub alike : AgentAlike kept effect.machine
   pub outputs : out ≡ packed effect.sent
 
--- the flights go on as the passage says, the messages grow by what it sends, and what the event found can still be had
-pub record FlewOn (passage : Flown) (was is : Grown InFlight) (were are : List OutDatagram) : Type 0 where
-  pub flights : is.is ≡ passage.flights
+-- no id was used, and the commands that the event found can still be had
+pub record StillFound (was is : Commands) : Type 0 where
+  pub next : is.next ≡ was.next
   pub found : is.found ≡ was.found
+
+-- the flights go on as the passage says, the messages grow by what it sends, no id is used, and what the event found can still
+-- be had
+pub record FlewOn (passage : Flown) (was is : Commands) (were are : List OutDatagram) : Type 0 where
+  pub flights : is.is ≡ passage.flights
+  pub still : StillFound was is
   pub sent : are ≡ were ++ passage.sent
 
-abbrev pub Flies : {A : Type 0} → Result A AllocError → Flown → Grown InFlight → Grown InFlight → List OutDatagram
-    → List OutDatagram → Type 0
+abbrev pub Flies : {A : Type 0} → Result A AllocError → Flown → Commands → Commands → List OutDatagram → List OutDatagram → Type 0
 Flies (Ok x) passage was is were are = FlewOn passage was is were are
-Flies (Err fault) passage was is were are = is.found ≡ was.found
+Flies (Err fault) passage was is were are = StillFound was is

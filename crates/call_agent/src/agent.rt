@@ -9,7 +9,7 @@ ghost use Rattle.call_agent.specs.Hearing.{AgentEvent, AgentEnds, issues, hears,
 ghost use Rattle.call_agent.specs.State.{answer_in};
 ghost use Rattle.call_agent.specs.AgentStands.{AgentStands, AgentTook, AgentStays, IssueEnds};
 
-use crate::issuing::{GREATEST_ID, IssueFault, Issued, command_text, is_good};
+use crate::issuing::{IssueFault, Issued, issue_under_next_id};
 use crate::setup::AgentSetup;
 use crate::state::{Context, State};
 use crate::told::TakenEvents;
@@ -19,9 +19,8 @@ use event_values::Observed;
 use flights::{Flights, Growing};
 use history::History;
 use mg_bytes::{OutOfMemory, Text};
-use mgcp_text::TransactionId;
-use outbound::{Answer, Pending, answer_with};
-use plain_machine::{Event, OutDatagram, Outputs, Refusal};
+use outbound::{Answer, answer_with};
+use plain_machine::{Event, Outputs, Refusal};
 use std::alloc::Global;
 use std::marker::Model;
 use std::net::SocketAddrV4;
@@ -87,8 +86,7 @@ impl Agent {
         };
         let state = State {
             clock: 0,
-            next: first,
-            flights: Flights::none(alloc),
+            flights: Flights::none(alloc, first),
             answers: Growing::new(alloc),
             told,
             history: History::new(alloc),
@@ -120,28 +118,17 @@ impl Agent {
         ensures ends { (before : List AgentEvent) → AgentStands self.old before → IssueEnds
             (issue_refusal (plain_agent self.old.setup before) verb.now name.now rest.now) (result_err result) }
     {
-        if self.state.next > GREATEST_ID {
-            return Err(IssueFault::NoMoreIds);
-        }
-        let id = TransactionId::of(self.state.next);
-        let text = command_text(self.alloc, verb, id, name, rest)?;
-        if !is_good(self.alloc, id, name, text.as_bytes())? {
-            return Err(IssueFault::BadCommand);
-        }
         let to = self.setup.gateway;
         let moment = self.state.clock;
-        let flight = Pending::begin(self.alloc, id, Route::One(to), text.as_bytes(), moment)?;
-        self.state.flights.begin(flight)?;
-        let id = self.state.next;
-        self.state.next += 1;
-        Ok(Issued {
-            id,
-            datagram: OutDatagram {
-                to,
-                moment,
-                bytes: text,
-            },
-        })
+        issue_under_next_id(
+            self.alloc,
+            &mut self.state.flights,
+            to,
+            moment,
+            verb,
+            name,
+            rest,
+        )
     }
 
     /// One event, as of a gateway: a datagram comes, or the clock goes on (in ms); what goes out. An agent has no telephones,

@@ -7,12 +7,11 @@ use history::History;
 use outbound::Answered;
 use std::alloc::Global;
 
-/// What changes in an agent: the clock, the next id, the commands in flight, the answers, what was told of each line, and
-/// the history of transactions.
+/// What changes in an agent: the clock, the commands in flight with the id of the next, the answers, what was told of each
+/// line, and the history of transactions.
 #[derive(Drop)]
 pub(crate) struct State {
     pub clock: u64,
-    pub next: u32,
     pub flights: Flights,
     pub answers: Growing<Answered>,
     pub told: TakenEvents,

@@ -34,7 +34,7 @@ fn fly_on(
             send(out, flight.to(), moment, text)?;
             flights.put(flight)?;
         }
-        Repeat::GivenUp => flights.land(flight.id())?,
+        Repeat::GivenUp => flights.give_up(flight.id())?,
     }
     Ok(())
 }

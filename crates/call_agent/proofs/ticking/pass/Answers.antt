@@ -1,12 +1,12 @@
-use Rattle.std.proofs.Common.{◌≡◌, ◌+◌, ◌-◌, ◌*◌, suc, length, refl, ◌∙◌, arith, rules, Some}
+use Rattle.std.proofs.Common.{◌≡◌, ◌+◌, ◌-◌, ◌*◌, suc, length, refl, arith, rules, Some}
 use Rattle.call_agent.specs.Flying.{if_due, first_flight}
-use Rattle.call_agent.proofs.PassLemmas.{flew_step, flew_no_more, flew_out, flew_whole}
+use Rattle.call_agent.proofs.PassLemmas.{flew_step, flew_no_more, flew_out, flew_whole, still_found}
 use Rattle.call_agent.proofs.ticking.pass.Goals as goal
 
 pub loop-init : goal.loop-init
 loop-init c = record {
   completes = λ is are flew. flew_whole c.args.moment (8 * length c.args.flights.now.is - 0) _ is _ are (omega arith) flew;
-  found = refl;
+  still = record { next = refl; found = refl };
 }
 
 pub returns-in_default : goal.returns-in_default
@@ -22,7 +22,7 @@ loop-preserved c =
       completes = λ is are rest. c.loop.invariant.completes is are
           (flew_step (8 * length c.args.flights.now.is - c.loop.counter) (8 * length c.args.flights.now.is - (c.loop.counter + 1)) c.args.moment c.in_ok-flight.flight c.loop.flights
           c.fly_on.new.flights is c.loop.out.items c.fly_on.new.out.items are more due c.in_ok-fly_on.ensures rest);
-      found = c.in_ok-fly_on.ensures.found ∙ c.loop.invariant.found;
+      still = still_found _ _ _ c.loop.invariant.still c.in_ok-fly_on.ensures.still;
     }
 
 pub returns : goal.returns
