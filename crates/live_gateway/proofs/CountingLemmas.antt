@@ -1,13 +1,10 @@
 -- What is counted of looks for datagrams.
 use Rattle.std.proofs.Common.{inl, inr, ◌≡◌, ℕ, List, Option, ◌∙◌, ap}
-use Rattle.std.specs.Prelude.{IsSome, Result}
+use Rattle.std.specs.Prelude.{Result}
 use Rattle.std.specs.declared.net.socket_addr.SocketAddrV4.{SocketAddrV4}
 use Rattle.surroundings.specs.declared.surroundings.Fault.{Fault}
 use Rattle.live_gateway.specs.declared.exchange.Exchange.{Exchange}
-use Rattle.live_gateway.specs.Exchanging.{IsSameTurn, read_at, faults_at, LooksOnce, CountsReceived}
-
-pub same_turn : {S : Type 0} (was mid is : Exchange S) → IsSameTurn was mid → IsSameTurn mid is → IsSameTurn was is
-same_turn was mid is a b = (b.0 ∙ a.0, b.1 ∙ a.1)
+use Rattle.live_gateway.specs.Exchanging.{read_at, faults_at, LooksOnce, CountsReceived}
 
 -- nothing was counted behind it
 pub looked_before : {S : Type 0} (receives : S → Result (Option (SocketAddrV4 × ℕ)) Fault → List ℕ → S → Type 0) (was mid is : Exchange S)
@@ -34,10 +31,6 @@ looked_behind receives was mid is read faults l = record {
   read = l.read ∙ ap (read_at l.outcome) read;
   faults = l.faults ∙ ap (faults_at l.outcome) faults;
 }
-
-pub nothing_read : {S : Type 0} (receives : S → Result (Option (SocketAddrV4 × ℕ)) Fault → List ℕ → S → Type 0) (was is : Exchange S) (given : Option (SocketAddrV4 × ℕ))
-    → IsSome given → is.read ≡ was.read → is.faults ≡ was.faults → CountsReceived receives was given is
-nothing_read receives was is given some read faults = inl (some, read, faults)
 
 pub was_read : {S : Type 0} (receives : S → Result (Option (SocketAddrV4 × ℕ)) Fault → List ℕ → S → Type 0) (was is : Exchange S) (given : Option (SocketAddrV4 × ℕ))
     → LooksOnce receives was is → CountsReceived receives was given is

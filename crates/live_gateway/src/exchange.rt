@@ -275,7 +275,6 @@ impl<S: Surroundings + Drop> Exchange<S> {
     }
 
     // A datagram that the network hands to the gateway now, if there is one, from who is heard. Those that go out now are sent.
-    #[tactic(auto, using(crate::proofs::HearingLemmas::hears_none, crate::proofs::HearingLemmas::outgoing, crate::proofs::HearingLemmas::strange, crate::proofs::HearingLemmas::incoming, crate::proofs::HearingLemmas::hears_further, crate::proofs::CountingLemmas::same_turn))]
     fn handed_over(
         &mut self,
         admission: &Admission,
@@ -328,7 +327,6 @@ impl<S: Surroundings + Drop> Exchange<S> {
     }
 
     // A datagram of who is heard goes over the network, which may lose it, or hand over another one.
-    #[tactic(auto, using(crate::proofs::HearingLemmas::hears_none, crate::proofs::HearingLemmas::hears_after, crate::proofs::CountingLemmas::same_turn))]
     fn pass(
         &mut self,
         admission: &Admission,
@@ -382,7 +380,6 @@ impl<S: Surroundings + Drop> Exchange<S> {
     }
 
     // A datagram of the socket, where no network is before it, if one has come that is heard.
-    #[tactic(auto, using(crate::proofs::HearingLemmas::hears_nothing, crate::proofs::HearingLemmas::hears_one, crate::proofs::HearingLemmas::passes_over, crate::proofs::CountingLemmas::looked_before, crate::proofs::CountingLemmas::same_turn))]
     fn receive_directly(
         &mut self,
         admission: &Admission,
@@ -408,7 +405,6 @@ impl<S: Surroundings + Drop> Exchange<S> {
 
     // A datagram that the network before the socket hands over from who is heard, if one is due. What comes of the socket goes over that
     // network, but a stranger's: so nothing that one sends changes what becomes of what others send.
-    #[tactic(auto, using(crate::proofs::HearingLemmas::still_over, crate::proofs::HearingLemmas::heard_still, crate::proofs::HearingLemmas::hears_past_a_look, crate::proofs::CountingLemmas::nothing_read, crate::proofs::CountingLemmas::read_behind_others, crate::proofs::CountingLemmas::same_turn))]
     fn receive_spoilt(
         &mut self,
         admission: &Admission,

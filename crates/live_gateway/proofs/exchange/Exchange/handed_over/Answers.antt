@@ -1,7 +1,16 @@
-use Rattle.std.proofs.Common.{rules, refl, sym, ◌∙◌}
-use Rattle.live_gateway.proofs.HearingLemmas.{heard_still, outgoing, strange, incoming}
+use Rattle.std.proofs.Common.{rules, [], refl, sym, ◌∙◌}
+use Rattle.live_gateway.proofs.HearingLemmas.{heard_still, hears_none, hears_further, outgoing, strange, incoming}
 use Rattle.live_gateway.proofs.exchange.Exchange.handed_over.Goals as goal
 use Rattle.live_gateway.proofs.exchange.Exchange.handed_over.Goals.{in-Out, in-In+else-come}
+
+pub returns-in_err-packet-clause-came : goal.returns-in_err-packet-clause-came
+returns-in_err-packet-clause-came g c =
+    rw (c.from_residual.ensures)
+    (hears_further c.args.admission.now _ _ _ [] [] c.loop.invariant.came c.in_err-packet.ensures.came refl)
+
+pub returns-in_err-packet-clause-turn : goal.returns-in_err-packet-clause-turn
+returns-in_err-packet-clause-turn g c =
+    (c.take_due.ensures.turn.0 ∙ c.loop.invariant.turn.0, c.take_due.ensures.turn.1 ∙ c.loop.invariant.turn.1)
 
 pub returns-then-come-clause-came : goal.returns-then-come-clause-came
 returns-then-come-clause-came g c =
@@ -9,6 +18,23 @@ returns-then-come-clause-came g c =
     (incoming c.args.admission.now _ _ _ c.in_ok-packet.packet.way c.in_ok-packet.packet.peer c.in_ok-packet.len c.take_due.new.room c.loop.invariant.came
     c.in_ok-packet.ensures.came c.in-In.is (sym c.come.ensures.heard ∙ c.if-come.true))
     (rw (c.come.ensures.network, c.come.ensures.around) refl)
+
+pub returns-then-come-clause-turn : goal.returns-then-come-clause-turn
+returns-then-come-clause-turn g c = (
+  c.come.ensures.turn.0 ∙ c.take_due.ensures.turn.0 ∙ c.loop.invariant.turn.0,
+  c.come.ensures.turn.1 ∙ c.take_due.ensures.turn.1 ∙ c.loop.invariant.turn.1,
+)
+
+pub loop-init : goal.loop-init
+loop-init g c = record {
+  length = refl;
+  handed = refl;
+  faults = refl;
+  read = refl;
+  turn = (refl, refl);
+  spoilt = refl;
+  came = hears_none c.args.admission.now _ _ refl;
+}
 
 pub loop-preserved : goal.loop-preserved
 loop-preserved g c = elim c.match-packet.branch [

@@ -1,0 +1,38 @@
+use Rattle.std.proofs.Common.{refl, sym, ◌∙◌}
+use Rattle.live_gateway.proofs.HearingLemmas.{heard_still, hears_nothing, hears_one, passes_over}
+use Rattle.live_gateway.proofs.CountingLemmas.{looked_before}
+use Rattle.live_gateway.proofs.exchange.Exchange.receive_directly.Goals as goal
+
+pub returns-in_err-source-clause-came : goal.returns-in_err-source-clause-came
+returns-in_err-source-clause-came g c =
+    rw (c.from_residual.ensures)
+    (hears_nothing c.args.admission.now c.args.self.now.network c.read_socket.new.self.network _ _ c.requires c.read_socket.ensures.network
+    c.in_err-source.ensures.received)
+
+pub returns-then-come-clause-came : goal.returns-then-come-clause-came
+returns-then-come-clause-came g c =
+    heard_still c.args.admission.now _ _ _ _
+    (hears_one c.args.admission.now c.args.self.now.network c.read_socket.new.self.network _ _ _ _ _ c.requires c.read_socket.ensures.network
+    c.in_ok-source.ensures.received (sym c.come.ensures.heard ∙ c.if-come.true))
+    (rw (c.come.ensures.network, c.come.ensures.around) refl)
+
+pub returns-then-come-clause-counts : goal.returns-then-come-clause-counts
+returns-then-come-clause-counts g c = looked_before _ _ _ _ c.read_socket.ensures.counts c.come.ensures.read c.come.ensures.faults
+
+pub returns-then-come-clause-turn : goal.returns-then-come-clause-turn
+returns-then-come-clause-turn g c =
+    (c.come.ensures.turn.0 ∙ c.read_socket.ensures.turn.0, c.come.ensures.turn.1 ∙ c.read_socket.ensures.turn.1)
+
+pub returns-clause-came : goal.returns-clause-came
+returns-clause-came g c =
+    heard_still c.args.admission.now _ _ _ _
+    (passes_over c.args.admission.now c.args.self.now.network c.read_socket.new.self.network _ _ _ _ _ c.requires c.read_socket.ensures.network
+    c.in_ok-source.ensures.received (sym c.come.ensures.heard ∙ c.if-come.false))
+    (rw (c.come.ensures.network, c.come.ensures.around) refl)
+
+pub returns-clause-counts : goal.returns-clause-counts
+returns-clause-counts g c = looked_before _ _ _ _ c.read_socket.ensures.counts c.come.ensures.read c.come.ensures.faults
+
+pub returns-clause-turn : goal.returns-clause-turn
+returns-clause-turn g c =
+    (c.come.ensures.turn.0 ∙ c.read_socket.ensures.turn.0, c.come.ensures.turn.1 ∙ c.read_socket.ensures.turn.1)
