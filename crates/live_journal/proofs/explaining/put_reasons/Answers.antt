@@ -1,11 +1,6 @@
 use Rattle.live_journal.specs.Explaining.{reason_text}
-use Rattle.live_journal.proofs.PuttingLemmas.{put_one, put_each}
+use Rattle.live_journal.proofs.PuttingLemmas.{put_each}
 use Rattle.live_journal.proofs.explaining.put_reasons.Goals as goal
-
-pub loop-outcome-preserved : goal.loop-outcome-preserved
-loop-outcome-preserved c =
-    put_one (reason_text c.args.stamp) c.args.outcomes.now c.loop-outcome.outcome-index _ _ _ _ c.loop-outcome-test.true
-    c.in_ok-put_reason.ensures c.loop-outcome.invariant
 
 pub returns : goal.returns
 returns c =
