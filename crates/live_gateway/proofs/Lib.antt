@@ -15,4 +15,3 @@ pub mod DeskLemmas
 pub mod TurningLemmas
 pub mod WatchingLemmas
 pub mod HearingLaws
-mod FoldingLemmas
