@@ -20,21 +20,27 @@ most_files = 10000
 abbrev pub usual_files : ℕ
 usual_files = 10
 
--- a number from 1 to this one, or a fault
-abbrev pub number_within : ℕ → Ending → Option ℕ → Result ℕ Ending
-number_within most fault None = Err fault
-number_within most fault (Some number) = if nat_le 1 number && nat_le number most then Ok number else Err fault
+-- a number, if it is one from 1 to this one
+abbrev pub number_within : ℕ → Option ℕ → Option ℕ
+number_within most None = None
+number_within most (Some number) = if nat_le 1 number && nat_le number most then Some number else None
 
-abbrev pub files_of : Option (List ℕ) → Result ℕ Ending
-files_of None = Ok usual_files
-files_of (Some text) = number_within most_files BadFiles (decimal_of text)
+abbrev pub files_of : Option (List ℕ) → Option ℕ
+files_of None = Some usual_files
+files_of (Some text) = number_within most_files (decimal_of text)
+
+-- a number that is wanted there, or a fault
+abbrev pub wanted : Ending → Option ℕ → Result ℕ Ending
+wanted fault None = Err fault
+wanted fault (Some number) = Ok number
 
 abbrev pub parted : ℕ → ℕ → Parting
 parted megabytes files = record { size = megabytes * megabyte; files = files }
 
 abbrev pub parted_of : List ℕ → Option (List ℕ) → Result (Option Parting) Ending
 parted_of size files =
-    number_within most_megabytes BadSize (decimal_of size) >>= λ megabytes. files_of files >>= λ number. Ok (Some (parted megabytes number))
+    wanted BadSize (number_within most_megabytes (decimal_of size)) >>= λ megabytes.
+    wanted BadFiles (files_of files) >>= λ number. Ok (Some (parted megabytes number))
 
 -- without a size a number of files says nothing
 abbrev pub sizeless : Option (List ℕ) → Result (Option Parting) Ending

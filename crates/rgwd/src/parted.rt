@@ -17,30 +17,34 @@ const USUAL_FILES: u64 = 10;
 
 const MEGABYTE: u64 = 1_000_000;
 
-// A number from 1 to this one, or a fault.
-fn number_within<'w>(most: u64, fault: Ending<'w>, number: Option<u64>) -> Result<u64, Ending<'w>>
-    ensures { result ≡ number_within most fault.entry number }
+// A number, if it is one from 1 to this one.
+fn number_within(most: u64, number: Option<u64>) -> Option<u64>
+    ensures { result ≡ number_within most number }
 {
     match number {
-        Some(number) if number >= 1 && number <= most => Ok(number),
-        Some(_) | None => Err(fault),
+        Some(number) if number >= 1 && number <= most => Some(number),
+        Some(_) | None => None,
     }
 }
 
-fn files_of<'w>(text: Option<&[u8]>) -> Result<u64, Ending<'w>>
+fn files_of(text: Option<&[u8]>) -> Option<u64>
     ensures { result ≡ files_of (option_copied text.entry) }
 {
     match text {
-        Some(text) => number_within(MOST_FILES, Ending::BadFiles, decimal(text)),
-        None => Ok(USUAL_FILES),
+        Some(text) => number_within(MOST_FILES, decimal(text)),
+        None => Some(USUAL_FILES),
     }
 }
 
 fn parted_of<'w>(size: &[u8], files: Option<&[u8]>) -> Result<Option<Parting>, Ending<'w>>
     ensures { result ≡ parted_of size.now (option_copied files.entry) }
 {
-    let megabytes = number_within(MOST_MEGABYTES, Ending::BadSize, decimal(size))?;
-    let files = files_of(files)?;
+    let Some(megabytes) = number_within(MOST_MEGABYTES, decimal(size)) else {
+        return Err(Ending::BadSize);
+    };
+    let Some(files) = files_of(files) else {
+        return Err(Ending::BadFiles);
+    };
     Ok(Some(Parting {
         size: megabytes * MEGABYTE,
         files,
