@@ -5,9 +5,9 @@ ghost use Rattle.std.specs.Net.Socket.{v4_ip, v4_port};
 
 use crate::ending::Ending;
 use crate::reception::PageReception;
-use crate::words::{Settings, hosts_in, speakers_in};
+use crate::words::{ListFault, Settings, hosts_in, speakers_in};
 use gateway_core::Gateway;
-use live_ends::{Live, SocketWanted};
+use live_ends::{CommonEnding, Live, Readiness, SocketWanted};
 use live_gateway::{Admission, Desk, DeskSettings, boxed, open_desk, speakers_of};
 use live_journal::Trace;
 use live_page::{HostNames, Reception};
@@ -28,28 +28,35 @@ fn open_site<'w, R: Net, P: Reception>(
     rt: &R,
     alloc: Global,
     settings: &Settings<'w>,
-    live: &Live<'_, R>,
+    ready: &Readiness,
 ) -> Result<Option<Box<PageReception<P>>>, Ending<'w>> {
     let Some(address) = settings.sockets.http else {
         return Ok(None);
     };
     let names = match settings.sockets.http_hosts {
-        Some(text) => hosts_in(alloc, text)?,
+        Some(text) => match hosts_in(alloc, text) {
+            Ok(names) => names,
+            Err(fault) => return Err(fault.ending()),
+        },
         None => HostNames::none(alloc),
     };
-    match P::at(rt, alloc, address, names, &live.ready) {
-        Ok(site) => Ok(Some(boxed(alloc, PageReception { site })?)),
-        Err(fault) => Err(Ending::unbound("--http", address, fault.kind())),
+    let site = match P::at(rt, alloc, address, names, ready) {
+        Ok(site) => site,
+        Err(fault) => return Err(Ending::unbound("--http", address, fault.kind())),
+    };
+    match boxed(alloc, PageReception { site }) {
+        Ok(reception) => Ok(Some(reception)),
+        Err(_) => Err(Ending::Common(CommonEnding::OutOfMemory)),
     }
 }
 
 // Whom this gateway hears, whose sockets are at these addresses, and who may type.
-fn admission_of<'w>(
+fn admission_of(
     alloc: Global,
-    settings: &Settings<'w>,
+    settings: &Settings<'_>,
     gateway: &Gateway,
     own: [SocketAddrV4; 2],
-) -> Result<Admission, Ending<'w>> {
+) -> Result<Admission, ListFault> {
     let speakers = match settings.sockets.agents {
         Some(text) => speakers_in(alloc, text)?,
         None => speakers_of(alloc, gateway.setup())?,
@@ -115,10 +122,21 @@ pub fn open<'a, 'w, R: Net + Clock, P: Reception>(
         word: "--phones",
         address: settings.sockets.phones,
     };
-    let live = Live::open(rt, alloc, datagrams, lines)?;
-    let visitors = open_site(rt, alloc, settings, &live)?;
-    let admission = admission_of(alloc, settings, &gateway, live.own())?;
+    let live = match Live::open(rt, alloc, datagrams, lines) {
+        Ok(live) => live,
+        Err(ending) => return Err(Ending::Common(ending)),
+    };
+    let visitors = match open_site(rt, alloc, settings, &live.ready) {
+        Ok(visitors) => visitors,
+        Err(ending) => return Err(ending),
+    };
+    let admission = match admission_of(alloc, settings, &gateway, live.own()) {
+        Ok(admission) => admission,
+        Err(fault) => return Err(fault.ending()),
+    };
     let asked = desk_settings(settings, &gateway, &live);
-    let desk = open_desk(alloc, &asked, config, gateway, live, admission)?;
+    let Ok(desk) = open_desk(alloc, &asked, config, gateway, live, admission) else {
+        return Err(Ending::Common(CommonEnding::OutOfMemory));
+    };
     Ok(Opened { desk, visitors })
 }

@@ -35,6 +35,39 @@ pub struct Sockets<'a> {
     pub http_hosts: Option<&'a str>,
 }
 
+/// Why a text isn't the list that is wanted there. It holds no text: a check pays for each text that a fault may hold wherever that is
+/// handed on.
+#[derive(Clone, Copy)]
+pub enum ListFault {
+    /// Memory was refused.
+    OutOfMemory,
+    /// It doesn't say who may speak.
+    BadAgents,
+    /// It is no list of names.
+    BadHosts,
+}
+
+impl From<AllocError> for ListFault {
+    fn from(_refused: AllocError) -> ListFault {
+        ListFault::OutOfMemory
+    }
+}
+
+impl ListFault {
+    /// How the program ends by it.
+    pub(crate) fn ending<'w>(self) -> Ending<'w>
+        ensures memory { self ≡ ListFault.OutOfMemory → result ≡ Ending.Common CommonEnding.OutOfMemory }
+        ensures agents { self ≡ ListFault.BadAgents → result ≡ Ending.BadAgents }
+        ensures hosts { self ≡ ListFault.BadHosts → result ≡ Ending.BadHosts }
+    {
+        match self {
+            ListFault::OutOfMemory => Ending::Common(CommonEnding::OutOfMemory),
+            ListFault::BadAgents => Ending::BadAgents,
+            ListFault::BadHosts => Ending::BadHosts,
+        }
+    }
+}
+
 /// What the program is asked to do.
 #[derive(Clone, Copy)]
 pub struct Settings<'a> {
@@ -131,14 +164,20 @@ fn with_word<'a>(
 fn command<'a>(alloc: Global) -> Result<Command<'a>, AllocError> {
     let mut command = bare_command(alloc);
     for (name, kind) in WORDS.iter() {
-        command = with_word(command, alloc, *name, *kind)?;
+        command = match with_word(command, alloc, *name, *kind) {
+            Ok(command) => command,
+            Err(refused) => return Err(refused),
+        };
     }
     Ok(command)
 }
 
 // What clap makes of the words of a command line.
 fn matched<'a>(alloc: Global, words: &'a [String]) -> Result<ArgMatches<'a>, Error> {
-    command(alloc)?.try_get_matches_from(words)
+    match command(alloc) {
+        Ok(command) => command.try_get_matches_from(words),
+        Err(refused) => Err(Error::from(refused)),
+    }
 }
 
 /// A word that doesn't ask how the program is used.
@@ -162,35 +201,49 @@ fn site_in<'a>(
 ) -> Result<Option<SocketAddrV4>, Ending<'a>> {
     let names = matches.get_str("http-host");
     let site = match matches.get_str("http") {
-        Some(text) => Some(address_in("--http", text)?),
+        Some(text) => {
+            let Ok(address) = address_in("--http", text) else {
+                return Err(Ending::Common(CommonEnding::BadAddress { word: "--http" }));
+            };
+            Some(address)
+        }
         None => None,
     };
     if names.is_none() && matches!(site, Some(address) if address.ip().is_unspecified()) {
         return Err(Ending::AnyAddress);
     }
     if let Some(names) = names {
-        let _ = hosts_in(alloc, names)?;
+        let _names = match hosts_in(alloc, names) {
+            Ok(names) => names,
+            Err(fault) => return Err(fault.ending()),
+        };
     }
     Ok(site)
 }
 
 /// Who may speak, as this text says it.
-pub fn speakers_in<'w>(alloc: Global, text: &str) -> Result<Speakers, Ending<'w>>
+pub fn speakers_in(alloc: Global, text: &str) -> Result<Speakers, ListFault>
     ensures { IfOk result (λ speakers. admitted_in text.now ≡ Some (admitted_by speakers)) }
 {
-    match Speakers::read(alloc, text.as_bytes())? {
+    let Ok(read) = Speakers::read(alloc, text.as_bytes()) else {
+        return Err(ListFault::OutOfMemory);
+    };
+    match read {
         Some(speakers) => Ok(speakers),
-        None => Err(Ending::BadAgents),
+        None => Err(ListFault::BadAgents),
     }
 }
 
 /// The names that this text says.
-pub fn hosts_in<'w>(alloc: Global, text: &str) -> Result<HostNames, Ending<'w>>
+pub fn hosts_in(alloc: Global, text: &str) -> Result<HostNames, ListFault>
     ensures { IfOk result (λ names. names_in text.now ≡ Some (names_of names)) }
 {
-    match HostNames::read(alloc, text.as_bytes())? {
+    let Ok(read) = HostNames::read(alloc, text.as_bytes()) else {
+        return Err(ListFault::OutOfMemory);
+    };
+    match read {
         Some(names) => Ok(names),
-        None => Err(Ending::BadHosts),
+        None => Err(ListFault::BadHosts),
     }
 }
 
@@ -207,35 +260,80 @@ fn first_in(matches: &ArgMatches<'_>) -> Option<FirstNumber> {
     FirstNumber::read(matches.get_str("first")?.as_bytes())
 }
 
-// How long it waits at most before its clock begins, if that stands there.
-fn longest_wait_in<'a>(matches: &ArgMatches<'a>) -> Result<Option<u32>, Ending<'a>> {
-    let Some(text) = matches.get_str("spread") else {
-        return Ok(None);
-    };
-    match spread_in(text.as_bytes()) {
-        Some(spread) => Ok(Some(spread)),
-        None => Err(Ending::BadSpread),
-    }
+// How long it waits at most before its clock begins, if that stands there and is a time that a start may wait.
+fn longest_wait_in(matches: &ArgMatches<'_>) -> Option<u32> {
+    spread_in(matches.get_str("spread")?.as_bytes())
 }
 
 fn sockets_in<'a>(alloc: Global, matches: &ArgMatches<'a>) -> Result<Sockets<'a>, Ending<'a>> {
-    let listen = address_in("--listen", matches.get_str("listen").unwrap_or(LISTEN))?;
-    let phones = address_in("--phones", matches.get_str("phones").unwrap_or(PHONES))?;
+    let Ok(listen) = address_in("--listen", matches.get_str("listen").unwrap_or(LISTEN)) else {
+        return Err(Ending::Common(CommonEnding::BadAddress { word: "--listen" }));
+    };
+    let Ok(phones) = address_in("--phones", matches.get_str("phones").unwrap_or(PHONES)) else {
+        return Err(Ending::Common(CommonEnding::BadAddress { word: "--phones" }));
+    };
     let agents = matches.get_str("agents");
     if let Some(text) = agents {
-        let _ = speakers_in(alloc, text)?;
+        let _speakers = match speakers_in(alloc, text) {
+            Ok(speakers) => speakers,
+            Err(fault) => return Err(fault.ending()),
+        };
     }
+    let http = match site_in(alloc, matches) {
+        Ok(http) => http,
+        Err(ending) => return Err(ending),
+    };
     Ok(Sockets {
         listen,
         phones,
         agents,
         phones_open: matches.get_flag("phones-open"),
-        http: site_in(alloc, matches)?,
+        http,
         http_hosts: matches.get_str("http-host"),
     })
 }
 
-// They stand in a box: whoever holds them, or may have an ending in their place, holds little.
+// What the program is asked to do with this configuration and these sockets. It stands in a box: whoever holds it, or may have an
+// ending in its place, holds little.
+fn settings_with<'a>(
+    alloc: Global,
+    matches: &ArgMatches<'a>,
+    config: &'a str,
+    sockets: Sockets<'a>,
+) -> Result<Box<Settings<'a>>, Ending<'a>> {
+    let capture = matches.get_str("capture");
+    let size = bytes_in(matches, "capture-size");
+    let parting = match parting_of(capture.is_some(), size, bytes_in(matches, "capture-files")) {
+        Ok(parting) => parting,
+        Err(ending) => return Err(ending),
+    };
+    let network = match network_in(matches.get_str("network")) {
+        Ok(network) => network,
+        Err(ending) => return Err(Ending::Common(ending)),
+    };
+    let spread = longest_wait_in(matches);
+    if spread.is_none() && matches.get_str("spread").is_some() {
+        return Err(Ending::BadSpread);
+    }
+    let settings = Settings {
+        config,
+        check: matches.get_flag("check"),
+        sockets,
+        trace: matches.get_flag("trace"),
+        log: matches.get_flag("log"),
+        capture,
+        parting,
+        network,
+        first: first_in(matches),
+        spread,
+        stop_after: matches.get_one::<u64>("stop-after"),
+    };
+    match boxed(alloc, settings) {
+        Ok(settings) => Ok(settings),
+        Err(_) => Err(Ending::Common(CommonEnding::OutOfMemory)),
+    }
+}
+
 fn settings_in<'a>(
     alloc: Global,
     matches: &ArgMatches<'a>,
@@ -243,26 +341,13 @@ fn settings_in<'a>(
     let Some(config) = matches.get_str("config") else {
         return Err(Ending::Common(CommonEnding::Usage));
     };
-    let first = first_in(matches);
-    if first.is_none() && matches.get_str("first").is_some() {
+    if first_in(matches).is_none() && matches.get_str("first").is_some() {
         return Err(Ending::BadFirst);
     }
-    let capture = matches.get_str("capture");
-    let size = bytes_in(matches, "capture-size");
-    let settings = Settings {
-        config,
-        check: matches.get_flag("check"),
-        sockets: sockets_in(alloc, matches)?,
-        trace: matches.get_flag("trace"),
-        log: matches.get_flag("log"),
-        capture,
-        parting: parting_of(capture.is_some(), size, bytes_in(matches, "capture-files"))?,
-        network: network_in(matches.get_str("network"))?,
-        first,
-        spread: longest_wait_in(matches)?,
-        stop_after: matches.get_one::<u64>("stop-after"),
-    };
-    Ok(boxed(alloc, settings)?)
+    match sockets_in(alloc, matches) {
+        Ok(sockets) => settings_with(alloc, matches, config, sockets),
+        Err(ending) => Err(ending),
+    }
 }
 
 // What clap says of words that are wrong.
@@ -301,8 +386,9 @@ pub fn read_words<'a, R: Files>(
     words: &'a [String],
     recording: &mut Recording<R>,
 ) -> Result<Box<Settings<'a>>, Ending<'a>> {
-    match matched(alloc, words) {
-        Ok(matches) => settings_in(alloc, &matches),
-        Err(fault) => Err(Ending::Common(ending_by(alloc, &fault, recording))),
-    }
+    let matches = match matched(alloc, words) {
+        Ok(matches) => matches,
+        Err(fault) => return Err(Ending::Common(ending_by(alloc, &fault, recording))),
+    };
+    settings_in(alloc, &matches)
 }
