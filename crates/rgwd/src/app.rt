@@ -2,7 +2,7 @@
 use crate::behind::put_behind;
 use crate::ending::Ending;
 use crate::help::of_program;
-use crate::opening::{Opened, open};
+use crate::opening::{admission_of, desk_settings, open_site, open_sockets};
 use crate::reception::PageReception;
 use crate::recording::Recording;
 use crate::replaying::{REPLAY, replay_trace};
@@ -12,9 +12,10 @@ use crate::words::{Settings, read_words};
 use exchange_log::put_peer;
 use gateway_core::Gateway;
 use live_ends::{
-    CaptureFiles, CommonEnding, Outlets, Parting, SystemFault, begin, end, open_capture, read_file,
+    CaptureFiles, CommonEnding, Live, LiveClock, Outlets, Parting, SystemFault, begin, end,
+    open_capture, read_file,
 };
-use live_gateway::{agents_line, boxed};
+use live_gateway::{Desk, agents_line, boxed, open_desk};
 use live_journal::{Journal, Trace};
 use live_page::{PageProgram, Reception, run_with_site};
 use mg_bytes::{Draft, OutOfMemory};
@@ -22,7 +23,7 @@ use rgw_scenes::{flaw_of, read_config, told, told_setup};
 use rgw_scripts::LIMIT;
 use std::alloc::{AllocError, Global};
 use std::io::Write;
-use std::net::Net;
+use std::net::{Net, SocketAddrV4};
 use std::os::fd::AsRawFd;
 use std::random::RandomSource;
 use std::rt::{Clock, Env, Files};
@@ -30,58 +31,74 @@ use std::thread::sleep;
 use std::time::Duration;
 use surroundings::Surroundings;
 
-// Puts where the page is, if there is one: whether that is known.
-fn put_page<P: Reception>(line: &mut Draft, visitors: &Option<Box<PageReception<P>>>) -> bool {
-    let Some(reception) = visitors else {
-        return true;
-    };
-    let page = reception.site.address();
-    put_behind(line, b" http ", page);
-    page.is_some()
+// Where the sockets of a gateway are, and its page, if it has one.
+#[derive(Clone, Copy)]
+struct Places {
+    own: [SocketAddrV4; 2],
+    has_page: bool,
+    page: Option<SocketAddrV4>,
+}
+
+// Where the page is, if there is one that tells it.
+fn page_address<P: Reception>(visitors: &Option<Box<PageReception<P>>>) -> Option<SocketAddrV4> {
+    match visitors {
+        Some(reception) => reception.site.address(),
+        None => None,
+    }
 }
 
 // Where the sockets are, and how it starts, as a line; none where a socket doesn't tell where it is.
-fn start_line<R: Net + Clock, P: Reception>(
-    alloc: Global,
-    opened: &Opened<'_, R, P>,
-    begun: Begun,
-) -> Result<Vec<u8>, AllocError> {
-    let own = opened.desk.exchange.around.own();
+fn start_line(alloc: Global, places: Places, begun: Begun) -> Result<Vec<u8>, AllocError> {
+    let own = places.own;
+    if own[0].port() == 0 || own[1].port() == 0 || places.has_page != places.page.is_some() {
+        return Ok(Vec::new(alloc));
+    }
     let mut line = Draft::new(alloc);
     line.put(b"listen ");
     put_peer(&mut line, own[0]);
     line.put(b" phones ");
     put_peer(&mut line, own[1]);
-    let has_page = put_page(&mut line, &opened.visitors);
+    put_behind(&mut line, b" http ", places.page);
     begun.put(&mut line);
     line.put(b"\n");
-    if !has_page || own[0].port() == 0 || own[1].port() == 0 {
-        return Ok(Vec::new(alloc));
-    }
     line.end()
 }
 
-// Says on standard error where the sockets are, and how it starts.
-fn tell_start<R: Files + Net + Clock, P: Reception>(
+// Makes the file of a capture, where one is asked for, and says on standard error where the sockets are, and how it starts.
+fn begin_records<R: Files + Alloc + Clone + Drop>(
+    rt: &R,
     alloc: Global,
-    opened: &Opened<'_, R, P>,
+    settings: &Settings<'_>,
+    places: Places,
     begun: Begun,
     recording: &mut Recording<R>,
-) {
+) -> Result<(), SystemFault> {
+    match open_files(rt, alloc, settings, recording) {
+        Ok(()) => {}
+        Err(fault) => return Err(fault),
+    }
     // For want of memory that line alone isn't said.
-    if let Ok(line) = start_line(alloc, opened, begun) {
+    if let Ok(line) = start_line(alloc, places, begun) {
         recording.say(line.as_slice());
     }
     recording.outlets.offer();
+    Ok(())
 }
 
-// How the program ends that served: whether all its records were written to their ends. Of one that couldn't be written it was said at
-// once.
-fn served_ending<'w, F: Write + Drop>(
+// Writes what was recorded, says what was counted, and gives how the program ends that served: whether all its records were written to
+// their ends. Of one that couldn't be written it was said at once.
+fn finish<'w, R: Clock, F: Write + Drop>(
+    rt: &R,
+    counts: Result<Vec<u8>, AllocError>,
     journal: &Journal,
     trace: &Trace,
-    outlets: &Outlets<F>,
+    time: u64,
+    outlets: &mut Outlets<F>,
 ) -> Ending<'w> {
+    let Ok(counts) = counts else {
+        return Ending::Common(CommonEnding::OutOfMemory);
+    };
+    outlets.finish(rt, counts.as_slice(), time);
     if trace.record.is_refused()
         || journal.log.record.is_refused()
         || journal.capture.record.is_refused()
@@ -94,37 +111,45 @@ fn served_ending<'w, F: Write + Drop>(
     Ending::Common(CommonEnding::Served)
 }
 
-// Serves until the end, writes what was recorded, and says what was counted.
-fn serve_to_end<'w, R: Files + Net + Clock + RandomSource, P: Reception>(
-    rt: &R,
-    opened: &mut Opened<'_, R, P>,
-    recording: &mut Recording<R>,
-) -> Ending<'w> {
-    opened.desk.run(&mut opened.visitors, recording);
-    opened.desk.play.end();
-    opened.desk.write(recording);
-    let Ok(counts) = opened.desk.counts() else {
-        return Ending::Common(CommonEnding::OutOfMemory);
-    };
-    let exchange = &opened.desk.exchange;
-    let outlets = &mut recording.outlets;
-    outlets.finish(rt, counts.as_slice(), exchange.now.time);
-    served_ending(&exchange.journal, &opened.desk.play.teller, outlets)
-}
-
 // Waits as long as a start waits, before its clock begins: so what is recorded of the gateway doesn't tell it. Whether the clock began.
-fn wait_first<R: Net + Clock, P: Reception>(
-    rt: &R,
-    opened: &mut Opened<'_, R, P>,
-    begun: Begun,
-) -> bool {
+fn wait_first<R: Clock>(rt: &R, clock: &mut LiveClock<'_, R>, begun: Begun) -> bool {
     match begun.waits {
         Some(waits) => {
             sleep(rt, Duration::from_millis(waits));
-            opened.desk.exchange.around.clock.begin_anew().is_ok()
+            clock.begin_anew().is_ok()
         }
         None => true,
     }
+}
+
+// Serves at this desk until the end, and answers who asked for that once all is written.
+fn serve_desk<'w, R: Files + Net + Clock + RandomSource, P: Reception>(
+    rt: &R,
+    begun: Begun,
+    desk: &mut Desk<Live<'_, R>, Trace>,
+    visitors: &mut Option<Box<PageReception<P>>>,
+    recording: &mut Recording<R>,
+) -> Ending<'w> {
+    if !wait_first(rt, &mut desk.exchange.around.clock, begun) {
+        return Ending::Common(CommonEnding::Clock);
+    }
+    desk.run(visitors, recording);
+    desk.play.end();
+    desk.write(recording);
+    let counts = desk.counts();
+    let exchange = &desk.exchange;
+    let time = exchange.now.time;
+    let outlets = &mut recording.outlets;
+    let ending = finish(
+        rt,
+        counts,
+        &exchange.journal,
+        &desk.play.teller,
+        time,
+        outlets,
+    );
+    desk.answer_stop();
+    ending
 }
 
 // What this gateway will be, who may speak to it, and its sockets.
@@ -220,45 +245,44 @@ fn unwritable<'w>(settings: &Settings<'w>, fault: SystemFault) -> Ending<'w> {
     Ending::Common(CommonEnding::unwritable(file, fault))
 }
 
-// Serves with what is opened, once there is the file for a capture too: says on standard error where the sockets are, serves until the
-// end, and answers who asked for that once all is written.
-fn serve_opened<'w, R: Files + Net + Clock + RandomSource + Alloc + Clone + Drop, P: Reception>(
-    rt: &R,
-    alloc: Global,
-    settings: &Settings<'w>,
-    begun: Begun,
-    opened: &mut Opened<'_, R, P>,
-    recording: &mut Recording<R>,
-) -> Ending<'w> {
-    match open_files(rt, alloc, settings, recording) {
-        Ok(()) => {}
-        Err(fault) => return unwritable(settings, fault),
-    }
-    tell_start(alloc, opened, begun, recording);
-    if !wait_first(rt, opened, begun) {
-        return Ending::Common(CommonEnding::Clock);
-    }
-    let ending = serve_to_end(rt, opened, recording);
-    opened.desk.answer_stop();
-    ending
-}
-
-// Opens what the settings ask for, and serves.
+// Opens what the settings ask for: sockets, the page's site, and a desk for this gateway over these, whose trace has begun with this
+// configuration; and serves there.
 fn serve_with<'w, R: Files + Net + Clock + RandomSource + Alloc + Clone + Drop, P: Reception>(
     rt: &R,
     alloc: Global,
     settings: &Settings<'w>,
-    start: Start,
+    begun: Begun,
     config: &[u8],
     gateway: Box<Gateway>,
     recording: &mut Recording<R>,
 ) -> Ending<'w> {
-    let begun = start.begun(gateway.setup().names.domain.as_bytes());
-    let mut opened = match open::<R, P>(rt, alloc, settings, config, gateway) {
-        Ok(opened) => opened,
+    let live = match open_sockets(rt, alloc, settings) {
+        Ok(live) => live,
+        Err(ending) => return Ending::Common(ending),
+    };
+    let mut visitors = match open_site::<R, P>(rt, alloc, settings, &live.ready) {
+        Ok(visitors) => visitors,
         Err(ending) => return ending,
     };
-    serve_opened(rt, alloc, settings, begun, &mut opened, recording)
+    let own = live.own();
+    let admission = match admission_of(alloc, settings, &gateway, own) {
+        Ok(admission) => admission,
+        Err(fault) => return fault.ending(),
+    };
+    let asked = desk_settings(settings, own, gateway.setup().media_address);
+    let Ok(mut desk) = open_desk(alloc, &asked, config, gateway, live, admission) else {
+        return Ending::Common(CommonEnding::OutOfMemory);
+    };
+    let places = Places {
+        own,
+        has_page: settings.sockets.http.is_some(),
+        page: page_address(&visitors),
+    };
+    match begin_records(rt, alloc, settings, places, begun, recording) {
+        Ok(()) => {}
+        Err(fault) => return unwritable(settings, fault),
+    }
+    serve_desk(rt, begun, &mut desk, &mut visitors, recording)
 }
 
 // Serves with a gateway of the configuration in this text, which has no flaw; or says what it will be.
@@ -278,7 +302,8 @@ fn serve_config<'w, R: Files + Net + Clock + RandomSource + Alloc + Clone + Drop
     if settings.check {
         return checked(alloc, settings, &gateway, recording);
     }
-    serve_with::<R, P>(rt, alloc, settings, start, text, gateway, recording)
+    let begun = start.begun(gateway.setup().names.domain.as_bytes());
+    serve_with::<R, P>(rt, alloc, settings, begun, text, gateway, recording)
 }
 
 // What is said of the flaw that the configuration in this text has, if it has one.
@@ -392,13 +417,13 @@ pub fn run<R: AllocGlobal + Env + Files + Net + Clock + RandomSource + Clone + D
 where
     R::File: AsRawFd,
 {
+    let Ok(runtime) = rt.clone() else {
+        return CommonEnding::OutOfMemory.status();
+    };
     let Some(begun) = begin(rt) else {
         return CommonEnding::OutOfMemory.status();
     };
     let (words, outlets, _held) = begun.parts();
-    let Ok(runtime) = rt.clone() else {
-        return CommonEnding::OutOfMemory.status();
-    };
     let mut recording = Recording {
         rt: runtime,
         outlets,

@@ -1,4 +1,4 @@
-//! Opens what the words ask for: sockets, the page's site, and the desk of a gateway over these.
+//! Opens what the words ask for: sockets, and the page's site; and says what is asked of the desk of a gateway over these.
 ghost use Rattle.std.specs.Prelude.{◌≡◌};
 ghost use Rattle.std.specs.Net.Addr.{IsUnspecifiedV4};
 ghost use Rattle.std.specs.Net.Socket.{v4_ip, v4_port};
@@ -8,23 +8,31 @@ use crate::reception::PageReception;
 use crate::words::{ListFault, Settings, hosts_in, speakers_in};
 use gateway_core::Gateway;
 use live_ends::{CommonEnding, Live, Readiness, SocketWanted};
-use live_gateway::{Admission, Desk, DeskSettings, boxed, open_desk, speakers_of};
-use live_journal::Trace;
+use live_gateway::{Admission, DeskSettings, boxed, speakers_of};
 use live_page::{HostNames, Reception};
 use std::alloc::Global;
 use std::net::{Ipv4Addr, Net, SocketAddrV4};
 use std::rt::Clock;
-use surroundings::Surroundings;
 
-/// What serves: a gateway over the machine's sockets, and visitors of its page.
-#[derive(Drop)]
-pub struct Opened<'a, R, P> {
-    pub desk: Box<Desk<Live<'a, R>, Trace>>,
-    pub visitors: Option<Box<PageReception<P>>>,
+/// The sockets that are asked for, and the clock.
+pub fn open_sockets<'a, 'w, R: Net + Clock>(
+    rt: &'a R,
+    alloc: Global,
+    settings: &Settings<'w>,
+) -> Result<Box<Live<'a, R>>, CommonEnding<'w>> {
+    let datagrams = SocketWanted {
+        word: "--listen",
+        address: settings.sockets.listen,
+    };
+    let lines = SocketWanted {
+        word: "--phones",
+        address: settings.sockets.phones,
+    };
+    Live::open(rt, alloc, datagrams, lines)
 }
 
-// The site, if one is asked for.
-fn open_site<'w, R: Net, P: Reception>(
+/// The site, if one is asked for.
+pub fn open_site<'w, R: Net, P: Reception>(
     rt: &R,
     alloc: Global,
     settings: &Settings<'w>,
@@ -50,8 +58,8 @@ fn open_site<'w, R: Net, P: Reception>(
     }
 }
 
-// Whom this gateway hears, whose sockets are at these addresses, and who may type.
-fn admission_of(
+/// Whom this gateway hears, whose sockets are at these addresses, and who may type.
+pub fn admission_of(
     alloc: Global,
     settings: &Settings<'_>,
     gateway: &Gateway,
@@ -82,14 +90,13 @@ fn captured_address(socket: SocketAddrV4, media: Ipv4Addr) -> SocketAddrV4
     }
 }
 
-// What is asked of this gateway, whose socket is where that one is.
-fn desk_settings<'w, R: Net + Clock>(
+/// What is asked of a gateway whose sockets are at these addresses, and whose media is at that one.
+pub fn desk_settings<'w>(
     settings: &Settings<'w>,
-    gateway: &Gateway,
-    live: &Live<'_, R>,
+    own: [SocketAddrV4; 2],
+    media: Ipv4Addr,
 ) -> DeskSettings<'w> {
-    // Where it doesn't tell where it is, that is where it was to be.
-    let own = live.own();
+    // Where its socket doesn't tell where it is, that is where it was to be.
     let socket = if own[0].port() == 0 {
         settings.sockets.listen
     } else {
@@ -99,44 +106,9 @@ fn desk_settings<'w, R: Net + Clock>(
         has_trace: settings.trace,
         has_log: settings.log,
         capture: settings.capture,
-        here: captured_address(socket, gateway.setup().media_address),
+        here: captured_address(socket, media),
         has_page: settings.sockets.http.is_some(),
         network: settings.network,
         end: settings.stop_after,
     }
-}
-
-/// A desk for this gateway over the sockets that are asked for, whose trace has begun with this configuration; and its visitors.
-pub fn open<'a, 'w, R: Net + Clock, P: Reception>(
-    rt: &'a R,
-    alloc: Global,
-    settings: &Settings<'w>,
-    config: &[u8],
-    gateway: Box<Gateway>,
-) -> Result<Opened<'a, R, P>, Ending<'w>> {
-    let datagrams = SocketWanted {
-        word: "--listen",
-        address: settings.sockets.listen,
-    };
-    let lines = SocketWanted {
-        word: "--phones",
-        address: settings.sockets.phones,
-    };
-    let live = match Live::open(rt, alloc, datagrams, lines) {
-        Ok(live) => live,
-        Err(ending) => return Err(Ending::Common(ending)),
-    };
-    let visitors = match open_site(rt, alloc, settings, &live.ready) {
-        Ok(visitors) => visitors,
-        Err(ending) => return Err(ending),
-    };
-    let admission = match admission_of(alloc, settings, &gateway, live.own()) {
-        Ok(admission) => admission,
-        Err(fault) => return Err(fault.ending()),
-    };
-    let asked = desk_settings(settings, &gateway, &live);
-    let Ok(desk) = open_desk(alloc, &asked, config, gateway, live, admission) else {
-        return Err(Ending::Common(CommonEnding::OutOfMemory));
-    };
-    Ok(Opened { desk, visitors })
 }
