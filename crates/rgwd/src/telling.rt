@@ -25,7 +25,13 @@ fn telling_of<'w>(alloc: Global, words: &'w [String]) -> Result<Telling, Ending<
     let (Some(word), Some(line)) = (words.first(), words.get(1..)) else {
         return Err(Ending::Common(CommonEnding::Usage));
     };
-    let address = address_in(TELL, unless_help(word.as_str())?)?;
+    let word = match unless_help(word.as_str()) {
+        Ok(word) => word,
+        Err(ending) => return Err(ending),
+    };
+    let Ok(address) = address_in(TELL, word) else {
+        return Err(Ending::Common(CommonEnding::BadAddress { word: TELL }));
+    };
     if address.port() == 0 {
         return Err(Ending::Common(CommonEnding::BadAddress { word: TELL }));
     }
