@@ -1,4 +1,5 @@
 //! Reads the words behind `check`.
+use crate::ending::line_word;
 use crate::help::CHECK_USAGE;
 use crate::words::{Kind, WordFault, address_behind, fault_of, with_words};
 use clap::{ArgMatches, Command};
@@ -27,20 +28,75 @@ const WORDS: [(&str, Kind); 11] = [
     ("junit", Kind::Valued),
 ];
 
+// The words behind which an address stands.
+#[derive(Clone, Copy)]
+enum AddressWord {
+    Gateway,
+    Own,
+    Phones,
+    Hook,
+}
+
+// How clap knows such a word, and how it is told.
+fn names_of(word: AddressWord) -> (&'static str, &'static str) {
+    match word {
+        AddressWord::Gateway => ("address", "ADDRESS"),
+        AddressWord::Own => ("own", "--own"),
+        AddressWord::Phones => ("phones", "--phones"),
+        AddressWord::Hook => ("hook", "--hook"),
+    }
+}
+
+// What is wrong with the words of a check. It has no texts, for which a proof pays at each `?`.
+#[derive(Clone, Copy)]
+enum Wrong {
+    // They are other words, or some are lacking.
+    Usage,
+    // What stands behind this word isn't an address.
+    Address { word: AddressWord },
+    // What stands there isn't the name of one line: of the other one, or of that which is checked.
+    Line { is_other: bool },
+    // The other line to be checked is the line itself.
+    SameLine,
+    // There is no check of a name that stands behind `--only`.
+    NoCheck,
+}
+
+// Why the program doesn't do what words say of which this is wrong.
+fn fault_by(wrong: Wrong) -> WordFault {
+    match wrong {
+        Wrong::Usage => WordFault::Common(CommonEnding::Usage),
+        Wrong::Address { word } => {
+            let (_, word) = names_of(word);
+            WordFault::Common(CommonEnding::BadAddress { word })
+        }
+        Wrong::Line { is_other } => WordFault::BadLine {
+            word: line_word(is_other),
+        },
+        Wrong::SameLine => WordFault::SameLine,
+        Wrong::NoCheck => WordFault::NoCheck,
+    }
+}
+
 fn command<'a>(alloc: Global) -> Result<Command<'a>, AllocError> {
     let command = Command::new(alloc, "check").override_usage(CHECK_USAGE);
     with_words(alloc, command, &WORDS)
 }
 
+// The address behind a word, if that stands there.
+fn address_at(matches: &ArgMatches<'_>, word: AddressWord) -> Result<Option<SocketAddrV4>, Wrong> {
+    let (name, told) = names_of(word);
+    match address_behind(matches, name, told) {
+        Ok(address) => Ok(address),
+        Err(_) => Err(Wrong::Address { word }),
+    }
+}
+
 // The address that a word has, which stands there or has a default.
-fn address_in(
-    matches: &ArgMatches<'_>,
-    name: &str,
-    word: &'static str,
-) -> Result<SocketAddrV4, WordFault> {
-    match address_behind(matches, name, word)? {
+fn address_in(matches: &ArgMatches<'_>, word: AddressWord) -> Result<SocketAddrV4, Wrong> {
+    match address_at(matches, word)? {
         Some(address) => Ok(address),
-        None => Err(WordFault::Common(CommonEnding::Usage)),
+        None => Err(Wrong::Usage),
     }
 }
 
@@ -64,23 +120,23 @@ fn is_name(text: &str) -> bool {
     !bytes.is_empty() && bytes.len() <= LONGEST_NAME && are_of_name(bytes)
 }
 
-// The name of a line that stands behind a word.
-fn name_behind<'a>(text: &'a str, word: &'static str) -> Result<&'a str, WordFault> {
+// The name of a line that a text is.
+fn name_in(text: &str, is_other: bool) -> Result<&str, Wrong> {
     if is_name(text) {
         Ok(text)
     } else {
-        Err(WordFault::BadLine { word })
+        Err(Wrong::Line { is_other })
     }
 }
 
 // The name of another line than this, if that stands there. Case makes no difference between names.
-fn other_in<'a>(matches: &ArgMatches<'a>, line: &str) -> Result<Option<&'a str>, WordFault> {
+fn other_in<'a>(matches: &ArgMatches<'a>, line: &str) -> Result<Option<&'a str>, Wrong> {
     let Some(text) = matches.get_str("more-lines") else {
         return Ok(None);
     };
-    let other = name_behind(text, "--more-lines")?;
+    let other = name_in(text, true)?;
     if other.eq_ignore_ascii_case(line) {
-        return Err(WordFault::SameLine);
+        return Err(Wrong::SameLine);
     }
     Ok(Some(other))
 }
@@ -96,14 +152,14 @@ fn are_checks(names: &str) -> bool {
 }
 
 // The names behind `--only`, each of which is that of a check.
-fn names_in<'a>(matches: &ArgMatches<'a>) -> Result<Option<&'a str>, WordFault> {
+fn names_in<'a>(matches: &ArgMatches<'a>) -> Result<Option<&'a str>, Wrong> {
     let Some(names) = matches.get_str("only") else {
         return Ok(None);
     };
     if are_checks(names) {
         Ok(Some(names))
     } else {
-        Err(WordFault::NoCheck)
+        Err(Wrong::NoCheck)
     }
 }
 
@@ -111,14 +167,14 @@ fn names_in<'a>(matches: &ArgMatches<'a>) -> Result<Option<&'a str>, WordFault> 
 fn telephone_in<'a>(
     matches: &ArgMatches<'_>,
     line: &'a str,
-) -> Result<Option<Telephone<'a>>, WordFault> {
-    let phones = address_behind(matches, "phones", "--phones")?;
-    let hook = address_behind(matches, "hook", "--hook")?;
+) -> Result<Option<Telephone<'a>>, Wrong> {
+    let phones = address_at(matches, AddressWord::Phones)?;
+    let hook = address_at(matches, AddressWord::Hook)?;
     let (address, is_hook) = match (phones, hook) {
         (None, None) => return Ok(None),
         (Some(address), None) => (address, false),
         (None, Some(address)) => (address, true),
-        (Some(_), Some(_)) => return Err(WordFault::Common(CommonEnding::Usage)),
+        (Some(_), Some(_)) => return Err(Wrong::Usage),
     };
     Ok(Some(Telephone {
         address,
@@ -134,14 +190,14 @@ pub struct CheckWords<'a> {
     pub junit: Option<&'a str>,
 }
 
-fn settings_in<'a>(matches: &ArgMatches<'a>) -> Result<CheckWords<'a>, WordFault> {
+fn settings_in<'a>(matches: &ArgMatches<'a>) -> Result<CheckWords<'a>, Wrong> {
     let (Some(domain), Some(line)) = (matches.get_str("domain"), matches.get_str("line")) else {
-        return Err(WordFault::Common(CommonEnding::Usage));
+        return Err(Wrong::Usage);
     };
-    let line = name_behind(line, "--line")?;
+    let line = name_in(line, false)?;
     let junit = matches.get_str("junit");
     let settings = CheckSettings {
-        gateway: address_in(matches, "address", "ADDRESS")?,
+        gateway: address_in(matches, AddressWord::Gateway)?,
         domain,
         line,
         other: other_in(matches, line)?,
@@ -150,7 +206,7 @@ fn settings_in<'a>(matches: &ArgMatches<'a>) -> Result<CheckWords<'a>, WordFault
         telephone: telephone_in(matches, line)?,
         is_json: matches.get_flag("json"),
         is_junit: junit.is_some(),
-        own: address_in(matches, "own", "--own")?,
+        own: address_in(matches, AddressWord::Own)?,
     };
     Ok(CheckWords { settings, junit })
 }
@@ -161,8 +217,15 @@ pub fn read_check_words<'a, F: Write + Drop>(
     words: &'a [String],
     said: &mut Outlet<F>,
 ) -> Result<CheckWords<'a>, WordFault> {
-    match command(alloc)?.try_get_matches_from(words) {
-        Ok(matches) => settings_in(&matches),
-        Err(fault) => Err(fault_of(alloc, &fault, said)),
+    let Ok(parser) = command(alloc) else {
+        return Err(WordFault::Common(CommonEnding::OutOfMemory));
+    };
+    let matches = match parser.try_get_matches_from(words) {
+        Ok(matches) => matches,
+        Err(fault) => return Err(fault_of(alloc, &fault, said)),
+    };
+    match settings_in(&matches) {
+        Ok(words) => Ok(words),
+        Err(wrong) => Err(fault_by(wrong)),
     }
 }

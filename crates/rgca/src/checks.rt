@@ -53,20 +53,19 @@ fn failed<'w, F: Write + Drop>(
 // Checks a gateway as these words ask.
 fn check_by<'w, R: AllocGlobal + Files + Net + Clock, F: Write + Drop>(
     rt: &R,
-    words: CheckWords<'w>,
+    words: &CheckWords<'w>,
     out: &mut Outlet<F>,
 ) -> Ending<'w> {
-    let CheckWords { settings, junit } = words;
-    let is_json = settings.is_json;
-    let checked = match check_gateway(rt, settings, out) {
+    let is_json = words.settings.is_json;
+    let checked = match check_gateway(rt, words.settings, out) {
         Ok(checked) => checked,
         Err(fault) => {
-            let ending = unchecked_ending(fault, settings.gateway, settings.own);
+            let ending = unchecked_ending(fault, words.settings.gateway, words.settings.own);
             return failed(rt.alloc(), out, ending, is_json);
         }
     };
     let status = checked.status;
-    match junit {
+    match words.junit {
         Some(file) => match write_report(rt, file, checked.junit.as_str()) {
             Ok(()) => Ending::Checked { status },
             Err(ending) => failed(rt.alloc(), out, Ending::Common(ending), is_json),
@@ -110,5 +109,5 @@ pub fn checked<'w, R: AllocGlobal + Files + Net + Clock, F: Write + Drop>(
         Ok(asked) => asked,
         Err(fault) => return check_words_ending(fault),
     };
-    check_by(rt, asked, &mut outlets.output)
+    check_by(rt, &asked, &mut outlets.output)
 }

@@ -139,21 +139,22 @@ impl<'a> Ending<'a> {
             Ending::Checked { .. } | Ending::Played => Ok(()),
             Ending::Unexpected { text } | Ending::Unplayed { text } | Ending::BadScript { text } =>
                 { out.extend_from_slice(text.as_bytes()) }
-            Ending::BadGateway { word } => put_pieces(out, &[*word, NO_GATEWAY]),
-            Ending::BadLine { word } => put_pieces(out, &[*word, NO_LINE]),
+            Ending::BadGateway { word } => put_word(out, *word, NO_GATEWAY),
+            Ending::BadLine { word } => put_word(out, *word, NO_LINE),
             Ending::SameLine => put_pieces(out, &["--more-lines: the same line as --line\n"]),
             Ending::NoCheck => put_pieces(out, &[NO_CHECK]),
             Ending::Config { file, line } => put_config(out, *file, line.as_slice()),
             Ending::NoAnswer { address } => put_of(alloc, out, *address, NO_ANSWER),
             Ending::NotServing { address } => put_of(alloc, out, *address, NOT_SERVING),
             Ending::NoSuchLine { word } => {
-                put_pieces(
+                put_word(
                     out,
-                    &[*word, ": 500, no such line there, or not in --domain\n"],
+                    *word,
+                    ": 500, no such line there, or not in --domain\n",
                 )
             }
             Ending::InUse { word } => {
-                put_pieces(out, &[*word, ": in use, off hook or with a connection\n"])
+                put_word(out, *word, ": in use, off hook or with a connection\n")
             }
             Ending::System => put_pieces(out, &["clock or socket fault\n"]),
         }
@@ -194,8 +195,8 @@ pub fn phone_words_ending<'a>(fault: PhoneWordFault<'a>) -> Ending<'a>
     }
 }
 
-// The word that names a line to be checked.
-fn line_word(is_other: bool) -> &'static str {
+/// The word that names a line to be checked.
+pub(crate) fn line_word(is_other: bool) -> &'static str {
     if is_other { "--more-lines" } else { "--line" }
 }
 
@@ -240,6 +241,13 @@ fn put_config(out: &mut Vec<u8>, file: &str, line: &[u8]) -> Result<(), OutOfMem
     put_pieces(out, &[file, ": "])?;
     out.extend_from_slice(line)?;
     out.extend_from_slice(b"\n")
+}
+
+// Says this of a word.
+fn put_word(out: &mut Vec<u8>, word: &str, what: &str) -> Result<(), OutOfMemory>
+    ensures { OnOk result (out.new.items ≡ out.old.items ++ joined (word.now ∷ what.now ∷ [])) }
+{
+    put_pieces(out, &[word, what])
 }
 
 // Says this of the gateway at this address.

@@ -31,12 +31,6 @@ pub enum PhoneWordFault<'a> {
     BadGateway { word: &'a str },
 }
 
-impl From<AllocError> for PhoneWordFault<'_> {
-    fn from(_refused: AllocError) -> Self {
-        PhoneWordFault::Common(CommonEnding::OutOfMemory)
-    }
-}
-
 // Whether a byte may stand in the name of a gateway.
 fn is_of_name(byte: u8) -> bool {
     byte.is_ascii_alphanumeric() || byte == b'-' || byte == b'.' || byte == b'_'
@@ -118,14 +112,18 @@ fn take_gateways<'a>(
         let word = word.as_str();
         match gateway_of(word) {
             Some((name, address)) if !settings.has(name, address) => {
-                settings.add(alloc, name, address)?;
+                if settings.add(alloc, name, address).is_err() {
+                    return Err(PhoneWordFault::Common(CommonEnding::OutOfMemory));
+                }
             }
             _ => return Err(PhoneWordFault::BadGateway { word }),
         }
     }
     if words.is_empty() {
         let usual = SocketAddrV4::new(Ipv4Addr::LOCALHOST, USUAL_PORT);
-        settings.add(alloc, "", usual)?;
+        if settings.add(alloc, "", usual).is_err() {
+            return Err(PhoneWordFault::Common(CommonEnding::OutOfMemory));
+        }
     }
     Ok(())
 }
@@ -150,6 +148,8 @@ pub fn read_phone_words<'a>(
         names: Vec::new(alloc),
         addresses: Vec::new(alloc),
     };
-    take_gateways(alloc, &mut settings, gateways)?;
+    if let Err(fault) = take_gateways(alloc, &mut settings, gateways) {
+        return Err(fault);
+    }
     Ok(settings)
 }

@@ -48,18 +48,6 @@ pub enum WordFault {
     NoCheck,
 }
 
-impl From<AllocError> for WordFault {
-    fn from(_refused: AllocError) -> WordFault {
-        WordFault::Common(CommonEnding::OutOfMemory)
-    }
-}
-
-impl From<CommonEnding<'static>> for WordFault {
-    fn from(ending: CommonEnding<'static>) -> WordFault {
-        WordFault::Common(ending)
-    }
-}
-
 /// How a word stands.
 #[derive(Clone, Copy)]
 pub enum Kind {
@@ -178,17 +166,27 @@ fn settings_in<'a>(matches: &ArgMatches<'a>) -> Result<Settings<'a>, WordFault> 
     let Some(config) = matches.get_str("config") else {
         return Err(WordFault::Common(CommonEnding::Usage));
     };
-    let Some(control) = address_behind(matches, "control", "--control")? else {
-        return Err(WordFault::Common(CommonEnding::Usage));
+    let control = match address_behind(matches, "control", "--control") {
+        Ok(Some(control)) => control,
+        Ok(None) => return Err(WordFault::Common(CommonEnding::Usage)),
+        Err(fault) => return Err(fault),
+    };
+    let listen = match address_behind(matches, "listen", "--listen") {
+        Ok(listen) => listen,
+        Err(fault) => return Err(fault),
+    };
+    let network = match network_in(matches.get_str("network")) {
+        Ok(network) => network,
+        Err(ending) => return Err(WordFault::Common(ending)),
     };
     Ok(Settings {
         config,
-        listen: address_behind(matches, "listen", "--listen")?,
+        listen,
         control,
         route: matches.get_flag("route"),
         log: matches.get_flag("log"),
         capture: matches.get_str("capture"),
-        network: network_in(matches.get_str("network"))?,
+        network,
         stop_after: matches.get_one::<u64>("stop-after"),
     })
 }
@@ -199,7 +197,10 @@ pub fn read_words<'a, F: Write + Drop>(
     words: &'a [String],
     said: &mut Outlet<F>,
 ) -> Result<Settings<'a>, WordFault> {
-    match command(alloc)?.try_get_matches_from(words) {
+    let Ok(parser) = command(alloc) else {
+        return Err(WordFault::Common(CommonEnding::OutOfMemory));
+    };
+    match parser.try_get_matches_from(words) {
         Ok(matches) => settings_in(&matches),
         Err(fault) => Err(fault_of(alloc, &fault, said)),
     }
