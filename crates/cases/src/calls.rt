@@ -14,7 +14,7 @@ use gateway_core::Gateway;
 use mg_bytes::{OutOfMemory, Sequence};
 use rgw_scenes::{flaw_of, read_config, told, told_setup};
 use scenario_files::{
-    Outcome, Row, Scenario, TextDraft, WrittenScenario, input_of, number_in, read_scenario,
+    Outcome, Row, Scenario, TextDraft, WrittenScenario, input_of, number_in, parted, read_scenario,
     value_of,
 };
 use std::alloc::{AllocError, Global};
@@ -32,7 +32,7 @@ fn numbers(alloc: Global, count: u64) -> Result<Sequence<u64>, OutOfMemory> {
 
 // Puts how long a list is that grew by so many values, and then by a list of so many.
 fn put_length(given: &mut Outcome, fields: &str) -> Result<(), OutOfMemory> {
-    let (count, more) = fields.split_once("  ").unwrap_or((fields, ""));
+    let (count, more) = parted(fields, "  ");
     let mut all = numbers(given.alloc, number_in(count))?;
     all.append(numbers(given.alloc, number_in(more))?)?;
     given.put_shown(all.into_items().len());
@@ -153,7 +153,7 @@ impl Scenario for Calls {
     fn turn(&mut self, row: &mut Row<'_>) {
         row.is_exact = true;
         let (rest, wanted) = row.left.rsplit_once("  ").unwrap_or((row.left, ""));
-        let (call, values) = rest.split_once("  ").unwrap_or((rest, ""));
+        let (call, values) = parted(rest, "  ");
         row.left = wanted;
         let given = &mut row.given;
         let done = match call {

@@ -9,7 +9,7 @@
 //! - `write 2  write fault  line 1\s` this call of the writer fails, and all behind it.
 use mg_bytes::OutOfMemory;
 use rgw_play::{Ending, PlayFault, Played, play};
-use scenario_files::{Outcome, Row, SETTINGS, Scenario, bytes_of, range_in};
+use scenario_files::{Outcome, Row, SETTINGS, Scenario, bytes_of, parted, range_in};
 use std::alloc::{AllocError, Global};
 use std::io::{self, BufReader, Read, Write};
 use traces::{ReplayFault, Verdict, put_verdict, replay};
@@ -205,7 +205,7 @@ impl StreamScenario {
 
     fn play(&mut self, row: &mut Row<'_>) -> Result<(), OutOfMemory> {
         let first = row.before("  ");
-        let (word, rest) = first.split_once(' ').unwrap_or((first, ""));
+        let (word, rest) = parted(first, " ");
         match word {
             "script" => self.read(row.given.alloc, true, rest),
             "input" => self.read(row.given.alloc, false, rest),

@@ -3,6 +3,7 @@ use crate::stories::{Transcript, Visit};
 use live_gateway::Visitors;
 use live_page::{HostNames, answer_to};
 use page_answers::Board;
+use scenario_files::parted;
 use std::alloc::Global;
 use std::collections::VecDeque;
 use std::hash::RandomState;
@@ -34,7 +35,7 @@ pub struct Browsers {
 // The head of an answer, and the first line of its body.
 fn front_of(answer: &[u8]) -> &[u8] {
     let text = str::from_utf8(answer).unwrap_or("");
-    let (head, body) = text.split_once("\r\n\r\n").unwrap_or((text, ""));
+    let (head, body) = parted(text, "\r\n\r\n");
     let first = body.lines().next().unwrap_or("");
     let length = head.len().saturating_add(4).saturating_add(first.len());
     answer.get(..length).unwrap_or(answer)

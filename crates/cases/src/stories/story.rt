@@ -6,7 +6,7 @@ use exchange_log::put_peer;
 use live_ends::{TEXT_ROOM, Written};
 use live_gateway::boxed;
 use mg_bytes::{Draft, OutOfMemory};
-use scenario_files::{bytes_of, in_full, number_in, put_line};
+use scenario_files::{bytes_of, in_full, number_in, parted, put_line};
 use std::alloc::Global;
 use std::collections::VecDeque;
 use std::mem;
@@ -177,7 +177,7 @@ impl Story {
 
     // `10.0.0.7:2727 VALUE`: a datagram of these bytes comes.
     fn put_raw(&mut self, rest: &str) -> Result<(), OutOfMemory> {
-        let (source, value) = rest.split_once(' ').unwrap_or((rest, ""));
+        let (source, value) = parted(rest, " ");
         let bytes = value_in(self.alloc, value)?;
         let source = self.peer_in(source);
         self.add(Happening::Datagram { source, bytes })
@@ -185,7 +185,7 @@ impl Story {
 
     // `phone 1 off`, or `10.0.0.9:5000 phone 1 off`: this is typed.
     fn put_typed(&mut self, rest: &str) -> Result<(), OutOfMemory> {
-        let (front, behind) = rest.split_once(' ').unwrap_or((rest, ""));
+        let (front, behind) = parted(rest, " ");
         let (from, value) = match front.parse::<SocketAddrV4>() {
             Ok(from) => (from, behind),
             Err(_) => (typist(), rest),
@@ -246,7 +246,7 @@ impl Story {
 
     // A line that stands between datagrams: what it is called with, what comes, or what is to be given.
     fn put_between(&mut self, line: &str) -> Result<(), OutOfMemory> {
-        let (word, rest) = line.split_once(' ').unwrap_or((line, ""));
+        let (word, rest) = parted(line, " ");
         match said_by(word) {
             Says::Set => return put_line(&mut self.settings, rest),
             Says::Words => return self.put_word(rest),

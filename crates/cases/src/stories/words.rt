@@ -4,6 +4,7 @@ use live_gateway::boxed;
 use live_page::HostNames;
 use mg_bytes::{OutOfMemory, decimal};
 use new_start::FirstNumber;
+use scenario_files::parted;
 use std::alloc::Global;
 use std::net::{Ipv4Addr, SocketAddrV4};
 use surroundings::Speakers;
@@ -83,7 +84,7 @@ pub fn words_in(
     let mut asked = boxed(alloc, asked)?;
     for word in words {
         let word = word.as_str();
-        let (name, value) = word.split_once(' ').unwrap_or((word, ""));
+        let (name, value) = parted(word, " ");
         if !asked.take(alloc, name, value)? {
             return Ok(None);
         }
