@@ -10,14 +10,16 @@ use Rattle.plain_machine.specs.Event.{datagram}
 use Rattle.rgw_scripts.specs.Moves.{give, sends}
 use Rattle.traces.specs.Writing.{Entry, arrived, showed}
 use Rattle.live_gateway.specs.Coming.{Came, arrived_in, AreAllBut}
-use Rattle.live_gateway.specs.Running.{Live, Ran, Takes, HeardFrom}
+use Rattle.live_gateway.specs.Running.{Live, live, Ran, Takes, HeardFrom}
 use Rattle.live_gateway.proofs.CameLemmas.{arrived_both, marks_bring_nothing, nobody_came, all_of, all_but_both}
 use Rattle.live_gateway.proofs.RunLemmas.{ran_on, ran_stays, ran_written_off}
 use Rattle.live_gateway.specs.declared.admission.Admission.{Admission}
 use Rattle.live_gateway.specs.declared.desk.Desk.{Desk}
+use Rattle.live_gateway.specs.declared.exchange.Exchange.{Exchange}
+use Rattle.live_gateway.specs.declared.play.LivePlay.{LivePlay}
 use Rattle.live_gateway.specs.Admitting.{heard_of, HeardSince}
 use Rattle.live_gateway.specs.Desk.{Standing, at_desk, with_input, GoesOnBy, GoesOn}
-use Rattle.live_gateway.specs.Exchanging.{refusals}
+use Rattle.live_gateway.specs.Exchanging.{handed_by, came_by, refusals}
 use Rattle.live_gateway.proofs.HearingLemmas.{heard_both}
 
 -- ---- what is counted
@@ -33,6 +35,19 @@ refused_of false = 0
 counts_one : (is_refused : Bool) (n : ℕ) → refusals is_refused n ≡ counted n (refused_of is_refused)
 counts_one true n = refl
 counts_one false n = none_more n
+
+-- how a desk stands, by its play and its exchange
+abbrev pub standing_of : {S T : Type 0} → (T → Option (List ℕ)) → (S → Traffic) → LivePlay T → Exchange S → Standing
+standing_of told traffic play exchange = record {
+  live = live play.gateway.value play.script (told play.teller) (handed_by exchange.network (traffic exchange.around).sent);
+  came = came_by traffic exchange;
+}
+
+-- that an input was taken or refused is noted
+pub counted_so : {S T : Type 0} (told : T → Option (List ℕ)) (traffic : S → Traffic) (play : LivePlay T) (mid new : Exchange S) (is_refused : Bool)
+    → new.network ≡ mid.network → traffic new.around ≡ traffic mid.around → new.faults.refused ≡ refusals is_refused mid.faults.refused
+    → standing_of told traffic play new ≡ with_input is_refused (standing_of told traffic play mid)
+counted_so told traffic play mid new is_refused network around refused = rw (network, around, refused) refl
 
 -- ---- one after the other
 
@@ -78,6 +93,14 @@ goes_on_then told traffic old mid new a b = record {
       a.went (subst (λ (x : Admission). GoesOnBy x (at_desk told traffic mid) (at_desk told traffic new) b.entries b.came b.missing) a.admission b.went);
   admission = b.admission ∙ a.admission;
 }
+
+-- nothing changes before it, nor behind it
+pub between : {S T : Type 0} (told : T → Option (List ℕ)) (traffic : S → Traffic) (old mid after new : Desk S T)
+    → at_desk told traffic mid ≡ at_desk told traffic old → mid.admission ≡ old.admission → GoesOn told traffic mid after
+    → at_desk told traffic new ≡ at_desk told traffic after → new.admission ≡ after.admission → GoesOn told traffic old new
+between told traffic old mid after new before same goes behind kept =
+    goes_on_then told traffic old mid new (stays_so told traffic old mid before same)
+    (goes_on_then told traffic mid after new goes (stays_so told traffic after new behind kept))
 
 -- ---- ticks, acts and questions: nobody is heard
 

@@ -1,40 +1,37 @@
 //! The loop: it asks what comes next, and does that.
 #![tactic(auto, using(crate::proofs::DeskLemmas::stays_so))]
 
-ghost use Rattle.std.specs.Prelude.{◌≡◌, ◌↔◌, ◌≤◌, ◌⊎◌, ◌-◌, ◌^◌, ℕ, Bool, true, false, not, codes, List, [], Option, IsTrue, IfOk, is_ok};
+ghost use Rattle.std.specs.Prelude.{◌≡◌, ◌↔◌, ◌≤◌, ◌⊎◌, ◌-◌, ◌^◌, ℕ, true, false, not, codes, List, [], Option, IsTrue, IfOk};
 ghost use Rattle.turns.specs.Runs.{is_end};
 ghost use Rattle.plain_machine.specs.Event.{GatewayEvent, tick};
 ghost use Rattle.plain_machine.specs.Lists.{plain};
 ghost use Rattle.gateway_core.specs.Stands.{Stands};
 ghost use Rattle.live_gateway.specs.Losses.{counts_text};
-ghost use Rattle.live_gateway.specs.Admitting.{typist_of};
 ghost use Rattle.live_gateway.specs.Asking.{AsksFor};
 ghost use Rattle.rgw_scripts.specs.declared.step.ScriptLine.{ScriptLine};
 ghost use Rattle.surroundings.specs.Hearing.{AnswersTo};
-ghost use Rattle.live_gateway.specs.Desk.{at_desk, with_input, GoesOn};
+ghost use Rattle.live_gateway.specs.Desk.{at_desk, GoesOn};
 ghost use Rattle.live_gateway.specs.Ending.{EndsAt, WroteTimes, AsksForEnd};
 ghost use Rattle.live_gateway.specs.Turning.{Tries, TriesHeard, LooksForOne, DoesLine, Does, DoesNext};
 ghost use Rattle.traces.specs.Writing.{passed};
 
 use crate::admission::Admission;
 use crate::answering::{
-    DONE, PHONES_FROM_AFAR, act_answer, all_shown, answer_put, question_answer, short_answer, show,
-    take_act,
+    DONE, PHONES_FROM_AFAR, all_shown, answer_put, question_answer, short_answer, show,
 };
 use crate::exchange::Exchange;
 use crate::losses::lost_of;
 use crate::play::LivePlay;
 use crate::recorder::Recorder;
-use crate::telephones::{TelephoneRequest, Typist, request_in, typist_of};
-use crate::visitors::{Visitors, are_ready, next_deadline};
+use crate::telephones::{TelephoneRequest, request_in};
+use crate::turn_parts::{answer_act, note_datagram, note_taken, situation, take_from_page, typist};
+use crate::visitors::Visitors;
 use crate::watch::Watch;
-use exchange_log::Note;
-use gateway_core::{DATAGRAM_ROOM, Refusal};
+use gateway_core::DATAGRAM_ROOM;
 use live_journal::report_with;
 use std::alloc::{AllocError, Global};
-use std::net::SocketAddrV4;
 use surroundings::{Lines, Surroundings, Teller};
-use turns::{Ready, Schedule, Situation, Turn, earlier};
+use turns::{Schedule, Turn};
 
 /// A gateway that runs, all that it stands on, and what is kept of it.
 pub struct Desk<S, T> {
@@ -85,11 +82,6 @@ fn asks_for_end(lines: &Lines) -> bool
     }
 }
 
-// Whether something falls due by this moment.
-fn has_come(due: Option<u64>, moment: u64) -> bool {
-    matches!(due, Some(due) if due <= moment)
-}
-
 // Whether nothing comes any more.
 fn is_end(turn: Turn) -> bool
     ensures { result ≡ is_end turn }
@@ -135,75 +127,22 @@ impl<S: Surroundings + Drop, T: Teller + Drop> Desk<S, T> {
         }
     }
 
-    // How things stand.
-    fn situation<V: Visitors<S>>(&mut self, visitors: &Option<Box<V>>) -> Situation
-        ensures play { at_desk T.told S.traffic self.new ≡ at_desk T.told S.traffic self.old }
-        ensures admission { self.new.admission ≡ self.old.admission }
-        ensures rest { (self.new.play ≡ self.old.play) × (self.new.end ≡ self.old.end) }
-        ensures schedule { self.new.schedule ≡ self.old.schedule }
-        ensures end { result.end ≡ self.old.end }
-        ensures ticked { (events : List GatewayEvent) → Stands self.old.play.gateway.value events
-            → result.ticked ≡ (plain self.old.play.gateway.value.setup events).now }
-    {
-        let ticked = self.play.gateway.now();
-        let moment = self.exchange.moment(ticked);
-        let network = self.exchange.network_due();
-        let due = earlier(self.play.gateway.next_due(), network);
-        let told = self.exchange.around.told();
-        Situation {
-            moment,
-            ticked,
-            due: earlier(due, next_deadline(visitors)),
-            end: self.end,
-            read: self.exchange.read,
-            ready: Ready {
-                commands: told.lines || !self.lines.is_empty(),
-                datagrams: told.datagrams || has_come(network, ticked),
-                visitors: are_ready(visitors, &self.exchange.around, moment),
-            },
-        }
-    }
-
-    // The gateway took an input, or refused it. Of commands that it sent to who may not speak it is noted that no answer is heard.
-    fn note_taken(&mut self, is_taken: bool)
-        ensures play { at_desk T.told S.traffic self.new ≡ with_input (not is_taken) (at_desk T.told S.traffic self.old) }
-        ensures admission { self.new.admission ≡ self.old.admission }
-    {
-        self.exchange.count_refused(!is_taken);
-        if is_taken {
-            let now = self.exchange.now;
-            let log = &mut self.exchange.journal.log;
-            log.unheard(now, self.play.gateway.sent(), &self.admission.speakers);
-        }
-    }
-
     // The clock goes on.
-    #[tactic(auto, using(crate::proofs::DeskLemmas::ticks))]
     fn tick(&mut self, moment: u64)
         ensures play { GoesOn T.told S.traffic self.old self.new }
         ensures tried { Tries (passed moment) (tick moment) (at_desk T.told S.traffic self.old) (at_desk T.told S.traffic self.new) }
     {
         self.exchange.begin(moment);
         let done = self.play.tick(&mut self.exchange, moment);
-        self.note_taken(done.is_ok());
-    }
-
-    // Why commands of the datagram that came last were refused is told, where the gateway took it; else that it didn't.
-    fn note_datagram(&mut self, is_taken: bool, source: SocketAddrV4, bytes: &[u8])
-        ensures play { at_desk T.told S.traffic self.new ≡ at_desk T.told S.traffic self.old }
-        ensures admission { self.new.admission ≡ self.old.admission }
-    {
-        let now = self.exchange.now;
-        let journal = &mut self.exchange.journal;
-        if is_taken {
-            journal.log.explain(self.play.gateway.outcomes());
-        } else {
-            journal.untaken(now, source, bytes, Note::OutOfMemory);
-        }
+        note_taken(
+            &mut self.exchange,
+            done.is_ok(),
+            self.play.gateway.sent(),
+            &self.admission.speakers,
+        );
     }
 
     // A datagram is taken, if one is there, and who sent it is heard.
-    #[tactic(auto, using(crate::proofs::DeskLemmas::hears_nobody, crate::proofs::DeskLemmas::hears))]
     fn datagram(&mut self)
         ensures play { GoesOn T.told S.traffic self.old self.new }
         ensures looked { LooksForOne S.receives }
@@ -215,17 +154,21 @@ impl<S: Surroundings + Drop, T: Teller + Drop> Desk<S, T> {
             return;
         };
         let done = self.play.datagram(&mut self.exchange, source, &room[..len]);
-        self.note_datagram(done.is_ok(), source, &room[..len]);
-        self.note_taken(done.is_ok());
-    }
-
-    // Who typed the line that is answered next.
-    fn typist(&self) -> Typist
-        ensures { (is_here is_afar : Bool) × (result ≡ typist_of is_here is_afar self.now.admission.are_phones_open) }
-    {
-        let is_here = self.lines.is_from_loopback();
-        let is_afar = self.lines.is_from_afar();
-        typist_of(is_here, is_afar, self.admission.are_phones_open)
+        let is_taken = done.is_ok();
+        let speakers = &self.admission.speakers;
+        note_datagram(
+            &mut self.exchange,
+            is_taken,
+            self.play.gateway.outcomes(),
+            source,
+            &room[..len],
+        );
+        note_taken(
+            &mut self.exchange,
+            is_taken,
+            self.play.gateway.sent(),
+            speakers,
+        );
     }
 
     /// What was counted so far, as text. Its only error is want of memory.
@@ -237,18 +180,6 @@ impl<S: Surroundings + Drop, T: Teller + Drop> Desk<S, T> {
         let exchange = &self.exchange;
         let lost = lost_of(&self.play.gateway);
         report_with(self.alloc, &exchange.journal, lost, exchange.faults)
-    }
-
-    // The act that the line asked for was done, or refused: that is answered.
-    fn answer_act(&mut self, done: Result<(), Refusal>)
-        ensures play { at_desk T.told S.traffic self.new ≡ with_input (not (is_ok done)) (at_desk T.told S.traffic self.old) }
-        ensures admission { self.new.admission ≡ self.old.admission }
-    {
-        self.note_taken(done.is_ok());
-        let answer = act_answer(done, self.play.printed());
-        let clock = self.exchange.now.clock;
-        self.exchange.journal.answered(clock, answer);
-        self.lines.answer(&mut self.exchange.around, answer);
     }
 
     // What a line asks for is answered that asks neither for an act nor for what a line is. Who asks for the end is answered when the
@@ -291,21 +222,28 @@ impl<S: Surroundings + Drop, T: Teller + Drop> Desk<S, T> {
     }
 
     // What the line asks for that is to be answered next is done.
-    #[tactic(auto, using(crate::proofs::DeskLemmas::stays_so, crate::proofs::DeskLemmas::stays, crate::proofs::DeskLemmas::ticks))]
+    #[tactic(auto, using(crate::proofs::DeskLemmas::stays_so, crate::proofs::DeskLemmas::stays))]
     fn take_line(&mut self)
         ensures play { GoesOn T.told S.traffic self.old self.new }
         ensures line { DoesLine (at_desk T.told S.traffic self.old) (at_desk T.told S.traffic self.new) }
     {
-        let typist = self.typist();
+        let who = typist(&self.lines, self.admission.are_phones_open);
         let Some(text) = self.lines.line() else {
             return;
         };
-        match request_in(self.alloc, text, typist) {
+        match request_in(self.alloc, text, who) {
             TelephoneRequest::Act { line, act } => {
                 let now = self.exchange.now;
                 self.exchange.journal.act(now, text);
                 let done = self.play.act(&mut self.exchange, text, line, act);
-                self.answer_act(done);
+                note_taken(
+                    &mut self.exchange,
+                    done.is_ok(),
+                    self.play.gateway.sent(),
+                    &self.admission.speakers,
+                );
+                let printed = self.play.printed();
+                answer_act(&mut self.exchange, &mut self.lines, done, printed);
             }
             TelephoneRequest::Show { line } => {
                 let asked = self.play.ask(text, line);
@@ -316,28 +254,21 @@ impl<S: Surroundings + Drop, T: Teller + Drop> Desk<S, T> {
         }
     }
 
-    // What the page asks for is the next line, where none is left and it is its turn, or nobody typed.
-    fn take_from_page(&mut self, is_its_turn: bool)
-        ensures play { at_desk T.told S.traffic self.new ≡ at_desk T.told S.traffic self.old }
-        ensures admission { self.new.admission ≡ self.old.admission }
-    {
-        let is_taken = is_its_turn || !self.exchange.around.told().lines;
-        if is_taken && self.lines.is_empty() {
-            self.is_of_page = take_act(self.alloc, &mut self.exchange.journal, &mut self.lines);
-        }
-    }
-
     // A line is taken, if one is there. Who types and the page take turns: behind what was typed comes one act of the page's.
-    #[tactic(auto, using(crate::proofs::DeskLemmas::stays_so, crate::proofs::DeskLemmas::goes_on_then))]
     fn command(&mut self)
         ensures play { GoesOn T.told S.traffic self.old self.new }
         ensures line { DoesLine (at_desk T.told S.traffic self.old) (at_desk T.told S.traffic self.new) }
     {
         let was_page = self.is_of_page;
-        self.is_of_page = false;
         self.exchange.hear(&mut self.lines);
         self.take_line();
-        self.take_from_page(!was_page);
+        self.is_of_page = take_from_page(
+            self.alloc,
+            &mut self.exchange,
+            &mut self.lines,
+            !was_page,
+            false,
+        );
     }
 
     // A visitor is served, if one is there.
@@ -355,7 +286,13 @@ impl<S: Surroundings + Drop, T: Teller + Drop> Desk<S, T> {
             behind,
         );
         self.exchange.serve_visitor(visitors, moment);
-        self.take_from_page(false);
+        self.is_of_page = take_from_page(
+            self.alloc,
+            &mut self.exchange,
+            &mut self.lines,
+            false,
+            self.is_of_page,
+        );
     }
 
     // A turn of somebody's, or a wait, where it is now this moment.
@@ -382,14 +319,23 @@ impl<S: Surroundings + Drop, T: Teller + Drop> Desk<S, T> {
 
     /// Asks what comes next and does that, and who watches is told what changed: whether the end hasn't come. Once ticks have come to the
     /// end nothing more is done.
-    #[tactic(auto, using(crate::proofs::DeskLemmas::stays_so, crate::proofs::DeskLemmas::goes_on_then))]
     pub fn turn<V: Visitors<S>>(&mut self, visitors: &mut Option<Box<V>>) -> bool
         ensures play { GoesOn T.told S.traffic self.old self.new }
         ensures end { EndsAt self.old.end self.old.play.gateway.value (not result) }
         ensures does { DoesNext S.receives self.old.schedule self.old.admission (at_desk T.told S.traffic self.old) (at_desk T.told S.traffic self.new) }
         ensures over { result ≡ false → (self.new.play ≡ self.old.play) × (self.new.end ≡ self.old.end) }
     {
-        let at = self.situation(visitors);
+        let ticked = self.play.gateway.now();
+        let due = self.play.gateway.next_due();
+        let is_line_left = !self.lines.is_empty();
+        let at = situation(
+            &mut self.exchange,
+            visitors,
+            ticked,
+            due,
+            self.end,
+            is_line_left,
+        );
         let turn = self.schedule.next(at);
         self.exchange.begin(at.ticked);
         self.do_turn(turn, visitors, at.moment);

@@ -25,6 +25,7 @@ mod spoilt_way;
 mod telephones;
 mod telling;
 mod trace_text;
+mod turn_parts;
 mod visitors;
 mod watch;
 

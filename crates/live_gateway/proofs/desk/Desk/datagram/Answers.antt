@@ -1,35 +1,53 @@
-use Rattle.std.proofs.Common.{inr, ◌∙◌, ap}
+use Rattle.std.proofs.Common.{inl, inr, refl, ◌∙◌, ap}
 use Rattle.live_gateway.specs.Coming.{Came}
-use Rattle.live_gateway.specs.Desk.{at_desk, with_input}
-use Rattle.live_gateway.proofs.DeskLemmas.{hears}
+use Rattle.live_gateway.specs.Desk.{at_desk}
+use Rattle.live_gateway.proofs.DeskLemmas.{standing_of, counted_so, hears_nobody, hears}
 use Rattle.live_gateway.proofs.HearingLemmas.{heard_still}
 use Rattle.live_gateway.proofs.TurningLemmas.{tries}
 use Rattle.live_gateway.proofs.desk.Desk.datagram.Goals as goal
 
+pub returns-in_default-clause-play : goal.returns-in_default-clause-play
+returns-in_default-clause-play g c =
+    hears_nobody g.T.Teller.told g.S.Surroundings.traffic _ _ c.in_default.ensures.came (rw (c.receive.ensures.handed) refl) c.receive.ensures.refused refl
+
+pub returns-in_default-clause-looked : goal.returns-in_default-clause-looked
+returns-in_default-clause-looked g c = (_, _, _, c.receive.ensures.counts)
+
+pub returns-in_default-clause-tried : goal.returns-in_default-clause-tried
+returns-in_default-clause-tried g c = inl (rw (c.receive.ensures.handed) refl, c.receive.ensures.refused)
+
 pub returns-clause-play : goal.returns-clause-play
 returns-clause-play g c =
+    let told = g.T.Teller.told in
+    let traffic = g.S.Surroundings.traffic in
     let same = c.datagram-done.ensures.came in
-    hears g.T.Teller.told g.S.Surroundings.traffic _ _ _ c.datagram-done.result c.in-Some.source _
+    hears told traffic _ _ (standing_of told traffic c.datagram-done.new.self c.datagram-done.new.out) c.datagram-done.result c.in-Some.source _
     (heard_still c.args.self.now.admission _ _ _ _ c.in-Some.ensures.came (ap (λ (x : Came). x.received) same))
     (rw (c.receive.ensures.handed) at c.datagram-done.ensures.taken)
     (rw (c.receive.ensures.handed) at c.datagram-done.ensures.refused)
     (ap (λ (x : Came). x.refused) same ∙ c.receive.ensures.refused)
-    (rw (c.is_ok-2.ensures.value) at (c.note_taken.ensures.play ∙ ap (with_input _) c.note_datagram.ensures.play))
-    (c.note_taken.ensures.admission ∙ c.note_datagram.ensures.admission)
+    (counted_so told traffic c.datagram-done.new.self c.datagram-done.new.out c.note_taken.new.exchange _
+    (c.note_taken.ensures.network ∙ c.note_datagram.ensures.network) (ap traffic (c.note_taken.ensures.around ∙ c.note_datagram.ensures.around))
+    (rw (c.is_ok-is_taken.ensures.value, c.note_datagram.ensures.faults) at c.note_taken.ensures.refused))
+    refl
 
 pub returns-clause-looked : goal.returns-clause-looked
 returns-clause-looked g c = (_, _, _, c.receive.ensures.counts)
 
 pub returns-clause-tried : goal.returns-clause-tried
 returns-clause-tried g c =
+    let told = g.T.Teller.told in
+    let traffic = g.S.Surroundings.traffic in
     let same = c.datagram-done.ensures.came in
     inr (
       c.in-Some.source,
       _,
       c.in-Some.ensures.admitted,
-      tries _ _ c.datagram-done.result (at_desk g.T.Teller.told g.S.Surroundings.traffic c.args.self.now) _ _
+      tries _ _ c.datagram-done.result (at_desk told traffic c.args.self.now) (standing_of told traffic c.datagram-done.new.self c.datagram-done.new.out) _
           (rw (c.receive.ensures.handed) at c.datagram-done.ensures.taken)
           (rw (c.receive.ensures.handed) at c.datagram-done.ensures.refused)
           (ap (λ (x : Came). x.refused) same ∙ c.receive.ensures.refused)
-          (rw (c.is_ok-2.ensures.value) at (c.note_taken.ensures.play ∙ ap (with_input _) c.note_datagram.ensures.play)),
+          (counted_so told traffic c.datagram-done.new.self c.datagram-done.new.out c.note_taken.new.exchange _
+          (c.note_taken.ensures.network ∙ c.note_datagram.ensures.network) (ap traffic (c.note_taken.ensures.around ∙ c.note_datagram.ensures.around))
+          (rw (c.is_ok-is_taken.ensures.value, c.note_datagram.ensures.faults) at c.note_taken.ensures.refused)),
     )

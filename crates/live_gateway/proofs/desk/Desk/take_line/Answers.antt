@@ -1,8 +1,9 @@
-use Rattle.std.proofs.Common.{inl, inr, refl, ap}
+use Rattle.std.proofs.Common.{inl, inr, refl, ◌∙◌, ap}
+use Rattle.live_journal.specs.declared.reporting.Faults.{Faults}
 use Rattle.live_gateway.specs.Coming.{Came}
 use Rattle.live_gateway.specs.Desk.{at_desk}
 use Rattle.live_gateway.specs.Exchanging.{handed_by}
-use Rattle.live_gateway.proofs.DeskLemmas.{ticks, asks}
+use Rattle.live_gateway.proofs.DeskLemmas.{standing_of, counted_so, ticks, asks}
 use Rattle.live_gateway.proofs.TurningLemmas.{tries_act, asks_of}
 use Rattle.live_gateway.proofs.desk.Desk.take_line.Goals as goal
 
@@ -29,22 +30,30 @@ returns-in-Show-clause-line g c =
 
 pub returns-in-Act-clause-play : goal.returns-in-Act-clause-play
 returns-in-Act-clause-play g c =
-    ticks g.T.Teller.told g.S.Surroundings.traffic _ _ _ _
+    let told = g.T.Teller.told in
+    let traffic = g.S.Surroundings.traffic in
+    ticks told traffic _ _ (standing_of told traffic c.act-done.new.self c.act-done.new.out) _
     c.act-done.ensures.ran
     c.act-done.ensures.came
-    c.answer_act.ensures.play
-    c.answer_act.ensures.admission
+    (counted_so told traffic c.act-done.new.self c.act-done.new.out c.answer_act.new.exchange _
+    (c.answer_act.ensures.network ∙ c.note_taken.ensures.network) (c.answer_act.ensures.traffic ∙ ap traffic c.note_taken.ensures.around)
+    (ap (λ (x : Faults). x.refused) c.answer_act.ensures.faults ∙ c.note_taken.ensures.refused))
+    refl
 
 pub returns-in-Act-clause-line : goal.returns-in-Act-clause-line
 returns-in-Act-clause-line g c =
+    let told = g.T.Teller.told in
+    let traffic = g.S.Surroundings.traffic in
     inr (inl (
       _,
       _,
       _,
       c.in-Act.ensures.said,
-      tries_act _ _ _ c.act-done.result _ (at_desk g.T.Teller.told g.S.Surroundings.traffic c.args.self.now) _ _
+      tries_act _ _ _ c.act-done.result _ (at_desk told traffic c.args.self.now) (standing_of told traffic c.act-done.new.self c.act-done.new.out) _
           c.act-done.ensures.taken
           c.act-done.ensures.refused
           (ap (λ (x : Came). x.refused) c.act-done.ensures.came)
-          c.answer_act.ensures.play,
+          (counted_so told traffic c.act-done.new.self c.act-done.new.out c.answer_act.new.exchange _
+          (c.answer_act.ensures.network ∙ c.note_taken.ensures.network) (c.answer_act.ensures.traffic ∙ ap traffic c.note_taken.ensures.around)
+          (ap (λ (x : Faults). x.refused) c.answer_act.ensures.faults ∙ (rw (c.is_ok.ensures.value) at c.note_taken.ensures.refused))),
     ))

@@ -1,23 +1,29 @@
-use Rattle.std.proofs.Common.{ap}
+use Rattle.std.proofs.Common.{refl, ap}
 use Rattle.live_gateway.specs.Coming.{Came}
 use Rattle.live_gateway.specs.Desk.{at_desk}
-use Rattle.live_gateway.proofs.DeskLemmas.{ticks}
+use Rattle.live_gateway.proofs.DeskLemmas.{standing_of, counted_so, ticks}
 use Rattle.live_gateway.proofs.TurningLemmas.{tries}
 use Rattle.live_gateway.proofs.desk.Desk.tick.Goals as goal
 
 pub returns-clause-play : goal.returns-clause-play
 returns-clause-play g c =
-    ticks g.T.Teller.told g.S.Surroundings.traffic _ _ _ _
+    let told = g.T.Teller.told in
+    let traffic = g.S.Surroundings.traffic in
+    ticks told traffic _ _ (standing_of told traffic c.tick-done.new.self c.tick-done.new.out) _
     (rw (c.begin.ensures.network, c.begin.ensures.around) at c.tick-done.ensures.ran)
     (rw (c.begin.ensures.network, c.begin.ensures.around, c.begin.ensures.faults) at c.tick-done.ensures.came)
-    c.note_taken.ensures.play
-    c.note_taken.ensures.admission
+    (counted_so told traffic c.tick-done.new.self c.tick-done.new.out c.note_taken.new.exchange _
+    c.note_taken.ensures.network (ap traffic c.note_taken.ensures.around) c.note_taken.ensures.refused)
+    refl
 
 pub returns-clause-tried : goal.returns-clause-tried
 returns-clause-tried g c =
-    tries _ _ c.tick-done.result (at_desk g.T.Teller.told g.S.Surroundings.traffic c.args.self.now) _ _
+    let told = g.T.Teller.told in
+    let traffic = g.S.Surroundings.traffic in
+    tries _ _ c.tick-done.result (at_desk told traffic c.args.self.now) (standing_of told traffic c.tick-done.new.self c.tick-done.new.out) _
     (rw (c.begin.ensures.network, c.begin.ensures.around) at c.tick-done.ensures.taken)
     (rw (c.begin.ensures.network, c.begin.ensures.around) at c.tick-done.ensures.refused)
     (ap (λ (x : Came). x.refused)
     (rw (c.begin.ensures.network, c.begin.ensures.around, c.begin.ensures.faults) at c.tick-done.ensures.came))
-    (rw (c.is_ok.ensures.value) at c.note_taken.ensures.play)
+    (counted_so told traffic c.tick-done.new.self c.tick-done.new.out c.note_taken.new.exchange _
+    c.note_taken.ensures.network (ap traffic c.note_taken.ensures.around) (rw (c.is_ok.ensures.value) at c.note_taken.ensures.refused))

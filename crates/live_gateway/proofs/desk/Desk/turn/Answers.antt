@@ -1,21 +1,41 @@
-use Rattle.std.proofs.Common.{refl, ap}
+use Rattle.std.proofs.Common.{◌≡◌, List, refl, ◌∙◌, ap, subst}
 use Rattle.std.specs.Prelude.{not}
+use Rattle.plain_machine.specs.Event.{GatewayEvent}
+use Rattle.plain_machine.specs.Lists.{plain}
+use Rattle.gateway_core.specs.GatewayState.{GatewayState}
+use Rattle.gateway_core.specs.Stands.{Stands}
+use Rattle.live_gateway.proofs.DeskLemmas.{between}
 use Rattle.live_gateway.proofs.EndingLemmas.{turn_ends}
 use Rattle.live_gateway.proofs.TurningLemmas.{does_between}
 use Rattle.live_gateway.proofs.desk.Desk.turn.Goals as goal
 
+pub returns-clause-play : goal.returns-clause-play
+returns-clause-play g c =
+    between g.T.Teller.told g.S.Surroundings.traffic _ _ _ _
+    (rw (c.begin.ensures.network, c.begin.ensures.around, c.begin.ensures.faults, c.situation-at.ensures.network, c.situation-at.ensures.around, c.situation-at.ensures.refused) refl)
+    refl
+    c.do_turn.ensures.play
+    (rw (c.tell.ensures.traffic) refl)
+    refl
+
 pub returns-clause-end : goal.returns-clause-end
 returns-clause-end g c =
+    let here : (events : List GatewayEvent) → Stands c.args.self.now.play.gateway.value events
+    → c.now-ticked.result ≡ (plain c.args.self.now.play.gateway.value.setup events).now =
+    subst (λ (gateway : GatewayState). (events : List GatewayEvent) → Stands gateway events → c.now-ticked.result ≡ (plain gateway.setup events).now)
+    c.deref.ensures c.now-ticked.ensures.value in
     turn_ends _ _ c.situation-at.result c.next-turn.result c.args.self.now.end c.args.self.now.play.gateway.value _ c.next-turn.ensures
-    c.situation-at.ensures.end c.situation-at.ensures.ticked (ap not c.is_end.ensures)
+    c.situation-at.ensures.end
+    (λ events stands. c.situation-at.ensures.ticked ∙ here events stands)
+    (ap not c.is_end.ensures)
 
 pub returns-clause-does : goal.returns-clause-does
 returns-clause-does g c = (
   c.situation-at.result,
   c.next-turn.result,
   _,
-  rw (c.situation-at.ensures.schedule) at c.next-turn.ensures,
-  does_between g.S.Surroundings.receives _ _ c.next-turn.result _ _ _ _ c.situation-at.ensures.admission
-      (rw (c.begin.ensures.network, c.begin.ensures.around, c.begin.ensures.faults) c.situation-at.ensures.play)
+  c.next-turn.ensures,
+  does_between g.S.Surroundings.receives _ _ c.next-turn.result _ _ _ _ refl
+      (rw (c.begin.ensures.network, c.begin.ensures.around, c.begin.ensures.faults, c.situation-at.ensures.network, c.situation-at.ensures.around, c.situation-at.ensures.refused) refl)
       (rw (c.tell.ensures.traffic) refl) c.do_turn.ensures.does,
 )

@@ -1,0 +1,140 @@
+//! What a turn does that needs no gateway, but what that tells: who has one pays for the layout of all that it holds.
+ghost use Rattle.std.specs.Prelude.{◌≡◌, Bool, not};
+ghost use Rattle.live_gateway.specs.Admitting.{typist_of};
+ghost use Rattle.live_gateway.specs.Exchanging.{refusals};
+
+use crate::answering::{act_answer, take_act};
+use crate::exchange::Exchange;
+use crate::telephones::{Typist, typist_of};
+use crate::visitors::{Visitors, are_ready, next_deadline};
+use exchange_log::Note;
+use gateway_core::{Refusal, SentMessage, TextOutcome};
+use std::alloc::Global;
+use std::net::SocketAddrV4;
+use surroundings::{Lines, Speakers, Surroundings};
+use turns::{Ready, Situation, earlier};
+
+// Whether something falls due by this moment.
+fn has_come(due: Option<u64>, moment: u64) -> bool {
+    matches!(due, Some(due) if due <= moment)
+}
+
+/// How things stand, where ticks have come to this moment, in ms, when something falls due at the gateway, when nothing comes any more,
+/// and whether a line is left.
+pub(crate) fn situation<S: Surroundings + Drop, V: Visitors<S>>(
+    exchange: &mut Exchange<S>,
+    visitors: &Option<Box<V>>,
+    ticked: u64,
+    due: Option<u64>,
+    end: Option<u64>,
+    is_line_left: bool,
+) -> Situation
+    ensures network { exchange.new.network ≡ exchange.old.network }
+    ensures around { exchange.new.around ≡ exchange.old.around }
+    ensures refused { exchange.new.faults.refused ≡ exchange.old.faults.refused }
+    ensures end { result.end ≡ end }
+    ensures ticked { result.ticked ≡ ticked }
+{
+    let moment = exchange.moment(ticked);
+    let network = exchange.network_due();
+    let due = earlier(due, network);
+    let told = exchange.around.told();
+    Situation {
+        moment,
+        ticked,
+        due: earlier(due, next_deadline(visitors)),
+        end,
+        read: exchange.read,
+        ready: Ready {
+            commands: told.lines || is_line_left,
+            datagrams: told.datagrams || has_come(network, ticked),
+            visitors: are_ready(visitors, &exchange.around, moment),
+        },
+    }
+}
+
+/// The gateway took an input, or refused it. Of commands that it sent to who may not speak it is noted that no answer is heard.
+pub(crate) fn note_taken<S: Surroundings + Drop>(
+    exchange: &mut Exchange<S>,
+    is_taken: bool,
+    sent: &[SentMessage],
+    speakers: &Speakers,
+)
+    ensures network { exchange.new.network ≡ exchange.old.network }
+    ensures around { exchange.new.around ≡ exchange.old.around }
+    ensures refused { exchange.new.faults.refused ≡ refusals (not is_taken) exchange.old.faults.refused }
+{
+    exchange.count_refused(!is_taken);
+    if is_taken {
+        let now = exchange.now;
+        let log = &mut exchange.journal.log;
+        log.unheard(now, sent, speakers);
+    }
+}
+
+/// Why commands of the datagram that came last were refused is told, where the gateway took it; else that it didn't.
+pub(crate) fn note_datagram<S: Surroundings + Drop>(
+    exchange: &mut Exchange<S>,
+    is_taken: bool,
+    outcomes: &[TextOutcome],
+    source: SocketAddrV4,
+    bytes: &[u8],
+)
+    ensures network { exchange.new.network ≡ exchange.old.network }
+    ensures around { exchange.new.around ≡ exchange.old.around }
+    ensures faults { exchange.new.faults ≡ exchange.old.faults }
+{
+    let now = exchange.now;
+    let journal = &mut exchange.journal;
+    if is_taken {
+        journal.log.explain(outcomes);
+    } else {
+        journal.untaken(now, source, bytes, Note::OutOfMemory);
+    }
+}
+
+/// Who typed the line that is answered next, where the telephones are open to other machines or not.
+pub(crate) fn typist(lines: &Lines, are_open: bool) -> Typist
+    ensures { (is_here is_afar : Bool) × (result ≡ typist_of is_here is_afar are_open) }
+{
+    let is_here = lines.is_from_loopback();
+    let is_afar = lines.is_from_afar();
+    typist_of(is_here, is_afar, are_open)
+}
+
+/// The act that the line asked for was done, or refused: that is answered.
+pub(crate) fn answer_act<S: Surroundings + Drop>(
+    exchange: &mut Exchange<S>,
+    lines: &mut Lines,
+    done: Result<(), Refusal>,
+    printed: &[u8],
+)
+    ensures network { exchange.new.network ≡ exchange.old.network }
+    ensures traffic { S.traffic exchange.new.around ≡ S.traffic exchange.old.around }
+    ensures faults { exchange.new.faults ≡ exchange.old.faults }
+{
+    let answer = act_answer(done, printed);
+    let clock = exchange.now.clock;
+    exchange.journal.answered(clock, answer);
+    lines.answer(&mut exchange.around, answer);
+}
+
+/// What the page asks for is the next line, where none is left and it is its turn, or nobody typed: whether the line that is left is the
+/// page's, as one that was left may be.
+pub(crate) fn take_from_page<S: Surroundings + Drop>(
+    alloc: Global,
+    exchange: &mut Exchange<S>,
+    lines: &mut Lines,
+    is_its_turn: bool,
+    is_of_page: bool,
+) -> bool
+    ensures network { exchange.new.network ≡ exchange.old.network }
+    ensures around { exchange.new.around ≡ exchange.old.around }
+    ensures faults { exchange.new.faults ≡ exchange.old.faults }
+{
+    let is_taken = is_its_turn || !exchange.around.told().lines;
+    if is_taken && lines.is_empty() {
+        return take_act(alloc, &mut exchange.journal, lines);
+    }
+    is_of_page
+}
