@@ -24,147 +24,172 @@ use signals::ActiveSignal;
 use std::alloc::{AllocError, Global};
 use std::net::SocketAddrV4;
 
-fn signals_of(alloc: Global, signals: &[ActiveSignal]) -> Result<Vec<SignalView>, AllocError> {
-    let mut views = Vec::new(alloc);
+// What is gathered for a picture. That memory was refused for some of it is kept, and asked once.
+#[derive(Drop)]
+struct Gathering {
+    alloc: Global,
+    is_refused: bool,
+}
+
+impl Gathering {
+    fn push<V: Drop>(&mut self, views: &mut Vec<V>, view: V) {
+        match views.push(view) {
+            Ok(()) => {}
+            Err(_) => self.is_refused = true,
+        }
+    }
+
+    fn copied(&mut self, text: &[u8]) -> Vec<u8> {
+        match Vec::from_slice(self.alloc, text) {
+            Ok(text) => text,
+            Err(_) => {
+                self.is_refused = true;
+                Vec::new(self.alloc)
+            }
+        }
+    }
+
+    fn text(&mut self, text: Draft) -> Vec<u8> {
+        match text.end() {
+            Ok(text) => text,
+            Err(_) => {
+                self.is_refused = true;
+                Vec::new(self.alloc)
+            }
+        }
+    }
+}
+
+fn signals_of(gathering: &mut Gathering, signals: &[ActiveSignal]) -> Vec<SignalView> {
+    let mut views = Vec::new(gathering.alloc);
     for active in signals {
-        views.push(SignalView {
+        let view = SignalView {
             name: signal_name(active.signal),
             end: active.end,
-        })?;
+        };
+        gathering.push(&mut views, view);
     }
-    Ok(views)
+    views
 }
 
 // An address as text.
-fn address_text(alloc: Global, address: SocketAddrV4) -> Result<Vec<u8>, AllocError> {
-    let mut text = Draft::new(alloc);
+fn address_text(gathering: &mut Gathering, address: SocketAddrV4) -> Vec<u8> {
+    let mut text = Draft::new(gathering.alloc);
     put_peer(&mut text, address);
-    text.end()
+    gathering.text(text)
 }
 
 // Where media go, as text; nothing where that isn't known.
-fn remote_text(alloc: Global, remote: Option<SocketAddrV4>) -> Result<Vec<u8>, AllocError> {
+fn remote_text(gathering: &mut Gathering, remote: Option<SocketAddrV4>) -> Vec<u8> {
     match remote {
-        Some(address) => address_text(alloc, address),
-        None => Ok(Vec::new(alloc)),
+        Some(address) => address_text(gathering, address),
+        None => Vec::new(gathering.alloc),
     }
 }
 
 // The call of the connection with this number among the places of its line, as that was spelled when the connection was created.
-fn call_text(
-    alloc: Global,
-    places: &[Option<Connection>],
-    number: u32,
-) -> Result<Vec<u8>, AllocError> {
+fn call_of(places: &[Option<Connection>], number: u32) -> &[u8] {
     for held in places {
         if let Some(connection) = held {
             if connection.number == number {
-                return Vec::from_slice(alloc, connection.call.as_slice());
+                return connection.call.as_slice();
             }
         }
     }
-    Ok(Vec::new(alloc))
+    b""
 }
 
 fn connection_of(
-    alloc: Global,
+    gathering: &mut Gathering,
     connection: SeenConnection,
     places: &[Option<Connection>],
-) -> Result<ConnectionView, AllocError> {
-    Ok(ConnectionView {
+) -> ConnectionView {
+    ConnectionView {
         number: connection.number,
         mode: mode_text(connection.mode),
         codec: codec_text(connection.codec),
         packet_time: connection.packet_time,
-        local: address_text(alloc, connection.local)?,
-        remote: remote_text(alloc, connection.remote)?,
-        call: call_text(alloc, places, connection.number)?,
-    })
+        local: address_text(gathering, connection.local),
+        remote: remote_text(gathering, connection.remote),
+        call: gathering.copied(call_of(places, connection.number)),
+    }
 }
 
 fn connections_of(
-    alloc: Global,
+    gathering: &mut Gathering,
     connections: &[SeenConnection],
     places: &[Option<Connection>],
-) -> Result<Vec<ConnectionView>, AllocError> {
-    let mut views = Vec::new(alloc);
+) -> Vec<ConnectionView> {
+    let mut views = Vec::new(gathering.alloc);
     for connection in connections {
-        views.push(connection_of(alloc, *connection, places)?)?;
+        let view = connection_of(gathering, *connection, places);
+        gathering.push(&mut views, view);
     }
-    Ok(views)
+    views
 }
 
 // A line as it is shown, by what is seen of it, by its places, and by how many of its events were lost.
 fn view_of(
-    alloc: Global,
+    gathering: &mut Gathering,
     seen: &SeenLine,
     places: &[Option<Connection>],
     lost: u64,
-) -> Result<LineView, AllocError> {
-    Ok(LineView {
+) -> LineView {
+    LineView {
         is_off_hook: seen.hook == Hook::OffHook,
-        signals: signals_of(alloc, seen.signals.as_slice())?,
-        connections: connections_of(alloc, seen.connections.as_slice(), places)?,
+        signals: signals_of(gathering, seen.signals.as_slice()),
+        connections: connections_of(gathering, seen.connections.as_slice(), places),
         lost,
-    })
+    }
 }
 
-fn line_view(alloc: Global, gateway: &Gateway, line: u16) -> Result<LineView, AllocError>
+fn put_line(gathering: &mut Gathering, views: &mut Vec<LineView>, gateway: &Gateway, line: u16)
     requires low { 1 ≤ line }
     requires high { line ≤ gateway.now.setup.names.lines }
 {
-    let seen = seen_line(alloc, gateway, line)?;
-    let places = gateway.connections(line);
-    view_of(alloc, &seen, places, gateway.lost(line))
+    match seen_line(gathering.alloc, gateway, line) {
+        Ok(seen) => {
+            let places = gateway.connections(line);
+            let view = view_of(gathering, &seen, places, gateway.lost(line));
+            gathering.push(views, view);
+        }
+        Err(_) => gathering.is_refused = true,
+    }
 }
 
-fn put_commands(views: &mut Vec<VerbCount>, tally: &MessageTally) -> Result<(), AllocError> {
+fn put_commands(gathering: &mut Gathering, views: &mut Vec<VerbCount>, tally: &MessageTally) {
     for (place, number) in tally.texts.commands.iter().enumerate() {
-        views.push(VerbCount {
+        let view = VerbCount {
             verb: place as u8,
             number: *number,
-        })?;
+        };
+        gathering.push(views, view);
     }
-    Ok(())
 }
 
-fn put_answers(views: &mut Vec<CodeCount>, tally: &MessageTally) -> Result<(), AllocError> {
+fn put_answers(gathering: &mut Gathering, views: &mut Vec<CodeCount>, tally: &MessageTally) {
     for (code, number) in (0..u16::MAX).zip(tally.sent.answers.iter()) {
         let number = *number;
         if number > 0 {
-            views.push(CodeCount { code, number })?;
+            gathering.push(views, CodeCount { code, number });
         }
     }
-    Ok(())
 }
 
-fn put_file(
-    alloc: Global,
-    views: &mut Vec<FileCount>,
-    file: &[u8],
-    number: u64,
-) -> Result<(), AllocError> {
-    views.push(FileCount {
-        file: Vec::from_slice(alloc, file)?,
-        number,
-    })?;
-    Ok(())
+fn put_file(gathering: &mut Gathering, views: &mut Vec<FileCount>, file: &[u8], number: u64) {
+    let file = gathering.copied(file);
+    gathering.push(views, FileCount { file, number });
 }
 
 // What couldn't be written, by its name.
-fn put_written(
-    alloc: Global,
-    views: &mut Vec<FileCount>,
-    journal: &Journal,
-) -> Result<(), AllocError> {
+fn put_written(gathering: &mut Gathering, views: &mut Vec<FileCount>, journal: &Journal) {
     let written = journal.written;
-    put_file(alloc, views, b"standard output", written.output)?;
-    put_file(alloc, views, b"standard error", written.error)?;
+    put_file(gathering, views, b"standard output", written.output);
+    put_file(gathering, views, b"standard error", written.error);
     let capture = journal.capture.name.as_bytes();
     if !capture.is_empty() {
-        put_file(alloc, views, capture, written.capture)?;
+        put_file(gathering, views, capture, written.capture);
     }
-    Ok(())
 }
 
 // What came, and what answers were sent before.
@@ -212,28 +237,23 @@ fn put_numbers(counts: &mut Counts, journal: &Journal, faults: Faults)
     put_faults(counts, faults, journal);
 }
 
-fn put_lines(
-    alloc: Global,
-    views: &mut Vec<LineView>,
-    gateway: &Gateway,
-) -> Result<(), AllocError> {
+fn put_lines(gathering: &mut Gathering, views: &mut Vec<LineView>, gateway: &Gateway) {
     for before in 0..gateway.lines() {
-        views.push(line_view(alloc, gateway, before + 1)?)?;
+        put_line(gathering, views, gateway, before + 1);
     }
-    Ok(())
 }
 
-// What can fail for want of memory, by reference: a picture is large.
+// What there are several of, by reference: a picture is large.
 fn put_lists(
-    alloc: Global,
+    gathering: &mut Gathering,
     picture: &mut Picture,
     gateway: &Gateway,
     journal: &Journal,
-) -> Result<(), AllocError> {
-    put_lines(alloc, &mut picture.lines, gateway)?;
-    put_commands(&mut picture.counts.commands, &journal.tally)?;
-    put_answers(&mut picture.counts.answers, &journal.tally)?;
-    put_written(alloc, &mut picture.counts.write_faults, journal)
+) {
+    put_lines(gathering, &mut picture.lines, gateway);
+    put_commands(gathering, &mut picture.counts.commands, &journal.tally);
+    put_answers(gathering, &mut picture.counts.answers, &journal.tally);
+    put_written(gathering, &mut picture.counts.write_faults, journal);
 }
 
 /// The gateway as it is now, where its clock is so far behind the machine's, in ms. Its only error is want of memory.
@@ -256,7 +276,11 @@ pub fn picture_of(
         → IfOk result (λ picture. picture.counts.transactions ≡ remembered (plain gateway.now.setup events)) }
 {
     let mut picture = Picture::new(alloc);
-    put_lists(alloc, &mut picture, gateway, journal)?;
+    let mut gathering = Gathering {
+        alloc,
+        is_refused: false,
+    };
+    put_lists(&mut gathering, &mut picture, gateway, journal);
     put_numbers(&mut picture.counts, journal, faults);
     picture.clock = gateway.now();
     picture.behind = behind;
@@ -264,5 +288,8 @@ pub fn picture_of(
     picture.unanswered_since = journal.tally.unanswered_since;
     picture.first = gateway.setup().first;
     picture.counts.transactions = gateway.remembered() as u64;
+    if gathering.is_refused {
+        return Err(AllocError);
+    }
     Ok(picture)
 }
