@@ -11,6 +11,7 @@ mod desk;
 mod ends;
 pub mod examples;
 mod exchange;
+mod handing;
 pub mod laws;
 mod losses;
 mod naming;

@@ -1,5 +1,5 @@
 //! The play.
-ghost use Rattle.std.specs.Prelude.{◌≡◌, ◌+◌, ◌∷◌, [], List, Option, Some, None, IfOk, IfErr, OnOk, OnErr, ℕ};
+ghost use Rattle.std.specs.Prelude.{◌≡◌, ◌∷◌, [], List, Option, Some, None, IfOk, IfErr, OnOk, OnErr};
 ghost use Rattle.std.specs.Result.{result_err};
 ghost use Rattle.surroundings.specs.Sending.{Sent, Grows};
 ghost use Rattle.mg_bytes.specs.Words.{words};
@@ -15,8 +15,9 @@ ghost use Rattle.live_gateway.specs.Running.{live, Ran, HeardFrom, HandsOut, Tak
 
 use crate::answering::put_shown;
 use crate::ends::Outlet;
+use crate::handing::hand_all;
 use crate::placed::Placed;
-use crate::telling::{refuse, tell, tell_act, tell_answered, tell_datagram, tell_mark, tell_tick};
+use crate::telling::{refuse, tell, tell_act, tell_answered, tell_datagram, tell_tick};
 use gateway_core::{Event, Gateway, OutDatagram, Outputs, Refusal};
 use mg_bytes::OutOfMemory;
 use mg_line::Act;
@@ -106,43 +107,16 @@ impl<T: Teller + Drop> LivePlay<T> {
         self.printed.as_slice()
     }
 
-    // The datagram at this place is handed out.
-    #[tactic(auto, using(crate::proofs::RunLemmas::one_handed))]
-    fn hand<O: Outlet>(&mut self, out: &mut O, datagram: &OutDatagram, place: u64)
-        ensures handed { (before : ℕ) → place ≡ before + 1 → (marks : List Entry) × HandsOut
-            (live self.old.gateway.value self.old.script (T.told self.old.teller) (O.handed out.old)) before (datagram.now ∷ []) marks
-            (live self.new.gateway.value self.new.script (T.told self.new.teller) (O.handed out.new)) }
-        ensures came { O.came out.new ≡ O.came out.old }
-    {
-        if let Some(mark) = out.hand(datagram.to, datagram.bytes.as_bytes()) {
-            tell_mark(self.alloc, &mut self.text, &mut self.teller, mark, place);
-        }
-    }
-
-    // Datagrams are handed out in their order.
-    #[tactic(auto, using(crate::proofs::RunLemmas::none_handed, crate::proofs::RunLemmas::one_more))]
-    fn hand_all<O: Outlet>(&mut self, out: &mut O, datagrams: &[OutDatagram])
-        ensures handed { (marks : List Entry) × HandsOut
-            (live self.old.gateway.value self.old.script (T.told self.old.teller) (O.handed out.old)) 0 datagrams.now marks
-            (live self.new.gateway.value self.new.script (T.told self.new.teller) (O.handed out.new)) }
-        ensures came { O.came out.new ≡ O.came out.old }
-    {
-        let mut place: u64 = 0;
-        for datagram in datagrams {
-            place = place.saturating_add(1);
-            self.hand(out, datagram, place);
-        }
-    }
-
     // The gateway took an event, at which it sends these datagrams: the trace was told of that, and they are handed out in their order.
-    fn hand_out<O: Outlet>(&mut self, out: &mut O, datagrams: &[OutDatagram], _told: Placed)
+    fn hand_out<O: Outlet>(&mut self, out: &mut O, datagrams: &[OutDatagram], told: Placed)
         ensures handed { (marks : List Entry) × HandsOut
             (live self.old.gateway.value self.old.script (T.told self.old.teller) (O.handed out.old)) 0 datagrams.now marks
             (live self.new.gateway.value self.new.script (T.told self.new.teller) (O.handed out.new)) }
         ensures came { O.came out.new ≡ O.came out.old }
     {
         out.turned(&self.gateway);
-        self.hand_all(out, datagrams);
+        let text = &mut self.text;
+        hand_all(self.alloc, text, &mut self.teller, out, datagrams, told);
     }
 
     /// The clock goes to this moment, in ms: what the gateway sends at it is handed out. A refused tick changes nothing.

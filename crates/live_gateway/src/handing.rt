@@ -1,0 +1,55 @@
+//! What a gateway sends is handed out, and its trace told what became of it.
+ghost use Rattle.std.specs.Prelude.{◌≡◌, ◌+◌, ◌∷◌, [], List, ℕ};
+ghost use Rattle.gateway_core.specs.GatewayState.{GatewayState};
+ghost use Rattle.traces.specs.declared.script.Script.{Script};
+ghost use Rattle.traces.specs.Writing.{Entry};
+ghost use Rattle.live_gateway.specs.Running.{live, HandsOut};
+
+use crate::ends::Outlet;
+use crate::placed::Placed;
+use crate::telling::tell_mark;
+use gateway_core::OutDatagram;
+use std::alloc::Global;
+use surroundings::Teller;
+
+// The datagram at this place is handed out.
+#[tactic(auto, using(crate::proofs::RunLemmas::one_handed))]
+fn hand<O: Outlet, T: Teller>(
+    alloc: Global,
+    text: &mut Vec<u8>,
+    teller: &mut T,
+    out: &mut O,
+    datagram: &OutDatagram,
+    place: u64,
+)
+    ensures handed { (gateway : GatewayState) (script : Script) (before : ℕ) → place ≡ before + 1 → (marks : List Entry) × HandsOut
+        (live gateway script (T.told teller.old) (O.handed out.old)) before (datagram.now ∷ []) marks
+        (live gateway script (T.told teller.new) (O.handed out.new)) }
+    ensures came { O.came out.new ≡ O.came out.old }
+{
+    if let Some(mark) = out.hand(datagram.to, datagram.bytes.as_bytes()) {
+        tell_mark(alloc, text, teller, mark, place);
+    }
+}
+
+/// Datagrams are handed out in their order, where the trace was told of them before.
+#[tactic(auto, using(crate::proofs::RunLemmas::none_handed, crate::proofs::RunLemmas::one_more))]
+pub(crate) fn hand_all<O: Outlet, T: Teller>(
+    alloc: Global,
+    text: &mut Vec<u8>,
+    teller: &mut T,
+    out: &mut O,
+    datagrams: &[OutDatagram],
+    _told: Placed,
+)
+    ensures handed { (gateway : GatewayState) (script : Script) → (marks : List Entry) × HandsOut
+        (live gateway script (T.told teller.old) (O.handed out.old)) 0 datagrams.now marks
+        (live gateway script (T.told teller.new) (O.handed out.new)) }
+    ensures came { O.came out.new ≡ O.came out.old }
+{
+    let mut place: u64 = 0;
+    for datagram in datagrams {
+        place = place.saturating_add(1);
+        hand(alloc, text, teller, out, datagram, place);
+    }
+}
