@@ -16,6 +16,8 @@ struct TraceReader<R> {
     reader: Take<R>,
     line: Vec<u8>,
     number: u64,
+    // Why no more of it can be read, once that is so.
+    fault: Option<ReplayFault>,
 }
 
 // Why nothing could be read.
@@ -32,17 +34,26 @@ impl<R: BufRead + Drop> TraceReader<R> {
             reader: reader.take(0),
             line: Vec::new(alloc),
             number: 0,
+            fault: None,
         }
     }
 
-    // Reads the next line, and no more of it than a configuration may have: whether there is one.
-    fn read_line(&mut self) -> Result<bool, ReplayFault> {
+    // Whether no more of it can be read.
+    fn has_failed(&self) -> bool {
+        self.fault.is_some()
+    }
+
+    // Reads the next line, and no more of it than a configuration may have: whether there is one. There is none where it can't be read.
+    fn read_line(&mut self) -> bool {
         self.line.clear();
         self.number = self.number.saturating_add(1);
         self.reader.set_limit(LIMIT as u64);
         match self.reader.read_until(b'\n', &mut self.line) {
-            Ok(length) => Ok(length > 0),
-            Err(fault) => Err(fault_of(fault.kind())),
+            Ok(length) => length > 0,
+            Err(fault) => {
+                self.fault = Some(fault_of(fault.kind()));
+                false
+            }
         }
     }
 
@@ -51,7 +62,7 @@ impl<R: BufRead + Drop> TraceReader<R> {
         let mut config = Vec::new(alloc);
         for _ in 0..u64::MAX {
             // A line that has no end is the last, or longer than any.
-            if !self.read_line()? || !self.line.ends_with(b"\n") || config.len() > LIMIT {
+            if !self.read_line() || !self.line.ends_with(b"\n") || config.len() > LIMIT {
                 return Ok(None);
             }
             if is_head_end(self.line.as_slice()) {
@@ -62,9 +73,12 @@ impl<R: BufRead + Drop> TraceReader<R> {
         Ok(None)
     }
 
-    // The line that was read last can't stand where it does.
-    fn broken(&self) -> Verdict {
-        Verdict::Broken { line: self.number }
+    // The line that was read last can't stand where it does; or it couldn't be read.
+    fn broken(&self) -> Result<Verdict, ReplayFault> {
+        match self.fault {
+            Some(fault) => Err(fault),
+            None => Ok(Verdict::Broken { line: self.number }),
+        }
     }
 }
 
@@ -123,14 +137,14 @@ fn replay_lines<R: BufRead + Drop>(
             Progress::GoesOn => {}
             Progress::Told => lines = lines.saturating_add(1),
             Progress::Differs => return differing(alloc, trace, replay),
-            Progress::Broken => return Ok(trace.broken()),
+            Progress::Broken => return trace.broken(),
         }
-        is_line = trace.read_line()?;
+        is_line = trace.read_line();
     }
-    if replay.may_end() {
+    if !trace.has_failed() && replay.may_end() {
         return Ok(Verdict::AsTold { lines });
     }
-    Ok(trace.broken())
+    trace.broken()
 }
 
 /// Replays a trace of any length, and keeps no more of it than a line: whether each line that went out is what the gateway sends
@@ -138,10 +152,13 @@ fn replay_lines<R: BufRead + Drop>(
 pub fn replay<R: BufRead + Drop>(alloc: Global, reader: R) -> Result<Verdict, ReplayFault> {
     let mut trace = TraceReader::new(alloc, reader);
     let Some(config) = trace.read_config(alloc)? else {
-        return Ok(trace.broken());
+        return trace.broken();
     };
     let head = trace.number;
-    let mut is_line = trace.read_line()?;
+    let mut is_line = trace.read_line();
+    if trace.has_failed() {
+        return trace.broken();
+    }
     let first = first_in(trace.line.as_slice());
     let Some(gateway) = opened(
         alloc,
@@ -152,7 +169,7 @@ pub fn replay<R: BufRead + Drop>(alloc: Global, reader: R) -> Result<Verdict, Re
         return Ok(Verdict::Broken { line: head });
     };
     if first.is_some() {
-        is_line = trace.read_line()?;
+        is_line = trace.read_line();
     }
     let mut replay = Replay::new(alloc, gateway);
     replay_lines(alloc, &mut trace, &mut replay, is_line)
