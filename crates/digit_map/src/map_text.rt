@@ -1,5 +1,6 @@
 //! A digit map, and how it is read.
 ghost use Rattle.std.specs.Prelude.{◌≡◌, IfOk};
+ghost use Rattle.mg_bytes.specs.Blanks.{is_blank};
 ghost use Rattle.digit_map.specs.Reading.{without_blanks, map_of, ReadsAs};
 
 use crate::fault::MapFault;
@@ -67,12 +68,18 @@ impl MapText {
     }
 }
 
+fn is_blank(byte: u8) -> bool
+    ensures { result ≡ is_blank byte }
+{
+    byte == b' ' || byte == b'\t'
+}
+
 fn without_blanks(alloc: Global, text: &[u8]) -> Result<Vec<u8>, OutOfMemory>
     ensures { IfOk result (λ bare. bare.items ≡ without_blanks text.now) }
 {
     let mut bare = Vec::with_capacity(alloc, text.len())?;
     for byte in text {
-        if *byte != b' ' && *byte != b'\t' {
+        if !is_blank(*byte) {
             bare.push(*byte)?;
         }
     }
