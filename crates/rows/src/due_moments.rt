@@ -7,7 +7,7 @@
 //! - `falls 36` so many are due, each behind the one before, and are cleared;
 //! - `keep` and `back`: the table as it was once.
 use crate::keeping::{Held, Kept};
-use crate::texts::named;
+use crate::texts::{is_word, named};
 use mg_bytes::OutOfMemory;
 use mg_packages::SIGNALS;
 use scenario_files::{Outcome, Row, Scenario, range_in};
@@ -27,7 +27,7 @@ const KINDS: [(&str, DueKind); 3] = [
 // `T` or `signal 8`.
 fn kind_of(row: &mut Row<'_>) -> Option<DueKind> {
     let word = row.before(" ");
-    if word != "signal" {
+    if !is_word(word, "signal") {
         return named(&KINDS, word);
     }
     let signal = SIGNALS.get(row.number() as usize)?;
@@ -110,13 +110,14 @@ impl Scenario for Held<Due> {
     }
 
     fn turn(&mut self, row: &mut Row<'_>) {
+        let due = &mut *self.thing;
         match row.before(" ") {
-            "set" => set_all(&mut *self.thing, row, false),
-            "clear" => set_all(&mut *self.thing, row, true),
-            "least" => put_least(&mut row.given, &self.thing),
+            "set" => set_all(due, row, false),
+            "clear" => set_all(due, row, true),
+            "least" => put_least(&mut row.given, due),
             "falls" => {
                 let most = row.left.parse::<u32>().unwrap_or(0);
-                row.given.put_shown(fallen(&mut *self.thing, most));
+                row.given.put_shown(fallen(due, most));
             }
             _ => row.given.unread(),
         }

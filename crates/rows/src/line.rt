@@ -17,7 +17,7 @@ mod shown;
 
 use crate::keeping::{Held, Kept};
 use crate::requests;
-use crate::texts::unless_fields;
+use crate::texts::{is_word, unless_fields};
 use acts::{act_of, due_of};
 use mg_bytes::OutOfMemory;
 use mg_line::Line;
@@ -97,8 +97,8 @@ fn go_on(line: &mut Line, row: &mut Row<'_>, moment: u64)
 fn put_answer(line: &Line, given: &mut Outcome, question: &str) {
     let (word, act) = parted(question, " ");
     match act_of(act) {
-        Some(act) if word == "takes" => given.put_judged(line.takes(act)),
-        Some(act) if word == "heeds" => given.put_judged(line.heeds(act)),
+        Some(act) if is_word(word, "takes") => given.put_judged(line.takes(act)),
+        Some(act) if is_word(word, "heeds") => given.put_judged(line.heeds(act)),
         _ => requests::put_answer(given, line.requests(), question),
     }
 }

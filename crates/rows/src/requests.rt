@@ -8,6 +8,7 @@
 //! - `after L/hd  S L/dl  D (1|2)` the request that is embedded at this event takes effect: its S, and its D or `-`.
 use crate::events::observed_of;
 use crate::line::parameters::events_of;
+use crate::texts::is_word;
 use event_requests::{Decision, Doing, EventRequest, decide};
 use event_syntax::{Action, Embedding, Observed, write_signals};
 use mg_bytes::OutOfMemory;
@@ -131,7 +132,7 @@ impl Scenario for RequestScenario {
 
     fn turn(&mut self, row: &mut Row<'_>) {
         let question = row.before("  ");
-        if question == "asks" {
+        if is_word(question, "asks") {
             match events_of(row.given.alloc, row.rest()) {
                 Ok(request) => self.request = request,
                 Err(fault) => row.given.fault(fault),

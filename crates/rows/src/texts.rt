@@ -6,11 +6,16 @@ use scenario_files::{Outcome, Row};
 /// What a table has under a name.
 pub fn named<T: Copy>(table: &[(&str, T)], name: &str) -> Option<T> {
     for (known, meant) in table {
-        if *known == name {
+        if is_word(*known, name) {
             return Some(*meant);
         }
     }
     None
+}
+
+/// Whether a word is this one. Asked by a call: two texts that are compared in place are some twenty steps of each function that does.
+pub fn is_word(word: &str, name: &str) -> bool {
+    word == name
 }
 
 /// Bytes of ASCII as words, as they stand in a text that is formed.
@@ -36,7 +41,7 @@ pub fn put_pieces<'v, I: Iterator<Item = &'v [u8]> + Drop>(given: &mut Outcome, 
 // Whether this is one of the fields of a text.
 fn has_field(text: &str, wanted: &str) -> bool {
     for field in text.split("  ") {
-        if field == wanted {
+        if is_word(field, wanted) {
             return true;
         }
     }

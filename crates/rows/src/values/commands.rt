@@ -1,4 +1,5 @@
 //! Calls about what commands ask for, on a gateway of 16 lines that knows no host.
+use crate::texts::is_word;
 use crate::values::names::{DOMAIN, put_pattern};
 use command_forms::{Asks, AuditTarget, ConnectionDeed, Deed, Target, form};
 use connections::{CodecChoice, Deletion, Mode, Options, encoding_text, mode_text, write_options};
@@ -132,8 +133,11 @@ fn put_becoming(given: &mut Outcome, deed: &Deed) {
 // Puts what a call gives of what a command asks for: by default the lines that it is for.
 fn put_asks(given: &mut Outcome, call: &str, asks: &Asks<'_>) {
     let pattern = match asks {
-        Asks::Does(_, boxed) if call == "asks" => return put_asked(given, boxed.deed()),
-        Asks::Does(_, boxed) if call == "becomes" => return put_becoming(given, boxed.deed()),
+        Asks::Does(_, boxed) if is_word(call, "asks") => return put_asked(given, boxed.deed()),
+        Asks::Does(_, boxed) if is_word(call, "becomes") => return put_becoming(
+            given,
+            boxed.deed(),
+        ),
         Asks::Reports(AuditTarget::One(line), _) => Pattern::One(*line),
         Asks::Reports(AuditTarget::All, _) => Pattern::All,
         Asks::Does(Target::One(line), _) => Pattern::One(*line),

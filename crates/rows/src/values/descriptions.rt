@@ -1,4 +1,5 @@
 //! Calls about session descriptions.
+use crate::texts::is_word;
 use scenario_files::{Outcome, parted};
 use sdp_subset::{Origin, Session, read_sdp, write_sdp};
 
@@ -36,11 +37,11 @@ fn put_written(given: &mut Outcome, session: &mut Session, own: Option<&str>) {
 /// Puts what a call gives; no where there is no such call here.
 pub fn put_answer(given: &mut Outcome, call: &str, value: &[u8]) -> bool {
     let own = call.strip_prefix("own description ");
-    if own.is_none() && call != "description" && call != "written description" {
+    if own.is_none() && !is_word(call, "description") && !is_word(call, "written description") {
         return false;
     }
     match read_sdp(value) {
-        Ok(session) if call == "description" => put_offered(given, &session),
+        Ok(session) if is_word(call, "description") => put_offered(given, &session),
         Ok(mut session) => put_written(given, &mut session, own),
         Err(_) => given.put(b"refused"),
     }

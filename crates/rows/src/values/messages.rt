@@ -1,4 +1,5 @@
 //! Calls about messages as text, and about what they ask for.
+use crate::texts::is_word;
 use crate::values::commands;
 use mg_bytes::{decimal, split_once};
 use mgcp_text::{
@@ -102,7 +103,7 @@ fn put_of_other(given: &mut Outcome, call: &str, fault: TextFault) -> bool {
 
 /// Puts what a call gives; no where there is no such call here, and where it is about a message that can't be read.
 pub fn put_answer(given: &mut Outcome, call: &str, value: &[u8]) -> bool {
-    if call == "answer" {
+    if is_word(call, "answer") {
         put_answered(given, value);
         return true;
     }

@@ -4,7 +4,7 @@
 //! `code:200:4`; `off:1` and `on:0` for a line on which so many events were lost, and behind it `tone:2000` and `tone:-`
 //! for a signal and its end, and `connection:26`; `file:trace:1` for a file that couldn't be written so often; `unanswered:5` for an
 //! agent that owes an answer since then.
-use crate::texts::words_of;
+use crate::texts::{is_word, words_of};
 use crate::values::capturing::number_of;
 use mg_bytes::{decimal, split_once};
 use page_answers::{
@@ -241,7 +241,7 @@ fn tell_list(given: &mut Outcome, told: &mut Told, key: &str, value: &[u8]) {
         }
         "off" | "on" => {
             let lost = number_of(given, value);
-            let line = begun(given.alloc, key == "off", lost);
+            let line = begun(given.alloc, is_word(key, "off"), lost);
             told.lines.push(line).is_ok()
         }
         _ => match told.lines.last_mut() {
@@ -296,7 +296,7 @@ fn put_unbraced(given: &mut Outcome, text: &[u8]) {
 
 // Puts a picture as Prometheus wants it, or as JSON.
 fn put_picture(given: &mut Outcome, call: &str, picture: &Picture) {
-    if call == "state" {
+    if is_word(call, "state") {
         match state_text(given.alloc, picture, 1) {
             Ok(text) => put_unbraced(given, text.as_bytes()),
             Err(_) => given.refuse(),
@@ -311,7 +311,7 @@ fn put_picture(given: &mut Outcome, call: &str, picture: &Picture) {
 
 /// Puts what a call gives; no where there is no such call here.
 pub fn put_answer(given: &mut Outcome, call: &str, value: &[u8]) -> bool {
-    if call != "metrics" && call != "state" {
+    if !is_word(call, "metrics") && !is_word(call, "state") {
         return false;
     }
     let picture = picture_of(told_by(given, value));
