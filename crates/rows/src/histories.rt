@@ -175,19 +175,20 @@ impl Scenario for Held<History> {
     }
 
     fn turn(&mut self, row: &mut Row<'_>) {
+        let history = &mut *self.thing;
         match row.before(" ") {
-            "first" => keep_all(&mut self.thing, row),
-            "confirm" => confirm(&mut self.thing, row),
-            "purge" => self.thing.purge(u64::from(row.number())),
-            "undo" => self.thing.undo(),
-            "run" => put_run(&mut self.thing, row),
-            "holds" => row.given.put_shown(self.thing.len()),
+            "first" => keep_all(history, row),
+            "confirm" => confirm(history, row),
+            "purge" => history.purge(u64::from(row.number())),
+            "undo" => history.undo(),
+            "run" => put_run(history, row),
+            "holds" => row.given.put_shown(history.len()),
             // `7 at 30999 again`: what commands with these ids are.
             ids => {
                 let ids = ids_of(&mut row.given, ids);
                 let now = u64::from(row.number_behind("at"));
                 let wanted = row.rest();
-                put_unlike(&self.thing, &mut row.given, ids, now, wanted);
+                put_unlike(history, &mut row.given, ids, now, wanted);
             }
         }
     }

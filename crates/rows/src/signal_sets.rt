@@ -76,18 +76,19 @@ impl Scenario for Held<SignalSet> {
     }
 
     fn turn(&mut self, row: &mut Row<'_>) {
+        let set = &mut *self.thing;
         match row.before(" ") {
-            "hook" => self.thing.hook_changed(hook_of(row)),
+            "hook" => set.hook_changed(hook_of(row)),
             "expire" => match signal_of(row.rest().as_bytes()) {
-                Ok(signal) => self.thing.expire(signal),
+                Ok(signal) => set.expire(signal),
                 Err(_) => row.given.unread(),
             },
-            "stop" => self.thing.stop_timeouts(),
-            "due" => put_due(&mut row.given, &self.thing),
-            "active" => put_active(&mut row.given, &self.thing),
+            "stop" => set.stop_timeouts(),
+            "due" => put_due(&mut row.given, set),
+            "active" => put_active(&mut row.given, set),
             "refused" => put_refusal(row),
             moment => match moment.parse::<u32>() {
-                Ok(moment) => apply(&mut self.thing, row, moment),
+                Ok(moment) => apply(set, row, moment),
                 Err(_) => row.given.unread(),
             },
         }
