@@ -5,6 +5,8 @@ use Rattle.agent_texts.specs.declared.standing.Standing.TheVariants.{Rest}
 use Rattle.call_desk.specs.declared.care.Duty.{Duty}
 use Rattle.call_desk.specs.declared.care.Duty.TheVariants.{Clear, Audit, Route}
 use Rattle.call_desk.specs.declared.care.Care.{Care}
+use Rattle.call_desk.specs.declared.care.Change.{Change}
+use Rattle.call_desk.specs.declared.care.Change.TheVariants.{Begin, Land, Lose, Tell, OweAudit, Announce, Find, Show}
 
 -- what is next behind it
 abbrev pub next_behind : Duty → Duty
@@ -86,6 +88,17 @@ told_of standing care = record care { shown = standing }
 -- the line has told something: an audit that is in flight is older, and what one has found isn't new any more
 abbrev pub told_care : Care → Care
 told_care care = record care { has_told = true; is_found_off = false }
+
+-- this happens to it
+abbrev pub changed_by : Change → Care → Care
+changed_by Begin = begun
+changed_by Land = landed
+changed_by Lose = lost
+changed_by Tell = told_care
+changed_by OweAudit = λ care. owed care Audit
+changed_by (Announce is_restart) = announced is_restart
+changed_by (Find is_off) = found is_off
+changed_by (Show standing) = told_of standing
 
 -- the commands that the exchange doesn't know of: their verbs, and what stands behind the command line
 abbrev pub fixed_order : Duty → Option (List ℕ × List ℕ)

@@ -1,6 +1,6 @@
 //! What is kept of a line beside what the exchange knows: which command is next, and what the one in flight is for.
 ghost use Rattle.std.specs.Prelude.{◌≡◌, option_map};
-ghost use Rattle.call_desk.specs.Duties.{new_care, next_behind, told_still, duty_begun, begun, landed, owed_behind, owed, lost, outlived, announced, found, told_of, told_care, fixed_order};
+ghost use Rattle.call_desk.specs.Duties.{next_behind, told_still, begun, owed_behind, owed, lost, outlived, announced, changed_by, fixed_order};
 
 use agent_texts::Standing;
 
@@ -29,6 +29,27 @@ pub(crate) struct Care {
     pub(crate) is_found_off: bool,
     // How it stood when that was told last.
     pub(crate) shown: Standing,
+}
+
+/// What happens to what is kept of a line.
+#[derive(Clone, Copy)]
+pub(crate) enum Change {
+    /// What is next is in flight from now on, where no command is.
+    Begin,
+    /// No command is in flight any more.
+    Land,
+    /// The command in flight was given up: what that was for is owed again where the exchange doesn't know of it.
+    Lose,
+    /// The line has told something.
+    Tell,
+    /// Its hook is to be asked for next.
+    OweAudit,
+    /// It is announced: it has started again, or lost its agent.
+    Announce { is_restart: bool },
+    /// An audit has found its handset lifted, or not.
+    Find { is_off: bool },
+    /// How it stands was told.
+    Show { standing: Standing },
 }
 
 /// A line of which nothing is known.
@@ -84,63 +105,50 @@ pub(crate) fn fixed_order(duty: Duty) -> Option<(&'static [u8], &'static [u8])>
 }
 
 impl Care {
-    /// What is next, where no command is in flight; that is in flight from now on.
-    pub(crate) fn begin(&mut self) -> Option<Duty>
-        ensures duty { result ≡ duty_begun self.old }
-        ensures care { self.new ≡ begun self.old }
+    // What is next is in flight from now on, where no command is.
+    fn begin(&mut self)
+        ensures { self.new ≡ begun self.old }
     {
         if self.flight.is_some() {
-            return None;
+            return;
         }
         let duty = self.next;
         self.has_told = told_still(duty, self.has_told);
         self.next = next_behind(duty);
         self.flight = Some(duty);
         self.is_outlived = false;
-        Some(duty)
     }
 
-    /// No command is in flight any more: what that was for.
-    pub(crate) fn land(&mut self) -> Option<Duty>
-        ensures duty { result ≡ self.old.flight }
-        ensures care { self.new ≡ landed self.old }
-    {
-        let duty = self.flight;
-        self.flight = None;
-        duty
-    }
-
-    /// The line is to be cleared or audited next.
-    pub(crate) fn owe(&mut self, duty: Duty)
+    // The line is to be cleared or audited next.
+    fn owe(&mut self, duty: Duty)
         ensures { self.new ≡ owed self.old duty }
     {
         self.next = owed_behind(self.next, duty);
     }
 
-    /// The command in flight was given up: what that was for, which is owed again where the exchange doesn't know of it.
-    pub(crate) fn lose(&mut self) -> Option<Duty>
-        ensures duty { result ≡ self.old.flight }
-        ensures care { self.new ≡ lost self.old }
+    // The command in flight was given up: what that was for is owed again where the exchange doesn't know of it.
+    fn lose(&mut self)
+        ensures { self.new ≡ lost self.old }
     {
-        let duty = self.land();
+        let duty = self.flight;
+        self.flight = None;
         match duty {
             Some(Duty::Clear) => self.owe(Duty::Clear),
             Some(Duty::Audit) => self.owe(Duty::Audit),
             Some(Duty::Route) | None => {}
         }
-        duty
     }
 
-    /// Its gateway has started again.
-    pub(crate) fn outlive(&mut self)
+    // Its gateway has started again.
+    fn outlive(&mut self)
         ensures { self.new ≡ outlived self.old }
     {
         self.is_outlived = self.flight.is_some();
         self.is_found_off = false;
     }
 
-    /// It is announced: it has started again, or lost its agent.
-    pub(crate) fn announce(&mut self, is_restart: bool)
+    // It is announced: it has started again, or lost its agent.
+    fn announce(&mut self, is_restart: bool)
         ensures { self.new ≡ announced is_restart self.old }
     {
         if is_restart {
@@ -149,28 +157,22 @@ impl Care {
         self.owe(Duty::Audit);
     }
 
-    /// An audit has found its handset lifted, or not.
-    pub(crate) fn find(&mut self, is_off: bool)
-        ensures { self.new ≡ found is_off self.old }
+    /// This happens to it.
+    pub(crate) fn change(&mut self, change: Change)
+        ensures { self.new ≡ changed_by change self.old }
     {
-        self.is_found_off = is_off;
-    }
-
-    /// How it stands was told.
-    pub(crate) fn show(&mut self, standing: Standing)
-        ensures { self.new ≡ told_of standing self.old }
-    {
-        self.shown = standing;
-    }
-
-    /// The line has told something: whether an audit had found its handset lifted before.
-    pub(crate) fn tell(&mut self) -> bool
-        ensures was { result ≡ self.old.is_found_off }
-        ensures care { self.new ≡ told_care self.old }
-    {
-        let was_found_off = self.is_found_off;
-        self.has_told = true;
-        self.is_found_off = false;
-        was_found_off
+        match change {
+            Change::Begin => self.begin(),
+            Change::Land => self.flight = None,
+            Change::Lose => self.lose(),
+            Change::Tell => {
+                self.has_told = true;
+                self.is_found_off = false;
+            }
+            Change::OweAudit => self.owe(Duty::Audit),
+            Change::Announce { is_restart } => self.announce(is_restart),
+            Change::Find { is_off } => self.is_found_off = is_off,
+            Change::Show { standing } => self.shown = standing,
+        }
     }
 }

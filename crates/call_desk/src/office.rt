@@ -7,17 +7,17 @@ ghost use Rattle.call_routing.specs.declared.told.Told.TheVariants.{Flash};
 ghost use Rattle.call_routing.specs.Exchange.{opening, phase_of, flight_in, line_of, told};
 ghost use Rattle.call_routing.specs.Numbers.{told_in};
 ghost use Rattle.call_desk.specs.declared.care.Duty.TheVariants.{Audit, Route};
-ghost use Rattle.call_desk.specs.Duties.{new_care, begun, landed, owed, lost, announced, found, told_of, told_care};
+ghost use Rattle.call_desk.specs.Duties.{new_care, landed, owed, lost, announced, told_care, changed_by};
 ghost use Rattle.call_desk.specs.Hooks.{notified};
 ghost use Rattle.call_desk.specs.Orders.{shown, duty_of, flight_of, was_found_off, is_outlived, has_told, cared, routed, ordered};
 ghost use Rattle.call_desk.specs.Turns.{forsaken, heard_by, announced_by, answered_with, told_by_audit, TakesAudit, TakesResponse};
 ghost use Rattle.call_desk.specs.Waiting.{waits, settling, settled_at, Settles};
 
-use crate::care::{Care, Duty, NEW_CARE, fixed_order};
+use crate::care::{Care, Change, Duty, NEW_CARE, fixed_order};
 use crate::hooks::{audited_hook, is_off_hook, notified, told_by_hook};
 use crate::responses::outcome_of;
 use crate::worklist::Worklist;
-use agent_texts::{Journal, Standing, Station, copied, standing_of, tell_change};
+use agent_texts::{Journal, Station, copied, standing_of, tell_change};
 use call_routing::{Command, Exchange, NumberPlan, Outcome, Told, named_by, told_in};
 use event_values::Observed;
 use mg_bytes::{OutOfMemory, Text};
@@ -77,83 +77,46 @@ fn set_care(cares: &mut Vec<Care>, line: usize, care: Care)
     }
 }
 
-// What is next at a line to which no command is in flight; that is in flight from now on.
-fn begin(cares: &mut Vec<Care>, line: usize) -> Option<Duty>
-    ensures duty { result ≡ duty_of (slice_get cares.old.items line) }
-    ensures cares { cares.new.items ≡ cared begun cares.old.items line }
+// This happens to what is kept of a line: what that was before, if there is that line.
+fn change(cares: &mut Vec<Care>, line: usize, change: Change) -> Option<Care>
+    ensures was { result ≡ slice_get cares.old.items line }
+    ensures cares { cares.new.items ≡ cared (changed_by change) cares.old.items line }
 {
-    let mut care = cares.get(line).copied()?;
-    let duty = care.begin();
+    let was = cares.get(line).copied()?;
+    let mut care = was;
+    care.change(change);
     set_care(cares, line, care);
-    duty
+    Some(was)
 }
 
-// No command to the line is in flight any more: what that was for.
-fn land(cares: &mut Vec<Care>, line: usize) -> Option<Duty>
-    ensures duty { result ≡ flight_of (slice_get cares.old.items line) }
-    ensures cares { cares.new.items ≡ cared landed cares.old.items line }
+// What begins at a line of which this is kept.
+fn duty_of(care: Option<Care>) -> Option<Duty>
+    ensures { result ≡ duty_of care }
 {
-    let mut care = cares.get(line).copied()?;
-    let duty = care.land();
-    set_care(cares, line, care);
-    duty
+    match care {
+        Some(care) => if care.flight.is_some() { None } else { Some(care.next) },
+        None => None,
+    }
 }
 
-// The command in flight to the line was given up: what that was for.
-fn lose(cares: &mut Vec<Care>, line: usize) -> Option<Duty>
-    ensures duty { result ≡ flight_of (slice_get cares.old.items line) }
-    ensures cares { cares.new.items ≡ cared lost cares.old.items line }
+// What the command in flight to a line is for of which this is kept.
+fn flight_of(care: Option<Care>) -> Option<Duty>
+    ensures { result ≡ flight_of care }
 {
-    let mut care = cares.get(line).copied()?;
-    let duty = care.lose();
-    set_care(cares, line, care);
-    duty
+    match care {
+        Some(care) => care.flight,
+        None => None,
+    }
 }
 
-// The line has told something: whether an audit had found its handset lifted before.
-fn tell(cares: &mut Vec<Care>, line: usize) -> bool
-    ensures was { result ≡ was_found_off (slice_get cares.old.items line) }
-    ensures cares { cares.new.items ≡ cared told_care cares.old.items line }
+// Whether an audit has found the handset lifted of a line of which this is kept.
+fn was_found_off(care: Option<Care>) -> bool
+    ensures { result ≡ was_found_off care }
 {
-    let Some(mut care) = cares.get(line).copied() else {
-        return false;
-    };
-    let was_found_off = care.tell();
-    set_care(cares, line, care);
-    was_found_off
-}
-
-// The line's hook is to be asked for next.
-fn owe_audit(cares: &mut Vec<Care>, line: usize)
-    ensures { cares.new.items ≡ cared (λ care. owed care Audit) cares.old.items line }
-{
-    let Some(mut care) = cares.get(line).copied() else {
-        return;
-    };
-    care.owe(Duty::Audit);
-    set_care(cares, line, care);
-}
-
-// The line is announced.
-fn announce(cares: &mut Vec<Care>, line: usize, is_restart: bool)
-    ensures { cares.new.items ≡ cared (announced is_restart) cares.old.items line }
-{
-    let Some(mut care) = cares.get(line).copied() else {
-        return;
-    };
-    care.announce(is_restart);
-    set_care(cares, line, care);
-}
-
-// An audit has found the line's handset lifted, or not.
-fn find(cares: &mut Vec<Care>, line: usize, is_off: bool)
-    ensures { cares.new.items ≡ cared (found is_off) cares.old.items line }
-{
-    let Some(mut care) = cares.get(line).copied() else {
-        return;
-    };
-    care.find(is_off);
-    set_care(cares, line, care);
+    match care {
+        Some(care) => care.is_found_off,
+        None => false,
+    }
 }
 
 // Whether the gateway has started again since the command in flight to the line was issued.
@@ -174,18 +137,6 @@ fn has_told(cares: &[Care], line: usize) -> bool
         Some(care) => care.has_told,
         None => true,
     }
-}
-
-// How the line stands is told: how it stood when that was told last.
-fn show(cares: &mut Vec<Care>, line: usize, standing: Standing) -> Option<Standing>
-    ensures was { result ≡ option_map (λ care. care.shown) (slice_get cares.old.items line) }
-    ensures cares { cares.new.items ≡ cared (told_of standing) cares.old.items line }
-{
-    let mut care = cares.get(line).copied()?;
-    let was = care.shown;
-    care.show(standing);
-    set_care(cares, line, care);
-    Some(was)
 }
 
 // The exchange's command to a line, if one is in flight.
@@ -270,7 +221,8 @@ fn take_audit(
         return;
     }
     let told = tell_hook(alloc, exchange, line, text);
-    find(cares, line, is_off_hook(Some(told)));
+    let is_off = is_off_hook(Some(told));
+    let _ = change(cares, line, Change::Find { is_off });
 }
 
 // A final response came to a command to the line that was for this, which has landed.
@@ -349,10 +301,12 @@ fn take_told(
         ⊎ ((exchange.new ≡ exchange.old)
         × (cares.new.items ≡ cared (λ care. owed care Audit) (cared told_care cares.old.items line) line)) }
 {
-    let was_found_off = tell(cares, line);
-    match hear(alloc, exchange, plan, was_found_off, line, observed) {
+    let was_off = was_found_off(change(cares, line, Change::Tell));
+    match hear(alloc, exchange, plan, was_off, line, observed) {
         Ok(()) => {}
-        Err(_) => owe_audit(cares, line),
+        Err(_) => {
+            let _ = change(cares, line, Change::OweAudit);
+        }
     }
 }
 
@@ -408,7 +362,7 @@ impl Office {
         ensures { IfOk result (λ order. option_map shown order
             ≡ ordered (slice_get self.old.cares.items line) self.old.exchange line self.old.map) }
     {
-        let Some(duty) = begin(&mut self.cares, line) else {
+        let Some(duty) = duty_of(change(&mut self.cares, line, Change::Begin)) else {
             return Ok(None);
         };
         match fixed_order(duty) {
@@ -426,7 +380,7 @@ impl Office {
     {
         let order = routed(alloc, &mut self.exchange, line, self.map.as_bytes())?;
         if order.is_none() {
-            let _ = land(&mut self.cares, line);
+            let _ = change(&mut self.cares, line, Change::Land);
         }
         Ok(order)
     }
@@ -445,7 +399,7 @@ impl Office {
             return self.given_up(line);
         }
         touch(&mut self.worklist, &self.exchange, line);
-        let duty = land(&mut self.cares, line);
+        let duty = flight_of(change(&mut self.cares, line, Change::Land));
         take_response(
             alloc,
             &mut self.exchange,
@@ -466,7 +420,7 @@ impl Office {
         ensures waits { waits self.new.worklist.waiting.items self.new.worklist.is_all line ≡ true }
     {
         touch(&mut self.worklist, &self.exchange, line);
-        let duty = lose(&mut self.cares, line);
+        let duty = flight_of(change(&mut self.cares, line, Change::Lose));
         forsake(&mut self.exchange, line, duty);
         touch(&mut self.worklist, &self.exchange, line);
     }
@@ -501,7 +455,7 @@ impl Office {
     {
         touch(&mut self.worklist, &self.exchange, line);
         restart(&mut self.exchange, line, is_restart);
-        announce(&mut self.cares, line, is_restart);
+        let _ = change(&mut self.cares, line, Change::Announce { is_restart });
         touch(&mut self.worklist, &self.exchange, line);
     }
 
@@ -514,11 +468,11 @@ impl Office {
         line: usize,
     ) {
         let is = standing_of(&self.exchange, line);
-        let Some(was) = show(&mut self.cares, line, is) else {
+        let Some(was) = change(&mut self.cares, line, Change::Show { standing: is }) else {
             return;
         };
-        if was != is {
-            tell_change(alloc, journal, stations, line, was, is);
+        if was.shown != is {
+            tell_change(alloc, journal, stations, line, was.shown, is);
         }
     }
 }
