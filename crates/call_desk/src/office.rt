@@ -21,7 +21,7 @@ use agent_texts::{Journal, Station, copied, standing_of, tell_change};
 use call_routing::{Command, Exchange, NumberPlan, Outcome, Told, named_by, told_in};
 use event_values::Observed;
 use mg_bytes::{OutOfMemory, Text};
-use std::alloc::Global;
+use std::alloc::{AllocError, Global};
 
 /// An exchange, and what is kept of its lines beside that.
 #[derive(Drop)]
@@ -77,12 +77,19 @@ fn set_care(cares: &mut Vec<Care>, line: usize, care: Care)
     }
 }
 
+// What is kept of a line, if there is that one.
+fn care_at(cares: &[Care], line: usize) -> Option<Care>
+    ensures { result ≡ slice_get cares.now line }
+{
+    cares.get(line).copied()
+}
+
 // This happens to what is kept of a line: what that was before, if there is that line.
 fn change(cares: &mut Vec<Care>, line: usize, change: Change) -> Option<Care>
     ensures was { result ≡ slice_get cares.old.items line }
     ensures cares { cares.new.items ≡ cared (changed_by change) cares.old.items line }
 {
-    let was = cares.get(line).copied()?;
+    let was = care_at(cares.as_slice(), line)?;
     let mut care = was;
     care.change(change);
     set_care(cares, line, care);
@@ -119,21 +126,21 @@ fn was_found_off(care: Option<Care>) -> bool
     }
 }
 
-// Whether the gateway has started again since the command in flight to the line was issued.
-fn is_outlived(cares: &[Care], line: usize) -> bool
-    ensures { result ≡ is_outlived (slice_get cares.now line) }
+// Whether the gateway has started again since the command in flight to a line was issued of which this is kept.
+fn is_outlived(care: Option<Care>) -> bool
+    ensures { result ≡ is_outlived care }
 {
-    match cares.get(line) {
+    match care {
         Some(care) => care.is_outlived,
         None => false,
     }
 }
 
-// Whether the line has told something since it was audited.
-fn has_told(cares: &[Care], line: usize) -> bool
-    ensures { result ≡ has_told (slice_get cares.now line) }
+// Whether a line has told something since it was audited of which this is kept.
+fn has_told(care: Option<Care>) -> bool
+    ensures { result ≡ has_told care }
 {
-    match cares.get(line) {
+    match care {
         Some(care) => care.has_told,
         None => true,
     }
@@ -217,7 +224,7 @@ fn take_audit(
     ensures { TakesAudit (has_told (slice_get cares.old.items line)) line text.now exchange.old cares.old.items
         exchange.new cares.new.items }
 {
-    if has_told(cares.as_slice(), line) {
+    if has_told(care_at(cares.as_slice(), line)) {
         return;
     }
     let told = tell_hook(alloc, exchange, line, text);
@@ -317,21 +324,25 @@ impl Office {
         count: usize,
         plan: NumberPlan,
         map: Text,
-    ) -> Result<Office, OutOfMemory>
-        ensures exchange { IfOk result (λ office. office.exchange ≡ opening count 0) }
-        ensures dialled { IfOk result (λ office. (office.plan ≡ plan) × (office.map ≡ map)) }
-        ensures cares { IfOk result (λ office. office.cares.items ≡ replicate count new_care) }
-        ensures all_wait { IfOk result (λ office. office.worklist.is_all ≡ true) }
+    ) -> Result<Box<Office>, OutOfMemory>
+        ensures exchange { IfOk result (λ office. office.value.exchange ≡ opening count 0) }
+        ensures dialled { IfOk result (λ office. (office.value.plan ≡ plan) × (office.value.map ≡ map)) }
+        ensures cares { IfOk result (λ office. office.value.cares.items ≡ replicate count new_care) }
+        ensures all_wait { IfOk result (λ office. office.value.worklist.is_all ≡ true) }
     {
         let exchange = Exchange::new(alloc, count, 0)?;
         let cares = new_cares(alloc, count)?;
-        Ok(Office {
+        let office = Office {
             exchange,
             plan,
             map,
             cares,
             worklist: Worklist::new(alloc, true),
-        })
+        };
+        match Box::new(alloc, office) {
+            Ok(office) => Ok(office),
+            Err(_) => Err(AllocError),
+        }
     }
 
     /// Those lines to which something has happened are settled now.
@@ -395,7 +406,7 @@ impl Office {
             self.old.exchange (cared landed self.old.cares.items line) self.new.exchange self.new.cares.items }
         ensures waits { waits self.new.worklist.waiting.items self.new.worklist.is_all line ≡ true }
     {
-        if is_outlived(self.cares.as_slice(), line) {
+        if is_outlived(care_at(self.cares.as_slice(), line)) {
             return self.given_up(line);
         }
         touch(&mut self.worklist, &self.exchange, line);

@@ -15,7 +15,7 @@ use endpoint_names::{Pattern, read_name, write_name};
 use mg_bytes::{Draft, OutOfMemory, Sequence, Text, same_no_case, split_once};
 use mgcp_text::{Message, Param, TextFault, TransactionId, Verb, param_at, read_message};
 use plain_machine::{Event, Outputs, Refusal};
-use std::alloc::{AllocError, Global};
+use std::alloc::Global;
 use std::net::SocketAddrV4;
 use transmission::same_address;
 use turns::earlier;
@@ -132,13 +132,8 @@ impl Switchboard {
         let plan = plan_of(self.alloc, &self.stations)?;
         let map = copied(self.alloc, map)?;
         let office = Office::new(self.alloc, self.stations.len(), plan, map)?;
-        match Box::new(self.alloc, office) {
-            Ok(office) => {
-                self.office = Some(office);
-                Ok(())
-            }
-            Err(_) => Err(AllocError),
-        }
+        self.office = Some(office);
+        Ok(())
     }
 
     // Adds the gateways of a configuration, and opens an exchange for their lines where calls are routed.
