@@ -100,10 +100,11 @@ fn change(cares: &mut Vec<Care>, line: usize, change: Change) -> Option<Care>
 fn duty_of(care: Option<Care>) -> Option<Duty>
     ensures { result ≡ duty_of care }
 {
-    match care {
-        Some(care) => if care.flight.is_some() { None } else { Some(care.next) },
-        None => None,
+    let care = care?;
+    if care.flight.is_some() {
+        return None;
     }
+    Some(care.next)
 }
 
 // What the command in flight to a line is for of which this is kept.
