@@ -85,7 +85,7 @@ fn care_at(cares: &[Care], line: usize) -> Option<Care>
 }
 
 // This happens to what is kept of a line: what that was before, if there is that line.
-fn change(cares: &mut Vec<Care>, line: usize, change: Change) -> Option<Care>
+fn change_at(cares: &mut Vec<Care>, line: usize, change: Change) -> Option<Care>
     ensures was { result ≡ slice_get cares.old.items line }
     ensures cares { cares.new.items ≡ cared (changed_by change) cares.old.items line }
 {
@@ -230,7 +230,7 @@ fn take_audit(
     }
     let told = tell_hook(alloc, exchange, line, text);
     let is_off = is_off_hook(Some(told));
-    let _ = change(cares, line, Change::Find { is_off });
+    let _ = change_at(cares, line, Change::Find { is_off });
 }
 
 // A final response came to a command to the line that was for this, which has landed.
@@ -309,11 +309,11 @@ fn take_told(
         ⊎ ((exchange.new ≡ exchange.old)
         × (cares.new.items ≡ cared (λ care. owed care Audit) (cared told_care cares.old.items line) line)) }
 {
-    let was_off = was_found_off(change(cares, line, Change::Tell));
+    let was_off = was_found_off(change_at(cares, line, Change::Tell));
     match hear(alloc, exchange, plan, was_off, line, observed) {
         Ok(()) => {}
         Err(_) => {
-            let _ = change(cares, line, Change::OweAudit);
+            let _ = change_at(cares, line, Change::OweAudit);
         }
     }
 }
@@ -374,7 +374,7 @@ impl Office {
         ensures { IfOk result (λ order. option_map shown order
             ≡ ordered (slice_get self.old.cares.items line) self.old.exchange line self.old.map) }
     {
-        let Some(duty) = duty_of(change(&mut self.cares, line, Change::Begin)) else {
+        let Some(duty) = duty_of(change_at(&mut self.cares, line, Change::Begin)) else {
             return Ok(None);
         };
         match fixed_order(duty) {
@@ -392,7 +392,7 @@ impl Office {
     {
         let order = routed(alloc, &mut self.exchange, line, self.map.as_bytes())?;
         if order.is_none() {
-            let _ = change(&mut self.cares, line, Change::Land);
+            let _ = change_at(&mut self.cares, line, Change::Land);
         }
         Ok(order)
     }
@@ -411,7 +411,7 @@ impl Office {
             return self.given_up(line);
         }
         touch(&mut self.worklist, &self.exchange, line);
-        let duty = flight_of(change(&mut self.cares, line, Change::Land));
+        let duty = flight_of(change_at(&mut self.cares, line, Change::Land));
         take_response(
             alloc,
             &mut self.exchange,
@@ -432,7 +432,7 @@ impl Office {
         ensures waits { waits self.new.worklist.waiting.items self.new.worklist.is_all line ≡ true }
     {
         touch(&mut self.worklist, &self.exchange, line);
-        let duty = flight_of(change(&mut self.cares, line, Change::Lose));
+        let duty = flight_of(change_at(&mut self.cares, line, Change::Lose));
         forsake(&mut self.exchange, line, duty);
         touch(&mut self.worklist, &self.exchange, line);
     }
@@ -467,7 +467,7 @@ impl Office {
     {
         touch(&mut self.worklist, &self.exchange, line);
         restart(&mut self.exchange, line, is_restart);
-        let _ = change(&mut self.cares, line, Change::Announce { is_restart });
+        let _ = change_at(&mut self.cares, line, Change::Announce { is_restart });
         touch(&mut self.worklist, &self.exchange, line);
     }
 
@@ -480,7 +480,7 @@ impl Office {
         line: usize,
     ) {
         let is = standing_of(&self.exchange, line);
-        let Some(was) = change(&mut self.cares, line, Change::Show { standing: is }) else {
+        let Some(was) = change_at(&mut self.cares, line, Change::Show { standing: is }) else {
             return;
         };
         if was.shown != is {
