@@ -1,7 +1,7 @@
 """Follows what the telephones' socket of a gateway tells who watches: what each line is now, and since when.
 
 A gateway numbers its changes. Where a number is missing, and at the start, all lines are asked for anew (`show *`). Where media of a
-connection go isn't told by that, but by the gateway's page; without one it isn't known until the connection changes.
+connection go isn't told by that, but by the gateway's page; where none is known it isn't either, until the connection changes.
 """
 from __future__ import annotations
 
@@ -139,13 +139,18 @@ class Line:
 
 # Takes a line of a gateway, by its number, that may be another since this time.
 Settle = Callable[["Gateway", int, int], None]
+# Takes a gateway that is heard of, or whose next life is.
+Begin = Callable[["Gateway"], None]
+# What the page of a gateway says that each line is, by the gateway's name, if one is known and answers.
+AskPage = Callable[[str], "list[dict[str, Any]] | None"]
 
 
 class Gateway:
     """A gateway that is watched."""
 
-    def __init__(self, name: str, phones: Address, ask_page: Callable[[], list[dict[str, Any]] | None] | None, settle: Settle):
-        self.name, self.phones, self.ask_page, self.settle = name, phones, ask_page, settle
+    def __init__(self, name: str, phones: Address, begin: Begin, settle: Settle, ask_page: AskPage):
+        self.name, self.phones = name, phones
+        self.begin, self.settle, self.ask_page = begin, settle, ask_page
         self.lines: dict[int, Line] = {}
         # The latest change's number.
         self.number: int | None = None
@@ -228,7 +233,7 @@ class Gateway:
             self.begin_anew(now)
         self.clock.set(at, now)
         if self.number is None:
-            say(f"{self.name} is watched at {text_of(self.phones)}")
+            self.begin(self)
         if self.number is None or self.number + 1 != next_number:
             self.miss(self.number, next_number)
             self.number = next_number - 1
@@ -259,8 +264,7 @@ class Gateway:
     def find_ends(self, now: int) -> set[int]:
         """Where media go wasn't told: the page knows it, if there is one. The lines that may be others now."""
         self.lacks_ends = False
-        states = self.ask_page() if self.ask_page else None
-        for number, state in enumerate(states or [], 1):
+        for number, state in enumerate(self.ask_page(self.name) or [], 1):
             self.lines.setdefault(number, Line()).take_state(self.clock.moment_of(now), now, state)
         for number, line in self.lines.items():
             unknown = [name for name, connection in line.connections.items() if connection.local is None]

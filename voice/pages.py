@@ -30,7 +30,7 @@ class Page:
     """The page of a gateway, which a thread of its own asks for keys."""
 
     def __init__(self, address: Address):
-        self.address = address
+        self.address, self.is_over = address, False
         self.presses: queue.SimpleQueue[Press] = queue.SimpleQueue()
         # The number of the latest event that was read, and an act that isn't answered yet.
         self.after, self.acted = 0, None
@@ -54,7 +54,7 @@ class Page:
     def follow(self) -> None:
         """Keys that are pressed from now on are told."""
         is_old = True
-        while True:
+        while not self.is_over:
             has_more = False
             try:
                 answer = self.ask(f"/events?after={self.after}")

@@ -8,6 +8,7 @@ import time
 from argparse import Namespace
 from typing import Any
 
+from finding import page_beside
 from following import Gateway, address_of, say, text_of
 from pages import Page
 from sounds import RATE, Sound, hertz_of_line, sound_of_line
@@ -75,17 +76,14 @@ class Service:
     def __init__(self, asked: Namespace):
         self.asked = asked
         self.is_over = False
-        pages = addresses_of(asked.page)
+        self.named_pages = addresses_of(asked.page)
         phones = addresses_of(asked.gateways)
-        for name in pages:
+        for name in self.named_pages:
             if name not in phones:
                 raise Fault(f"--page {name}: no gateway has that name")
         self.sources = Sources(asked.source)
-        self.pages = {name: Page(address) for name, address in pages.items()}
-        self.gateways = [
-            Gateway(name, address, self.pages[name].states if name in self.pages else None, self.settle)
-            for name, address in phones.items()
-        ]
+        self.pages: dict[str, Page] = {}
+        self.gateways = [Gateway(name, address, self.begin, self.settle, self.states) for name, address in phones.items()]
         self.telephones: dict[tuple[str, int], Telephone] = {}
         # How much later than due a turn began at most, in ms.
         self.latest = 0.0
@@ -119,6 +117,25 @@ class Service:
             if now - check >= CHECK:
                 check = now
                 self.look_after()
+
+    def begin(self, gateway: Gateway) -> None:
+        """A gateway is watched from now on, or its next life: its page is where it was said to be, or else it is looked for."""
+        say(f"{gateway.name} is watched at {text_of(gateway.phones)}")
+        address = self.named_pages.get(gateway.name) or page_beside(gateway.phones)
+        known = self.pages.get(gateway.name)
+        if known and known.address == address:
+            return
+        if known:
+            known.is_over = True
+            del self.pages[gateway.name]
+        if address:
+            self.pages[gateway.name] = Page(address)
+        unknown = "no page of it is found, so no keys are heard of; --page says where one is"
+        say(f"{gateway.name}: its page is at {text_of(address)}" if address else f"{gateway.name}: {unknown}")
+
+    def states(self, name: str) -> list[dict[str, Any]] | None:
+        """What each line of a gateway is, if its page is known and answers."""
+        return self.pages[name].states() if name in self.pages else None
 
     def settle(self, gateway: Gateway, number: int, now: int) -> None:
         """What changed at a line takes place. Nothing is said before the next turn: by then all that changed with it has its sockets."""
