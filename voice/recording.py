@@ -4,6 +4,7 @@ What is heard comes in pieces, each with its moment, and pieces of one moment ar
 """
 from __future__ import annotations
 
+import math
 import wave
 
 import numpy as np
@@ -67,7 +68,9 @@ class Recording:
         if self.file is not None:
             self.file.close()
 
-    def tones(self) -> list[tuple[float, int, int]]:
-        """Each frequency that was heard, from when to when, in ms from the beginning."""
+    def tones(self) -> list[tuple[float, float, int, int]]:
+        """Each frequency that was heard, its greatest level, in dB of the loudest sound, and from when to when, in ms from the beginning."""
         window = 1_000 * WINDOW // RATE
-        return [(round(it.hertz, 1), it.first * window, it.end * window) for it in self.hearing.heard()]
+        return [
+            (round(it.hertz, 1), round(20 * math.log10(it.loud), 1), it.first * window, it.end * window) for it in self.hearing.heard()
+        ]

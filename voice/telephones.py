@@ -328,9 +328,10 @@ class Telephone:
 
     def report_call(self, call: Call, hertz: dict[str, int]) -> dict[str, Any]:
         tones = []
-        for heard, begun, end in call.recording.tones():
+        for heard, level, begun, end in call.recording.tones():
             near = [name for name, its in hertz.items() if abs(its - heard) <= LIKE]
-            tones.append(Span(call.begun + begun, call.begun + end).told(hertz=heard, line=near[0] if len(near) == 1 else None))
+            span = Span(call.begun + begun, call.begun + end)
+            tones.append(span.told(hertz=heard, level=level, line=near[0] if len(near) == 1 else None))
         return {
             "gateway": self.gateway.name, "line": self.number, "zero": time_of_day(call.clock), "begun": call.begun, "ended": call.end,
             "file": call.recording.path, "tones": tones, "signals": [span.told(name=name) for name, span in call.signals],
