@@ -19,7 +19,7 @@ ghost use Rattle.live_journal.specs.Places.{place_among, with_send, with_sends};
 ghost use Rattle.live_journal.specs.Strangers.{told_at, quiet_after, unheard_text};
 ghost use Rattle.live_journal.specs.Waiting.{unanswered_after};
 ghost use Rattle.live_journal.specs.Explaining.{reason_text};
-ghost use Rattle.live_journal.specs.Recording.{trace_head};
+ghost use Rattle.live_journal.specs.Recording.{trace_head, unsent_text};
 ghost use Rattle.live_journal.specs.Reporting.{told_all, commands_text, datagrams_text, texts_text, others_text, answer_text, answers_from};
 ghost use Rattle.live_journal.specs.declared.message_tally.MessageTally.{MessageTally};
 
@@ -52,6 +52,8 @@ pub fn each_sentence_has_an_example()
     ensures never { answer_text 510 0 ≡ [] }
     ensures by_code { answers_from 0 (2 ∷ replicate 99 0 ++ 7 ∷ []) ≡ codes " 000 2 100 7" }
     ensures none { answers_from 0 [] ≡ [] }
+    // That a datagram couldn't be sent is noted, with its receiver.
+    ensures unsent { unsent_text 5 (host 9) ≡ note_line (record { moment = 5; peer = host 9 }) notes.Unsent }
     // A refusal is told with what is at fault, or by its code alone, and once; a repeat is told of where it isn't answered.
     ensures part { (stamp : Stamp) → reason_text stamp (Command (Some Rqnt) 1207 (First 518 (Some (Value 82))))
         ≡ refused_line stamp 1207 (explanation_of (record { code = 518; at = Value 82 })) }

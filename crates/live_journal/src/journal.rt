@@ -1,7 +1,7 @@
 //! What is kept of what goes between a gateway and others: its counts and its records.
 ghost use Rattle.std.specs.Prelude.{◌≡◌};
 ghost use Rattle.gateway_core.specs.Wire.{counted};
-ghost use Rattle.live_journal.specs.Recording.{Records};
+ghost use Rattle.live_journal.specs.Recording.{Records, unsent_text};
 ghost use Rattle.live_journal.specs.Strangers.{quiet_after, stranger_text};
 
 use crate::capture::Capture;
@@ -108,7 +108,12 @@ impl Journal {
     }
 
     /// The datagram that was sent last didn't leave.
-    pub fn unsent(&mut self, now: Now, to: SocketAddrV4) {
+    pub fn unsent(&mut self, now: Now, to: SocketAddrV4)
+        ensures told { Records self.old.log.value.record (unsent_text now.time to) self.new.log.value.record }
+        ensures quiet { self.new.log.value.quiet ≡ self.old.log.value.quiet }
+        ensures tally { self.new.tally ≡ self.old.tally }
+        ensures rest { (self.new.capture ≡ self.old.capture) × (self.new.board ≡ self.old.board) × (self.new.written ≡ self.old.written) }
+    {
         self.log.note(now, to, Note::Unsent);
     }
 }

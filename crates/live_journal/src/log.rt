@@ -1,4 +1,8 @@
 //! The log, for people, on standard error: a line a message, and a line for what is to be noted beside it.
+ghost use Rattle.std.specs.Prelude.{◌≡◌};
+ghost use Rattle.exchange_log.specs.Lines.{note_line};
+ghost use Rattle.live_journal.specs.Recording.{Records};
+
 use crate::strangers::Quiet;
 use crate::taken::Taken;
 use exchange_log::{Note, Stamp, Way, put_given_up, put_message, put_note};
@@ -116,12 +120,17 @@ impl Log {
     }
 
     // Puts a note, likewise.
-    pub(crate) fn put_note(&mut self, stamp: Stamp, note: Note) {
+    #[tactic(auto, using(crate::proofs::RecordLemmas::puts_text, crate::proofs::RecordLemmas::puts_nothing, crate::proofs::RecordLemmas::refuses))]
+    pub(crate) fn put_note(&mut self, stamp: Stamp, note: Note)
+        ensures told { Records self.old.record (note_line stamp note) self.new.record }
+        ensures quiet { self.new.quiet ≡ self.old.quiet }
+    {
         if !self.record.is_on() {
             return;
         }
-        if put_note(self.alloc, &mut self.record.out, stamp, note).is_err() {
-            self.record.refuse();
+        match put_note(self.alloc, &mut self.record.out, stamp, note) {
+            Ok(()) => {}
+            Err(_) => self.record.refuse(),
         }
     }
 

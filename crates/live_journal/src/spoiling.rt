@@ -1,5 +1,6 @@
 //! What the log says of a network that spoils what goes over it, or takes nothing.
 ghost use Rattle.std.specs.Prelude.{◌≡◌};
+ghost use Rattle.exchange_log.specs.Lines.{note_line};
 ghost use Rattle.exchange_log.specs.Pausing.{pause_line};
 ghost use Rattle.live_journal.specs.Recording.{Records};
 
@@ -41,7 +42,10 @@ impl Log {
     }
 
     /// This is noted of the datagram that came or was sent last.
-    pub(crate) fn note(&mut self, now: Now, peer: SocketAddrV4, note: Note) {
+    pub(crate) fn note(&mut self, now: Now, peer: SocketAddrV4, note: Note)
+        ensures told { Records self.old.record (note_line (record { moment = now.time; peer = peer }) note) self.new.record }
+        ensures quiet { self.new.quiet ≡ self.old.quiet }
+    {
         let stamp = Stamp {
             moment: now.time,
             peer,
