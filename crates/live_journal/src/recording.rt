@@ -4,8 +4,20 @@ ghost use Rattle.live_ends.specs.Backlog.{room_left};
 
 use crate::journal::Journal;
 use crate::trace::Trace;
-use live_ends::{Outlets, TEXT_ROOM};
+use live_ends::{Outlet, Outlets, Record, TEXT_ROOM};
 use std::io::Write;
+
+// What the log says is kept for standard error, or that memory was refused for it.
+fn keep_log<F: Write + Drop>(error: &mut Outlet<F>, log: &mut Record, time: u64) {
+    error.keep_log(log, time);
+    error.say_refused(log);
+}
+
+// What is captured is kept for its file, which ends where memory was refused for that.
+fn keep_capture<F: Write + Drop>(file: &mut Outlet<F>, capture: &mut Record) {
+    file.keep_whole(capture, b"");
+    file.end_refused(capture, b"");
+}
 
 impl Journal {
     /// Keeps what was recorded since this was called last, at this moment, in microseconds since 1970, and writes what is taken at once. To
@@ -14,11 +26,9 @@ impl Journal {
         ensures room { trace.new.room ≡ room_left TEXT_ROOM outlets.new.output.value.backlog }
     {
         trace.keep(&mut outlets.output);
-        outlets.error.keep_log(&mut self.log.record, time);
-        outlets.error.say_refused(&self.log.record);
-        if let Some(capture) = &mut outlets.capture {
-            capture.keep_whole(&mut self.capture.record, b"");
-            capture.end_refused(&self.capture.record, b"");
+        keep_log(&mut outlets.error, &mut self.log.record, time);
+        if let Some(file) = &mut outlets.capture {
+            keep_capture(file, &mut self.capture.record);
         }
         outlets.offer();
         trace.give_room(outlets.output.room_left());
