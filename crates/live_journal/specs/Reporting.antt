@@ -49,19 +49,24 @@ unfoldable pub answers_from : ℕ → List ℕ → List ℕ
 answers_from code [] = []
 answers_from code (number ∷ more) = answer_text code number ++ answers_from (code + 1) more
 
--- what is told behind the answers, where so many commands of its own were given up
-unfoldable pub others_with : MessageTally → ℕ → ℕ → Faults → List ℕ
-others_with tally given_up lost faults =
+-- the answers that were sent again, and the commands of its own, of which so many were given up
+unfoldable pub own_text : MessageTally → ℕ → List ℕ
+own_text tally given_up =
     told_all ((codes " repeated ", tally.sent.again) ∷ (codes "\nnotifications ", slice_index tally.sent.commands (place_of Ntfy))
     ∷ (codes " repeated ", slice_index tally.sent.commands_again (place_of Ntfy))
     ∷ (codes "\nannouncements ", slice_index tally.sent.commands (place_of Rsip))
-    ∷ (codes " repeated ", slice_index tally.sent.commands_again (place_of Rsip)) ∷ (codes " given up ", given_up)
-    ∷ (codes "\nlost events ", lost) ∷ (codes " refused ", faults.refused)
+    ∷ (codes " repeated ", slice_index tally.sent.commands_again (place_of Rsip)) ∷ (codes " given up ", given_up) ∷ [])
+
+-- what was lost or refused, or failed
+unfoldable pub lost_text : MessageTally → ℕ → Faults → List ℕ
+lost_text tally lost faults =
+    told_all ((codes "\nlost events ", lost) ∷ (codes " refused ", faults.refused)
     ∷ (codes "\nfaults receive ", faults.receive) ∷ (codes " send ", faults.send)
     ∷ (codes "\nstrangers ", tally.strangers) ∷ (codes " lost commands ", tally.texts.lost) ∷ [])
 
-abbrev pub others_text : MessageTally → ℕ → Faults → List ℕ
-others_text tally lost faults = others_with tally (all_given_up (tally_in tally.sent)) lost faults
+-- what is told behind the answers
+unfoldable pub others_text : MessageTally → ℕ → Faults → List ℕ
+others_text tally lost faults = own_text tally (all_given_up (tally_in tally.sent)) ++ lost_text tally lost faults
 
 -- what came, and how it was answered
 unfoldable pub traffic_text : MessageTally → List ℕ

@@ -2,7 +2,7 @@
 ghost use Rattle.std.specs.Prelude.{◌≡◌, ◌++◌, IfOk};
 ghost use Rattle.std.specs.List.{flat_map};
 ghost use Rattle.page_answers.specs.Metrics.{code_text};
-ghost use Rattle.live_journal.specs.Reporting.{told, entry_text, datagrams_text, verbs_text, commands_text, texts_text, answer_text, answers_from, traffic_text, others_with, others_text, report_text, counts_with};
+ghost use Rattle.live_journal.specs.Reporting.{told, entry_text, datagrams_text, verbs_text, commands_text, texts_text, answer_text, answers_from, traffic_text, own_text, lost_text, others_text, report_text, counts_with};
 
 use crate::journal::Journal;
 use crate::message_tally::MessageTally;
@@ -129,10 +129,10 @@ fn put_answers(text: &mut Draft, answers: &[u64])
     }
 }
 
-// What is told behind the answers, where so many commands of its own were given up.
-#[tactic(auto, unfolding(crate::specs::Reporting::others_with))]
-fn put_others_with(text: &mut Draft, tally: &MessageTally, given_up: u64, lost: u64, faults: Faults)
-    ensures { text.new ≡ text.old ++ others_with tally.now given_up lost faults }
+// The answers that were sent again, and the commands of its own, of which so many were given up.
+#[tactic(auto, unfolding(crate::specs::Reporting::own_text))]
+fn put_own(text: &mut Draft, tally: &MessageTally, given_up: u64)
+    ensures { text.new ≡ text.old ++ own_text tally.now given_up }
 {
     let (notifications, announcements) = (place_of(Verb::Ntfy), place_of(Verb::Rsip));
     let numbers = [
@@ -142,6 +142,16 @@ fn put_others_with(text: &mut Draft, tally: &MessageTally, given_up: u64, lost: 
         ("\nannouncements ", tally.sent.commands[announcements]),
         (" repeated ", tally.sent.commands_again[announcements]),
         (" given up ", given_up),
+    ];
+    put_numbers(text, &numbers);
+}
+
+// What was lost or refused, or failed.
+#[tactic(auto, unfolding(crate::specs::Reporting::lost_text))]
+fn put_lost(text: &mut Draft, tally: &MessageTally, lost: u64, faults: Faults)
+    ensures { text.new ≡ text.old ++ lost_text tally.now lost faults }
+{
+    let numbers = [
         ("\nlost events ", lost),
         (" refused ", faults.refused),
         ("\nfaults receive ", faults.receive),
@@ -153,10 +163,12 @@ fn put_others_with(text: &mut Draft, tally: &MessageTally, given_up: u64, lost: 
 }
 
 // What is told behind the answers.
+#[tactic(auto, unfolding(crate::specs::Reporting::others_text))]
 fn put_others(text: &mut Draft, tally: &MessageTally, lost: u64, faults: Faults)
     ensures { text.new ≡ text.old ++ others_text tally.now lost faults }
 {
-    put_others_with(text, tally, tally.sent.given_up(), lost, faults);
+    put_own(text, tally, tally.sent.given_up());
+    put_lost(text, tally, lost, faults);
 }
 
 // What is told of texts.
