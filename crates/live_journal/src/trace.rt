@@ -1,10 +1,10 @@
 //! The trace, as a record keeps it until it is written.
 ghost use Rattle.std.specs.Prelude.{◌≡◌, ◌≤◌, ◌<◌, ◌-◌, ◌++◌, length, true, false, OnOk, None};
 ghost use Rattle.live_ends.specs.declared.record.RecordState.TheVariants.{Off};
-ghost use Rattle.live_journal.specs.Recording.{whole_lines, trace_head, Begins, is_telling, has_ended, HasPlace};
+ghost use Rattle.live_journal.specs.Recording.{whole_lines, first_line, trace_head, Begins, is_telling, has_ended, HasPlace};
 
 use live_ends::{Outlet, Record, TEXT_ROOM};
-use mg_bytes::OutOfMemory;
+use mg_bytes::{Draft, OutOfMemory};
 use std::alloc::Global;
 use std::io::Write;
 use surroundings::Teller;
@@ -33,26 +33,35 @@ impl Drop for Trace {
 }
 
 // Puts the configuration, whose last line has its end.
-fn put_config(out: &mut Vec<u8>, config: &[u8]) -> Result<(), OutOfMemory>
-    ensures { OnOk result (out.new.items ≡ out.old.items ++ whole_lines config.now) }
+fn put_config(out: &mut Draft, config: &[u8])
+    ensures { out.new ≡ out.old ++ whole_lines config.now }
 {
-    out.extend_from_slice(config)?;
+    out.put(config);
     if config.is_empty() || config.ends_with(b"\n") {
-        return Ok(());
+        return;
     }
-    out.extend_from_slice(b"\n")
+    out.put_byte(b'\n');
+}
+
+// Puts with which number ids begin, where that isn't 0.
+fn put_start(out: &mut Draft, first: u32)
+    ensures { out.new ≡ out.old ++ first_line first }
+{
+    if first == 0 {
+        return;
+    }
+    put_first(out, first);
 }
 
 // Puts its head: the configuration, `%%`, and with which number ids begin, where that isn't 0.
 fn put_head(alloc: Global, out: &mut Vec<u8>, config: &[u8], first: u32) -> Result<(), OutOfMemory>
     ensures { OnOk result (out.new.items ≡ out.old.items ++ trace_head config.now first) }
 {
-    put_config(out, config)?;
-    out.extend_from_slice(b"%%\n")?;
-    if first == 0 {
-        return Ok(());
-    }
-    put_first(alloc, out, first)
+    let mut head = Draft::new(alloc);
+    put_config(&mut head, config);
+    head.put(b"%%\n");
+    put_start(&mut head, first);
+    head.append_to(out)
 }
 
 // The trace of this record, of which nothing is kept yet: so all the room is left that it doesn't take itself.

@@ -89,12 +89,10 @@ fn put_numbered(out: &mut Draft, words: &[u8], number: u64)
 }
 
 /// Puts the number with which ids begin, behind the configuration's end.
-pub fn put_first(alloc: Global, out: &mut Vec<u8>, first: u32) -> Result<(), OutOfMemory>
-    ensures { OnOk result (out.new.items ≡ out.old.items ++ told_first first) }
+pub fn put_first(out: &mut Draft, first: u32)
+    ensures { out.new ≡ out.old ++ told_first first }
 {
-    let mut line = Draft::new(alloc);
-    put_numbered(&mut line, FIRST, u64::from(first));
-    line.append_to(out)
+    put_numbered(out, FIRST, u64::from(first));
 }
 
 fn write_mark(out: &mut Draft, mark: Mark, place: u64)
