@@ -6,7 +6,8 @@
 //! ca@[10.0.0.1]:2727 and ca@[10.0.0.1]:2728. The answer is `pass`, or `fail: `, `left open: ` or `not supported: ` with the step
 //! that isn't met. `report NAME` and `case NAME` are the same, with what is printed of the check, for people or as JUnit's XML; so are
 //! `tally NAME` and `suite NAME`, with what is printed at the end of a report of this check alone. `entry NAME` is how it stands in the
-//! list of all, and `unplayed NAME` how it is reported where it isn't played, whatever the value is.
+//! list of all, `unplayed NAME` how it is reported where it isn't played, and `slow NAME` whether it takes half a minute, whatever the
+//! value is.
 use crate::texts::words_of;
 use gateway_checks::{
     Check, Names, Places, Player, Socket, Tally, Turn, Verdict, check_named, put_case, put_check,
@@ -117,6 +118,7 @@ fn put_asked(
         "case" => put_case(out, check, verdict, player.due(), player.said()),
         "entry" => put_entry(out, check),
         "unplayed" => put_check(out, check, None, ""),
+        "slow" => out.push_str(if check.is_slow() { "yes" } else { "no" }),
         "tally" => put_tally(out, &tally_of(player.verdict())),
         "suite" => put_suite_of(alloc, out, check, player),
         _ => Ok(()),
