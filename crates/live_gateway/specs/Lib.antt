@@ -7,6 +7,7 @@ pub mod Seeing
 pub mod Losses
 pub mod Offering
 pub mod Exchanging
+pub mod Noting
 pub mod Asking
 pub mod Admitting
 pub mod Naming

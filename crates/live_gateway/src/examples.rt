@@ -1,12 +1,15 @@
 //! Worked examples of the definitions, as theorems: each sentence of a definition has one that a slip in it breaks.
 #![tactic(auto, unfolding(crate::proofs::Computing::on_examples))]
 
-ghost use Rattle.std.specs.Prelude.{◌≡◌, ℕ, List, Option, None, Some, codes, true, false, [], ◌∷◌};
+ghost use Rattle.std.specs.Prelude.{◌≡◌, ℕ, List, Option, None, Some, Ok, Err, codes, true, false, [], ◌∷◌};
 ghost use Rattle.std.specs.Global.{Box};
 ghost use Rattle.bad_network.specs.declared.packet.Packet.{Packet};
 ghost use Rattle.bad_network.specs.declared.packet.Way.TheVariants.{In, Out};
 ghost use Rattle.endpoint_names.specs.declared.route.Route.TheVariants.{One, Two};
 ghost use Rattle.mg_line.specs.declared.phone.Act.TheVariants.{OffHook};
+ghost use Rattle.gateway_core.specs.Wire.{counted};
+ghost use Rattle.live_journal.specs.Recording.{Records, unsent_text};
+ghost use Rattle.live_journal.specs.Strangers.{stranger_text};
 ghost use Rattle.live_journal.specs.declared.journal.Journal.{Journal};
 ghost use Rattle.live_journal.specs.declared.message_tally.MessageTally.{MessageTally};
 ghost use Rattle.live_journal.specs.declared.reporting.Faults.{Faults};
@@ -16,6 +19,7 @@ ghost use Rattle.traces.specs.declared.telling.Mark.{Mark};
 ghost use Rattle.traces.specs.Writing.{arrived, typed, passed, showed, became};
 ghost use Rattle.live_gateway.specs.Coming.{arrived_in};
 ghost use Rattle.surroundings.specs.Sending.{Received};
+ghost use Rattle.surroundings.specs.declared.surroundings.Fault.{Fault};
 ghost use Rattle.surroundings.specs.Speaking.{nobody, may_speak, admitted_by};
 ghost use Rattle.live_gateway.specs.declared.telephones.Typist.TheVariants.{Here, Elsewhere, Stranger};
 ghost use Rattle.live_gateway.specs.declared.telephones.TelephoneRequest.TheVariants.{Act, Show, ShowAll, Watch, Counts, Stop, StopFromAfar, Refused, Unknown};
@@ -30,6 +34,7 @@ ghost use Rattle.live_gateway.specs.declared.exchange.Exchange.{Exchange};
 ghost use Rattle.live_gateway.specs.declared.spoilt_way.SpoiltWay.{SpoiltWay};
 ghost use Rattle.live_gateway.specs.Offering.{came_from, came_over, brought};
 ghost use Rattle.live_gateway.specs.Exchanging.{faultless, received_by, refusals, with_refused, with_unreceived, IsSameTurn};
+ghost use Rattle.live_gateway.specs.Noting.{TurnsAway, NotesLate};
 
 /// Each sentence at an example.
 pub fn each_sentence_has_an_example()
@@ -80,6 +85,19 @@ pub fn each_sentence_has_an_example()
         (host 9) ≡ true }
     ensures still { may_speak (with_named (with_hosts nobody (host 7 ∷ [])) (record { name = []; route = One (host 8) })) (host 7) ≡ true }
     ensures each_address_of_a_host_may_speak_portless { hosts_of (Two (at_port 7 2727) (at_port 8 2728)) ≡ Two (host 7) (host 8) }
+{}
+
+/// What a journal gets of who isn't heard, and of what couldn't be sent.
+pub fn what_isnt_heard_or_sent_is_noted()
+    // A stranger's datagram is counted and noted, one without a port isn't; one that couldn't be sent late is noted, and no other one.
+    ensures stranger_counts { (was is : Journal) → TurnsAway was 5 (at_port 9 2727) is
+        → is.tally.value.strangers ≡ counted was.tally.value.strangers 1 }
+    ensures stranger_told { (was is : Journal) → TurnsAway was 5 (at_port 9 2727) is
+        → Records was.log.value.record (stranger_text was.log.value.quiet 5 (at_port 9 2727)) is.log.value.record }
+    ensures portless_stranger { (was is : Journal) → TurnsAway was 5 (at_port 9 0) is → is ≡ was }
+    ensures late { (was is : Journal) (fault : Fault) → NotesLate was 5 (at_port 9 2727) (Err fault) is
+        → Records was.log.value.record (unsent_text 5 (at_port 9 2727)) is.log.value.record }
+    ensures not_late { (was is : Journal) → NotesLate was 5 (at_port 9 2727) (Ok tt) is → is ≡ was }
 {}
 
 /// Each sentence at an example.

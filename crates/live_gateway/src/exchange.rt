@@ -1,11 +1,13 @@
 //! What goes between the gateway and others: over sockets, behind a bad network where one is asked for; and its journal.
-ghost use Rattle.std.specs.Prelude.{◌≡◌, ◌≤◌, ◌∷◌, ◌⊎◌, [], true, false, length, Bool, List, Option, IfSome, is_some};
+ghost use Rattle.std.specs.Prelude.{◌≡◌, ◌≤◌, ◌∷◌, ◌⊎◌, ⊤, [], true, false, length, Bool, List, Option, Result, IfSome, is_some};
 ghost use Rattle.gateway_core.specs.Wire.{counted};
+ghost use Rattle.surroundings.specs.declared.surroundings.Fault.{Fault};
 ghost use Rattle.surroundings.specs.Hearing.{Hears};
 ghost use Rattle.surroundings.specs.Sending.{Sent, Grows, found_by};
 ghost use Rattle.live_gateway.specs.Admitting.{is_heard, HeardSince};
 ghost use Rattle.live_gateway.specs.Offering.{brought};
 ghost use Rattle.live_gateway.specs.Exchanging.{handed_by, received_by, next_due, faultless, refusals, with_refused, with_unreceived, with_read, IsSameTurn, LooksOnce, CountsReceived};
+ghost use Rattle.live_gateway.specs.Noting.{TurnsAway, NotesLate};
 
 use crate::admission::Admission;
 use crate::ends::Outlet;
@@ -238,6 +240,7 @@ impl<S: Surroundings + Drop> Exchange<S> {
         ensures faults { self.new.faults ≡ self.old.faults }
         ensures read { self.new.read ≡ self.old.read }
         ensures turn { IsSameTurn self.old self.new }
+        ensures noted { TurnsAway self.old.journal self.old.now.time source self.new.journal }
     {
         if 0 < source.port() {
             self.journal.stranger(self.now, source);
@@ -261,17 +264,32 @@ impl<S: Surroundings + Drop> Exchange<S> {
         true
     }
 
-    // A datagram that the network hands out now is sent. That it couldn't be the log alone tells: the turn that it is of is over.
+    // That a datagram couldn't be sent which the network handed out the log alone tells: the turn that it is of is over.
+    fn note_late(&mut self, to: SocketAddrV4, sent: Result<(), Fault>)
+        ensures network { self.new.network ≡ self.old.network }
+        ensures around { self.new.around ≡ self.old.around }
+        ensures faults { self.new.faults ≡ self.old.faults }
+        ensures read { self.new.read ≡ self.old.read }
+        ensures turn { IsSameTurn self.old self.new }
+        ensures noted { NotesLate self.old.journal self.old.now.time to sent self.new.journal }
+    {
+        match sent {
+            Ok(()) => {}
+            Err(_) => self.journal.unsent(self.now, to),
+        }
+    }
+
+    // A datagram that the network hands out now is sent.
     fn send_late(&mut self, to: SocketAddrV4, bytes: &[u8])
         ensures network { self.new.network ≡ self.old.network }
         ensures received { (S.traffic self.new.around).received ≡ (S.traffic self.old.around).received }
         ensures faults { self.new.faults ≡ self.old.faults }
         ensures read { self.new.read ≡ self.old.read }
         ensures turn { IsSameTurn self.old self.new }
+        ensures noted { (sent : Result ⊤ Fault) × NotesLate self.old.journal self.old.now.time to sent self.new.journal }
     {
-        if self.around.send(to, bytes).is_err() {
-            self.journal.unsent(self.now, to);
-        }
+        let sent = self.around.send(to, bytes);
+        self.note_late(to, sent);
     }
 
     // A datagram that the network hands to the gateway now, if there is one, from who is heard. Those that go out now are sent.

@@ -1,0 +1,32 @@
+-- What a journal gets of a datagram that isn't heard, and of one that couldn't be sent.
+use Rattle.std.specs.Prelude.{◌≡◌, ⊤, ℕ, true, false, nat_lt, Result, Ok, Err}
+use Rattle.std.specs.declared.net.socket_addr.SocketAddrV4.{SocketAddrV4}
+use Rattle.gateway_core.specs.Wire.{counted}
+use Rattle.surroundings.specs.declared.surroundings.Fault.{Fault}
+use Rattle.live_journal.specs.Recording.{Records, unsent_text}
+use Rattle.live_journal.specs.Strangers.{quiet_after, stranger_text}
+use Rattle.live_journal.specs.declared.journal.Journal.{Journal}
+
+-- a stranger's datagram is counted, and told of at most once a second
+pub record NotesStranger (was : Journal) (time : ℕ) (source : SocketAddrV4) (is : Journal) : Type 0 where
+  pub strangers : is.tally.value.strangers ≡ counted was.tally.value.strangers 1
+  pub told : Records was.log.value.record (stranger_text was.log.value.quiet time source) is.log.value.record
+  pub quiet : is.log.value.quiet ≡ quiet_after was.log.value.quiet time
+  pub rest : (is.capture ≡ was.capture) × (is.board ≡ was.board) × (is.written ≡ was.written)
+
+-- one without a port can't be answered, and nothing is kept of it
+pub record TurnsAway (was : Journal) (time : ℕ) (source : SocketAddrV4) (is : Journal) : Type 0 where
+  pub port : nat_lt 0 source.port ≡ true → NotesStranger was time source is
+  pub portless : nat_lt 0 source.port ≡ false → is ≡ was
+
+-- a datagram that couldn't be sent is noted
+pub record NotesUnsent (was : Journal) (time : ℕ) (to : SocketAddrV4) (is : Journal) : Type 0 where
+  pub told : Records was.log.value.record (unsent_text time to) is.log.value.record
+  pub quiet : is.log.value.quiet ≡ was.log.value.quiet
+  pub tally : is.tally ≡ was.tally
+  pub rest : (is.capture ≡ was.capture) × (is.board ≡ was.board) × (is.written ≡ was.written)
+
+-- of one that goes out late it is noted that it couldn't be sent, where the system says that
+abbrev pub NotesLate : Journal → ℕ → SocketAddrV4 → Result ⊤ Fault → Journal → Type 0
+NotesLate was time to (Ok sent) is = is ≡ was
+NotesLate was time to (Err fault) is = NotesUnsent was time to is
