@@ -23,7 +23,7 @@ use crate::given::{Given, given_in};
 use crate::outputs::is_just_200;
 use agent_core::{Agent, IssueFault, Issued};
 use endpoint_names::Route;
-use gateway_core::{Event, OutDatagram, Outputs, Refusal};
+use gateway_core::{Event, Outputs, Refusal};
 use mg_bytes::{OutOfMemory, Sequence, Text};
 use scenario_files::{Outcome, Row, Scenario, bytes_of, item_at, range_in};
 use std::alloc::Global;
@@ -79,17 +79,9 @@ impl AgentScenario {
         self.told = 0;
     }
 
-    // What it sent with a command, for which there is a place.
-    fn keep(&mut self, issued: Issued, mut sent: Vec<OutDatagram>) {
-        let Issued { id, datagram } = issued;
-        let _ = sent.push(datagram);
-        let _ = self.sent.push(Sequence::of(sent));
-        self.issued = id;
-    }
-
     // A command is issued. There is a place for what is sent before it is.
     fn issue(&mut self, given: &mut Outcome, command: &Command) -> Result<(), OutOfMemory> {
-        let sent = Vec::with_capacity(given.alloc, 1)?;
+        let mut sent = Vec::with_capacity(given.alloc, 1)?;
         self.sent.reserve(1)?;
         let issued = self.agent.issue(
             command.verb.as_bytes(),
@@ -97,7 +89,12 @@ impl AgentScenario {
             command.rest.as_bytes(),
         );
         match issued {
-            Ok(issued) => self.keep(issued, sent),
+            Ok(issued) => {
+                let Issued { id, datagram } = issued;
+                let _ = sent.push(datagram);
+                let _ = self.sent.push(Sequence::of(sent));
+                self.issued = id;
+            }
             Err(IssueFault::OutOfMemory) => given.refuse(),
             Err(fault) => put_refusal(given, fault.number(), name_of(fault)),
         }
@@ -123,17 +120,7 @@ impl AgentScenario {
         }
     }
 
-    // What an event gives is kept.
-    fn take(&mut self, given: &mut Outcome, event: Event<'_>, outputs: Outputs) {
-        if self.sent.push(outputs).is_err() {
-            return given.refuse();
-        }
-        if let Event::Tick { moment } = event {
-            self.now = moment;
-        }
-    }
-
-    // An event, and its refusal or nothing. There is a place for what is sent before it is.
+    // An event, and its refusal or nothing; what it gives is kept. There is a place for what is sent before it is.
     fn step(&mut self, given: &mut Outcome, event: Event<'_>) {
         if given.is_unread || given.is_refused {
             return;
@@ -142,7 +129,14 @@ impl AgentScenario {
             return given.refuse();
         }
         match self.agent.step(event) {
-            Ok(outputs) => self.take(given, event, outputs),
+            Ok(outputs) => {
+                if self.sent.push(outputs).is_err() {
+                    return given.refuse();
+                }
+                if let Event::Tick { moment } = event {
+                    self.now = moment;
+                }
+            }
             Err(Refusal::OutOfMemory) => given.refuse(),
             Err(refusal) => put_refusal(given, refusal.number(), refusal.name()),
         }

@@ -62,9 +62,13 @@ fn put_count(given: &mut Outcome, taken: usize) {
     given.put(b" taken");
 }
 
-// What a gateway sends to these events in one run. Puts what came of them.
-fn run_events(given: &mut Outcome, gateway: &mut Gateway, events: &[Event<'_>]) -> Outputs {
-    match gateway.run(events) {
+// What a gateway sends to the events of a plan in one run. Puts what came of them.
+fn run_plan(given: &mut Outcome, gateway: &mut Gateway, plan: &[Planned]) -> Outputs {
+    let Ok(events) = events_of(given.alloc, plan) else {
+        given.refuse();
+        return Sequence::new(given.alloc);
+    };
+    match gateway.run(&events) {
         Ok(outputs) => {
             put_count(given, events.len());
             outputs
@@ -74,17 +78,6 @@ fn run_events(given: &mut Outcome, gateway: &mut Gateway, events: &[Event<'_>]) 
             given.put(b", ");
             put_refusal(given, stopped.refusal.number(), stopped.refusal.name());
             stopped.outputs
-        }
-    }
-}
-
-// The same of the events of a plan.
-fn run_plan(given: &mut Outcome, gateway: &mut Gateway, plan: &[Planned]) -> Outputs {
-    match events_of(given.alloc, plan) {
-        Ok(events) => run_events(given, gateway, &events),
-        Err(_) => {
-            given.refuse();
-            Sequence::new(given.alloc)
         }
     }
 }
@@ -142,13 +135,6 @@ impl MemoryScenario {
         is_just_200(given, &sent, agent_address(), id)
     }
 
-    // It is this moment.
-    fn tick(&mut self, given: &mut Outcome, moment: u64) {
-        if self.gateway.step(Event::Tick { moment }).is_err() {
-            given.refuse();
-        }
-    }
-
     // `1-20000`
     fn audit(&mut self, row: &mut Row<'_>) {
         let Some((first, last)) = range_in(row.rest()) else {
@@ -157,7 +143,9 @@ impl MemoryScenario {
         let mut moment = self.gateway.now();
         for id in first..=last {
             moment = moment.saturating_add(10);
-            self.tick(&mut row.given, moment);
+            if self.gateway.step(Event::Tick { moment }).is_err() {
+                row.given.refuse();
+            }
             if row.given.is_refused || !self.is_answered(&mut row.given, id) {
                 row.given.put(b"another answer to ");
                 return row.given.put_shown(id);

@@ -8,7 +8,7 @@
 //! Whatever differs is printed under its title. With ample memory nothing can; `./refusals` refuses each request in
 //! turn.
 use crate::runs::runs_alike;
-use crate::twins::{Played, Twins, are_events, event_of, scene_again, scene_of};
+use crate::twins::{Played, Twins, are_events, are_same, event_of, scene_again, scene_of};
 use gateway_core::Refusal;
 use mg_bytes::{OutOfMemory, put_decimal};
 use rgw_scripts::ScriptStep;
@@ -62,7 +62,7 @@ fn refused_at(
     next: Next<'_>,
     place: usize,
 ) -> Option<&'static str> {
-    if !twins.are_alike() {
+    if !are_same(&twins.gateway, &twins.twin) {
         return Some("it was refused, and changed the gateway");
     }
     let Next::Otherwise(steps) = next else {

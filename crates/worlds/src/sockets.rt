@@ -27,25 +27,16 @@ struct Ends {
     agent: UdpSocket,
 }
 
-// Whether the agent's socket hears that of the gateway alone, and waits so long.
-fn is_set(agent: &UdpSocket, wire: &UdpWire, wait: Duration) -> bool {
-    match wire.address() {
-        Ok(address) => {
-            agent.set_read_timeout(Some(wait)).is_ok() && agent.connect(address).is_ok()
-        }
-        Err(_) => false,
-    }
-}
-
 // A free port of this host.
 fn any_port() -> SocketAddrV4 {
     SocketAddrV4::new(Ipv4Addr::LOCALHOST, 0)
 }
 
-// The agent's socket beside that of the gateway; nothing where the host refuses it.
+// The agent's socket beside that of the gateway, which hears that alone and waits so long; nothing where the host refuses it.
 fn agent_beside<R: Net>(rt: &R, wire: &UdpWire, wait: Duration) -> Option<UdpSocket> {
+    let address = wire.address().ok()?;
     let agent = UdpSocket::bind(rt, any_port()).ok()?;
-    if !is_set(&agent, wire, wait) {
+    if agent.set_read_timeout(Some(wait)).is_err() || agent.connect(address).is_err() {
         return None;
     }
     Some(agent)

@@ -214,15 +214,10 @@ impl Twins {
         Some(Twins { gateway, twin })
     }
 
-    /// Whether all that can be read of both is the same.
-    pub fn are_alike(&self) -> bool {
-        are_same(&self.gateway, &self.twin)
-    }
-
     /// The twin takes an event too: whether it gives what the gateway gave, and both are alike then.
     pub fn follow(&mut self, event: Event<'_>, given: Result<Outputs, Refusal>) -> bool {
         let other = stepped(&mut self.twin, event);
-        are_same_outcomes(&given, &other) && self.are_alike()
+        are_same_outcomes(&given, &other) && are_same(&self.gateway, &self.twin)
     }
 
     // Both take an event: whether they give the same, and are alike then.
