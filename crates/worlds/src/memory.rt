@@ -94,15 +94,32 @@ fn put_served(given: &mut Outcome, served: &Served) {
     }
 }
 
-impl MemoryScenario {
-    // For the next wire.
-    fn plan_more(&mut self, row: &mut Row<'_>) {
-        let planned = planned_in(row);
-        if row.given.is_refused || self.plan.push(planned).is_err() {
-            row.given.refuse();
-        }
+// For the next wire.
+fn plan_more(plan: &mut Vec<Planned>, row: &mut Row<'_>) {
+    let planned = planned_in(row);
+    if row.given.is_refused || plan.push(planned).is_err() {
+        row.given.refuse();
     }
+}
 
+// The next datagram that was handed to the wire: how many were told then.
+fn put_sent(given: &mut Outcome, wire: &MemoryWire, told: usize) -> usize {
+    let Some(datagram) = wire.kept.get(told) else {
+        given.put(b"none");
+        return told;
+    };
+    if datagram.to != agent_address() {
+        given.put(b"one to another address");
+        return told;
+    }
+    given.put(datagram.bytes.as_bytes());
+    if given.is_refused {
+        return told;
+    }
+    told.wrapping_add(1)
+}
+
+impl MemoryScenario {
     fn lay(&mut self, alloc: Global, failing_send: u64) {
         let plan = mem::replace(&mut self.plan, Vec::new(alloc));
         self.wire = MemoryWire::new(alloc, plan, failing_send);
@@ -152,20 +169,6 @@ impl MemoryScenario {
             }
         }
     }
-
-    // The next datagram that was handed to the wire.
-    fn put_sent(&mut self, given: &mut Outcome) {
-        let Some(datagram) = self.wire.kept.get(self.told) else {
-            return given.put(b"none");
-        };
-        if datagram.to != agent_address() {
-            return given.put(b"one to another address");
-        }
-        given.put(datagram.bytes.as_bytes());
-        if !given.is_refused {
-            self.told = self.told.wrapping_add(1);
-        }
-    }
 }
 
 impl Scenario for MemoryScenario {
@@ -185,13 +188,13 @@ impl Scenario for MemoryScenario {
     fn turn(&mut self, row: &mut Row<'_>) {
         row.is_exact = true;
         match row.before(" ") {
-            "gives" => self.plan_more(row),
+            "gives" => plan_more(&mut self.plan, row),
             "wire" => self.lay(row.given.alloc, number_in(row.rest())),
             "serve" => self.served = self.gateway.serve(&mut self.wire, number_in(row.rest())),
             "served" => put_served(&mut row.given, &self.served),
             "run" => self.run(&mut row.given),
             "audits" => self.audit(row),
-            "sent" => self.put_sent(&mut row.given),
+            "sent" => self.told = put_sent(&mut row.given, &self.wire, self.told),
             "due" => row.given.put_or_none(self.gateway.next_due()),
             "hook" => put_hook(row, &self.gateway),
             _ => row.given.unread(),

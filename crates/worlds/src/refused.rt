@@ -104,33 +104,22 @@ fn differing_at(
     Some("the gateway and its twin part")
 }
 
-// The first of these steps at which something differs, counted from 1, and what.
+// The first of these steps of an input at which something differs, counted from 1, and what.
 fn differing_among(
     alloc: Global,
     input: &[u8],
-    twins: &mut Twins,
     steps: &[ScriptStep],
     next: Next<'_>,
 ) -> Option<(usize, &'static str)> {
+    let Some(mut twins) = Twins::after(alloc, input, 0) else {
+        return Some((0, UNPLAYED));
+    };
     for (place, step) in steps.iter().enumerate() {
-        if let Some(said) = differing_at(alloc, input, twins, step, next, place) {
+        if let Some(said) = differing_at(alloc, input, &mut twins, step, next, place) {
             return Some((place.wrapping_add(1), said));
         }
     }
     None
-}
-
-// The same of an input's twins, which are made here.
-fn differing_twins(
-    alloc: Global,
-    input: &[u8],
-    steps: &[ScriptStep],
-    next: Next<'_>,
-) -> Option<(usize, &'static str)> {
-    match Twins::after(alloc, input, 0) {
-        Some(mut twins) => differing_among(alloc, input, &mut twins, steps, next),
-        None => Some((0, UNPLAYED)),
-    }
 }
 
 // What differs under a title, three times.
@@ -143,7 +132,7 @@ fn differing_under(
         return Some((0, UNPLAYED));
     };
     for next in [Next::Again, Next::Otherwise(otherwise)] {
-        let found = differing_twins(alloc, input, &scene.steps, next);
+        let found = differing_among(alloc, input, &scene.steps, next);
         if found.is_some() {
             return found;
         }

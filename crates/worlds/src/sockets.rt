@@ -55,23 +55,23 @@ fn both_ends<R: AllocGlobal + Net>(rt: &R) -> Option<Ends> {
     })
 }
 
-impl Ends {
-    // What the agent gets.
-    fn put_received(&self, given: &mut Outcome) {
-        let mut room = [0u8; DATAGRAM_ROOM];
-        match self.agent.recv(&mut room) {
-            Ok(len) => match room.get(..len) {
-                Some(bytes) => given.put(bytes),
-                None => given.put(b"more than there is room for"),
-            },
-            Err(_) => given.put(b"none"),
-        }
+// What the agent gets.
+fn put_received(given: &mut Outcome, agent: &UdpSocket) {
+    let mut room = [0u8; DATAGRAM_ROOM];
+    match agent.recv(&mut room) {
+        Ok(len) => match room.get(..len) {
+            Some(bytes) => given.put(bytes),
+            None => given.put(b"more than there is room for"),
+        },
+        Err(_) => given.put(b"none"),
     }
+}
 
+impl Ends {
     // What comes of a turn.
     fn serve(&mut self, given: &mut Outcome) {
         if self.gateway.serve(&mut self.wire, 1).receive_faults == 0 {
-            return self.put_received(given);
+            return put_received(given, &self.agent);
         }
         given.put_behind(b"fault: ", self.wire.receive_faults());
         given.put_behind(b" not received, ", self.wire.send_faults());
