@@ -44,13 +44,19 @@ fn is_at_once(outcome: Result<(), WorldStopped>) -> bool {
     }
 }
 
+// The steps that a world took.
+fn steps_of(alloc: Global, taken: &[Given]) -> Result<Vec<Step<'_>>, OutOfMemory> {
+    let mut steps = Vec::with_capacity(alloc, taken.len())?;
+    for given in taken {
+        steps.push(given.step())?;
+    }
+    Ok(steps)
+}
+
 impl WorldScenario {
     // Another world becomes what this one was before memory was refused. It was one, so nothing but memory can fail.
     fn renew(&mut self, alloc: Global) -> Result<(), OutOfMemory> {
-        let mut steps = Vec::with_capacity(alloc, self.given.len())?;
-        for given in &self.given {
-            steps.push(given.step())?;
-        }
+        let steps = steps_of(alloc, &self.given)?;
         let entity = self.entity.as_bytes();
         let Ok(mut world) = world_from(alloc, self.lines, entity, self.first) else {
             return Err(AllocError);
