@@ -9,13 +9,12 @@
 //! - `sequence  1000  2  1002` how many values a list has that grew by so many one by one, and then by a list of so many.
 //!
 //! Where nothing is printed the answer is `ok`; more than a line is all that is printed, with `\n` for each line end.
-use crate::played::simulated;
+use crate::played::{settings_with, simulated};
 use gateway_core::Gateway;
 use mg_bytes::{OutOfMemory, Sequence};
 use rgw_scenes::{flaw_of, read_config, told, told_setup};
 use scenario_files::{
-    Outcome, Row, Scenario, TextDraft, WrittenScenario, input_of, number_in, parted, read_scenario,
-    value_of,
+    Outcome, Row, Scenario, TextDraft, WrittenScenario, number_in, parted, read_scenario, value_of,
 };
 use std::alloc::{AllocError, Global};
 
@@ -39,18 +38,15 @@ fn put_length(given: &mut Outcome, fields: &str) -> Result<(), OutOfMemory> {
     Ok(())
 }
 
-// The usual settings with these changes.
-fn settings_with(alloc: Global, changes: &str) -> Result<String, OutOfMemory> {
-    let mut scenario = read_scenario(alloc, "", false)?;
-    scenario.is_at_opening = true;
-    let changes = changes.replace(alloc, "  ", "\n")?;
-    scenario.changes.put(changes.as_str());
-    input_of(alloc, &scenario)
+// The usual settings with the changes that values are.
+fn settings_of(alloc: Global, values: &str) -> Result<String, OutOfMemory> {
+    let changes = values.replace(alloc, "  ", "\n")?;
+    settings_with(alloc, changes.as_str())
 }
 
 // Puts what is told of settings with these changes.
 fn put_flaw(given: &mut Outcome, changes: &str) -> Result<(), OutOfMemory> {
-    let settings = settings_with(given.alloc, changes)?;
+    let settings = settings_of(given.alloc, changes)?;
     let Some(flaw) = flaw_of(given.alloc, settings.as_bytes())? else {
         given.put(b"ok");
         return Ok(());
@@ -73,7 +69,7 @@ fn setup_told(alloc: Global, config: &[u8]) -> Result<Vec<u8>, OutOfMemory> {
 
 // Puts what is told of a gateway of settings with these changes.
 fn put_setup(given: &mut Outcome, changes: &str) -> Result<(), OutOfMemory> {
-    let settings = settings_with(given.alloc, changes)?;
+    let settings = settings_of(given.alloc, changes)?;
     match setup_told(given.alloc, settings.as_bytes()) {
         Ok(lines) => given.put(&lines),
         Err(_) => given.refuse(),
@@ -91,26 +87,20 @@ fn put_heard(script: &mut TextDraft, front: &str, lines: &str) {
 
 // The scenario that a call is, of its values, and of what they say in short forms; no where there is no such call.
 fn put_scenario(scenario: &mut WrittenScenario, call: &str, lines: &str, text: &str) -> bool {
-    scenario.is_at_opening = call == "settings" || call == "script";
     match call {
-        "settings" => scenario.changes.put(lines),
-        "script" => scenario.script.put(text),
+        "settings" => {
+            scenario.is_at_opening = true;
+            scenario.changes.put(lines);
+        }
+        "script" => {
+            scenario.is_at_opening = true;
+            scenario.script.put(text);
+        }
         "command" => put_heard(&mut scenario.script, "", text),
         "request" => put_heard(&mut scenario.script, REQUEST, text),
         _ => return false,
     }
     true
-}
-
-// What is printed of the scenario that a call is; nothing where there is no such call.
-fn printed_of(alloc: Global, call: &str, fields: &str) -> Result<Option<Vec<u8>>, OutOfMemory> {
-    let lines = fields.replace(alloc, "  ", "\n")?;
-    let text = value_of(alloc, lines.as_str())?;
-    let mut scenario = read_scenario(alloc, "", false)?;
-    if !put_scenario(&mut scenario, call, lines.as_str(), text.as_str()) {
-        return Ok(None);
-    }
-    Ok(Some(simulated(alloc, &scenario)?))
 }
 
 // What is printed, as rows say it: one answer to the agent without what stands round it, and a fault without its status.
@@ -130,15 +120,34 @@ fn answer_in(printed: &str) -> &str {
     }
 }
 
+// Puts what is printed of a scenario.
+fn put_simulated(given: &mut Outcome, scenario: &WrittenScenario) -> Result<(), OutOfMemory> {
+    let printed = simulated(given.alloc, scenario)?;
+    let text = String::from_utf8_lossy(given.alloc, &printed)?;
+    given.put_words(answer_in(text.as_str()));
+    Ok(())
+}
+
+// The same of the scenario that a call is, of its values, and of what they say in short forms.
+fn put_printed_of(
+    given: &mut Outcome,
+    call: &str,
+    lines: &str,
+    text: &str,
+) -> Result<(), OutOfMemory> {
+    let mut scenario = read_scenario(given.alloc, "", false)?;
+    if put_scenario(&mut scenario, call, lines, text) {
+        return put_simulated(given, &scenario);
+    }
+    given.unread();
+    Ok(())
+}
+
 // Puts what is printed of the scenario that a call is.
 fn put_printed(given: &mut Outcome, call: &str, fields: &str) -> Result<(), OutOfMemory> {
-    let Some(printed) = printed_of(given.alloc, call, fields)? else {
-        given.unread();
-        return Ok(());
-    };
-    let text = String::from_utf8_lossy(given.alloc, &printed)?;
-    given.put(answer_in(text.as_str()).as_bytes());
-    Ok(())
+    let lines = fields.replace(given.alloc, "  ", "\n")?;
+    let text = value_of(given.alloc, lines.as_str())?;
+    put_printed_of(given, call, lines.as_str(), text.as_str())
 }
 
 /// Rows that stand alone, each a call of the program.

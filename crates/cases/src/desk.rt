@@ -89,23 +89,7 @@ fn wire_of(
     Ok(wire)
 }
 
-// Puts what is given at the end, with what was counted, where that is asked for.
-fn end(
-    wire: &mut Wire<Scripted>,
-    records: &mut Records,
-    is_counted: bool,
-) -> Result<(), OutOfMemory> {
-    let time = wire.around.time();
-    records.write(&mut wire.journal, time);
-    if is_counted {
-        let counts = wire.journal.counts()?;
-        let moment = records.moment_of(time);
-        records.given.tell(moment, b"count ", counts.as_slice());
-    }
-    Ok(())
-}
-
-// Serves with this configuration to the end, and puts what is given.
+// Serves with this configuration to the end, and puts what is given, with what was counted, where that is asked for.
 fn run(
     alloc: Global,
     config: &AgentConfig,
@@ -119,8 +103,14 @@ fn run(
     if matches!(served, CommonEnding::OutOfMemory) {
         return Err(AllocError);
     }
-    if end(wire, &mut records, is_counted).is_err() {
-        given.refuse();
+    let time = wire.around.time();
+    records.write(&mut wire.journal, time);
+    if is_counted {
+        let moment = records.moment_of(time);
+        match wire.journal.counts() {
+            Ok(counts) => records.given.tell(moment, b"count ", counts.as_slice()),
+            Err(_) => given.refuse(),
+        }
     }
     put_given(alloc, given, &wire.around);
     given.append(&mut records.given);

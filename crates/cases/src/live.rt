@@ -18,6 +18,7 @@
 mod browsers;
 
 use crate::live::browsers::Browsers;
+use crate::played::settings_with;
 use crate::stories::{
     LateLog, Place, Program, Records, Story, Transcript, Words, put_given, told, words_in,
 };
@@ -27,7 +28,7 @@ use live_journal::{Journal, Trace};
 use live_page::HostNames;
 use mg_bytes::OutOfMemory;
 use rgw_scenes::read_config;
-use scenario_files::{Report, Titled, input_of, read_scenario};
+use scenario_files::{Report, Titled};
 use std::alloc::{AllocError, Global};
 use std::collections::VecDeque;
 use std::mem;
@@ -60,14 +61,6 @@ impl Recorder<Trace> for Records {
             None => false,
         }
     }
-}
-
-// The text of a configuration with these changes.
-fn config_of(alloc: Global, changes: &str) -> Result<String, OutOfMemory> {
-    let mut scenario = read_scenario(alloc, "", false)?;
-    scenario.is_at_opening = true;
-    scenario.changes.put(changes);
-    input_of(alloc, &scenario)
 }
 
 // A gateway of a configuration; nothing where that has a fault.
@@ -156,35 +149,19 @@ fn visitors_of(
     Ok(Some(boxed(alloc, browsers)?))
 }
 
-// Puts what a replay finds of a trace.
-fn tell_replay(alloc: Global, records: &mut Records, moment: u64) -> Result<(), OutOfMemory> {
+// Puts what a replay finds of a trace, if there is one.
+fn tell_replay(alloc: Global, records: &mut Records, moment: u64) {
+    if records.trace.is_empty() {
+        return;
+    }
     let Ok(verdict) = replay(alloc, records.trace.as_slice()) else {
-        return Err(AllocError);
+        return records.given.refuse();
     };
     let mut text = Vec::new(alloc);
-    put_verdict(alloc, &mut text, &verdict)?;
+    if put_verdict(alloc, &mut text, &verdict).is_err() {
+        records.given.refuse();
+    }
     records.given.tell(moment, b"replay ", text.as_slice());
-    Ok(())
-}
-
-// Tells what the program tells at its end, what a replay of its trace finds, and what was counted, where that is asked for.
-fn end(
-    alloc: Global,
-    desk: &mut Desk<Scripted, Trace>,
-    records: &mut Records,
-    is_counted: bool,
-) -> Result<(), OutOfMemory> {
-    desk.play.end();
-    desk.write(records);
-    let moment = records.moment_of(desk.exchange.now.time);
-    if !records.trace.is_empty() {
-        tell_replay(alloc, records, moment)?;
-    }
-    if is_counted {
-        let counts = desk.counts()?;
-        records.given.tell(moment, b"count ", counts.as_slice());
-    }
-    Ok(())
 }
 
 // The outlets of a program whose log is read late, where a story says so.
@@ -195,7 +172,8 @@ fn late_log_of(alloc: Global, story: &Story) -> Result<Option<Box<LateLog>>, All
     }
 }
 
-// Runs a gateway by a story, whose end is told or isn't, and puts what it gives.
+// Runs a gateway by a story, and puts what it gives. Where its end is told it tells what the program tells then, what a replay of its trace
+// finds, and what was counted, where that is asked for.
 fn run(
     alloc: Global,
     desk: &mut Desk<Scripted, Trace>,
@@ -204,13 +182,23 @@ fn run(
     is_ended: bool,
     given: &mut Transcript,
 ) -> Result<bool, OutOfMemory> {
+    let late_log = late_log_of(alloc, story)?;
     let opened = desk.exchange.around.time();
     let mut records = Records::new(alloc, opened, story.written);
     records.room = story.room;
-    records.late_log = late_log_of(alloc, story)?;
+    records.late_log = late_log;
     desk.run(visitors, &mut records);
     if is_ended || story.is_counted {
-        end(alloc, desk, &mut records, story.is_counted)?;
+        desk.play.end();
+        desk.write(&mut records);
+        let moment = records.moment_of(desk.exchange.now.time);
+        tell_replay(alloc, &mut records, moment);
+        if story.is_counted {
+            match desk.counts() {
+                Ok(counts) => records.given.tell(moment, b"count ", counts.as_slice()),
+                Err(_) => given.refuse(),
+            }
+        }
     }
     desk.answer_stop();
     put_given(alloc, given, &desk.exchange.around);
@@ -230,8 +218,8 @@ fn play_with(
     story: &mut Story,
     given: &mut Transcript,
 ) -> Result<bool, OutOfMemory> {
-    let mut visitors = visitors_of(alloc, words, story)?;
     let mut desk = desk_of(alloc, words, config, gateway, story)?;
+    let mut visitors = visitors_of(alloc, words, story)?;
     let is_ended = words.stop_after.is_some();
     run(alloc, &mut desk, &mut visitors, story, is_ended, given)
 }
@@ -243,7 +231,7 @@ fn play_asked(
     story: &mut Story,
     given: &mut Transcript,
 ) -> Result<bool, OutOfMemory> {
-    let config = config_of(alloc, story.settings.as_str())?;
+    let config = settings_with(alloc, story.settings.as_str())?;
     match gateway_in(alloc, config.as_str(), words)? {
         Some(gateway) => play_with(alloc, words, config.as_str(), gateway, story, given),
         None => Ok(false),

@@ -1,7 +1,7 @@
 //! A scenario as it is played.
 use mg_bytes::{OutOfMemory, split_once};
 use rgw_play::{Ending, Task, WordFault, perform, simulate};
-use scenario_files::{WrittenScenario, input_of};
+use scenario_files::{WrittenScenario, input_of, read_scenario};
 use std::alloc::{AllocError, Global};
 use std::io::Write;
 use std::net::Net;
@@ -61,6 +61,14 @@ fn told_of(
         return Ok(printed);
     }
     Vec::from_slice(alloc, since_ready(&printed))
+}
+
+/// The usual settings with these changes, a line each.
+pub fn settings_with(alloc: Global, changes: &str) -> Result<String, OutOfMemory> {
+    let mut scenario = read_scenario(alloc, "", false)?;
+    scenario.is_at_opening = true;
+    scenario.changes.put(changes);
+    input_of(alloc, &scenario)
 }
 
 /// What `simulate` prints of a scenario.
