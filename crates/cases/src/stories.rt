@@ -29,30 +29,40 @@ pub trait Program {
     fn play(alloc: Global, story: &mut Story, given: &mut Transcript) -> Result<bool, OutOfMemory>;
 }
 
-// What a program gives, and what a story says that it gives; nothing where it doesn't run.
-fn texts_of<P: Program>(
+// Tells whether this is given that is wanted.
+fn tell_given(
+    title: &str,
+    given: &mut Transcript,
+    wanted: &mut Transcript,
+    report: &mut Report,
+) -> Result<(), OutOfMemory> {
+    let given = given.text()?;
+    let wanted = wanted.text()?;
+    let is_right = tell_unlike(report, title, "the program", "gives", &given, &wanted);
+    report.count(is_right);
+    Ok(())
+}
+
+// Tells a story of a program, or that it doesn't run.
+fn tell_story<P: Program>(
     alloc: Global,
+    title: &str,
     lines: &str,
-) -> Result<Option<(Vec<u8>, Vec<u8>)>, OutOfMemory> {
+    report: &mut Report,
+) -> Result<(), OutOfMemory> {
     let mut story = read_story(alloc, lines, P::place())?;
     let mut given = Transcript::new(alloc);
-    if !P::play(alloc, &mut story, &mut given)? {
-        return Ok(None);
+    if P::play(alloc, &mut story, &mut given)? {
+        return tell_given(title, &mut given, &mut story.wanted, report);
     }
-    Ok(Some((given.text()?, story.wanted.text()?)))
+    report.put(b"= ");
+    report.wrong(title, "\n  it can't be played\n");
+    Ok(())
 }
 
 /// Tells a story of a program.
 pub fn told<P: Program>(alloc: Global, title: &str, lines: &str, report: &mut Report) {
-    match texts_of::<P>(alloc, lines) {
-        Ok(Some((given, wanted))) => {
-            let is_right = tell_unlike(report, title, "the program", "gives", &given, &wanted);
-            report.count(is_right);
-        }
-        Ok(None) => {
-            report.put(b"= ");
-            report.wrong(title, "\n  it can't be played\n");
-        }
-        Err(_) => report.refuse(),
+    if tell_story::<P>(alloc, title, lines, report).is_err() {
+        report.refuse();
     }
 }
