@@ -113,9 +113,14 @@ const FIRST_WORDS: [(&str, Says); 17] = [
     ("", Says::Nothing),
 ];
 
+// Whether a word is this one. Asked by a call: two texts that are compared in place are some twenty steps of each function that does.
+fn is_word(word: &str, name: &str) -> bool {
+    word == name
+}
+
 fn said_by(word: &str) -> Says {
-    for (first, says) in FIRST_WORDS.iter() {
-        if *first == word {
+    for (first, says) in &FIRST_WORDS {
+        if is_word(*first, word) {
             return *says;
         }
     }
@@ -214,10 +219,11 @@ impl Story {
 
     // A socket fails.
     fn put_fault(&mut self, rest: &str) -> Result<(), OutOfMemory> {
-        if rest == "send" {
-            return self.add(Happening::SendFault);
-        }
-        self.add(Happening::ReceiveFault)
+        self.add(if is_word(rest, "send") {
+            Happening::SendFault
+        } else {
+            Happening::ReceiveFault
+        })
     }
 
     // This record can't be written.
@@ -275,13 +281,12 @@ impl Story {
 
     // This is to be given.
     fn want(&mut self, word: &str, line: &str) {
-        self.is_counted = self.is_counted || word == "count";
+        self.is_counted = self.is_counted || is_word(word, "count");
         self.wanted.tell(self.moment, b"", line.as_bytes());
     }
 
     // The lines of a datagram that comes are whole.
     fn end_heard(&mut self) -> Result<(), OutOfMemory> {
-        self.place = LinePlace::Between;
         let full = in_full(self.alloc, self.datagram.as_str())?;
         let mut bytes = Draft::new(self.alloc);
         put_heard(&mut bytes, full.as_str());
@@ -292,7 +297,6 @@ impl Story {
 
     // The lines of a datagram that goes out are whole.
     fn end_sent(&mut self) -> Result<(), OutOfMemory> {
-        self.place = LinePlace::Between;
         let full = in_full(self.alloc, self.datagram.as_str())?;
         let mut text = Draft::new(self.alloc);
         text.put(b"> ");
@@ -305,11 +309,17 @@ impl Story {
     }
 
     fn put(&mut self, line: &str) -> Result<(), OutOfMemory> {
-        match self.place {
-            LinePlace::Between => self.put_between(line),
-            LinePlace::InHeard if line == "--" => self.end_heard(),
-            LinePlace::InSent if line == "--" => self.end_sent(),
-            LinePlace::InHeard | LinePlace::InSent => put_line(&mut self.datagram, line),
+        let place = self.place;
+        if let LinePlace::Between = place {
+            return self.put_between(line);
+        }
+        if !is_word(line, "--") {
+            return put_line(&mut self.datagram, line);
+        }
+        self.place = LinePlace::Between;
+        match place {
+            LinePlace::InHeard => self.end_heard(),
+            _ => self.end_sent(),
         }
     }
 }
