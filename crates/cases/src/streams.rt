@@ -7,7 +7,7 @@
 //! - `read 1-32  read fault  ''` each of these calls of the reader fails in its turn, alone;
 //! - `replayed  1 line, all as told\n` the input is replayed as a trace; `replay 3  read fault` where this call of the reader fails;
 //! - `write 2  write fault  line 1\s` this call of the writer fails, and all behind it.
-use mg_bytes::OutOfMemory;
+use mg_bytes::{Draft, OutOfMemory};
 use rgw_play::{Ending, PlayFault, Played, play};
 use scenario_files::{Outcome, Row, SETTINGS, Scenario, bytes_of, parted, range_in};
 use std::alloc::{AllocError, Global};
@@ -87,8 +87,7 @@ impl Write for SlowWriter {
 // Puts what is said of an input that can't be played, a field each line.
 fn put_fault(given: &mut Outcome, fault: PlayFault) -> Result<(), OutOfMemory> {
     let line = format!(in given.alloc; "{}", Ending::Fault(fault))?;
-    let fields = line.replace(given.alloc, "\n", "  ")?;
-    given.put(fields.as_bytes());
+    given.put_made(line.replace(given.alloc, "\n", "  "));
     Ok(())
 }
 
@@ -97,8 +96,7 @@ fn put_ending(given: &mut Outcome, outcome: Result<Played, PlayFault>) -> Result
     match outcome {
         Ok(Played { commands, refused }) => {
             given.put_shown(commands);
-            given.put(b" commands, ");
-            given.put_shown(refused);
+            given.put_behind(b" commands, ", refused);
             given.put(b" refused  ");
         }
         Err(PlayFault::OutOfMemory) => given.refuse(),
@@ -110,11 +108,7 @@ fn put_ending(given: &mut Outcome, outcome: Result<Played, PlayFault>) -> Result
 // Puts what a replay finds.
 fn put_found(given: &mut Outcome, found: Result<Verdict, ReplayFault>) -> Result<(), OutOfMemory> {
     match found {
-        Ok(verdict) => {
-            let mut text = Vec::new(given.alloc);
-            put_verdict(given.alloc, &mut text, &verdict)?;
-            given.put(&text);
-        }
+        Ok(verdict) => put_verdict(given.alloc, &mut given.bytes, &verdict)?,
         Err(ReplayFault::OutOfMemory) => given.refuse(),
         Err(ReplayFault::Read { .. }) => given.put(b"read fault"),
     }
@@ -130,13 +124,14 @@ pub struct StreamScenario {
 impl StreamScenario {
     // What a field says is the script of the usual settings, or the input whole.
     fn read(&mut self, alloc: Global, is_script: bool, field: &str) -> Result<(), OutOfMemory> {
-        let mut input = Vec::new(alloc);
+        let said = bytes_of(alloc, field)?;
+        let mut input = Draft::new(alloc);
         if is_script {
-            input.extend_from_slice(SETTINGS.as_bytes())?;
-            input.extend_from_slice(b"%%\n")?;
+            input.put(SETTINGS.as_bytes());
+            input.put(b"%%\n");
         }
-        input.extend_from_slice(&bytes_of(alloc, field)?)?;
-        self.input = input;
+        input.put(&said);
+        self.input = input.end()?;
         Ok(())
     }
 
