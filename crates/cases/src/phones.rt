@@ -36,8 +36,9 @@ fn text_of(alloc: Global, bytes: &[u8]) -> Result<Text, AllocError> {
 // The names of the gateways.
 fn names_of(alloc: Global) -> Result<Vec<Text>, AllocError> {
     let mut names = Vec::new(alloc);
-    names.push(text_of(alloc, b"gw1")?)?;
-    names.push(text_of(alloc, b"gw2")?)?;
+    for name in &["gw1", "gw2"] {
+        names.push(text_of(alloc, name.as_bytes())?)?;
+    }
     Ok(names)
 }
 
