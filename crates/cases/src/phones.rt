@@ -34,9 +34,11 @@ fn text_of(alloc: Global, bytes: &[u8]) -> Result<Text, AllocError> {
 }
 
 // The names of the gateways.
+const NAMES: [&str; 2] = ["gw1", "gw2"];
+
 fn names_of(alloc: Global) -> Result<Vec<Text>, AllocError> {
     let mut names = Vec::new(alloc);
-    for name in &["gw1", "gw2"] {
+    for name in &NAMES {
         names.push(text_of(alloc, name.as_bytes())?)?;
     }
     Ok(names)
