@@ -1,4 +1,4 @@
-use Rattle.std.proofs.Common.{◌≡◌, ◌+◌, refl, ◌∙◌, arith}
+use Rattle.std.proofs.Common.{◌≡◌, ◌+◌, refl, ◌∙◌, arith, take_all}
 use Rattle.live_gateway.proofs.RunLemmas.{none_handed, one_more}
 use Rattle.live_gateway.proofs.handing.hand_all.Goals as goal
 
@@ -16,3 +16,7 @@ loop-datagram-preserved g c =
           (rw (c.datagram-item.is) at (c.hand.ensures.handed gateway script c.loop-datagram.datagram-index next)),
       c.hand.ensures.came ∙ c.loop-datagram.invariant.2,
     )
+
+pub returns-clause-handed : goal.returns-clause-handed
+returns-clause-handed g c =
+    λ gateway script. rw (take_all c.loop-datagram.datagram-index c.args.datagrams.now (omega (arith, c.loop-datagram-test.false))) at (c.loop-datagram.invariant.1 gateway script)
