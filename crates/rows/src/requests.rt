@@ -41,29 +41,16 @@ fn put_answer_at(given: &mut Outcome, request: &EventRequest, word: &str, event:
     }
 }
 
-// `requested L/hd`.
-fn put_requested(given: &mut Outcome, request: &EventRequest, event: &str) {
-    match event_of(event.as_bytes()) {
-        Ok(event) => given.put_judged(request.is_requested(event)),
-        Err(_) => given.unread(),
-    }
-}
-
-// `lacks map`, or `lacks map with D`.
-fn put_lacking(given: &mut Outcome, request: &EventRequest, what: &str) {
-    match what {
-        "map" => given.put_judged(request.lacks_map(false)),
-        "map with D" => given.put_judged(request.lacks_map(true)),
-        _ => given.unread(),
-    }
-}
-
 /// Puts what a request says to a question: `at L/hd`, `requested L/hd`, `keeps L/hd` or `lacks map`.
 pub fn put_answer(given: &mut Outcome, request: &EventRequest, question: &str) {
     let (word, event) = parted(question, " ");
-    match word {
-        "lacks" => put_lacking(given, request, event),
-        "requested" => put_requested(given, request, event),
+    match question {
+        "lacks map" => given.put_judged(request.lacks_map(false)),
+        "lacks map with D" => given.put_judged(request.lacks_map(true)),
+        _ if is_word(word, "requested") => match event_of(event.as_bytes()) {
+            Ok(event) => given.put_judged(request.is_requested(event)),
+            Err(_) => given.unread(),
+        },
         _ => match observed_of(given, event) {
             Some(event) => put_answer_at(given, request, word, event),
             None => given.unread(),

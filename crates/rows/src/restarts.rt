@@ -9,7 +9,7 @@ ghost use Rattle.std.specs.Prelude.{◌<◌, ◌^◌};
 use crate::keeping::Kept;
 use mg_bytes::OutOfMemory;
 use restart::Restart;
-use scenario_files::{Outcome, Row, Scenario};
+use scenario_files::{Row, Scenario};
 use std::alloc::Global;
 
 /// An announcement.
@@ -25,23 +25,6 @@ impl RestartScenario {
         let moment = u64::from(row.number_behind("from"));
         self.restart = Restart::begin(moment, wait);
     }
-
-    // Where it is.
-    fn place(&self) -> &'static str {
-        match self.restart {
-            Restart::Waiting(_) => "waiting",
-            Restart::Announced => "announced",
-            Restart::Serving => "serving",
-        }
-    }
-
-    // When it is sent.
-    fn put_due(&self, given: &mut Outcome) {
-        match self.restart.due() {
-            Some(moment) => given.put_shown(moment),
-            None => given.put(b"-"),
-        }
-    }
 }
 
 impl Scenario for RestartScenario {
@@ -55,8 +38,15 @@ impl Scenario for RestartScenario {
             "waits" => self.wait(row),
             "sent" => self.restart = Restart::Announced,
             "answered" => self.restart = Restart::Serving,
-            "is" => row.given.put_words(self.place()),
-            "due" => self.put_due(&mut row.given),
+            "is" => row.given.put(match self.restart {
+                Restart::Waiting(_) => b"waiting".as_slice(),
+                Restart::Announced => b"announced".as_slice(),
+                Restart::Serving => b"serving".as_slice(),
+            }),
+            "due" => match self.restart.due() {
+                Some(moment) => row.given.put_shown(moment),
+                None => row.given.put(b"-"),
+            },
             _ => row.given.unread(),
         }
     }

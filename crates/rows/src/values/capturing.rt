@@ -47,15 +47,6 @@ fn put_hex(given: &mut Outcome, bytes: &[u8]) {
     }
 }
 
-// What a capture file begins with.
-fn put_begun(given: &mut Outcome) {
-    let mut head = Vec::new(given.alloc);
-    if put_head(&mut head).is_err() {
-        given.refuse();
-    }
-    put_hex(given, &head);
-}
-
 // `1000002 10.0.0.7:2727 127.0.0.1:2427 abc`: the moment, where it came from and went to, and the bytes of a datagram.
 fn put_captured(given: &mut Outcome, value: &[u8]) {
     let (moment, rest) = parted(given, value);
@@ -77,7 +68,14 @@ fn put_captured(given: &mut Outcome, value: &[u8]) {
 /// Puts what a call gives; no where there is no such call here.
 pub fn put_answer(given: &mut Outcome, call: &str, value: &[u8]) -> bool {
     match call {
-        "capture head" => put_begun(given),
+        // What a capture file begins with.
+        "capture head" => {
+            let mut head = Vec::new(given.alloc);
+            if put_head(&mut head).is_err() {
+                given.refuse();
+            }
+            put_hex(given, &head);
+        }
         "captured" => put_captured(given, value),
         _ => return false,
     }

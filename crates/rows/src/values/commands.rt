@@ -42,13 +42,6 @@ fn put_request(given: &mut Outcome, request: &Request) {
     }
 }
 
-fn put_asked(given: &mut Outcome, deed: &Deed) {
-    match &deed.request {
-        Some(request) => put_request(given, request),
-        None => given.put(b"no request"),
-    }
-}
-
 // What becomes of connections, with the call of one where it is named.
 fn put_named(given: &mut Outcome, becomes: &[u8], call: &Identifier) {
     given.put(becomes);
@@ -133,7 +126,12 @@ fn put_becoming(given: &mut Outcome, deed: &Deed) {
 // Puts what a call gives of what a command asks for: by default the lines that it is for.
 fn put_asks(given: &mut Outcome, call: &str, asks: &Asks<'_>) {
     let pattern = match asks {
-        Asks::Does(_, boxed) if is_word(call, "asks") => return put_asked(given, boxed.deed()),
+        Asks::Does(_, boxed) if is_word(call, "asks") => {
+            return match &boxed.deed().request {
+                Some(request) => put_request(given, request),
+                None => given.put(b"no request"),
+            };
+        }
         Asks::Does(_, boxed) if is_word(call, "becomes") => return put_becoming(
             given,
             boxed.deed(),

@@ -26,14 +26,6 @@ fn set_own(session: &mut Session, numbers: &str) {
     session.ptime = Some(ptime.parse::<u16>().unwrap_or(0));
 }
 
-// A description as it is written again, with what is its own where that is given.
-fn put_written(given: &mut Outcome, session: &mut Session, own: Option<&str>) {
-    if let Some(numbers) = own {
-        set_own(session, numbers);
-    }
-    given.put_text(write_sdp(given.alloc, session));
-}
-
 /// Puts what a call gives; no where there is no such call here.
 pub fn put_answer(given: &mut Outcome, call: &str, value: &[u8]) -> bool {
     let own = call.strip_prefix("own description ");
@@ -42,7 +34,13 @@ pub fn put_answer(given: &mut Outcome, call: &str, value: &[u8]) -> bool {
     }
     match read_sdp(value) {
         Ok(session) if is_word(call, "description") => put_offered(given, &session),
-        Ok(mut session) => put_written(given, &mut session, own),
+        // As it is written again, with what is its own where that is given.
+        Ok(mut session) => {
+            if let Some(numbers) = own {
+                set_own(&mut session, numbers);
+            }
+            given.put_text(write_sdp(given.alloc, &session));
+        }
         Err(_) => given.put(b"refused"),
     }
     true

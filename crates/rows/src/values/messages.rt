@@ -19,23 +19,6 @@ fn put_fault(given: &mut Outcome, fault: TextFault) {
     }
 }
 
-// What a text is read as.
-fn put_kind(given: &mut Outcome, message: &Message<'_>) {
-    match message {
-        Message::Command { id, .. } => given.put_behind(b"command ", id.number()),
-        Message::Response { .. } => given.put(b"response"),
-    }
-}
-
-// A message as it is written again.
-fn put_again(given: &mut Outcome, message: &Message<'_>) {
-    if is_writable(message) {
-        given.put_text(write_message(given.alloc, message));
-    } else {
-        given.put(b"not writable");
-    }
-}
-
 // The first parameter with a code: its code, a colon and its value.
 fn put_first(given: &mut Outcome, message: &Message<'_>, code: &str) {
     let Some(param) = param_at(code.as_bytes(), message.params()) else {
@@ -75,8 +58,19 @@ fn put_answered(given: &mut Outcome, value: &[u8]) {
 // Puts what a call gives of a message; no where there is no such call.
 fn put_of_message(given: &mut Outcome, call: &str, message: &Message<'_>) -> bool {
     match call {
-        "message" => put_kind(given, message),
-        "written message" => put_again(given, message),
+        // What it is read as.
+        "message" => match message {
+            Message::Command { id, .. } => given.put_behind(b"command ", id.number()),
+            Message::Response { .. } => given.put(b"response"),
+        },
+        // As it is written again.
+        "written message" => {
+            if is_writable(message) {
+                given.put_text(write_message(given.alloc, message));
+            } else {
+                given.put(b"not writable");
+            }
+        }
         "parameters" => given.put_shown(message.params().len()),
         "confirms" => put_confirmed(given, message),
         "command on" | "asks" | "becomes" => commands::put_answer(given, call, message),

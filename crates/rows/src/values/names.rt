@@ -44,13 +44,6 @@ fn put_written(given: &mut Outcome, name: &[u8]) {
     }
 }
 
-fn means(name: &[u8], line: u16) -> bool {
-    match read_name(name, DOMAIN, 65535) {
-        Ok(pattern) => matches(pattern, line),
-        Err(_) => false,
-    }
-}
-
 // Two addresses with a comma between them.
 fn put_two<A: Display + Copy>(given: &mut Outcome, one: A, other: A) {
     given.put_shown(one);
@@ -152,7 +145,10 @@ pub fn put_answer(given: &mut Outcome, call: &str, value: &[u8]) -> bool {
     match call {
         "name of" => put_meaning(given, value, number),
         "written name" => put_written(given, value),
-        "means line" => given.put_judged(means(value, number)),
+        "means line" => given.put_judged(match read_name(value, DOMAIN, 65535) {
+            Ok(pattern) => matches(pattern, number),
+            Err(_) => false,
+        }),
         "domain" => given.put_judged(is_domain(value)),
         "host added to" | "host among" => put_of_host(given, call, value, number),
         "entity" => put_place(given, value, 1),
