@@ -9,6 +9,7 @@
 //!   purge no more firsts are ever kept; `run 1-4999 every 100 confirming holding 300` the same, each with a K that names all
 //!   so far.
 use crate::keeping::Held;
+use crate::texts::{are_same, is_word};
 use history::{History, IdSpan, Look};
 use mg_bytes::{OutOfMemory, Sequence, Text};
 use scenario_files::{Outcome, Row, Scenario, again, range_in};
@@ -56,7 +57,7 @@ fn run_of(row: &mut Row<'_>) -> Run {
 fn told(history: &History, id: u32, now: u64) -> &'static str {
     match history.look(id, now) {
         Look::New => "new",
-        Look::Repeat(answer) if answer.as_bytes() == id.to_be_bytes().as_slice() => "again",
+        Look::Repeat(answer) if are_same(answer.as_bytes(), &id.to_be_bytes()) => "again",
         Look::Repeat(_) => "another answer",
         Look::Confirmed => "silence",
         Look::Full => "full",
@@ -119,7 +120,7 @@ fn confirm_all(history: &mut History, alloc: Global, ids: IdSpan) -> Result<(), 
 fn put_unlike(history: &History, given: &mut Outcome, ids: IdSpan, now: u64, wanted: &str) -> bool {
     for id in ids.first..=ids.last {
         let told = told(history, id, now);
-        if told != wanted {
+        if !is_word(told, wanted) {
             given.put_words(told);
             given.put_behind(b" for ", id);
             return true;

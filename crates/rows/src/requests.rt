@@ -8,7 +8,7 @@
 //! - `after L/hd  S L/dl  D (1|2)` the request that is embedded at this event takes effect: its S, and its D or `-`.
 use crate::events::observed_of;
 use crate::line::parameters::events_of;
-use crate::texts::is_word;
+use crate::texts::{are_same, is_word};
 use event_requests::{Decision, Doing, EventRequest, decide};
 use event_syntax::{Action, Embedding, Observed, write_signals};
 use mg_bytes::OutOfMemory;
@@ -105,7 +105,7 @@ impl RequestScenario {
         put_answer(&mut of_copy, &copy, question);
         if of_copy.is_refused {
             given.refuse();
-        } else if of_copy.bytes.as_slice() != given.bytes.as_slice() {
+        } else if !are_same(&of_copy.bytes, &given.bytes) {
             given.put_both(b", and of a copy ", &of_copy.bytes);
         }
     }

@@ -18,6 +18,11 @@ pub fn is_word(word: &str, name: &str) -> bool {
     word == name
 }
 
+/// Whether bytes are these, asked by a call for the same reason.
+pub fn are_same(bytes: &[u8], others: &[u8]) -> bool {
+    bytes == others
+}
+
 /// Bytes of ASCII as words, as they stand in a text that is formed.
 pub fn words_of(bytes: &[u8]) -> &str {
     str::from_utf8(bytes).unwrap_or("")

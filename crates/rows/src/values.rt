@@ -16,7 +16,7 @@ mod packing;
 mod shown;
 mod spelled;
 
-use crate::texts::words_of;
+use crate::texts::{are_same, words_of};
 use mg_bytes::OutOfMemory;
 use scenario_files::{Outcome, Row, Scenario, bytes_of, parted, said};
 use std::alloc::Global;
@@ -74,7 +74,7 @@ fn put_answer_to(given: &mut Outcome, call: &str, field: &str) {
 fn is_said(answer: &[u8], wanted: &str) -> bool {
     match wanted {
         "ok" => words_of(answer).parse::<u32>().is_err(),
-        _ => answer == wanted.as_bytes(),
+        _ => are_same(answer, wanted.as_bytes()),
     }
 }
 

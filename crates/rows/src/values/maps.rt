@@ -8,6 +8,7 @@
 ghost use Rattle.std.specs.Prelude.{◌≤◌, length};
 ghost use Rattle.digit_map.specs.Verdict.{most_letters};
 
+use crate::texts::are_same;
 use digit_map::{
     MOST_LETTERS, MapChange, MapFault, MapText, Matcher, Verdict, is_in_range, is_range,
     read_change, read_map,
@@ -182,7 +183,7 @@ pub fn put_read(given: &mut Outcome, value: &[u8]) {
 
 // What a D makes of the map that stands, or a code.
 fn put_change(given: &mut Outcome, value: &[u8]) {
-    let named = if value == b"-".as_slice() {
+    let named = if are_same(value, b"-") {
         None
     } else {
         Some(value)

@@ -1,4 +1,5 @@
 //! Calls about names: of endpoints, of hosts and of call agents.
+use crate::texts::are_same;
 use crate::values::numbered;
 use endpoint_names::{
     NameFault, Pattern, Route, Table, TableFault, is_domain, matches, read_entity, read_name,
@@ -133,7 +134,7 @@ fn put_place(given: &mut Outcome, text: &[u8], hosts: u16) {
         return given.unread();
     }
     match read_entity(text, &table) {
-        Some(entity) if entity.text.as_bytes() != text => given.put(b"another text"),
+        Some(entity) if !are_same(entity.text.as_bytes(), text) => given.put(b"another text"),
         Some(entity) => put_route(given, Some(entity.route)),
         None => given.put(b"none"),
     }

@@ -55,7 +55,7 @@ struct Told {
 // Sets the number that a word names, the clock, the first of ids or a count, and says whether it names one.
 fn set_number(told: &mut Told, key: &str, number: u64) -> bool {
     for (place, word) in NUMBERS.iter().enumerate() {
-        if *word == key {
+        if is_word(*word, key) {
             if let Some(held) = told.numbers.get_mut(place) {
                 *held = number;
             }
