@@ -52,7 +52,8 @@ impl ConnectionsScenario {
     }
 
     fn modify(&mut self, given: &mut Outcome, fields: &str) -> Result<(), CodeFault> {
-        let (call, id) = (identifier_in(fields, "C: ")?, identifier_in(fields, "I: ")?);
+        let call = identifier_in(fields, "C: ")?;
+        let id = identifier_in(fields, "I: ")?;
         let change = change_of(given.alloc, fields)?;
         match self.line.modify(self.encoding, &call, &id, change)? {
             Some(description) => put_description(given, &description),

@@ -40,7 +40,8 @@ pub struct MessageScenario {
 impl MessageScenario {
     // `10000000 at 1000  TEXT`.
     fn begins(&mut self, row: &mut Row<'_>) -> Result<(), OutOfMemory> {
-        let (id, moment) = (id_in(row), u64::from(row.number_behind("at")));
+        let id = id_in(row);
+        let moment = u64::from(row.number_behind("at"));
         let text = value_of(row.given.alloc, row.rest().trim_start())?;
         let route = route_to(self.hosts).with_port(PORT);
         let message = Pending::begin(row.given.alloc, id, route, text.as_bytes(), moment)?;

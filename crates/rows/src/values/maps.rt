@@ -150,7 +150,8 @@ fn in_range(range: &[u8], key: &[u8]) -> &'static str {
 // The answer of a call of two values.
 fn answer_of_two(alloc: Global, call: &str, fields: &str) -> Result<&'static str, OutOfMemory> {
     let (one, other) = parted(fields, "  ");
-    let (one, other) = (bytes_of(alloc, one)?, bytes_of(alloc, other)?);
+    let one = bytes_of(alloc, one)?;
+    let other = bytes_of(alloc, other)?;
     match call {
         "verdict" => verdict(alloc, &one, &other),
         _ => Ok(in_range(&one, &other)),

@@ -47,7 +47,8 @@ fn put_confirmed(given: &mut Outcome, message: &Message<'_>) {
 // The text of an answer: `510 1` is the return code 510 in transaction 1.
 fn put_answered(given: &mut Outcome, value: &[u8]) {
     let (code, id) = split_once(value, b' ').unwrap_or((value, b""));
-    let (code, id) = (decimal(code).unwrap_or(1000), decimal(id).unwrap_or(0));
+    let code = decimal(code).unwrap_or(1000);
+    let id = decimal(id).unwrap_or(0);
     if code > 999 || id < 1 || id > 999_999_999 {
         return given.put(b"no answer");
     }
