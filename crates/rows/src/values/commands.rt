@@ -127,10 +127,11 @@ fn put_becoming(given: &mut Outcome, deed: &Deed) {
 fn put_asks(given: &mut Outcome, call: &str, asks: &Asks<'_>) {
     let pattern = match asks {
         Asks::Does(_, boxed) if is_word(call, "asks") => {
-            return match &boxed.deed().request {
+            match &boxed.deed().request {
                 Some(request) => put_request(given, request),
                 None => given.put(b"no request"),
-            };
+            }
+            return;
         }
         Asks::Does(_, boxed) if is_word(call, "becomes") => return put_becoming(
             given,
