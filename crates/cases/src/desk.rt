@@ -11,7 +11,7 @@ use crate::stories::{
 };
 use agent_texts::{AgentConfig, ConfigRefusal, Journal, read_config};
 use live_agent::{Recorder, Wire, WireSettings, serve_config, wire_over};
-use live_ends::{CommonEnding, SocketWanted, Written};
+use live_ends::{AddressWord, CommonEnding, SocketWanted, Written};
 use live_gateway::boxed;
 use mg_bytes::OutOfMemory;
 use scenario_files::{Report, Titled};
@@ -60,11 +60,11 @@ fn config_in(alloc: Global, settings: &str) -> Result<Option<AgentConfig>, OutOf
 fn settings_of(words: &Words, story: &Story) -> WireSettings {
     WireSettings {
         listen: SocketWanted {
-            word: "own",
+            word: AddressWord::OwnKey,
             address: words.own[0],
         },
         control: SocketWanted {
-            word: "--control",
+            word: AddressWord::Control,
             address: words.own[1],
         },
         network: words.network,

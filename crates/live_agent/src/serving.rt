@@ -57,11 +57,11 @@ pub fn wire_over<S: Surroundings + Drop>(
 }
 
 // The wire over the machine's sockets and clock. An error says how the program ends then.
-fn open_wire<'a, 'w, R: Net + Clock>(
+fn open_wire<'a, R: Net + Clock>(
     rt: &'a R,
     alloc: Global,
     settings: WireSettings,
-) -> Result<Box<Wire<Live<'a, R>>>, CommonEnding<'w>> {
+) -> Result<Box<Wire<Live<'a, R>>>, CommonEnding> {
     if Instant::now(rt).is_err() {
         return Err(CommonEnding::Clock);
     }
@@ -89,7 +89,7 @@ pub fn serve_config<S: Surroundings + Drop, W: Recorder>(
     is_routed: bool,
     wire: &mut Wire<S>,
     recorder: &mut W,
-) -> CommonEnding<'static> {
+) -> CommonEnding {
     let time = wire.now.time / MICROSECONDS;
     let mut board = match Switchboard::of(alloc, config, is_routed, time) {
         Ok(board) => board,
@@ -126,7 +126,7 @@ fn tell_addresses<R: Net + Clock, F: Write + Drop>(
 }
 
 // How the program ends that served: whether all records were written to their ends. Of one that couldn't be written it was said at once.
-fn served_ending<'w, F: Write + Drop>(journal: &Journal, outlets: &Outlets<F>) -> CommonEnding<'w> {
+fn served_ending<F: Write + Drop>(journal: &Journal, outlets: &Outlets<F>) -> CommonEnding {
     if journal.told.is_refused() || journal.log.is_refused() || journal.capture.is_refused() {
         return CommonEnding::OutOfMemory;
     }
@@ -138,13 +138,13 @@ fn served_ending<'w, F: Write + Drop>(journal: &Journal, outlets: &Outlets<F>) -
 
 // Writes what was recorded to its end, and says on standard error what was counted: how the program ends, where the clock hasn't failed or
 // has.
-fn finish<'w, R: Clock, F: Write + Drop>(
+fn finish<R: Clock, F: Write + Drop>(
     rt: &R,
     journal: &mut Journal,
     outlets: &mut Outlets<F>,
     time: u64,
     has_failed: bool,
-) -> CommonEnding<'w> {
+) -> CommonEnding {
     journal.write(outlets, time);
     let Ok(counts) = journal.counts() else {
         return CommonEnding::OutOfMemory;
@@ -157,30 +157,30 @@ fn finish<'w, R: Clock, F: Write + Drop>(
 }
 
 // Serves until the end.
-fn serve_to_end<'w, R: Net + Clock, F: Write + Drop>(
+fn serve_to_end<R: Net + Clock, F: Write + Drop>(
     rt: &R,
     alloc: Global,
     board: &mut Switchboard,
     wire: &mut Wire<Live<'_, R>>,
     outlets: &mut Outlets<F>,
-) -> CommonEnding<'w> {
+) -> CommonEnding {
     let served = serve(alloc, board, wire, outlets);
     let time = wire.around.time();
     finish(rt, &mut wire.journal, outlets, time, served.is_err())
 }
 
 // Makes the file of a capture, if one is asked for: how the program ends where there is none.
-fn begin_capture<'w, R: Files>(
+fn begin_capture<R: Files>(
     rt: &R,
     alloc: Global,
     journal: &mut Journal,
-    capture: Option<&'w str>,
+    capture: Option<&str>,
     outlets: &mut Outlets<R::File>,
-) -> Option<CommonEnding<'w>> {
+) -> Option<CommonEnding> {
     let file = capture?;
     outlets.capture = match open_capture(rt, alloc, capture) {
         Ok(opened) => opened,
-        Err(fault) => return Some(CommonEnding::unwritable(file, fault)),
+        Err(kind) => return Some(CommonEnding::unwritable(kind)),
     };
     if journal.name_capture(file).is_err() {
         return Some(CommonEnding::OutOfMemory);
@@ -189,14 +189,14 @@ fn begin_capture<'w, R: Files>(
 }
 
 // Makes the file of a capture, if one is asked for, once the sockets are had, and serves.
-fn serve_captured<'w, R: Files + Net + Clock>(
+fn serve_captured<R: Files + Net + Clock>(
     rt: &R,
     alloc: Global,
     board: &mut Switchboard,
     wire: &mut Wire<Live<'_, R>>,
-    capture: Option<&'w str>,
+    capture: Option<&str>,
     outlets: &mut Outlets<R::File>,
-) -> CommonEnding<'w> {
+) -> CommonEnding {
     if let Some(ending) = begin_capture(rt, alloc, &mut wire.journal, capture, outlets) {
         return ending;
     }
@@ -207,15 +207,15 @@ fn serve_captured<'w, R: Files + Net + Clock>(
 /// Serves the gateways of a configuration until the end, and routes calls between their lines where that is asked for. What happens
 /// is told on standard output; the log, where the sockets are, and at the end what was counted, on standard error; the capture, where
 /// one is asked for, goes into a new file of this name. How the program ends then, also where it doesn't serve to its end.
-pub fn serve_agent<'w, R: Files + Net + Clock>(
+pub fn serve_agent<R: Files + Net + Clock>(
     rt: &R,
     alloc: Global,
     config: &AgentConfig,
     is_routed: bool,
     settings: WireSettings,
-    capture: Option<&'w str>,
+    capture: Option<&str>,
     outlets: &mut Outlets<R::File>,
-) -> CommonEnding<'w> {
+) -> CommonEnding {
     let mut wire = match open_wire(rt, alloc, settings) {
         Ok(wire) => wire,
         Err(ending) => return ending,

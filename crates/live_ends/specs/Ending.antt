@@ -1,14 +1,18 @@
 -- How a program ends, as far as programs have that in common.
 use Rattle.std.specs.Prelude.{ℕ, Bool, true, false, codes, List, [], ◌∷◌}
 use Rattle.std.specs.List.{flat_map}
-use Rattle.std.specs.Borrow.{Bor}
 use Rattle.std.specs.Net.Text.{socket_v4_text}
+use Rattle.std.specs.declared.io.ErrorKind.{ErrorKind}
 use Rattle.std.specs.declared.net.socket_addr.SocketAddrV4.{SocketAddrV4}
-use Rattle.live_ends.specs.declared.program.SystemFault.{SystemFault}
-use Rattle.live_ends.specs.declared.program.SystemFault.TheVariants as faults
+use Rattle.bad_network.specs.declared.spoiling.SpoilingFault.{SpoilingFault}
+use Rattle.live_ends.specs.declared.address_words.AddressWord.{AddressWord}
 use Rattle.live_ends.specs.declared.ending.About.{About}
+use Rattle.live_ends.specs.declared.ending.FileNames.{FileNames}
 use Rattle.live_ends.specs.declared.ending.CommonEnding.{CommonEnding}
 use Rattle.live_ends.specs.declared.ending.CommonEnding.TheVariants.{Served, Help, Version, Usage, Told, BadAddress, BadNetwork, Unreadable, Unwritable, Unbound, Clock, Write, OutOfMemory}
+use Rattle.live_ends.specs.AddressWords.{word_text}
+use Rattle.live_ends.specs.NetworkFaults.{wanted_by}
+use Rattle.live_ends.specs.Reasons.{reason_of}
 use Rattle.live_ends.specs.Wording.{piece_text, joined}
 
 -- The exit status: 0: it did what was asked; 2: words, or a configuration, are refused; 3: memory, a file, a socket, a stream or the
@@ -20,10 +24,10 @@ status_of Version = 0
 status_of Usage = 2
 status_of Told = 2
 status_of (BadAddress word) = 2
-status_of (BadNetwork wanted) = 2
-status_of (Unreadable file reason) = 3
-status_of (Unwritable file reason) = 3
-status_of (Unbound word address reason) = 3
+status_of (BadNetwork fault) = 2
+status_of (Unreadable kind) = 3
+status_of (Unwritable kind) = 3
+status_of (Unbound word address kind) = 3
 status_of Clock = 3
 status_of Write = 3
 status_of OutOfMemory = 3
@@ -38,49 +42,40 @@ is_asked Version = true
 is_asked Usage = false
 is_asked Told = false
 is_asked (BadAddress word) = false
-is_asked (BadNetwork wanted) = false
-is_asked (Unreadable file reason) = false
-is_asked (Unwritable file reason) = false
-is_asked (Unbound word address reason) = false
+is_asked (BadNetwork fault) = false
+is_asked (Unreadable kind) = false
+is_asked (Unwritable kind) = false
+is_asked (Unbound word address kind) = false
 is_asked Clock = false
 is_asked Write = false
 is_asked OutOfMemory = false
+
+abbrev pub bad_address_text : AddressWord → List ℕ
+bad_address_text word = joined (word_text word ∷ codes ": no address a.b.c.d:port\n" ∷ [])
+
+abbrev pub bad_network_text : SpoilingFault → List ℕ
+bad_network_text fault = joined (codes "--network: " ∷ wanted_by fault ∷ codes "\n" ∷ [])
+
+-- where the system refuses a file, for a reason
+abbrev pub refused_text : List ℕ → List ℕ → List ℕ → List ℕ
+refused_text name fault reason = joined (name ∷ fault ∷ reason ∷ codes "\n" ∷ [])
 
 abbrev pub unbound_text : List ℕ → SocketAddrV4 → List ℕ → List ℕ
 unbound_text word address reason =
     joined (word ∷ codes " " ∷ socket_v4_text address ∷ codes ": no socket" ∷ reason ∷ codes "\n" ∷ [])
 
 -- it is a line, or what the words ask for; nothing where the program served, or where all was said
-unfoldable pub ending_text : About → CommonEnding → List ℕ
-ending_text about Served = []
-ending_text about Help = flat_map piece_text about.help.now
-ending_text about Version = flat_map piece_text about.version.now
-ending_text about Usage = joined (codes "usage: " ∷ about.usage.now ∷ codes "\n" ∷ [])
-ending_text about Told = []
-ending_text about (BadAddress word) = joined (word.now ∷ codes ": no address a.b.c.d:port\n" ∷ [])
-ending_text about (BadNetwork wanted) = joined (codes "--network: " ∷ wanted.now ∷ codes "\n" ∷ [])
-ending_text about (Unreadable file reason) = joined (file.now ∷ codes ": read fault" ∷ reason.now ∷ codes "\n" ∷ [])
-ending_text about (Unwritable file reason) = joined (file.now ∷ codes ": write fault" ∷ reason.now ∷ codes "\n" ∷ [])
-ending_text about (Unbound word address reason) = unbound_text word.now address reason.now
-ending_text about Clock = joined (codes "clock fault\n" ∷ [])
-ending_text about Write = []
-ending_text about OutOfMemory = joined (codes "out of memory\n" ∷ [])
-
--- Where the system refuses something: want of memory is that, whatever was asked
-
-abbrev pub unreadable : Bor (List ℕ) → SystemFault → CommonEnding
-unreadable file faults.OutOfMemory = OutOfMemory
-unreadable file (faults.Refused reason) = Unreadable file reason
-
--- where it gives the program no words, it is as if they were other words
-abbrev pub wordless : SystemFault → CommonEnding
-wordless faults.OutOfMemory = OutOfMemory
-wordless (faults.Refused reason) = Usage
-
-abbrev pub unwritable : Bor (List ℕ) → SystemFault → CommonEnding
-unwritable file faults.OutOfMemory = OutOfMemory
-unwritable file (faults.Refused reason) = Unwritable file reason
-
-abbrev pub unbound : Bor (List ℕ) → SocketAddrV4 → SystemFault → CommonEnding
-unbound word address faults.OutOfMemory = OutOfMemory
-unbound word address (faults.Refused reason) = Unbound word address reason
+unfoldable pub ending_text : About → FileNames → CommonEnding → List ℕ
+ending_text about files Served = []
+ending_text about files Help = flat_map piece_text about.help.now
+ending_text about files Version = flat_map piece_text about.version.now
+ending_text about files Usage = joined (codes "usage: " ∷ about.usage.now ∷ codes "\n" ∷ [])
+ending_text about files Told = []
+ending_text about files (BadAddress word) = bad_address_text word
+ending_text about files (BadNetwork fault) = bad_network_text fault
+ending_text about files (Unreadable kind) = refused_text files.read_from.now (codes ": read fault") (reason_of kind)
+ending_text about files (Unwritable kind) = refused_text files.written_to.now (codes ": write fault") (reason_of kind)
+ending_text about files (Unbound word address kind) = unbound_text (word_text word) address (reason_of kind)
+ending_text about files Clock = joined (codes "clock fault\n" ∷ [])
+ending_text about files Write = []
+ending_text about files OutOfMemory = joined (codes "out of memory\n" ∷ [])

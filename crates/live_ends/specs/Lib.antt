@@ -4,7 +4,8 @@ pub mod Parting
 pub mod Written
 pub mod Looking
 pub mod Reasons
-pub mod Refusing
+pub mod AddressWords
+pub mod NetworkFaults
 pub mod Wording
 pub mod Ending
 pub mod Example

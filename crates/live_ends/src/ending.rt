@@ -1,16 +1,18 @@
 //! How a program ends, as far as programs have that in common: the status, and what is said then.
-ghost use Rattle.std.specs.Prelude.{◌≡◌, ◌++◌, ◌∷◌, [], codes, Ok, Err, Some, None, OnOk, IfOk, IfErr, IfSome};
+ghost use Rattle.std.specs.Prelude.{◌≡◌, ◌≢◌, ◌++◌, Ok, Err, Some, None, OnOk, IfOk, IfErr, IfSome};
 ghost use Rattle.std.specs.Net.Grammar.{IsSocketV4Text};
 ghost use Rattle.bad_network.specs.Parts.{spoiling_of};
-ghost use Rattle.live_ends.specs.Wording.{joined};
-ghost use Rattle.live_ends.specs.Ending.{status_of, is_asked, wordless, unreadable, unwritable, unbound, unbound_text, ending_text};
+ghost use Rattle.live_ends.specs.Ending.{status_of, is_asked, bad_address_text, bad_network_text, refused_text, unbound_text, ending_text};
 
-use crate::program::SystemFault;
+use crate::address_words::AddressWord;
+use crate::network_faults::wanted_by;
+use crate::reasons::reason_of;
 use crate::wording::put_pieces;
-use bad_network::Spoiling;
+use bad_network::{Spoiling, SpoilingFault};
 use exchange_log::peer_text;
 use mg_bytes::OutOfMemory;
 use std::alloc::Global;
+use std::io::ErrorKind;
 use std::net::SocketAddrV4;
 
 /// The version of the programs.
@@ -27,9 +29,19 @@ pub struct About {
     pub version: &'static [&'static str],
 }
 
-/// How a program ends, whichever it is. A reason is what `reason_of` makes of the system's error.
+/// The files of a program, of which an ending tells the name.
 #[derive(Clone, Copy)]
-pub enum CommonEnding<'a> {
+pub struct FileNames<'a> {
+    /// The one that it reads.
+    pub read_from: &'a str,
+    /// The one that it writes.
+    pub written_to: &'a str,
+}
+
+/// How a program ends, whichever it is. A kind is that of the system's error. It holds no text: a check pays for each text that a
+/// fault may hold wherever that is handed on. Who tells it has the names of files.
+#[derive(Clone, Copy)]
+pub enum CommonEnding {
     /// It served up to the moment that was asked for.
     Served,
     /// The words ask how it is used.
@@ -42,27 +54,25 @@ pub enum CommonEnding<'a> {
     Told,
     /// What stands behind this word isn't an address.
     BadAddress {
-        word: &'static str,
+        word: AddressWord,
     },
-    /// What stands behind `--network` says nothing of a network, but this would.
+    /// What stands behind `--network` says nothing of a network, for this fault.
     BadNetwork {
-        wanted: &'static str,
+        fault: SpoilingFault,
     },
-    /// This file can't be read.
+    /// The file that it reads can't be read.
     Unreadable {
-        file: &'a str,
-        reason: &'static str,
+        kind: ErrorKind,
     },
-    /// This file can't be written.
+    /// The file that it writes can't be written.
     Unwritable {
-        file: &'a str,
-        reason: &'static str,
+        kind: ErrorKind,
     },
     /// No socket can be had at the address that this word asks for, or this key of a configuration.
     Unbound {
-        word: &'static str,
+        word: AddressWord,
         address: SocketAddrV4,
-        reason: &'static str,
+        kind: ErrorKind,
     },
     /// The clock can't be read.
     Clock,
@@ -72,11 +82,11 @@ pub enum CommonEnding<'a> {
     OutOfMemory,
 }
 
-impl<'a> CommonEnding<'a> {
+impl CommonEnding {
     /// The exit status: 0 it did what was asked, 2 words or a configuration that are refused, 3 memory, a file, a socket, a stream or
     /// the clock.
     pub fn status(self) -> u8
-        ensures { result ≡ status_of self.entry }
+        ensures { result ≡ status_of self }
     {
         match self {
             CommonEnding::Served | CommonEnding::Help | CommonEnding::Version => 0,
@@ -95,7 +105,7 @@ impl<'a> CommonEnding<'a> {
 
     /// Whether what is said is what the words ask for, and so goes to standard output.
     pub fn is_asked(self) -> bool
-        ensures { result ≡ is_asked self.entry }
+        ensures { result ≡ is_asked self }
     {
         match self {
             CommonEnding::Help | CommonEnding::Version => true,
@@ -113,80 +123,84 @@ impl<'a> CommonEnding<'a> {
         }
     }
 
-    /// The system doesn't give it its words.
-    pub fn wordless(fault: SystemFault) -> CommonEnding<'a>
-        ensures { result ≡ wordless fault }
+    /// The system doesn't give it its words, by an error of this kind: unless memory was refused it is as if they were other words.
+    pub fn wordless(kind: ErrorKind) -> CommonEnding
+        ensures memory { kind ≡ ErrorKind.OutOfMemory → result ≡ CommonEnding.OutOfMemory }
+        ensures other { kind ≢ ErrorKind.OutOfMemory → result ≡ CommonEnding.Usage }
     {
-        match fault {
-            SystemFault::OutOfMemory => CommonEnding::OutOfMemory,
-            SystemFault::Refused { .. } => CommonEnding::Usage,
+        if kind == ErrorKind::OutOfMemory {
+            return CommonEnding::OutOfMemory;
+        }
+        CommonEnding::Usage
+    }
+
+    /// The system doesn't let it read the file that it reads, by an error of this kind.
+    pub fn unreadable(kind: ErrorKind) -> CommonEnding
+        ensures memory { kind ≡ ErrorKind.OutOfMemory → result ≡ CommonEnding.OutOfMemory }
+        ensures other { kind ≢ ErrorKind.OutOfMemory → result ≡ CommonEnding.Unreadable kind }
+    {
+        if kind == ErrorKind::OutOfMemory {
+            return CommonEnding::OutOfMemory;
+        }
+        CommonEnding::Unreadable { kind }
+    }
+
+    /// The system doesn't let it write the file that it writes, by an error of this kind.
+    pub fn unwritable(kind: ErrorKind) -> CommonEnding
+        ensures memory { kind ≡ ErrorKind.OutOfMemory → result ≡ CommonEnding.OutOfMemory }
+        ensures other { kind ≢ ErrorKind.OutOfMemory → result ≡ CommonEnding.Unwritable kind }
+    {
+        if kind == ErrorKind::OutOfMemory {
+            return CommonEnding::OutOfMemory;
+        }
+        CommonEnding::Unwritable { kind }
+    }
+
+    /// The system gives it no socket at the address that this word asks for, by an error of this kind.
+    pub fn unbound(word: AddressWord, address: SocketAddrV4, kind: ErrorKind) -> CommonEnding
+        ensures memory { kind ≡ ErrorKind.OutOfMemory → result ≡ CommonEnding.OutOfMemory }
+        ensures other { kind ≢ ErrorKind.OutOfMemory → result ≡ CommonEnding.Unbound word address kind }
+    {
+        if kind == ErrorKind::OutOfMemory {
+            return CommonEnding::OutOfMemory;
+        }
+        CommonEnding::Unbound {
+            word,
+            address,
+            kind,
         }
     }
 
-    /// The system lets it read no such file.
-    pub fn unreadable(file: &'a str, fault: SystemFault) -> CommonEnding<'a>
-        ensures { result ≡ unreadable file.entry fault }
-    {
-        match fault {
-            SystemFault::OutOfMemory => CommonEnding::OutOfMemory,
-            SystemFault::Refused { reason } => CommonEnding::Unreadable { file, reason },
-        }
-    }
-
-    /// The system lets it write no such file.
-    pub fn unwritable(file: &'a str, fault: SystemFault) -> CommonEnding<'a>
-        ensures { result ≡ unwritable file.entry fault }
-    {
-        match fault {
-            SystemFault::OutOfMemory => CommonEnding::OutOfMemory,
-            SystemFault::Refused { reason } => CommonEnding::Unwritable { file, reason },
-        }
-    }
-
-    /// The system gives it no socket at the address that this word asks for.
-    pub fn unbound(
-        word: &'static str,
-        address: SocketAddrV4,
-        fault: SystemFault,
-    ) -> CommonEnding<'a>
-        ensures { result ≡ unbound word.entry address fault }
-    {
-        match fault {
-            SystemFault::OutOfMemory => CommonEnding::OutOfMemory,
-            SystemFault::Refused { reason } => CommonEnding::Unbound {
-                word,
-                address,
-                reason,
-            },
-        }
-    }
-
-    /// Puts what is said: on standard output what the words ask, else a line on standard error, or nothing where it served, or where
-    /// all was said. Its only error is want of memory.
+    /// Puts what is said, where this is said of the program, and its files have these names: on standard output what the words ask,
+    /// else a line on standard error, or nothing where it served, or where all was said. Its only error is want of memory.
     #[tactic(auto, unfolding(crate::specs::Ending::ending_text))]
-    pub fn put_text(self, alloc: Global, out: &mut Vec<u8>, about: About) -> Result<(), OutOfMemory>
-        ensures { OnOk result (out.new.items ≡ out.old.items ++ ending_text about self.entry) }
+    pub fn put_text(
+        self,
+        alloc: Global,
+        out: &mut Vec<u8>,
+        about: About,
+        files: FileNames<'_>,
+    ) -> Result<(), OutOfMemory>
+        ensures { OnOk result (out.new.items ≡ out.old.items ++ ending_text about files.entry self) }
     {
         match self {
             CommonEnding::Served | CommonEnding::Told | CommonEnding::Write => Ok(()),
             CommonEnding::Help => put_pieces(out, about.help),
             CommonEnding::Version => put_pieces(out, about.version),
             CommonEnding::Usage => put_pieces(out, &["usage: ", about.usage, "\n"]),
-            CommonEnding::BadAddress { word } => {
-                put_pieces(out, &[word, ": no address a.b.c.d:port\n"])
+            CommonEnding::BadAddress { word } => put_bad_address(out, word),
+            CommonEnding::BadNetwork { fault } => put_bad_network(out, fault),
+            CommonEnding::Unreadable { kind } => {
+                put_refused(out, files.read_from, ": read fault", reason_of(kind))
             }
-            CommonEnding::BadNetwork { wanted } => put_pieces(out, &["--network: ", wanted, "\n"]),
-            CommonEnding::Unreadable { file, reason } => {
-                put_refused(out, file, ": read fault", reason)
-            }
-            CommonEnding::Unwritable { file, reason } => {
-                put_refused(out, file, ": write fault", reason)
+            CommonEnding::Unwritable { kind } => {
+                put_refused(out, files.written_to, ": write fault", reason_of(kind))
             }
             CommonEnding::Unbound {
                 word,
                 address,
-                reason,
-            } => put_unbound(alloc, out, word, address, reason),
+                kind,
+            } => put_unbound(alloc, out, word.text(), address, reason_of(kind)),
             CommonEnding::Clock => put_pieces(out, &["clock fault\n"]),
             CommonEnding::OutOfMemory => put_pieces(out, &["out of memory\n"]),
         }
@@ -194,9 +208,9 @@ impl<'a> CommonEnding<'a> {
 }
 
 /// The address that a text is, which stands behind a word, or by a key of a configuration.
-pub fn address_in<'a>(word: &'static str, text: &str) -> Result<SocketAddrV4, CommonEnding<'a>>
+pub fn address_in(word: AddressWord, text: &str) -> Result<SocketAddrV4, CommonEnding>
     ensures address { IfOk result (λ address. IsSocketV4Text text.now address) }
-    ensures other { IfErr result (λ ending. ending ≡ CommonEnding.BadAddress word.entry) }
+    ensures other { IfErr result (λ ending. ending ≡ CommonEnding.BadAddress word) }
 {
     match text.parse::<SocketAddrV4>() {
         Ok(address) => Ok(address),
@@ -205,20 +219,32 @@ pub fn address_in<'a>(word: &'static str, text: &str) -> Result<SocketAddrV4, Co
 }
 
 /// How a network spoils datagrams, where a text stands behind `--network`, which says that.
-pub fn network_in<'a>(text: Option<&str>) -> Result<Option<Spoiling>, CommonEnding<'a>>
+pub fn network_in(text: Option<&str>) -> Result<Option<Spoiling>, CommonEnding>
     ensures none { text.entry ≡ None → result ≡ Ok None }
     ensures said { IfSome text.entry (λ text. IfOk (spoiling_of text.now) (λ spoiling. result ≡ Ok (Some spoiling))) }
-    ensures other { IfSome text.entry (λ text. IfErr (spoiling_of text.now) (λ fault. (wanted : _) × (result ≡ Err (CommonEnding.BadNetwork wanted)))) }
+    ensures other { IfSome text.entry (λ text. IfErr (spoiling_of text.now) (λ fault. result ≡ Err (CommonEnding.BadNetwork fault))) }
 {
     let Some(text) = text else {
         return Ok(None);
     };
     match Spoiling::read(text.as_bytes()) {
         Ok(spoiling) => Ok(Some(spoiling)),
-        Err(fault) => Err(CommonEnding::BadNetwork {
-            wanted: fault.text(),
-        }),
+        Err(fault) => Err(CommonEnding::BadNetwork { fault }),
     }
+}
+
+// What stands behind this word isn't an address.
+fn put_bad_address(out: &mut Vec<u8>, word: AddressWord) -> Result<(), OutOfMemory>
+    ensures { OnOk result (out.new.items ≡ out.old.items ++ bad_address_text word) }
+{
+    put_pieces(out, &[word.text(), ": no address a.b.c.d:port\n"])
+}
+
+// What stands behind `--network` has this fault.
+fn put_bad_network(out: &mut Vec<u8>, fault: SpoilingFault) -> Result<(), OutOfMemory>
+    ensures { OnOk result (out.new.items ≡ out.old.items ++ bad_network_text fault) }
+{
+    put_pieces(out, &["--network: ", wanted_by(fault), "\n"])
 }
 
 // The system refuses what this names, for a reason.
@@ -228,7 +254,7 @@ fn put_refused<'t>(
     fault: &'t str,
     reason: &'t str,
 ) -> Result<(), OutOfMemory>
-    ensures { OnOk result (out.new.items ≡ out.old.items ++ joined (name.now ∷ fault.now ∷ reason.now ∷ codes "\n" ∷ [])) }
+    ensures { OnOk result (out.new.items ≡ out.old.items ++ refused_text name.now fault.now reason.now) }
 {
     put_pieces(out, &[name, fault, reason, "\n"])
 }

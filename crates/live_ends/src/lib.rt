@@ -4,6 +4,7 @@
 //! Nothing here knows what a datagram says, or what a command does.
 #![tactic(auto)]
 
+mod address_words;
 mod asking;
 mod backlog;
 mod boxing;
@@ -14,6 +15,7 @@ pub mod examples;
 mod files;
 pub mod laws;
 mod live;
+mod network_faults;
 mod now;
 mod outlet;
 mod outlets;
@@ -27,18 +29,19 @@ mod stream;
 mod wording;
 mod written;
 
+pub use crate::address_words::AddressWord;
 pub use crate::asking::{AskFault, ask};
 pub use crate::backlog::{Backlog, MOST_KEPT, NOTE_ROOM, TEXT_ROOM, lines_ended};
 pub use crate::boxing::boxed;
 pub use crate::clock::{LiveClock, time_of_day};
-pub use crate::ending::{About, CommonEnding, VERSION, address_in, network_in};
+pub use crate::ending::{About, CommonEnding, FileNames, VERSION, address_in, network_in};
 pub use crate::files::read_file;
 pub use crate::live::{Live, STOP_FROM_AFAR, SocketWanted, bind};
 pub use crate::now::Now;
 pub use crate::outlet::{Outlet, OutletState};
 pub use crate::outlets::{NEXT_OFFER, Outlets};
 pub use crate::parting::{CaptureFiles, Parting};
-pub use crate::program::{Begun, OUT_OF_MEMORY, SystemFault, begin, end, open_capture, say_last};
+pub use crate::program::{Begun, OUT_OF_MEMORY, begin, end, open_capture, say_last};
 pub use crate::readiness::{MOST_VISITORS, Readiness, Visit};
 pub use crate::reasons::reason_of;
 pub use crate::record::{Record, RecordState};

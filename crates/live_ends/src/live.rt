@@ -1,10 +1,10 @@
 //! The machine's sockets and clock, as a loop stands on them.
 ghost use Rattle.std.specs.Prelude.{◌≡◌};
 
+use crate::address_words::AddressWord;
 use crate::boxing::boxed;
 use crate::clock::LiveClock;
 use crate::ending::CommonEnding;
-use crate::program::SystemFault;
 use crate::readiness::Readiness;
 use mio::net::UdpSocket;
 use std::alloc::Global;
@@ -50,14 +50,14 @@ impl<R> Drop for Live<'_, R> {
 /// A socket that a word asks for, or a key of a configuration.
 #[derive(Clone, Copy)]
 pub struct SocketWanted {
-    pub word: &'static str,
+    pub word: AddressWord,
     pub address: SocketAddrV4,
 }
 
 impl SocketWanted {
     // How a program ends that doesn't get it, for an error of this kind.
-    fn refused<'w>(self, kind: ErrorKind) -> CommonEnding<'w> {
-        CommonEnding::unbound(self.word, self.address, SystemFault::of(kind))
+    fn refused(self, kind: ErrorKind) -> CommonEnding {
+        CommonEnding::unbound(self.word, self.address, kind)
     }
 }
 
@@ -108,12 +108,12 @@ impl<'a, R: Net + Clock> Live<'a, R> {
 
     /// The sockets that words ask for, for datagrams and for lines of who types, and the clock at moment 0. An error says how the program
     /// ends then.
-    pub fn open<'w>(
+    pub fn open(
         rt: &'a R,
         alloc: Global,
         datagrams: SocketWanted,
         lines: SocketWanted,
-    ) -> Result<Box<Live<'a, R>>, CommonEnding<'w>> {
+    ) -> Result<Box<Live<'a, R>>, CommonEnding> {
         let socket = match bind(rt, datagrams.address) {
             Ok(socket) => socket,
             Err(fault) => return Err(datagrams.refused(fault.kind())),

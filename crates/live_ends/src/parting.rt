@@ -4,7 +4,6 @@ ghost use Rattle.live_ends.specs.Backlog.{sum_within};
 ghost use Rattle.live_ends.specs.Parting.{number_behind, is_old, is_full};
 
 use crate::outlet::Outlet;
-use crate::program::SystemFault;
 use crate::stream::make_for_owner;
 use mg_bytes::decimal;
 use std::alloc::{AllocError, Global};
@@ -101,19 +100,19 @@ fn greatest(numbers: &[u64]) -> u64 {
 
 impl CaptureFiles {
     /// The files of this name: what is there already is older than what will be. Its errors are want of memory, and that the folder
-    /// can't be read.
+    /// can't be read, for this kind.
     pub fn find<R: Files + Alloc + Clone + Drop>(
         rt: &R,
         alloc: Global,
         name: &str,
         parting: Parting,
-    ) -> Result<CaptureFiles, SystemFault> {
+    ) -> Result<CaptureFiles, ErrorKind> {
         let numbers = match numbers_of(rt, alloc, name) {
             Ok(numbers) => numbers,
-            Err(fault) => return Err(SystemFault::of(fault.kind())),
+            Err(fault) => return Err(fault.kind()),
         };
         let Ok(copy) = String::from_str(alloc, name) else {
-            return Err(SystemFault::OutOfMemory);
+            return Err(ErrorKind::OutOfMemory);
         };
         let files = CaptureFiles {
             alloc,

@@ -1,13 +1,10 @@
 //! How a program begins and ends, whichever it is: its words, its outlets, the file of its capture, and what it says at last.
-ghost use Rattle.std.specs.Prelude.{◌≡◌, ◌≢◌, ◌⊎◌};
+ghost use Rattle.std.specs.Prelude.{◌≡◌, ◌⊎◌};
 ghost use Rattle.live_ends.specs.Ending.{status_of};
-ghost use Rattle.live_ends.specs.Reasons.{reason_of};
-ghost use Rattle.live_ends.specs.Refusing.{IsRefusedFor};
 
 use crate::ending::CommonEnding;
 use crate::outlet::Outlet;
 use crate::outlets::Outlets;
-use crate::reasons::reason_of;
 use crate::standing::hold_standard;
 use crate::stream::{Stream, make_for_owner};
 use mg_bytes::OutOfMemory;
@@ -20,39 +17,14 @@ use std::rt::{Clock, Env, Files};
 /// What is said where memory is refused.
 pub const OUT_OF_MEMORY: &[u8] = b"out of memory\n";
 
-/// Why the system doesn't give what is asked of it. A reason is what `reason_of` makes of its error.
-#[derive(Clone, Copy)]
-pub enum SystemFault {
-    /// Memory was refused.
-    OutOfMemory,
-    /// It refuses it.
-    Refused { reason: &'static str },
-}
-
-impl SystemFault {
-    /// What an error of this kind is.
-    pub fn of(kind: ErrorKind) -> SystemFault
-        ensures memory { kind ≡ ErrorKind.OutOfMemory → result ≡ SystemFault.OutOfMemory }
-        ensures other { kind ≢ ErrorKind.OutOfMemory → result ≢ SystemFault.OutOfMemory }
-        ensures reason { kind ≢ ErrorKind.OutOfMemory → IsRefusedFor (reason_of kind) result }
-    {
-        if kind == ErrorKind::OutOfMemory {
-            return SystemFault::OutOfMemory;
-        }
-        SystemFault::Refused {
-            reason: reason_of(kind),
-        }
-    }
-}
-
-/// The program's words, of which the first is its name.
-pub fn words_of<R: AllocGlobal + Env>(rt: &R) -> Result<Vec<String>, SystemFault> {
+/// The program's words, of which the first is its name. An error is of the system's kind.
+pub fn words_of<R: AllocGlobal + Env>(rt: &R) -> Result<Vec<String>, ErrorKind> {
     match env::args(rt) {
         Ok(args) => match args.collect::<Vec<String>>(rt.alloc()) {
             Ok(words) => Ok(words),
-            Err(_) => Err(SystemFault::OutOfMemory),
+            Err(_) => Err(ErrorKind::OutOfMemory),
         },
-        Err(fault) => Err(SystemFault::of(fault.kind())),
+        Err(fault) => Err(fault.kind()),
     }
 }
 
@@ -73,7 +45,7 @@ where
 /// What a program has where it begins.
 pub struct Begun<F> {
     /// Its words, of which the first is its name, or how it ends without them.
-    pub words: Result<Vec<String>, CommonEnding<'static>>,
+    pub words: Result<Vec<String>, CommonEnding>,
     pub outlets: Outlets<F>,
     /// What stands at the numbers of standard streams that weren't open, to be kept to the end.
     pub held: Vec<F>,
@@ -95,13 +67,7 @@ impl<F: Drop> Drop for Begun<F> {
 
 impl<F> Begun<F> {
     /// Its words, its outlets, and what is to be kept to the end.
-    pub fn parts(
-        self,
-    ) -> (
-        Result<Vec<String>, CommonEnding<'static>>,
-        Outlets<F>,
-        Vec<F>,
-    )
+    pub fn parts(self) -> (Result<Vec<String>, CommonEnding>, Outlets<F>, Vec<F>)
         ensures { result ≡ (self.words, self.outlets, self.held) }
     {
         let Begun {
@@ -123,7 +89,7 @@ where
     let outlets = open_outlets(rt)?;
     let words = match words_of(rt) {
         Ok(words) => Ok(words),
-        Err(fault) => Err(CommonEnding::wordless(fault)),
+        Err(kind) => Err(CommonEnding::wordless(kind)),
     };
     Some(Begun {
         words,
@@ -133,21 +99,21 @@ where
 }
 
 /// The outlet of a capture, whose file isn't there yet, if one is asked for. To be opened once all sockets are had: so none is left where
-/// a program doesn't start.
+/// a program doesn't start. An error is of the system's kind.
 pub fn open_capture<R: Files>(
     rt: &R,
     alloc: Global,
     file: Option<&str>,
-) -> Result<Option<Box<Outlet<R::File>>>, SystemFault> {
+) -> Result<Option<Box<Outlet<R::File>>>, ErrorKind> {
     let Some(file) = file else {
         return Ok(None);
     };
     match make_for_owner(rt, file) {
         Ok(stream) => match Outlet::new(alloc, file, stream) {
             Ok(outlet) => Ok(Some(outlet)),
-            Err(_) => Err(SystemFault::OutOfMemory),
+            Err(_) => Err(ErrorKind::OutOfMemory),
         },
-        Err(fault) => Err(SystemFault::of(fault.kind())),
+        Err(fault) => Err(fault.kind()),
     }
 }
 

@@ -1,6 +1,4 @@
 -- How the program ends by words that are refused, and by a configuration that is.
-use Rattle.std.specs.Prelude.{ℕ, List}
-use Rattle.std.specs.Borrow.{Bor}
 use Rattle.agent_texts.specs.declared.config_fault.ConfigRefusal.{ConfigRefusal}
 use Rattle.agent_texts.specs.declared.config_fault.ConfigRefusal.TheVariants as refusals
 use Rattle.live_ends.specs.declared.ending.CommonEnding.TheVariants as endings
@@ -13,23 +11,23 @@ use Rattle.rgca.specs.declared.ending.Ending.TheVariants.{Common, OfCheck, OfPho
 
 abbrev pub word_ending : WordFault → Ending
 word_ending (faults.Common ending) = Common ending
-word_ending (faults.BadLine word) = BadLine word
+word_ending (faults.BadLine is_other) = BadLine is_other
 word_ending faults.SameLine = SameLine
 word_ending faults.NoCheck = NoCheck
 
 -- by words behind `check`, which have a usage and a help of their own
 abbrev pub check_ending : WordFault → Ending
 check_ending (faults.Common ending) = OfCheck ending
-check_ending (faults.BadLine word) = BadLine word
+check_ending (faults.BadLine is_other) = BadLine is_other
 check_ending faults.SameLine = SameLine
 check_ending faults.NoCheck = NoCheck
 
 -- by words behind `phones`, likewise
 abbrev pub phone_ending : PhoneWordFault → Ending
 phone_ending (phone_faults.Common ending) = OfPhones ending
-phone_ending (phone_faults.BadGateway word) = BadGateway word
+phone_ending (phone_faults.BadGateway word) = BadGateway
 
--- by the configuration in this file
-abbrev pub config_by : Bor (List ℕ) → ConfigRefusal → Ending
-config_by file refusals.OutOfMemory = Common endings.OutOfMemory
-config_by file (refusals.Told line) = Config file line
+-- by the configuration
+abbrev pub config_by : ConfigRefusal → Ending
+config_by refusals.OutOfMemory = Common endings.OutOfMemory
+config_by (refusals.Told line) = Config line

@@ -16,15 +16,15 @@ status_of Played = 0
 status_of (Unexpected text) = 1
 status_of (Unplayed text) = 3
 status_of (BadScript text) = 2
-status_of (BadGateway word) = 2
-status_of (BadLine word) = 2
+status_of BadGateway = 2
+status_of (BadLine is_other) = 2
 status_of SameLine = 2
 status_of NoCheck = 2
-status_of (Config file line) = 2
+status_of (Config line) = 2
 status_of (NoAnswer address) = 3
 status_of (NotServing address) = 3
-status_of (NoSuchLine word) = 3
-status_of (InUse word) = 3
+status_of (NoSuchLine is_other) = 3
+status_of (InUse is_other) = 3
 status_of System = 3
 
 -- none of its own is

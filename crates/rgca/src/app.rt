@@ -1,16 +1,15 @@
 //! The program: reads its words and its configuration, and serves, checks or plays.
 use crate::checks::checked;
-use crate::ending::{Ending, config_ending, word_ending};
+use crate::ending::{Ending, Named, config_ending, word_ending};
 use crate::help::of_all;
 use crate::phones::played;
 use crate::words::{Settings, read_words};
 use agent_texts::{AgentConfig, ConfigRefusal, Place, missing, read_config, too_long};
 use live_agent::{WireSettings, serve_agent};
-use live_ends::{Begun, CommonEnding, Outlets, SocketWanted, begin, end, read_file};
+use live_ends::{AddressWord, CommonEnding, Outlets, SocketWanted, begin, end, read_file};
 use rgw_scripts::LIMIT;
 use std::alloc::Global;
 use std::io::Write;
-use std::mem::replace;
 use std::net::Net;
 use std::os::fd::AsRawFd;
 use std::rt::{Clock, Env, Files};
@@ -39,18 +38,18 @@ fn config_of(
 fn wire_settings(settings: &Settings<'_>, config: &AgentConfig) -> WireSettings {
     let listen = match settings.listen {
         Some(address) => SocketWanted {
-            word: "--listen",
+            word: AddressWord::Listen,
             address,
         },
         None => SocketWanted {
-            word: "own",
+            word: AddressWord::OwnKey,
             address: config.own,
         },
     };
     WireSettings {
         listen,
         control: SocketWanted {
-            word: "--control",
+            word: AddressWord::Control,
             address: settings.control,
         },
         network: settings.network,
@@ -61,35 +60,37 @@ fn wire_settings(settings: &Settings<'_>, config: &AgentConfig) -> WireSettings 
 }
 
 // Serves with the configuration in this text: how the program ends then.
-fn serve_with<'w, R: Files + Net + Clock>(
+fn serve_with<R: Files + Net + Clock>(
     rt: &R,
     alloc: Global,
-    settings: &Settings<'w>,
+    settings: &Settings<'_>,
     text: &[u8],
     outlets: &mut Outlets<R::File>,
-) -> Ending<'w> {
+) -> Ending {
     let config = match config_of(alloc, settings, text) {
         Ok(config) => config,
-        Err(refusal) => return config_ending(settings.config, refusal),
+        Err(refusal) => return config_ending(refusal),
     };
     let (is_routed, capture) = (settings.route, settings.capture);
     let wire = wire_settings(settings, &config);
     Ending::Common(serve_agent(rt, alloc, &config, is_routed, wire, capture, outlets))
 }
 
-// Serves as these words ask: how the program ends then.
+// Serves as these words ask: how the program ends then, and what that names.
 fn served<'w, R: AllocGlobal + Files + Net + Clock>(
     rt: &R,
     words: &'w [String],
+    named: &mut Named<'w>,
     outlets: &mut Outlets<R::File>,
-) -> Ending<'w> {
+) -> Ending {
     let settings = match read_words(rt.alloc(), words, &mut outlets.error) {
         Ok(settings) => settings,
         Err(fault) => return word_ending(fault),
     };
+    *named = settings.named();
     match read_file(rt, rt.alloc(), settings.config, LIMIT as u64) {
         Ok(text) => serve_with(rt, rt.alloc(), &settings, text.as_slice(), outlets),
-        Err(ending) => Ending::Common(ending),
+        Err(kind) => Ending::Common(CommonEnding::unreadable(kind)),
     }
 }
 
@@ -97,10 +98,11 @@ fn served<'w, R: AllocGlobal + Files + Net + Clock>(
 fn tell<R: AllocGlobal + Clock, F: Write + Drop>(
     rt: &R,
     outlets: &mut Outlets<F>,
-    ending: &Ending<'_>,
+    ending: &Ending,
+    named: Named<'_>,
 ) -> u8 {
     let mut text = Vec::new(rt.alloc());
-    let text = match ending.put_text(rt.alloc(), &mut text, of_all()) {
+    let text = match ending.put_text(rt.alloc(), &mut text, of_all(), named) {
         Ok(()) => Ok(text),
         Err(refused) => Err(refused),
     };
@@ -127,29 +129,33 @@ fn part_in(asked: &[String]) -> Part {
     }
 }
 
-// How the program with these words ends, of which the first is its name.
+// How the program with these words ends, of which the first is its name, and what that names.
 fn ending_by<'w, R: AllocGlobal + Files + Net + Clock>(
     rt: &R,
     words: &'w [String],
+    named: &mut Named<'w>,
     outlets: &mut Outlets<R::File>,
-) -> Ending<'w> {
+) -> Ending {
     let asked = words.get(1..).unwrap_or(&[]);
     match part_in(asked) {
-        Part::Check => checked(rt, asked, outlets),
-        Part::Phones => played(rt, rt.alloc(), asked),
-        Part::Serving => served(rt, words, outlets),
+        Part::Check => checked(rt, asked, named, outlets),
+        Part::Phones => played(rt, rt.alloc(), asked, named),
+        Part::Serving => served(rt, words, named, outlets),
     }
 }
 
-// Runs the program that has begun so, and gives its exit status.
-fn run_with<R: AllocGlobal + Files + Net + Clock>(rt: &R, begun: &mut Begun<R::File>) -> u8 {
-    // The words are taken out, to be lent beside the outlets.
-    let words = match replace(&mut begun.words, Err(CommonEnding::Usage)) {
-        Ok(words) => words,
-        Err(ending) => return tell(rt, &mut begun.outlets, &Ending::Common(ending)),
+// Runs the program with these words, or without them, and gives its exit status.
+fn run_with<R: AllocGlobal + Files + Net + Clock>(
+    rt: &R,
+    words: &Result<Vec<String>, CommonEnding>,
+    outlets: &mut Outlets<R::File>,
+) -> u8 {
+    let mut named = Named::nothing();
+    let ending = match words {
+        Ok(words) => ending_by(rt, words.as_slice(), &mut named, outlets),
+        Err(ending) => Ending::Common(*ending),
     };
-    let ending = ending_by(rt, words.as_slice(), &mut begun.outlets);
-    tell(rt, &mut begun.outlets, &ending)
+    tell(rt, outlets, &ending, named)
 }
 
 /// Runs the program, and gives its exit status.
@@ -158,7 +164,7 @@ where
     R::File: AsRawFd,
 {
     match begin(rt) {
-        Some(mut begun) => run_with(rt, &mut begun),
+        Some(mut begun) => run_with(rt, &begun.words, &mut begun.outlets),
         None => CommonEnding::OutOfMemory.status(),
     }
 }

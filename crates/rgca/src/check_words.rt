@@ -1,10 +1,10 @@
 //! Reads the words behind `check`.
-use crate::ending::line_word;
+use crate::ending::Named;
 use crate::help::CHECK_USAGE;
 use crate::words::{Kind, WordFault, address_behind, fault_of, with_words};
 use clap::{ArgMatches, Command};
 use live_agent::{CheckSettings, Telephone, is_check};
-use live_ends::{CommonEnding, Outlet};
+use live_ends::{AddressWord, CommonEnding, Outlet, boxed};
 use std::alloc::{AllocError, Global};
 use std::io::Write;
 use std::net::SocketAddrV4;
@@ -28,75 +28,21 @@ const WORDS: [(&str, Kind); 11] = [
     ("junit", Kind::Valued),
 ];
 
-// The words behind which an address stands.
-#[derive(Clone, Copy)]
-enum AddressWord {
-    Gateway,
-    Own,
-    Phones,
-    Hook,
-}
-
-// How clap knows such a word, and how it is told.
-fn names_of(word: AddressWord) -> (&'static str, &'static str) {
-    match word {
-        AddressWord::Gateway => ("address", "ADDRESS"),
-        AddressWord::Own => ("own", "--own"),
-        AddressWord::Phones => ("phones", "--phones"),
-        AddressWord::Hook => ("hook", "--hook"),
-    }
-}
-
-// What is wrong with the words of a check. It has no texts, for which a proof pays at each `?`.
-#[derive(Clone, Copy)]
-enum Wrong {
-    // They are other words, or some are lacking.
-    Usage,
-    // What stands behind this word isn't an address.
-    Address { word: AddressWord },
-    // What stands there isn't the name of one line: of the other one, or of that which is checked.
-    Line { is_other: bool },
-    // The other line to be checked is the line itself.
-    SameLine,
-    // There is no check of a name that stands behind `--only`.
-    NoCheck,
-}
-
-// Why the program doesn't do what words say of which this is wrong.
-fn fault_by(wrong: Wrong) -> WordFault {
-    match wrong {
-        Wrong::Usage => WordFault::Common(CommonEnding::Usage),
-        Wrong::Address { word } => {
-            let (_, word) = names_of(word);
-            WordFault::Common(CommonEnding::BadAddress { word })
-        }
-        Wrong::Line { is_other } => WordFault::BadLine {
-            word: line_word(is_other),
-        },
-        Wrong::SameLine => WordFault::SameLine,
-        Wrong::NoCheck => WordFault::NoCheck,
-    }
-}
-
 fn command<'a>(alloc: Global) -> Result<Command<'a>, AllocError> {
     let command = Command::new(alloc, "check").override_usage(CHECK_USAGE);
     with_words(alloc, command, &WORDS)
 }
 
-// The address behind a word, if that stands there.
-fn address_at(matches: &ArgMatches<'_>, word: AddressWord) -> Result<Option<SocketAddrV4>, Wrong> {
-    let (name, told) = names_of(word);
-    match address_behind(matches, name, told) {
-        Ok(address) => Ok(address),
-        Err(_) => Err(Wrong::Address { word }),
-    }
-}
-
 // The address that a word has, which stands there or has a default.
-fn address_in(matches: &ArgMatches<'_>, word: AddressWord) -> Result<SocketAddrV4, Wrong> {
-    match address_at(matches, word)? {
-        Some(address) => Ok(address),
-        None => Err(Wrong::Usage),
+fn address_in(
+    matches: &ArgMatches<'_>,
+    name: &str,
+    word: AddressWord,
+) -> Result<SocketAddrV4, WordFault> {
+    match address_behind(matches, name, word) {
+        Ok(Some(address)) => Ok(address),
+        Ok(None) => Err(WordFault::Common(CommonEnding::Usage)),
+        Err(fault) => Err(fault),
     }
 }
 
@@ -120,25 +66,18 @@ fn is_name(text: &str) -> bool {
     !bytes.is_empty() && bytes.len() <= LONGEST_NAME && are_of_name(bytes)
 }
 
-// The name of a line that a text is.
-fn name_in(text: &str, is_other: bool) -> Result<&str, Wrong> {
-    if is_name(text) {
-        Ok(text)
-    } else {
-        Err(Wrong::Line { is_other })
-    }
-}
-
 // The name of another line than this, if that stands there. Case makes no difference between names.
-fn other_in<'a>(matches: &ArgMatches<'a>, line: &str) -> Result<Option<&'a str>, Wrong> {
+fn other_in<'a>(matches: &ArgMatches<'a>, line: &str) -> Result<Option<&'a str>, WordFault> {
     let Some(text) = matches.get_str("more-lines") else {
         return Ok(None);
     };
-    let other = name_in(text, true)?;
-    if other.eq_ignore_ascii_case(line) {
-        return Err(Wrong::SameLine);
+    if !is_name(text) {
+        return Err(WordFault::BadLine { is_other: true });
     }
-    Ok(Some(other))
+    if text.eq_ignore_ascii_case(line) {
+        return Err(WordFault::SameLine);
+    }
+    Ok(Some(text))
 }
 
 // Whether each of these names, which have commas between them, is that of a check.
@@ -152,14 +91,14 @@ fn are_checks(names: &str) -> bool {
 }
 
 // The names behind `--only`, each of which is that of a check.
-fn names_in<'a>(matches: &ArgMatches<'a>) -> Result<Option<&'a str>, Wrong> {
+fn names_in<'a>(matches: &ArgMatches<'a>) -> Result<Option<&'a str>, WordFault> {
     let Some(names) = matches.get_str("only") else {
         return Ok(None);
     };
     if are_checks(names) {
         Ok(Some(names))
     } else {
-        Err(Wrong::NoCheck)
+        Err(WordFault::NoCheck)
     }
 }
 
@@ -167,14 +106,20 @@ fn names_in<'a>(matches: &ArgMatches<'a>) -> Result<Option<&'a str>, Wrong> {
 fn telephone_in<'a>(
     matches: &ArgMatches<'_>,
     line: &'a str,
-) -> Result<Option<Telephone<'a>>, Wrong> {
-    let phones = address_at(matches, AddressWord::Phones)?;
-    let hook = address_at(matches, AddressWord::Hook)?;
+) -> Result<Option<Telephone<'a>>, WordFault> {
+    let phones = match address_behind(matches, "phones", AddressWord::Phones) {
+        Ok(phones) => phones,
+        Err(fault) => return Err(fault),
+    };
+    let hook = match address_behind(matches, "hook", AddressWord::Hook) {
+        Ok(hook) => hook,
+        Err(fault) => return Err(fault),
+    };
     let (address, is_hook) = match (phones, hook) {
         (None, None) => return Ok(None),
         (Some(address), None) => (address, false),
         (None, Some(address)) => (address, true),
-        (Some(_), Some(_)) => return Err(Wrong::Usage),
+        (Some(_), Some(_)) => return Err(WordFault::Common(CommonEnding::Usage)),
     };
     Ok(Some(Telephone {
         address,
@@ -190,25 +135,71 @@ pub struct CheckWords<'a> {
     pub junit: Option<&'a str>,
 }
 
-fn settings_in<'a>(matches: &ArgMatches<'a>) -> Result<CheckWords<'a>, Wrong> {
-    let (Some(domain), Some(line)) = (matches.get_str("domain"), matches.get_str("line")) else {
-        return Err(Wrong::Usage);
+impl<'a> CheckWords<'a> {
+    /// What an ending names: the program writes the report.
+    pub(crate) fn named(&self) -> Named<'a> {
+        Named::of_files("", self.junit.unwrap_or(""))
+    }
+}
+
+// What the words of a check say, of this line in this domain. It stands in a box: whoever holds it, or may have a fault in its place,
+// holds little.
+fn settings_of<'a>(
+    alloc: Global,
+    matches: &ArgMatches<'a>,
+    domain: &'a str,
+    line: &'a str,
+) -> Result<Box<CheckWords<'a>>, WordFault> {
+    let gateway = match address_in(matches, "address", AddressWord::Gateway) {
+        Ok(gateway) => gateway,
+        Err(fault) => return Err(fault),
     };
-    let line = name_in(line, false)?;
+    let other = match other_in(matches, line) {
+        Ok(other) => other,
+        Err(fault) => return Err(fault),
+    };
+    let only = match names_in(matches) {
+        Ok(only) => only,
+        Err(fault) => return Err(fault),
+    };
+    let telephone = match telephone_in(matches, line) {
+        Ok(telephone) => telephone,
+        Err(fault) => return Err(fault),
+    };
+    let own = match address_in(matches, "own", AddressWord::Own) {
+        Ok(own) => own,
+        Err(fault) => return Err(fault),
+    };
     let junit = matches.get_str("junit");
     let settings = CheckSettings {
-        gateway: address_in(matches, AddressWord::Gateway)?,
+        gateway,
         domain,
         line,
-        other: other_in(matches, line)?,
+        other,
         is_slow: matches.get_flag("slow"),
-        only: names_in(matches)?,
-        telephone: telephone_in(matches, line)?,
+        only,
+        telephone,
         is_json: matches.get_flag("json"),
         is_junit: junit.is_some(),
-        own: address_in(matches, AddressWord::Own)?,
+        own,
     };
-    Ok(CheckWords { settings, junit })
+    match boxed(alloc, CheckWords { settings, junit }) {
+        Ok(words) => Ok(words),
+        Err(_) => Err(WordFault::Common(CommonEnding::OutOfMemory)),
+    }
+}
+
+fn settings_in<'a>(
+    alloc: Global,
+    matches: &ArgMatches<'a>,
+) -> Result<Box<CheckWords<'a>>, WordFault> {
+    let (Some(domain), Some(line)) = (matches.get_str("domain"), matches.get_str("line")) else {
+        return Err(WordFault::Common(CommonEnding::Usage));
+    };
+    if !is_name(line) {
+        return Err(WordFault::BadLine { is_other: false });
+    }
+    settings_of(alloc, matches, domain, line)
 }
 
 /// Reads the words of a check, of which the first is `check`; this outlet says which are wrong.
@@ -216,7 +207,7 @@ pub fn read_check_words<'a, F: Write + Drop>(
     alloc: Global,
     words: &'a [String],
     said: &mut Outlet<F>,
-) -> Result<CheckWords<'a>, WordFault> {
+) -> Result<Box<CheckWords<'a>>, WordFault> {
     let Ok(parser) = command(alloc) else {
         return Err(WordFault::Common(CommonEnding::OutOfMemory));
     };
@@ -224,8 +215,5 @@ pub fn read_check_words<'a, F: Write + Drop>(
         Ok(matches) => matches,
         Err(fault) => return Err(fault_of(alloc, &fault, said)),
     };
-    match settings_in(&matches) {
-        Ok(words) => Ok(words),
-        Err(wrong) => Err(fault_by(wrong)),
-    }
+    settings_in(alloc, &matches)
 }

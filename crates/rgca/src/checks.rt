@@ -1,9 +1,9 @@
 //! Checks a gateway as words ask, or tells which checks there are.
 use crate::check_words::{CheckWords, read_check_words};
-use crate::ending::{Ending, check_words_ending, unchecked_ending};
+use crate::ending::{Ending, Named, check_words_ending, unchecked_ending};
 use crate::help::of_all;
 use live_agent::{check_gateway, check_list, fault_text};
-use live_ends::{CommonEnding, Outlet, Outlets, SystemFault};
+use live_ends::{CommonEnding, Outlet, Outlets};
 use mg_bytes::OutOfMemory;
 use std::alloc::Global;
 use std::fs::File;
@@ -17,18 +17,10 @@ fn make_file<R: Files>(rt: &R, file: &str, text: &str) -> io::Result<()> {
     out.write_all(text.as_bytes())
 }
 
-// Writes a report into this file.
-fn write_report<'w, R: Files>(rt: &R, file: &'w str, report: &str) -> Result<(), CommonEnding<'w>> {
-    match make_file(rt, file, report) {
-        Ok(()) => Ok(()),
-        Err(fault) => Err(CommonEnding::unwritable(file, SystemFault::of(fault.kind()))),
-    }
-}
-
 // An object that says why it fails, as a line.
-fn fault_line(alloc: Global, ending: &Ending<'_>) -> Result<String, OutOfMemory> {
+fn fault_line(alloc: Global, ending: &Ending, named: Named<'_>) -> Result<String, OutOfMemory> {
     let mut why = Vec::new(alloc);
-    ending.put_text(alloc, &mut why, of_all())?;
+    ending.put_text(alloc, &mut why, of_all(), named)?;
     let why = str::from_utf8(why.as_slice()).unwrap_or("");
     let mut line = fault_text(alloc, why.trim_end())?;
     line.push('\n')?;
@@ -37,13 +29,15 @@ fn fault_line(alloc: Global, ending: &Ending<'_>) -> Result<String, OutOfMemory>
 
 // How the program ends where nothing can be checked, or a report can't be kept. That is said as an object of the report, too, where
 // that is JSON; where memory is refused for that, its line on standard error says it alone.
-fn failed<'w, F: Write + Drop>(
+fn failed<F: Write + Drop>(
     alloc: Global,
+    words: &CheckWords<'_>,
     out: &mut Outlet<F>,
-    ending: Ending<'w>,
-    is_json: bool,
-) -> Ending<'w> {
-    if is_json && let Ok(line) = fault_line(alloc, &ending) {
+    ending: Ending,
+) -> Ending {
+    if words.settings.is_json
+        && let Ok(line) = fault_line(alloc, &ending, words.named())
+    {
         out.say(line.as_bytes());
         out.offer();
     }
@@ -51,31 +45,33 @@ fn failed<'w, F: Write + Drop>(
 }
 
 // Checks a gateway as these words ask.
-fn check_by<'w, R: AllocGlobal + Files + Net + Clock, F: Write + Drop>(
+fn check_by<R: AllocGlobal + Files + Net + Clock, F: Write + Drop>(
     rt: &R,
-    words: &CheckWords<'w>,
+    words: &CheckWords<'_>,
     out: &mut Outlet<F>,
-) -> Ending<'w> {
-    let is_json = words.settings.is_json;
+) -> Ending {
     let checked = match check_gateway(rt, words.settings, out) {
         Ok(checked) => checked,
         Err(fault) => {
             let ending = unchecked_ending(fault, words.settings.gateway, words.settings.own);
-            return failed(rt.alloc(), out, ending, is_json);
+            return failed(rt.alloc(), words, out, ending);
         }
     };
     let status = checked.status;
     match words.junit {
-        Some(file) => match write_report(rt, file, checked.junit.as_str()) {
+        Some(file) => match make_file(rt, file, checked.junit.as_str()) {
             Ok(()) => Ending::Checked { status },
-            Err(ending) => failed(rt.alloc(), out, Ending::Common(ending), is_json),
+            Err(fault) => {
+                let ending = Ending::Common(CommonEnding::unwritable(fault.kind()));
+                failed(rt.alloc(), words, out, ending)
+            }
         },
         None => Ending::Checked { status },
     }
 }
 
 // Tells which checks there are.
-fn listed<'w, F: Write + Drop>(alloc: Global, out: &mut Outlet<F>) -> Ending<'w> {
+fn listed<F: Write + Drop>(alloc: Global, out: &mut Outlet<F>) -> Ending {
     let Ok(list) = check_list(alloc) else {
         return Ending::Common(CommonEnding::OutOfMemory);
     };
@@ -96,12 +92,13 @@ fn asks_for_list(words: &[String]) -> bool {
     }
 }
 
-/// How the program ends by a check with these words, of which the first is `check`.
+/// How the program ends by a check with these words, of which the first is `check`, and what that names.
 pub fn checked<'w, R: AllocGlobal + Files + Net + Clock, F: Write + Drop>(
     rt: &R,
     words: &'w [String],
+    named: &mut Named<'w>,
     outlets: &mut Outlets<F>,
-) -> Ending<'w> {
+) -> Ending {
     if asks_for_list(words) {
         return listed(rt.alloc(), &mut outlets.output);
     }
@@ -109,5 +106,6 @@ pub fn checked<'w, R: AllocGlobal + Files + Net + Clock, F: Write + Drop>(
         Ok(asked) => asked,
         Err(fault) => return check_words_ending(fault),
     };
+    *named = asked.named();
     check_by(rt, &asked, &mut outlets.output)
 }

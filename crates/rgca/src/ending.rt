@@ -4,14 +4,14 @@ ghost use Rattle.std.specs.Net.Text.{socket_v4_text};
 ghost use Rattle.live_ends.specs.Wording.{joined};
 ghost use Rattle.rgca.specs.Statuses.{status_of, is_asked};
 ghost use Rattle.rgca.specs.Endings.{word_ending, check_ending, phone_ending, config_by};
-ghost use Rattle.rgca.specs.Texts.{ending_text};
+ghost use Rattle.rgca.specs.Texts.{line_word, ending_text};
 
 use crate::phone_words::PhoneWordFault;
 use crate::words::WordFault;
 use agent_texts::ConfigRefusal;
 use exchange_log::peer_text;
 use live_agent::CheckFault;
-use live_ends::{About, CommonEnding, SystemFault, put_pieces};
+use live_ends::{About, AddressWord, CommonEnding, FileNames, put_pieces};
 use mg_bytes::{OutOfMemory, Text};
 use std::alloc::Global;
 use std::net::SocketAddrV4;
@@ -19,6 +19,11 @@ use std::net::SocketAddrV4;
 // What a text is that doesn't name one line.
 const NO_LINE: &str =
     ": not the name of one line, as aaln/1: 1 to 64 characters, no blank, *, $ or @\n";
+
+// What is said of a line that a gateway doesn't know, and of one that is in use.
+const NO_SUCH_LINE: &str = ": 500, no such line there, or not in --domain\n";
+
+const IN_USE: &str = ": in use, off hook or with a connection\n";
 
 // What a name is that no check has.
 const NO_CHECK: &str = "--only: no check has this name; rgca check --list has them\n";
@@ -39,15 +44,40 @@ pub struct Abouts {
     pub phones: About,
 }
 
-/// How the program ends.
+/// What an ending names: the program's files, and a word that should say a gateway.
+#[derive(Clone, Copy)]
+pub struct Named<'a> {
+    pub files: FileNames<'a>,
+    pub gateway: &'a str,
+}
+
+impl<'a> Named<'a> {
+    /// Nothing is named.
+    pub(crate) fn nothing() -> Named<'a> {
+        Named::of_files("", "")
+    }
+
+    /// The program reads this file, and writes that one.
+    pub(crate) fn of_files(read_from: &'a str, written_to: &'a str) -> Named<'a> {
+        Named {
+            files: FileNames {
+                read_from,
+                written_to,
+            },
+            gateway: "",
+        }
+    }
+}
+
+/// How the program ends. It holds no text of others: who tells it has what it names.
 #[derive(Drop)]
-pub enum Ending<'a> {
+pub enum Ending {
     /// As any program may.
-    Common(CommonEnding<'a>),
+    Common(CommonEnding),
     /// So by words behind `check`, which have a usage and a help of their own.
-    OfCheck(CommonEnding<'a>),
+    OfCheck(CommonEnding),
     /// So by words behind `phones`, likewise.
-    OfPhones(CommonEnding<'a>),
+    OfPhones(CommonEnding),
     /// A gateway was checked, which has this exit status.
     Checked { status: u8 },
     /// A script of telephones was played, and all was as expected.
@@ -58,29 +88,29 @@ pub enum Ending<'a> {
     Unplayed { text: Text },
     /// A script says something that can't be done, which a line tells.
     BadScript { text: Text },
-    /// This word behind a script isn't NAME=ADDRESS, or has what another one has.
-    BadGateway { word: &'a str },
-    /// What stands behind this word isn't the name of one line.
-    BadLine { word: &'static str },
+    /// A word behind a script isn't NAME=ADDRESS, or has what another one has.
+    BadGateway,
+    /// What stands behind `--line`, or `--more-lines`, isn't the name of one line.
+    BadLine { is_other: bool },
     /// The other line to be checked is the line itself.
     SameLine,
     /// There is no check of a name that stands behind `--only`.
     NoCheck,
-    /// The configuration in this file has a fault, which a line tells, without its end.
-    Config { file: &'a str, line: Vec<u8> },
+    /// The configuration has a fault, which a line tells, without its end.
+    Config { line: Vec<u8> },
     /// The gateway at this address can't be checked: it doesn't answer.
     NoAnswer { address: SocketAddrV4 },
     /// The gateway at this address can't be checked: no call agent has answered its announcement yet.
     NotServing { address: SocketAddrV4 },
-    /// The gateway knows no line that this word names.
-    NoSuchLine { word: &'static str },
-    /// The line that this word names can't be checked: it has a connection, or is off hook.
-    InUse { word: &'static str },
+    /// The gateway knows no such line as is to be checked, or as the other one.
+    NoSuchLine { is_other: bool },
+    /// The line, or the other one, can't be checked: it has a connection, or is off hook.
+    InUse { is_other: bool },
     /// The clock, or what tells of sockets, failed in a check.
     System,
 }
 
-impl<'a> Ending<'a> {
+impl Ending {
     /// The exit status: 0 it did what was asked, 1 a telephone that wasn't as a script expects, 2 words, a configuration or a script
     /// that are refused, 3 memory, a file, a socket or a stream, or a gateway that can't be checked or whose telephones can't be worked;
     /// else that of a check.
@@ -95,7 +125,7 @@ impl<'a> Ending<'a> {
             Ending::Played => 0,
             Ending::Unexpected { .. } => 1,
             Ending::BadScript { .. }
-            | Ending::BadGateway { .. }
+            | Ending::BadGateway
             | Ending::BadLine { .. }
             | Ending::SameLine
             | Ending::NoCheck
@@ -121,101 +151,92 @@ impl<'a> Ending<'a> {
         }
     }
 
-    /// Puts what is said, where this is said of the program: on standard output what the words ask, else lines on standard error, or
-    /// nothing where it served, checked or played, or where all was said. Its only error is want of memory.
+    /// Puts what is said, where this is said of the program, and this is what it names: on standard output what the words ask, else
+    /// lines on standard error, or nothing where it served, checked or played, or where all was said. Its only error is want of memory.
     #[tactic(auto, unfolding(crate::specs::Texts::ending_text))]
     pub fn put_text(
         &self,
         alloc: Global,
         out: &mut Vec<u8>,
         about: Abouts,
+        named: Named<'_>,
     ) -> Result<(), OutOfMemory>
-        ensures { OnOk result (out.new.items ≡ out.old.items ++ ending_text about self.now) }
+        ensures { OnOk result (out.new.items ≡ out.old.items ++ ending_text about named.entry self.now) }
     {
         match self {
-            Ending::Common(ending) => ending.put_text(alloc, out, about.program),
-            Ending::OfCheck(ending) => ending.put_text(alloc, out, about.checks),
-            Ending::OfPhones(ending) => ending.put_text(alloc, out, about.phones),
+            Ending::Common(ending) => ending.put_text(alloc, out, about.program, named.files),
+            Ending::OfCheck(ending) => ending.put_text(alloc, out, about.checks, named.files),
+            Ending::OfPhones(ending) => ending.put_text(alloc, out, about.phones, named.files),
             Ending::Checked { .. } | Ending::Played => Ok(()),
             Ending::Unexpected { text } | Ending::Unplayed { text } | Ending::BadScript { text } =>
                 { out.extend_from_slice(text.as_bytes()) }
-            Ending::BadGateway { word } => put_word(out, *word, NO_GATEWAY),
-            Ending::BadLine { word } => put_word(out, *word, NO_LINE),
+            Ending::BadGateway => put_pieces(out, &[named.gateway, NO_GATEWAY]),
+            Ending::BadLine { is_other } => put_of_line(out, *is_other, NO_LINE),
             Ending::SameLine => put_pieces(out, &["--more-lines: the same line as --line\n"]),
             Ending::NoCheck => put_pieces(out, &[NO_CHECK]),
-            Ending::Config { file, line } => put_config(out, *file, line.as_slice()),
+            Ending::Config { line } => put_config(out, named.files.read_from, line.as_slice()),
             Ending::NoAnswer { address } => put_of(alloc, out, *address, NO_ANSWER),
             Ending::NotServing { address } => put_of(alloc, out, *address, NOT_SERVING),
-            Ending::NoSuchLine { word } => {
-                put_word(
-                    out,
-                    *word,
-                    ": 500, no such line there, or not in --domain\n",
-                )
-            }
-            Ending::InUse { word } => {
-                put_word(out, *word, ": in use, off hook or with a connection\n")
-            }
+            Ending::NoSuchLine { is_other } => put_of_line(out, *is_other, NO_SUCH_LINE),
+            Ending::InUse { is_other } => put_of_line(out, *is_other, IN_USE),
             Ending::System => put_pieces(out, &["clock or socket fault\n"]),
         }
     }
 }
 
 /// How the program ends by its words.
-pub fn word_ending<'a>(fault: WordFault) -> Ending<'a>
+pub fn word_ending(fault: WordFault) -> Ending
     ensures { result ≡ word_ending fault }
 {
     match fault {
         WordFault::Common(ending) => Ending::Common(ending),
-        WordFault::BadLine { word } => Ending::BadLine { word },
+        WordFault::BadLine { is_other } => Ending::BadLine { is_other },
         WordFault::SameLine => Ending::SameLine,
         WordFault::NoCheck => Ending::NoCheck,
     }
 }
 
 /// How the program ends by words behind `check`.
-pub fn check_words_ending<'a>(fault: WordFault) -> Ending<'a>
+pub fn check_words_ending(fault: WordFault) -> Ending
     ensures { result ≡ check_ending fault }
 {
     match fault {
         WordFault::Common(ending) => Ending::OfCheck(ending),
-        WordFault::BadLine { word } => Ending::BadLine { word },
+        WordFault::BadLine { is_other } => Ending::BadLine { is_other },
         WordFault::SameLine => Ending::SameLine,
         WordFault::NoCheck => Ending::NoCheck,
     }
 }
 
 /// How the program ends by words behind `phones`.
-pub fn phone_words_ending<'a>(fault: PhoneWordFault<'a>) -> Ending<'a>
+pub fn phone_words_ending(fault: PhoneWordFault<'_>) -> Ending
     ensures { result ≡ phone_ending fault.entry }
 {
     match fault {
         PhoneWordFault::Common(ending) => Ending::OfPhones(ending),
-        PhoneWordFault::BadGateway { word } => Ending::BadGateway { word },
+        PhoneWordFault::BadGateway { .. } => Ending::BadGateway,
     }
 }
 
-/// The word that names a line to be checked.
-pub(crate) fn line_word(is_other: bool) -> &'static str {
+// The word that names a line to be checked.
+fn line_word(is_other: bool) -> &'static str
+    ensures { result.now ≡ line_word is_other }
+{
     if is_other { "--more-lines" } else { "--line" }
 }
 
 /// How the program ends where the gateway at this address can't be checked from that one.
-pub(crate) fn unchecked_ending<'a>(
+pub(crate) fn unchecked_ending(
     fault: CheckFault,
     gateway: SocketAddrV4,
     own: SocketAddrV4,
-) -> Ending<'a> {
+) -> Ending {
     match fault {
         CheckFault::Unbound { kind } => {
-            Ending::Common(CommonEnding::unbound("--own", own, SystemFault::of(kind)))
+            Ending::Common(CommonEnding::unbound(AddressWord::Own, own, kind))
         }
-        CheckFault::NoSuchLine { is_other } => Ending::NoSuchLine {
-            word: line_word(is_other),
-        },
-        CheckFault::InUse { is_other } => Ending::InUse {
-            word: line_word(is_other),
-        },
+        CheckFault::NoSuchLine { is_other } => Ending::NoSuchLine { is_other },
+        CheckFault::InUse { is_other } => Ending::InUse { is_other },
         CheckFault::NoAnswer => Ending::NoAnswer { address: gateway },
         CheckFault::NotServing => Ending::NotServing { address: gateway },
         CheckFault::System => Ending::System,
@@ -225,12 +246,12 @@ pub(crate) fn unchecked_ending<'a>(
 }
 
 /// How the program ends by a configuration that is refused.
-pub fn config_ending(file: &str, refusal: ConfigRefusal) -> Ending<'_>
-    ensures { result ≡ config_by file.entry refusal }
+pub fn config_ending(refusal: ConfigRefusal) -> Ending
+    ensures { result ≡ config_by refusal }
 {
     match refusal {
         ConfigRefusal::OutOfMemory => Ending::Common(CommonEnding::OutOfMemory),
-        ConfigRefusal::Told { line } => Ending::Config { file, line },
+        ConfigRefusal::Told { line } => Ending::Config { line },
     }
 }
 
@@ -243,11 +264,11 @@ fn put_config(out: &mut Vec<u8>, file: &str, line: &[u8]) -> Result<(), OutOfMem
     out.extend_from_slice(b"\n")
 }
 
-// Says this of a word.
-fn put_word(out: &mut Vec<u8>, word: &str, what: &str) -> Result<(), OutOfMemory>
-    ensures { OnOk result (out.new.items ≡ out.old.items ++ joined (word.now ∷ what.now ∷ [])) }
+// Says this of the line to be checked, or of the other one.
+fn put_of_line(out: &mut Vec<u8>, is_other: bool, what: &str) -> Result<(), OutOfMemory>
+    ensures { OnOk result (out.new.items ≡ out.old.items ++ joined (line_word is_other ∷ what.now ∷ [])) }
 {
-    put_pieces(out, &[word, what])
+    put_pieces(out, &[line_word(is_other), what])
 }
 
 // Says this of the gateway at this address.

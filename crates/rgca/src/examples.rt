@@ -1,8 +1,7 @@
 //! Worked examples of the definitions, as theorems.
 #![tactic(auto, unfolding(crate::specs::Texts::ending_text))]
 
-ghost use Rattle.std.specs.Prelude.{◌≡◌, ℕ, codes, false, List, [], ◌∷◌, ◌++◌, map};
-ghost use Rattle.std.specs.Borrow.{Bor};
+ghost use Rattle.std.specs.Prelude.{◌≡◌, ℕ, Bool, codes, true, false, List, [], ◌∷◌, ◌++◌, map};
 ghost use Rattle.std.specs.Net.Text.{socket_v4_text};
 ghost use Rattle.std.specs.declared.net.socket_addr.SocketAddrV4.{SocketAddrV4};
 ghost use Rattle.live_ends.specs.declared.ending.CommonEnding.{CommonEnding};
@@ -10,6 +9,7 @@ ghost use Rattle.live_ends.specs.Ending.{status_of as common_status, is_asked as
 ghost use Rattle.rgca.specs.declared.words.WordFault.TheVariants as faults;
 ghost use Rattle.rgca.specs.declared.phone_words.PhoneWordFault.TheVariants as phone_faults;
 ghost use Rattle.rgca.specs.declared.ending.Abouts.{Abouts};
+ghost use Rattle.rgca.specs.declared.ending.Named.{Named};
 ghost use Rattle.rgca.specs.declared.ending.Ending.TheVariants.{Common, OfCheck, OfPhones, Checked, Played, Unexpected, Unplayed, BadScript, BadGateway, BadLine, SameLine, NoCheck, Config, NoAnswer, NotServing, NoSuchLine, InUse, System};
 ghost use Rattle.rgca.specs.Statuses.{status_of, is_asked};
 ghost use Rattle.rgca.specs.Endings.{word_ending, check_ending, phone_ending};
@@ -17,8 +17,8 @@ ghost use Rattle.rgca.specs.Texts.{ending_text};
 
 /// Each sentence at an example.
 pub fn each_sentence_has_an_example()
-    // What was asked was done, or words or a script are refused, or the system failed, or a gateway can't be checked or its telephones worked,
-    // or a telephone wasn't as was expected.
+    // What was asked was done, or words or a script are refused, or the system failed, or a gateway can't be checked or its telephones
+    // worked, or a telephone wasn't as was expected.
     ensures common { (ending : CommonEnding) → status_of (Common ending) ≡ common_status ending }
     ensures statuses_tell_what_came_of_it_of_check { (ending : CommonEnding) → status_of (OfCheck ending) ≡ common_status ending }
     ensures statuses_tell_what_came_of_it_of_phones { (ending : CommonEnding) → status_of (OfPhones ending) ≡ common_status ending }
@@ -27,16 +27,16 @@ pub fn each_sentence_has_an_example()
     ensures statuses_tell_what_came_of_it_unexpected { (text : List ℕ) → status_of (Unexpected text) ≡ 1 }
     ensures statuses_tell_what_came_of_it_unplayed { (text : List ℕ) → status_of (Unplayed text) ≡ 3 }
     ensures statuses_tell_what_came_of_it_bad_script { (text : List ℕ) → status_of (BadScript text) ≡ 2 }
-    ensures statuses_tell_what_came_of_it_bad_gateway { (word : _) → status_of (BadGateway word) ≡ 2 }
+    ensures statuses_tell_what_came_of_it_bad_gateway { status_of BadGateway ≡ 2 }
     ensures statuses_tell_what_came_of_it_same { status_of SameLine ≡ 2 }
     ensures statuses_tell_what_came_of_it_no_check { status_of NoCheck ≡ 2 }
-    ensures statuses_tell_what_came_of_it_line { (word : _) → status_of (BadLine word) ≡ 2 }
-    ensures config { (file line : _) → status_of (Config file line) ≡ 2 }
+    ensures statuses_tell_what_came_of_it_line { map status_of (BadLine true ∷ BadLine false ∷ []) ≡ 2 ∷ 2 ∷ [] }
+    ensures config { (line : _) → status_of (Config line) ≡ 2 }
     ensures statuses_tell_what_came_of_it_system { status_of System ≡ 3 }
     ensures statuses_tell_what_came_of_it_silent { (address : _) → status_of (NoAnswer address) ≡ 3 }
     ensures statuses_tell_what_came_of_it_unserved { (address : _) → status_of (NotServing address) ≡ 3 }
-    ensures statuses_tell_what_came_of_it_no_line { (word : _) → status_of (NoSuchLine word) ≡ 3 }
-    ensures statuses_tell_what_came_of_it_in_use { (word : _) → status_of (InUse word) ≡ 3 }
+    ensures statuses_tell_what_came_of_it_no_line { map status_of (NoSuchLine true ∷ NoSuchLine false ∷ []) ≡ 3 ∷ 3 ∷ [] }
+    ensures statuses_tell_what_came_of_it_in_use { map status_of (InUse true ∷ InUse false ∷ []) ≡ 3 ∷ 3 ∷ [] }
     ensures asked { (ending : CommonEnding) → is_asked (Common ending) ≡ is_commonly_asked ending }
     ensures asked_of_check { (ending : CommonEnding) → is_asked (OfCheck ending) ≡ is_commonly_asked ending }
     ensures asked_of_phones { (ending : CommonEnding) → is_asked (OfPhones ending) ≡ is_commonly_asked ending }
@@ -52,36 +52,43 @@ pub fn further_sentences_have_examples()
         ≡ OfCheck ending }
     ensures a_check_and_a_script_have_their_own_usage_of_phones { (ending : CommonEnding) → phone_ending (phone_faults.Common ending)
         ≡ OfPhones ending }
-    ensures usage { (about : Abouts) (ending : CommonEnding) → ending_text about (Common ending) ≡ common_text about.program ending }
-    ensures check_usage { (about : Abouts) (ending : CommonEnding) → ending_text about (OfCheck ending) ≡ common_text about.checks ending }
-    ensures phones_usage { (about : Abouts) (ending : CommonEnding) → ending_text about (OfPhones ending)
-        ≡ common_text about.phones ending }
+    ensures usage { (about : Abouts) (named : Named) (ending : CommonEnding) → ending_text about named (Common ending)
+        ≡ common_text about.program named.files ending }
+    ensures check_usage { (about : Abouts) (named : Named) (ending : CommonEnding) → ending_text about named (OfCheck ending)
+        ≡ common_text about.checks named.files ending }
+    ensures phones_usage { (about : Abouts) (named : Named) (ending : CommonEnding) → ending_text about named (OfPhones ending)
+        ≡ common_text about.phones named.files ending }
     ensures a_check_and_a_script_have_their_own_usage_same { check_ending faults.SameLine ≡ word_ending faults.SameLine }
     ensures a_check_and_a_script_have_their_own_usage_no_check { check_ending faults.NoCheck ≡ word_ending faults.NoCheck }
     ensures unnamed { word_ending faults.NoCheck ≡ NoCheck }
-    ensures a_check_and_a_script_have_their_own_usage_line { (word : _) → check_ending (faults.BadLine word)
-        ≡ word_ending (faults.BadLine word) }
-    ensures gateway { (word : _) → phone_ending (phone_faults.BadGateway word) ≡ BadGateway word }
+    ensures a_check_and_a_script_have_their_own_usage_line { (is_other : Bool) → check_ending (faults.BadLine is_other)
+        ≡ word_ending (faults.BadLine is_other) }
+    ensures gateway { (word : _) → phone_ending (phone_faults.BadGateway word) ≡ BadGateway }
     // An ending says why, in a line or those that are told; nothing where a gateway was checked, or where all was as a script expects.
-    ensures an_ending_says_why_checked { (about : Abouts) → ending_text about (Checked 0) ≡ [] }
-    ensures an_ending_says_why_played { (about : Abouts) → ending_text about Played ≡ [] }
-    ensures an_ending_says_why_unexpected { (about : Abouts) (text : List ℕ) → ending_text about (Unexpected text) ≡ text }
-    ensures an_ending_says_why_unplayed { (about : Abouts) (text : List ℕ) → ending_text about (Unplayed text) ≡ text }
-    ensures an_ending_says_why_bad_script { (about : Abouts) (text : List ℕ) → ending_text about (BadScript text) ≡ text }
-    ensures an_ending_says_why_bad_gateway { (about : Abouts) (word : Bor (List ℕ)) → ending_text about (BadGateway word)
-        ≡ word.now ++ codes ": wanted NAME=ADDRESS, each name and each address once\n" }
-    ensures an_ending_says_why_line { (about : Abouts) (word : Bor (List ℕ)) → ending_text about (BadLine word)
-        ≡ word.now ++ codes ": not the name of one line, as aaln/1: 1 to 64 characters, no blank, *, $ or @\n" }
-    ensures an_ending_says_why_same { (about : Abouts) → ending_text about SameLine ≡ codes "--more-lines: the same line as --line\n" }
-    ensures an_ending_says_why_no_check { (about : Abouts) → ending_text about NoCheck
+    ensures an_ending_says_why_checked { (about : Abouts) (named : Named) → ending_text about named (Checked 0) ≡ [] }
+    ensures an_ending_says_why_played { (about : Abouts) (named : Named) → ending_text about named Played ≡ [] }
+    ensures an_ending_says_why_unexpected { (about : Abouts) (named : Named) (text : List ℕ) → ending_text about named (Unexpected text)
+        ≡ text }
+    ensures an_ending_says_why_unplayed { (about : Abouts) (named : Named) (text : List ℕ) → ending_text about named (Unplayed text)
+        ≡ text }
+    ensures an_ending_says_why_bad_script { (about : Abouts) (named : Named) (text : List ℕ) → ending_text about named (BadScript text)
+        ≡ text }
+    ensures an_ending_says_why_bad_gateway { (about : Abouts) (named : Named) → ending_text about named BadGateway
+        ≡ named.gateway.now ++ codes ": wanted NAME=ADDRESS, each name and each address once\n" }
+    ensures an_ending_says_why_line { (about : Abouts) (named : Named) → ending_text about named (BadLine false)
+        ≡ codes "--line: not the name of one line, as aaln/1: 1 to 64 characters, no blank, *, $ or @\n" }
+    ensures an_ending_says_why_same { (about : Abouts) (named : Named) → ending_text about named SameLine
+        ≡ codes "--more-lines: the same line as --line\n" }
+    ensures an_ending_says_why_no_check { (about : Abouts) (named : Named) → ending_text about named NoCheck
         ≡ codes "--only: no check has this name; rgca check --list has them\n" }
-    ensures an_ending_says_why_silent { (about : Abouts) (address : SocketAddrV4) → ending_text about (NoAnswer address)
-        ≡ socket_v4_text address ++ codes ": no answer\n" }
-    ensures an_ending_says_why_unserved { (about : Abouts) (address : SocketAddrV4) → ending_text about (NotServing address)
-        ≡ socket_v4_text address ++ codes ": 405, it waits for its call agent (--own answers for that)\n" }
-    ensures an_ending_says_why_no_line { (about : Abouts) (word : Bor (List ℕ)) → ending_text about (NoSuchLine word)
-        ≡ word.now ++ codes ": 500, no such line there, or not in --domain\n" }
-    ensures an_ending_says_why_in_use { (about : Abouts) (word : Bor (List ℕ)) → ending_text about (InUse word)
-        ≡ word.now ++ codes ": in use, off hook or with a connection\n" }
-    ensures an_ending_says_why_system { (about : Abouts) → ending_text about System ≡ codes "clock or socket fault\n" }
+    ensures an_ending_says_why_silent { (about : Abouts) (named : Named) (address : SocketAddrV4) →
+        ending_text about named (NoAnswer address) ≡ socket_v4_text address ++ codes ": no answer\n" }
+    ensures an_ending_says_why_unserved { (about : Abouts) (named : Named) (address : SocketAddrV4) →
+        ending_text about named (NotServing address) ≡ socket_v4_text address ++ codes ": 405, it waits for its call agent (--own answers for that)\n" }
+    ensures an_ending_says_why_no_line { (about : Abouts) (named : Named) → ending_text about named (NoSuchLine false)
+        ≡ codes "--line: 500, no such line there, or not in --domain\n" }
+    ensures an_ending_says_why_in_use { (about : Abouts) (named : Named) → ending_text about named (InUse true)
+        ≡ codes "--more-lines: in use, off hook or with a connection\n" }
+    ensures an_ending_says_why_system { (about : Abouts) (named : Named) → ending_text about named System
+        ≡ codes "clock or socket fault\n" }
 {}

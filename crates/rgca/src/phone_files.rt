@@ -1,5 +1,5 @@
 //! Reads a script of telephones, with all files that it brings.
-use crate::ending::Ending;
+use crate::ending::{Ending, Named};
 use crate::help::of_all;
 use crate::phone_words::PhoneSettings;
 use agent_texts::copied;
@@ -8,10 +8,11 @@ use mg_bytes::{Draft, OutOfMemory, Text};
 use phone_scripts::{Place, Reader, Script, ScriptFault, Wanted, fault_line, put_place};
 use rgw_scripts::LIMIT;
 use std::alloc::{AllocError, Global};
+use std::io::ErrorKind;
 use std::rt::Files;
 
 // How the program ends where a script can't be played, of which this is said.
-fn bad_script<'w>(said: Result<Text, OutOfMemory>) -> Ending<'w> {
+fn bad_script(said: Result<Text, OutOfMemory>) -> Ending {
     match said {
         Ok(text) => Ending::BadScript { text },
         Err(_) => Ending::Common(CommonEnding::OutOfMemory),
@@ -19,7 +20,7 @@ fn bad_script<'w>(said: Result<Text, OutOfMemory>) -> Ending<'w> {
 }
 
 // How the program ends by a file that is too long.
-fn too_long<'w>(alloc: Global, path: &str) -> Ending<'w> {
+fn too_long(alloc: Global, path: &str) -> Ending {
     let mut said = Draft::new(alloc);
     said.put(path.as_bytes());
     said.put(b": longer than ");
@@ -28,14 +29,31 @@ fn too_long<'w>(alloc: Global, path: &str) -> Ending<'w> {
     bad_script(said.into_text())
 }
 
-// The text of a file, or how the program ends where it is the script itself.
-fn text_in<'p, R: Files>(rt: &R, alloc: Global, path: &'p str) -> Result<Text, Ending<'p>> {
+// Why a file can't be had.
+#[derive(Clone, Copy)]
+enum FileFault {
+    // The system refuses it, by an error of this kind.
+    Refused { kind: ErrorKind },
+    // It is too long.
+    TooLong,
+}
+
+// How the program ends where this is why the script in this file can't be had.
+fn file_ending(alloc: Global, path: &str, fault: FileFault) -> Ending {
+    match fault {
+        FileFault::Refused { kind } => Ending::Common(CommonEnding::unreadable(kind)),
+        FileFault::TooLong => too_long(alloc, path),
+    }
+}
+
+// The text of a file.
+fn text_in<R: Files>(rt: &R, alloc: Global, path: &str) -> Result<Text, FileFault> {
     let text = match read_file(rt, alloc, path, LIMIT as u64) {
         Ok(text) => text,
-        Err(ending) => return Err(Ending::Common(ending)),
+        Err(kind) => return Err(FileFault::Refused { kind }),
     };
     if text.len() > LIMIT {
-        return Err(too_long(alloc, path));
+        return Err(FileFault::TooLong);
     }
     Ok(Text::of(text))
 }
@@ -48,19 +66,22 @@ fn script_text(alloc: Global, files: &[Text], fault: ScriptFault) -> Result<Text
     }
 }
 
-// What is said where a script can't have a file that it brings there: the program would end so if it were the script itself.
+// What is said where a script can't have the file with this path that it brings there: the program would end so if it were the script
+// itself.
 fn include_text(
     alloc: Global,
     files: &[Text],
     place: Place,
-    ending: &Ending<'_>,
+    path: &str,
+    fault: FileFault,
 ) -> Result<Text, OutOfMemory> {
-    if let Ending::Common(CommonEnding::OutOfMemory) = ending {
+    let ending = file_ending(alloc, path, fault);
+    if let Ending::Common(CommonEnding::OutOfMemory) = &ending {
         return Err(AllocError);
     }
     let mut text = Vec::new(alloc);
     put_place(alloc, &mut text, files, place)?;
-    ending.put_text(alloc, &mut text, of_all())?;
+    ending.put_text(alloc, &mut text, of_all(), Named::of_files(path, ""))?;
     Ok(Text::of(text))
 }
 
@@ -86,17 +107,18 @@ fn last_of(files: &[Text]) -> &[u8] {
 }
 
 // Gives a reader the file with this path, which its script brings there: how the program ends where that can't be had.
-fn give_file<'w, R: Files>(
+fn give_file<R: Files>(
     rt: &R,
     alloc: Global,
     path: &str,
     reader: &mut Reader<'_>,
     place: Place,
-) -> Option<Ending<'w>> {
+) -> Option<Ending> {
     let text = match text_in(rt, alloc, path) {
         Ok(text) => text,
-        Err(ending) => {
-            return Some(bad_script(include_text(alloc, reader.files(), place, &ending)));
+        Err(fault) => {
+            let said = include_text(alloc, reader.files(), place, path, fault);
+            return Some(bad_script(said));
         }
     };
     if reader.give(text).is_err() {
@@ -106,13 +128,13 @@ fn give_file<'w, R: Files>(
 }
 
 // Gives a reader the file that its script brings there: how the program ends where that can't be had.
-fn give_include<'w, R: Files>(
+fn give_include<R: Files>(
     rt: &R,
     alloc: Global,
     script: &str,
     reader: &mut Reader<'_>,
     place: Place,
-) -> Option<Ending<'w>> {
+) -> Option<Ending> {
     let Ok(path) = path_of(alloc, script, last_of(reader.files())) else {
         return Some(Ending::Common(CommonEnding::OutOfMemory));
     };
@@ -121,12 +143,12 @@ fn give_include<'w, R: Files>(
 }
 
 // Reads a script to its end: how the program ends where it can't be played.
-fn read_on<'w, R: Files>(
+fn read_on<R: Files>(
     rt: &R,
     alloc: Global,
     script: &str,
     reader: &mut Reader<'_>,
-) -> Option<Ending<'w>> {
+) -> Option<Ending> {
     for _ in 0..u64::MAX {
         let place = match reader.go_on() {
             Ok(Wanted::File { place }) => place,
@@ -144,13 +166,13 @@ fn read_on<'w, R: Files>(
 }
 
 // Reads a script in this file with this text: how the program ends where it can't be played.
-fn read_with<'w, R: Files>(
+fn read_with<R: Files>(
     rt: &R,
     alloc: Global,
     script: &str,
     text: Text,
     reader: &mut Reader<'_>,
-) -> Option<Ending<'w>> {
+) -> Option<Ending> {
     let Ok(file) = copied(alloc, script.as_bytes()) else {
         return Some(Ending::Common(CommonEnding::OutOfMemory));
     };
@@ -161,14 +183,14 @@ fn read_with<'w, R: Files>(
 }
 
 /// The script that is to be played, with all files that it brings. It can't be had, or has a fault: so the program ends then.
-pub fn read_script<'w, R: Files>(
+pub fn read_script<R: Files>(
     rt: &R,
     alloc: Global,
-    settings: &PhoneSettings<'w>,
-) -> Result<Script, Ending<'w>> {
+    settings: &PhoneSettings<'_>,
+) -> Result<Script, Ending> {
     let text = match text_in(rt, alloc, settings.script) {
         Ok(text) => text,
-        Err(ending) => return Err(ending),
+        Err(fault) => return Err(file_ending(alloc, settings.script, fault)),
     };
     let mut reader = Reader::new(alloc, settings.names.as_slice());
     if let Some(ending) = read_with(rt, alloc, settings.script, text, &mut reader) {

@@ -26,7 +26,7 @@ pub struct PhoneSettings<'a> {
 #[derive(Clone, Copy)]
 pub enum PhoneWordFault<'a> {
     /// As the words of any program may be refused, or ask for something else.
-    Common(CommonEnding<'a>),
+    Common(CommonEnding),
     /// This one isn't NAME=ADDRESS, or has what another one has.
     BadGateway { word: &'a str },
 }

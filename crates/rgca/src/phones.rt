@@ -1,9 +1,9 @@
 //! Plays a script of telephones.
-use crate::ending::{Ending, phone_words_ending};
+use crate::ending::{Ending, Named, phone_words_ending};
 use crate::phone_files::read_script;
-use crate::phone_words::{PhoneSettings, read_phone_words};
+use crate::phone_words::{PhoneSettings, PhoneWordFault, read_phone_words};
 use live_agent::{Played, play_phones};
-use live_ends::{CommonEnding, Live, SocketWanted};
+use live_ends::{AddressWord, CommonEnding, Live, SocketWanted};
 use mg_bytes::Text;
 use phone_scripts::{Failure, Player, Script, failure_text};
 use std::alloc::Global;
@@ -11,12 +11,7 @@ use std::net::{Ipv4Addr, Net, SocketAddrV4};
 use std::rt::{Clock, Files};
 
 // How the program ends by a play that failed.
-fn failure_ending<'w>(
-    alloc: Global,
-    files: &[Text],
-    names: &[Text],
-    failure: &Failure,
-) -> Ending<'w> {
+fn failure_ending(alloc: Global, files: &[Text], names: &[Text], failure: &Failure) -> Ending {
     let Ok(text) = failure_text(alloc, files, names, failure) else {
         return Ending::Common(CommonEnding::OutOfMemory);
     };
@@ -27,12 +22,12 @@ fn failure_ending<'w>(
 }
 
 // Plays a script with this player, over these sockets.
-fn play_with<'w, R: Net + Clock>(
+fn play_with<R: Net + Clock>(
     alloc: Global,
     live: &mut Live<'_, R>,
-    settings: &PhoneSettings<'w>,
+    settings: &PhoneSettings<'_>,
     player: &mut Player,
-) -> Ending<'w> {
+) -> Ending {
     let Ok(played) = play_phones(alloc, live, player, settings.addresses.as_slice()) else {
         return Ending::Common(CommonEnding::OutOfMemory);
     };
@@ -45,12 +40,12 @@ fn play_with<'w, R: Net + Clock>(
 }
 
 // Plays a script over these sockets.
-fn play_over<'w, R: Net + Clock>(
+fn play_over<R: Net + Clock>(
     alloc: Global,
     live: &mut Live<'_, R>,
-    settings: &PhoneSettings<'w>,
+    settings: &PhoneSettings<'_>,
     script: Script,
-) -> Ending<'w> {
+) -> Ending {
     let gateways = u16::try_from(settings.addresses.len()).unwrap_or(u16::MAX);
     let Ok(mut player) = Player::new(alloc, script, gateways, 0) else {
         return Ending::Common(CommonEnding::OutOfMemory);
@@ -59,15 +54,15 @@ fn play_over<'w, R: Net + Clock>(
 }
 
 // Plays a script, over two sockets, of which the first is used.
-fn play<'w, R: Net + Clock>(
+fn play<R: Net + Clock>(
     rt: &R,
     alloc: Global,
-    settings: &PhoneSettings<'w>,
+    settings: &PhoneSettings<'_>,
     script: Script,
-) -> Ending<'w> {
+) -> Ending {
     // Any free port of this machine.
     let any = SocketWanted {
-        word: "",
+        word: AddressWord::Phones,
         address: SocketAddrV4::new(Ipv4Addr::UNSPECIFIED, 0),
     };
     let mut live = match Live::open(rt, alloc, any, any) {
@@ -78,25 +73,30 @@ fn play<'w, R: Net + Clock>(
 }
 
 // Reads a script, and plays it.
-fn play_by<'w, R: Files + Net + Clock>(
-    rt: &R,
-    alloc: Global,
-    settings: &PhoneSettings<'w>,
-) -> Ending<'w> {
+fn play_by<R: Files + Net + Clock>(rt: &R, alloc: Global, settings: &PhoneSettings<'_>) -> Ending {
     match read_script(rt, alloc, settings) {
         Ok(script) => play(rt, alloc, settings, script),
         Err(ending) => ending,
     }
 }
 
-/// How the program ends by a play with these words, of which the first is `phones`.
+/// How the program ends by a play with these words, of which the first is `phones`, and what that names.
 pub fn played<'w, R: Files + Net + Clock>(
     rt: &R,
     alloc: Global,
     words: &'w [String],
-) -> Ending<'w> {
+    named: &mut Named<'w>,
+) -> Ending {
     match read_phone_words(alloc, words) {
-        Ok(settings) => play_by(rt, alloc, &settings),
-        Err(fault) => phone_words_ending(fault),
+        Ok(settings) => {
+            named.files.read_from = settings.script;
+            play_by(rt, alloc, &settings)
+        }
+        Err(fault) => {
+            if let PhoneWordFault::BadGateway { word } = fault {
+                named.gateway = word;
+            }
+            phone_words_ending(fault)
+        }
     }
 }

@@ -5,11 +5,12 @@ ghost use Rattle.clap.specs.Matches.{found_of, first_value};
 ghost use Rattle.clap.specs.Values.{kind_of};
 ghost use Rattle.clap.specs.declared.error.kind.ErrorKind.TheVariants as kinds;
 
+use crate::ending::Named;
 use crate::help::{CONTROL, USAGE};
 use bad_network::Spoiling;
 use clap::error::ErrorKind;
 use clap::{Arg, ArgAction, ArgMatches, Command, Error};
-use live_ends::{CommonEnding, Outlet, VERSION, address_in, network_in};
+use live_ends::{AddressWord, CommonEnding, Outlet, VERSION, address_in, boxed, network_in};
 use std::alloc::{AllocError, Global};
 use std::io::Write;
 use std::net::SocketAddrV4;
@@ -35,13 +36,21 @@ pub struct Settings<'a> {
     pub stop_after: Option<u64>,
 }
 
-/// Why the program doesn't do what the words say.
+impl<'a> Settings<'a> {
+    /// What an ending names: the program reads its configuration, and writes a capture.
+    pub(crate) fn named(&self) -> Named<'a> {
+        Named::of_files(self.config, self.capture.unwrap_or(""))
+    }
+}
+
+/// Why the program doesn't do what the words say. It holds no text: a check pays for each text that a fault may hold wherever that is
+/// handed on.
 #[derive(Clone, Copy)]
 pub enum WordFault {
     /// As the words of any program may be refused, or ask for something else.
-    Common(CommonEnding<'static>),
-    /// What stands behind this word isn't the name of one line.
-    BadLine { word: &'static str },
+    Common(CommonEnding),
+    /// What stands behind `--line`, or `--more-lines`, isn't the name of one line.
+    BadLine { is_other: bool },
     /// The other line to be checked is the line itself.
     SameLine,
     /// There is no check of a name that stands behind `--only`.
@@ -78,20 +87,23 @@ const WORDS: [(&str, Kind); 8] = [
     ("stop-after", Kind::Number),
 ];
 
+// What clap is told stands in functions of few steps each: a check pays at each step for all that a word, or the command, holds inline.
+
+// A word with this name behind two hyphens.
+fn hyphened<'a>(alloc: Global, name: &'static str) -> Arg<'a> {
+    Arg::new(alloc, name).long(name)
+}
+
 // What clap is told of a word.
 fn arg_of<'a>(alloc: Global, name: &'static str, kind: Kind) -> Arg<'a> {
-    let arg = Arg::new(alloc, name);
-    if let Kind::Bare = kind {
-        return arg.required(true);
-    }
-    let arg = arg.long(name);
     match kind {
-        Kind::Bare | Kind::Valued => arg,
-        Kind::Needed => arg.required(true),
-        Kind::Several => arg.num_args(1usize..),
-        Kind::Number => arg.value_parser(clap::value_parser!(u64)),
-        Kind::Or(other) => arg.default_value(other),
-        Kind::Flag => arg.action(ArgAction::SetTrue),
+        Kind::Bare => Arg::new(alloc, name).required(true),
+        Kind::Valued => hyphened(alloc, name),
+        Kind::Needed => hyphened(alloc, name).required(true),
+        Kind::Several => hyphened(alloc, name).num_args(1usize..),
+        Kind::Number => hyphened(alloc, name).value_parser(clap::value_parser!(u64)),
+        Kind::Or(other) => hyphened(alloc, name).default_value(other),
+        Kind::Flag => hyphened(alloc, name).action(ArgAction::SetTrue),
     }
 }
 
@@ -103,7 +115,10 @@ pub fn with_words<'a>(
 ) -> Result<Command<'a>, AllocError> {
     let mut command = command;
     for (name, kind) in words {
-        command = command.arg(arg_of(alloc, *name, *kind))?;
+        command = match command.arg(arg_of(alloc, *name, *kind)) {
+            Ok(command) => command,
+            Err(refused) => return Err(refused),
+        };
     }
     Ok(command)
 }
@@ -119,12 +134,12 @@ fn command<'a>(alloc: Global) -> Result<Command<'a>, AllocError> {
 pub fn address_behind(
     matches: &ArgMatches<'_>,
     name: &str,
-    word: &'static str,
+    word: AddressWord,
 ) -> Result<Option<SocketAddrV4>, WordFault>
     ensures stands { IfOk result (λ found. IfSome found (λ address.
         IfSome (first_value (found_of matches.now) name.now) (λ text. IsSocketV4Text text address))) }
     ensures stands_not { IfOk result (λ found. found ≡ None → first_value (found_of matches.now) name.now ≡ None) }
-    ensures other { IfErr result (λ fault. fault ≡ WordFault.Common (CommonEnding.BadAddress word.entry)) }
+    ensures other { IfErr result (λ fault. fault ≡ WordFault.Common (CommonEnding.BadAddress word)) }
 {
     match matches.get_str(name) {
         Some(text) => match address_in(word, text) {
@@ -162,16 +177,20 @@ pub fn fault_of<F: Write + Drop>(alloc: Global, fault: &Error, said: &mut Outlet
     }
 }
 
-fn settings_in<'a>(matches: &ArgMatches<'a>) -> Result<Settings<'a>, WordFault> {
+// What the program is asked to do. It stands in a box: whoever holds it, or may have a fault in its place, holds little.
+fn settings_in<'a>(
+    alloc: Global,
+    matches: &ArgMatches<'a>,
+) -> Result<Box<Settings<'a>>, WordFault> {
     let Some(config) = matches.get_str("config") else {
         return Err(WordFault::Common(CommonEnding::Usage));
     };
-    let control = match address_behind(matches, "control", "--control") {
+    let control = match address_behind(matches, "control", AddressWord::Control) {
         Ok(Some(control)) => control,
         Ok(None) => return Err(WordFault::Common(CommonEnding::Usage)),
         Err(fault) => return Err(fault),
     };
-    let listen = match address_behind(matches, "listen", "--listen") {
+    let listen = match address_behind(matches, "listen", AddressWord::Listen) {
         Ok(listen) => listen,
         Err(fault) => return Err(fault),
     };
@@ -179,7 +198,7 @@ fn settings_in<'a>(matches: &ArgMatches<'a>) -> Result<Settings<'a>, WordFault> 
         Ok(network) => network,
         Err(ending) => return Err(WordFault::Common(ending)),
     };
-    Ok(Settings {
+    let settings = Settings {
         config,
         listen,
         control,
@@ -188,7 +207,11 @@ fn settings_in<'a>(matches: &ArgMatches<'a>) -> Result<Settings<'a>, WordFault> 
         capture: matches.get_str("capture"),
         network,
         stop_after: matches.get_one::<u64>("stop-after"),
-    })
+    };
+    match boxed(alloc, settings) {
+        Ok(settings) => Ok(settings),
+        Err(_) => Err(WordFault::Common(CommonEnding::OutOfMemory)),
+    }
 }
 
 /// Reads the words of a command line, of which the first is the program's name; this outlet says which are wrong.
@@ -196,12 +219,12 @@ pub fn read_words<'a, F: Write + Drop>(
     alloc: Global,
     words: &'a [String],
     said: &mut Outlet<F>,
-) -> Result<Settings<'a>, WordFault> {
+) -> Result<Box<Settings<'a>>, WordFault> {
     let Ok(parser) = command(alloc) else {
         return Err(WordFault::Common(CommonEnding::OutOfMemory));
     };
     match parser.try_get_matches_from(words) {
-        Ok(matches) => settings_in(&matches),
+        Ok(matches) => settings_in(alloc, &matches),
         Err(fault) => Err(fault_of(alloc, &fault, said)),
     }
 }

@@ -12,7 +12,7 @@ use crate::words::{Settings, read_words};
 use exchange_log::put_peer;
 use gateway_core::Gateway;
 use live_ends::{
-    CaptureFiles, CommonEnding, Live, LiveClock, Outlets, Parting, SystemFault, begin, end,
+    CaptureFiles, CommonEnding, FileNames, Live, LiveClock, Outlets, Parting, begin, end,
     open_capture, read_file,
 };
 use live_gateway::{Desk, agents_line, boxed, open_desk};
@@ -22,7 +22,7 @@ use mg_bytes::{Draft, OutOfMemory};
 use rgw_scenes::{flaw_of, read_config, told, told_setup};
 use rgw_scripts::LIMIT;
 use std::alloc::{AllocError, Global};
-use std::io::Write;
+use std::io::{ErrorKind, Write};
 use std::net::{Net, SocketAddrV4};
 use std::os::fd::AsRawFd;
 use std::random::RandomSource;
@@ -72,7 +72,7 @@ fn begin_records<R: Files + Alloc + Clone + Drop>(
     places: Places,
     begun: Begun,
     recording: &mut Recording<R>,
-) -> Result<(), SystemFault> {
+) -> Result<(), ErrorKind> {
     match open_files(rt, alloc, settings, recording) {
         Ok(()) => {}
         Err(fault) => return Err(fault),
@@ -87,14 +87,14 @@ fn begin_records<R: Files + Alloc + Clone + Drop>(
 
 // Writes what was recorded, says what was counted, and gives how the program ends that served: whether all its records were written to
 // their ends. Of one that couldn't be written it was said at once.
-fn finish<'w, R: Clock, F: Write + Drop>(
+fn finish<R: Clock, F: Write + Drop>(
     rt: &R,
     counts: Result<Vec<u8>, AllocError>,
     journal: &Journal,
     trace: &Trace,
     time: u64,
     outlets: &mut Outlets<F>,
-) -> Ending<'w> {
+) -> Ending {
     let Ok(counts) = counts else {
         return Ending::Common(CommonEnding::OutOfMemory);
     };
@@ -123,13 +123,13 @@ fn wait_first<R: Clock>(rt: &R, clock: &mut LiveClock<'_, R>, begun: Begun) -> b
 }
 
 // Serves at this desk until the end, and answers who asked for that once all is written.
-fn serve_desk<'w, R: Files + Net + Clock + RandomSource, P: Reception>(
+fn serve_desk<R: Files + Net + Clock + RandomSource, P: Reception>(
     rt: &R,
     begun: Begun,
     desk: &mut Desk<Live<'_, R>, Trace>,
     visitors: &mut Option<Box<PageReception<P>>>,
     recording: &mut Recording<R>,
-) -> Ending<'w> {
+) -> Ending {
     if !wait_first(rt, &mut desk.exchange.around.clock, begun) {
         return Ending::Common(CommonEnding::Clock);
     }
@@ -173,12 +173,12 @@ fn setup_text(
 }
 
 // Says on standard output what this gateway will be.
-fn checked<'w, R: Files>(
+fn checked<R: Files>(
     alloc: Global,
     settings: &Settings<'_>,
     gateway: &Gateway,
     recording: &mut Recording<R>,
-) -> Ending<'w> {
+) -> Ending {
     let Ok(text) = setup_text(alloc, settings, gateway) else {
         return Ending::Common(CommonEnding::OutOfMemory);
     };
@@ -204,17 +204,17 @@ fn open_parted<R: Files + Alloc + Clone + Drop>(
     name: &str,
     parting: Parting,
     recording: &mut Recording<R>,
-) -> Result<(), SystemFault> {
+) -> Result<(), ErrorKind> {
     let files = match CaptureFiles::find(rt, alloc, name, parting) {
         Ok(files) => files,
         Err(fault) => return Err(fault),
     };
     let Ok(mut files) = boxed(alloc, files) else {
-        return Err(SystemFault::OutOfMemory);
+        return Err(ErrorKind::OutOfMemory);
     };
     let outlet = match files.next(rt) {
         Ok(outlet) => outlet,
-        Err(kind) => return Err(SystemFault::of(kind)),
+        Err(kind) => return Err(kind),
     };
     recording.outlets.capture = Some(outlet);
     recording.files = Some(files);
@@ -227,7 +227,7 @@ fn open_files<R: Files + Alloc + Clone + Drop>(
     alloc: Global,
     settings: &Settings<'_>,
     recording: &mut Recording<R>,
-) -> Result<(), SystemFault> {
+) -> Result<(), ErrorKind> {
     if let (Some(name), Some(parting)) = (settings.capture, settings.parting) {
         return open_parted(rt, alloc, name, parting, recording);
     }
@@ -239,23 +239,17 @@ fn open_files<R: Files + Alloc + Clone + Drop>(
     Ok(())
 }
 
-// The capture's file can't be made.
-fn unwritable<'w>(settings: &Settings<'w>, fault: SystemFault) -> Ending<'w> {
-    let file = settings.capture.unwrap_or("");
-    Ending::Common(CommonEnding::unwritable(file, fault))
-}
-
 // Opens what the settings ask for: sockets, the page's site, and a desk for this gateway over these, whose trace has begun with this
 // configuration; and serves there.
-fn serve_with<'w, R: Files + Net + Clock + RandomSource + Alloc + Clone + Drop, P: Reception>(
+fn serve_with<R: Files + Net + Clock + RandomSource + Alloc + Clone + Drop, P: Reception>(
     rt: &R,
     alloc: Global,
-    settings: &Settings<'w>,
+    settings: &Settings<'_>,
     begun: Begun,
     config: &[u8],
     gateway: Box<Gateway>,
     recording: &mut Recording<R>,
-) -> Ending<'w> {
+) -> Ending {
     let live = match open_sockets(rt, alloc, settings) {
         Ok(live) => live,
         Err(ending) => return Ending::Common(ending),
@@ -280,19 +274,19 @@ fn serve_with<'w, R: Files + Net + Clock + RandomSource + Alloc + Clone + Drop, 
     };
     match begin_records(rt, alloc, settings, places, begun, recording) {
         Ok(()) => {}
-        Err(fault) => return unwritable(settings, fault),
+        Err(kind) => return Ending::Common(CommonEnding::unwritable(kind)),
     }
     serve_desk(rt, begun, &mut desk, &mut visitors, recording)
 }
 
 // Serves with a gateway of the configuration in this text, which has no flaw; or says what it will be.
-fn serve_config<'w, R: Files + Net + Clock + RandomSource + Alloc + Clone + Drop, P: Reception>(
+fn serve_config<R: Files + Net + Clock + RandomSource + Alloc + Clone + Drop, P: Reception>(
     rt: &R,
     alloc: Global,
-    settings: &Settings<'w>,
+    settings: &Settings<'_>,
     text: &[u8],
     recording: &mut Recording<R>,
-) -> Ending<'w> {
+) -> Ending {
     let Some(start) = Start::now(rt, settings) else {
         return Ending::NoTimeOfDay;
     };
@@ -321,13 +315,13 @@ fn flaw_text(alloc: Global, file: &str, text: &[u8]) -> Result<Option<Vec<u8>>, 
 }
 
 // Serves with the configuration in this text, or says on standard error which flaw that has.
-fn serve_text<'w, R: Files + Net + Clock + RandomSource + Alloc + Clone + Drop, P: Reception>(
+fn serve_text<R: Files + Net + Clock + RandomSource + Alloc + Clone + Drop, P: Reception>(
     rt: &R,
     alloc: Global,
-    settings: &Settings<'w>,
+    settings: &Settings<'_>,
     text: &[u8],
     recording: &mut Recording<R>,
-) -> Ending<'w> {
+) -> Ending {
     let Ok(flaw) = flaw_text(alloc, settings.config, text) else {
         return Ending::Common(CommonEnding::OutOfMemory);
     };
@@ -339,15 +333,15 @@ fn serve_text<'w, R: Files + Net + Clock + RandomSource + Alloc + Clone + Drop, 
 }
 
 // Does what the settings ask.
-fn perform<'w, R: Files + Net + Clock + RandomSource + Alloc + Clone + Drop, P: Reception>(
+fn perform<R: Files + Net + Clock + RandomSource + Alloc + Clone + Drop, P: Reception>(
     rt: &R,
     alloc: Global,
-    settings: &Settings<'w>,
+    settings: &Settings<'_>,
     recording: &mut Recording<R>,
-) -> Ending<'w> {
+) -> Ending {
     let text = match read_file(rt, alloc, settings.config, LIMIT as u64) {
         Ok(text) => text,
-        Err(ending) => return Ending::Common(ending),
+        Err(kind) => return Ending::unreadable(kind),
     };
     serve_text::<R, P>(rt, alloc, settings, text.as_slice(), recording)
 }
@@ -360,29 +354,35 @@ fn words_behind<'w>(first: &str, words: &'w [String]) -> Option<&'w [String]> {
     }
 }
 
-// How the program with these words ends.
+// How the program with these words ends, and which files it was to read and write.
 fn ending_by<'w, R: AllocGlobal + Files + Net + Clock + RandomSource + Clone + Drop, P: Reception>(
     rt: &R,
     words: &'w [String],
+    files: &mut FileNames<'w>,
     recording: &mut Recording<R>,
-) -> Ending<'w> {
+) -> Ending {
     if let Some(asked) = words_behind(TELL, words) {
         return tell_line(rt, asked, recording);
     }
     if let Some(asked) = words_behind(REPLAY, words) {
-        return replay_trace(rt, asked, recording);
+        return replay_trace(rt, asked, files, recording);
     }
     let settings = match read_words(rt.alloc(), words, recording) {
         Ok(settings) => settings,
         Err(ending) => return ending,
     };
+    *files = settings.files();
     perform::<R, P>(rt, rt.alloc(), &settings, recording)
 }
 
 // What the program says at its end.
-fn ending_text(alloc: Global, ending: Ending<'_>) -> Result<Vec<u8>, OutOfMemory> {
+fn ending_text(
+    alloc: Global,
+    ending: Ending,
+    files: FileNames<'_>,
+) -> Result<Vec<u8>, OutOfMemory> {
     let mut text = Vec::new(alloc);
-    ending.put_text(alloc, &mut text, of_program())?;
+    ending.put_text(alloc, &mut text, of_program(), files)?;
     Ok(text)
 }
 
@@ -390,24 +390,28 @@ fn ending_text(alloc: Global, ending: Ending<'_>) -> Result<Vec<u8>, OutOfMemory
 fn tell<R: AllocGlobal + Files + Clock>(
     rt: &R,
     outlets: &mut Outlets<R::File>,
-    ending: Ending<'_>,
+    ending: Ending,
+    files: FileNames<'_>,
 ) -> u8 {
-    let text = ending_text(rt.alloc(), ending);
+    let text = ending_text(rt.alloc(), ending, files);
     end(rt, outlets, text, ending.status(), ending.is_asked())
 }
 
 // Runs the program with these words, or without them, and gives its exit status.
 fn run_with<R: AllocGlobal + Files + Net + Clock + RandomSource + Clone + Drop, P: Reception>(
     rt: &R,
-    words: &Result<Vec<String>, CommonEnding<'static>>,
+    words: &Result<Vec<String>, CommonEnding>,
     recording: &mut Recording<R>,
 ) -> u8 {
-    let words = match words {
-        Ok(words) => words,
-        Err(ending) => return tell(rt, &mut recording.outlets, Ending::Common(*ending)),
+    let mut files = FileNames {
+        read_from: "",
+        written_to: "",
     };
-    let ending = ending_by::<R, P>(rt, words.as_slice(), recording);
-    tell(rt, &mut recording.outlets, ending)
+    let ending = match words {
+        Ok(words) => ending_by::<R, P>(rt, words.as_slice(), &mut files, recording),
+        Err(ending) => Ending::Common(*ending),
+    };
+    tell(rt, &mut recording.outlets, ending, files)
 }
 
 /// Runs the program, whose page's visitors are received so, and gives its exit status.

@@ -1,19 +1,15 @@
 //! How the program ends: its status, and what it says then.
 ghost use Rattle.std.specs.Prelude.{◌≡◌, ◌≢◌, ◌++◌, OnOk};
-ghost use Rattle.live_ends.specs.declared.program.SystemFault.{SystemFault};
-ghost use Rattle.live_ends.specs.Ending.{unreadable, unbound};
-ghost use Rattle.live_ends.specs.Reasons.{reason_of};
-ghost use Rattle.live_ends.specs.Refusing.{IsRefusedFor};
 ghost use Rattle.rgwd.specs.Statuses.{status_of, is_asked};
 ghost use Rattle.rgwd.specs.Texts.{unanswered_text, ending_text};
 
 use crate::parted::{MOST_FILES, MOST_MEGABYTES};
 use exchange_log::put_peer;
 use gateway_core::FIRSTS;
-use live_ends::{About, CommonEnding, SystemFault, put_around, put_pieces};
+use live_ends::{About, AddressWord, CommonEnding, FileNames, put_around, put_pieces};
 use mg_bytes::{Draft, OutOfMemory};
 use new_start::LONGEST_SPREAD;
-use std::alloc::{AllocError, Global};
+use std::alloc::Global;
 use std::io::ErrorKind;
 use std::net::SocketAddrV4;
 
@@ -41,9 +37,9 @@ const LAST_FIRST: u32 = FIRSTS - 1;
 
 /// How the program ends.
 #[derive(Clone, Copy)]
-pub enum Ending<'a> {
+pub enum Ending {
     /// As any program may.
-    Common(CommonEnding<'a>),
+    Common(CommonEnding),
     /// The configuration has no flaw, and standard output says what the gateway will be.
     Checked,
     /// What stands behind `--agents` doesn't say who may speak.
@@ -74,11 +70,11 @@ pub enum Ending<'a> {
     NoAnswer { address: SocketAddrV4 },
 }
 
-impl<'a> Ending<'a> {
+impl Ending {
     /// The exit status: 0 served, told, checked or replayed, 1 no answer or another line, 2 words, a configuration or a trace that
     /// are refused, 3 memory, a file, a socket, a stream or the clock.
     pub fn status(self) -> u8
-        ensures { result ≡ status_of self.entry }
+        ensures { result ≡ status_of self }
     {
         match self {
             Ending::Common(ending) => ending.status(),
@@ -98,7 +94,7 @@ impl<'a> Ending<'a> {
 
     /// Whether what is said is what the words ask for.
     pub fn is_asked(self) -> bool
-        ensures { result ≡ is_asked self.entry }
+        ensures { result ≡ is_asked self }
     {
         match self {
             Ending::Common(ending) => ending.is_asked(),
@@ -106,32 +102,36 @@ impl<'a> Ending<'a> {
         }
     }
 
-    /// The system lets it read no such file, by an error of this kind.
-    pub fn unreadable(file: &'a str, kind: ErrorKind) -> Ending<'a>
+    /// The system doesn't let it read the file that it reads, by an error of this kind.
+    pub fn unreadable(kind: ErrorKind) -> Ending
         ensures memory { kind ≡ ErrorKind.OutOfMemory → result ≡ Ending.Common CommonEnding.OutOfMemory }
-        ensures told { kind ≢ ErrorKind.OutOfMemory →
-            (fault : SystemFault) × IsRefusedFor (reason_of kind) fault × (result ≡ Ending.Common (unreadable file.entry fault)) }
+        ensures told { kind ≢ ErrorKind.OutOfMemory → result ≡ Ending.Common (CommonEnding.Unreadable kind) }
     {
-        Ending::Common(CommonEnding::unreadable(file, SystemFault::of(kind)))
+        Ending::Common(CommonEnding::unreadable(kind))
     }
 
     /// The system gives it no socket at the address that this word asks for, by an error of this kind.
-    pub fn unbound(word: &'static str, address: SocketAddrV4, kind: ErrorKind) -> Ending<'a>
+    pub fn unbound(word: AddressWord, address: SocketAddrV4, kind: ErrorKind) -> Ending
         ensures memory { kind ≡ ErrorKind.OutOfMemory → result ≡ Ending.Common CommonEnding.OutOfMemory }
-        ensures told { kind ≢ ErrorKind.OutOfMemory →
-            (fault : SystemFault) × IsRefusedFor (reason_of kind) fault × (result ≡ Ending.Common (unbound word.entry address fault)) }
+        ensures told { kind ≢ ErrorKind.OutOfMemory → result ≡ Ending.Common (CommonEnding.Unbound word address kind) }
     {
-        Ending::Common(CommonEnding::unbound(word, address, SystemFault::of(kind)))
+        Ending::Common(CommonEnding::unbound(word, address, kind))
     }
 
-    /// Puts what is said: on standard output what the words ask, else a line on standard error, or nothing where it served or checked,
-    /// an answer is printed, or all was said. Its only error is want of memory.
+    /// Puts what is said, where its files have these names: on standard output what the words ask, else a line on standard error, or
+    /// nothing where it served or checked, an answer is printed, or all was said. Its only error is want of memory.
     #[tactic(auto, unfolding(crate::specs::Texts::ending_text))]
-    pub fn put_text(self, alloc: Global, out: &mut Vec<u8>, about: About) -> Result<(), OutOfMemory>
-        ensures { OnOk result (out.new.items ≡ out.old.items ++ ending_text about self.entry) }
+    pub fn put_text(
+        self,
+        alloc: Global,
+        out: &mut Vec<u8>,
+        about: About,
+        files: FileNames<'_>,
+    ) -> Result<(), OutOfMemory>
+        ensures { OnOk result (out.new.items ≡ out.old.items ++ ending_text about files.entry self) }
     {
         match self {
-            Ending::Common(ending) => ending.put_text(alloc, out, about),
+            Ending::Common(ending) => ending.put_text(alloc, out, about, files),
             Ending::Checked
             | Ending::Answered
             | Ending::Replayed
@@ -171,18 +171,6 @@ impl<'a> Ending<'a> {
             Ending::NoTimeOfDay => put_pieces(out, &[NO_TIME_OF_DAY]),
             Ending::NoAnswer { address } => put_unanswered(alloc, out, address),
         }
-    }
-}
-
-impl<'a> From<AllocError> for Ending<'a> {
-    fn from(_refused: AllocError) -> Ending<'a> {
-        Ending::Common(CommonEnding::OutOfMemory)
-    }
-}
-
-impl<'a> From<CommonEnding<'a>> for Ending<'a> {
-    fn from(ending: CommonEnding<'a>) -> Ending<'a> {
-        Ending::Common(ending)
     }
 }
 

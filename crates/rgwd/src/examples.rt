@@ -5,6 +5,7 @@ ghost use Rattle.std.specs.Prelude.{◌≡◌, codes, true, false, [], ◌∷◌
 ghost use Rattle.std.specs.Net.Text.{socket_v4_text};
 ghost use Rattle.std.specs.declared.net.socket_addr.SocketAddrV4.{SocketAddrV4};
 ghost use Rattle.live_ends.specs.declared.ending.About.{About};
+ghost use Rattle.live_ends.specs.declared.ending.FileNames.{FileNames};
 ghost use Rattle.live_ends.specs.declared.ending.CommonEnding.{CommonEnding};
 ghost use Rattle.live_ends.specs.Ending.{status_of as common_status, is_asked as is_commonly_asked, ending_text as common_text};
 ghost use Rattle.rgwd.specs.declared.ending.Ending.TheVariants.{Common, Checked, BadAgents, BadHosts, BadSize, BadFiles, AnyAddress, BadFirst, BadSpread, NoTimeOfDay, Replayed, Differs, NoTrace, Answered, NoAnswer};
@@ -25,14 +26,18 @@ pub fn each_sentence_has_an_example()
     ensures asked { (ending : CommonEnding) → is_asked (Common ending) ≡ is_commonly_asked ending }
     ensures own { map is_asked (Checked ∷ BadSize ∷ NoTrace ∷ Answered ∷ []) ≡ false ∷ false ∷ false ∷ false ∷ [] }
     // An ending says why, in a line; nothing where what was asked for is printed, or where all was said.
-    ensures an_ending_says_why_common { (about : About) (ending : CommonEnding) → ending_text about (Common ending)
-        ≡ common_text about ending }
-    ensures an_ending_says_why_nothing { (about : About) →
-        map (ending_text about) (Checked ∷ Answered ∷ Replayed ∷ Differs ∷ NoTrace ∷ []) ≡ [] ∷ [] ∷ [] ∷ [] ∷ [] ∷ [] }
-    ensures size { (about : About) → ending_text about BadSize ≡ codes "--capture-size: wanted 1 to 100000 MB, beside --capture\n" }
-    ensures files { (about : About) → ending_text about BadFiles ≡ codes "--capture-files: wanted 1 to 10000, beside --capture-size\n" }
-    ensures spread { (about : About) → ending_text about BadSpread ≡ codes "--spread: wanted 0 to 600000 ms\n" }
-    ensures an_ending_says_why_silent { (about : About) (address : SocketAddrV4) → ending_text about (NoAnswer address)
+    ensures an_ending_says_why_common { (about : About) (names : FileNames) (ending : CommonEnding) →
+        ending_text about names (Common ending) ≡ common_text about names ending }
+    ensures an_ending_says_why_nothing { (about : About) (names : FileNames) →
+        map (ending_text about names) (Checked ∷ Answered ∷ Replayed ∷ Differs ∷ NoTrace ∷ []) ≡ [] ∷ [] ∷ [] ∷ [] ∷ [] ∷ [] }
+    ensures size { (about : About) (names : FileNames) → ending_text about names BadSize
+        ≡ codes "--capture-size: wanted 1 to 100000 MB, beside --capture\n" }
+    ensures files { (about : About) (names : FileNames) → ending_text about names BadFiles
+        ≡ codes "--capture-files: wanted 1 to 10000, beside --capture-size\n" }
+    ensures spread { (about : About) (names : FileNames) → ending_text about names BadSpread
+        ≡ codes "--spread: wanted 0 to 600000 ms\n" }
+    ensures an_ending_says_why_silent { (about : About) (names : FileNames) (address : SocketAddrV4) →
+        ending_text about names (NoAnswer address)
         ≡ socket_v4_text address ++ codes ": no answer; does a gateway run, with its telephones (--phones) at this address?\n" }
     // A capture is parted into files of 1 to 100,000 MB, of which 1 to 10,000 are kept; ten where nothing is said.
     ensures none { parting_of true None None ≡ Ok None }

@@ -7,7 +7,7 @@ use crate::ending::Ending;
 use crate::reception::PageReception;
 use crate::words::{ListFault, Settings, hosts_in, speakers_in};
 use gateway_core::Gateway;
-use live_ends::{CommonEnding, Live, Readiness, SocketWanted};
+use live_ends::{AddressWord, CommonEnding, Live, Readiness, SocketWanted};
 use live_gateway::{Admission, DeskSettings, boxed, speakers_of};
 use live_page::{HostNames, Reception};
 use std::alloc::Global;
@@ -15,29 +15,29 @@ use std::net::{Ipv4Addr, Net, SocketAddrV4};
 use std::rt::Clock;
 
 /// The sockets that are asked for, and the clock.
-pub fn open_sockets<'a, 'w, R: Net + Clock>(
+pub fn open_sockets<'a, R: Net + Clock>(
     rt: &'a R,
     alloc: Global,
-    settings: &Settings<'w>,
-) -> Result<Box<Live<'a, R>>, CommonEnding<'w>> {
+    settings: &Settings<'_>,
+) -> Result<Box<Live<'a, R>>, CommonEnding> {
     let datagrams = SocketWanted {
-        word: "--listen",
+        word: AddressWord::Listen,
         address: settings.sockets.listen,
     };
     let lines = SocketWanted {
-        word: "--phones",
+        word: AddressWord::Phones,
         address: settings.sockets.phones,
     };
     Live::open(rt, alloc, datagrams, lines)
 }
 
 /// The site, if one is asked for.
-pub fn open_site<'w, R: Net, P: Reception>(
+pub fn open_site<R: Net, P: Reception>(
     rt: &R,
     alloc: Global,
-    settings: &Settings<'w>,
+    settings: &Settings<'_>,
     ready: &Readiness,
-) -> Result<Option<Box<PageReception<P>>>, Ending<'w>> {
+) -> Result<Option<Box<PageReception<P>>>, Ending> {
     let Some(address) = settings.sockets.http else {
         return Ok(None);
     };
@@ -50,7 +50,7 @@ pub fn open_site<'w, R: Net, P: Reception>(
     };
     let site = match P::at(rt, alloc, address, names, ready) {
         Ok(site) => site,
-        Err(fault) => return Err(Ending::unbound("--http", address, fault.kind())),
+        Err(fault) => return Err(Ending::unbound(AddressWord::Http, address, fault.kind())),
     };
     match boxed(alloc, PageReception { site }) {
         Ok(reception) => Ok(Some(reception)),

@@ -36,7 +36,7 @@ fn files_of(text: Option<&[u8]>) -> Option<u64>
     }
 }
 
-fn parted_of<'w>(size: &[u8], files: Option<&[u8]>) -> Result<Option<Parting>, Ending<'w>>
+fn parted_of(size: &[u8], files: Option<&[u8]>) -> Result<Option<Parting>, Ending>
     ensures { result ≡ parted_of size.now (option_copied files.entry) }
 {
     let Some(megabytes) = number_within(MOST_MEGABYTES, decimal(size)) else {
@@ -52,7 +52,7 @@ fn parted_of<'w>(size: &[u8], files: Option<&[u8]>) -> Result<Option<Parting>, E
 }
 
 // Without a size a number of files says nothing.
-fn sizeless<'w>(files: Option<&[u8]>) -> Result<Option<Parting>, Ending<'w>>
+fn sizeless(files: Option<&[u8]>) -> Result<Option<Parting>, Ending>
     ensures { result ≡ sizeless (option_copied files.entry) }
 {
     match files {
@@ -62,11 +62,11 @@ fn sizeless<'w>(files: Option<&[u8]>) -> Result<Option<Parting>, Ending<'w>>
 }
 
 /// How a capture is parted, where there is one, by what stands behind `--capture-size` and `--capture-files`.
-pub fn parting_of<'w>(
+pub fn parting_of(
     has_capture: bool,
     size: Option<&[u8]>,
     files: Option<&[u8]>,
-) -> Result<Option<Parting>, Ending<'w>>
+) -> Result<Option<Parting>, Ending>
     ensures { result ≡ parting_of has_capture (option_copied size.entry) (option_copied files.entry) }
 {
     let Some(size) = size else {

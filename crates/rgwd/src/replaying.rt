@@ -2,7 +2,7 @@
 use crate::ending::Ending;
 use crate::recording::Recording;
 use crate::words::unless_help;
-use live_ends::CommonEnding;
+use live_ends::{CommonEnding, FileNames};
 use mg_bytes::Draft;
 use std::alloc::{AllocError, Global};
 use std::fs::File;
@@ -20,15 +20,15 @@ fn trace_in<R: Files>(rt: &R, alloc: Global, file: &str) -> io::Result<BufReader
 }
 
 // What is found in it.
-fn verdict_of<'w, R: Files>(rt: &R, alloc: Global, file: &'w str) -> Result<Verdict, Ending<'w>> {
+fn verdict_of<R: Files>(rt: &R, alloc: Global, file: &str) -> Result<Verdict, Ending> {
     let trace = match trace_in(rt, alloc, file) {
         Ok(trace) => trace,
-        Err(fault) => return Err(Ending::unreadable(file, fault.kind())),
+        Err(fault) => return Err(Ending::unreadable(fault.kind())),
     };
     match replay(alloc, trace) {
         Ok(verdict) => Ok(verdict),
         Err(ReplayFault::OutOfMemory) => Err(Ending::Common(CommonEnding::OutOfMemory)),
-        Err(ReplayFault::Read { kind }) => Err(Ending::unreadable(file, kind)),
+        Err(ReplayFault::Read { kind }) => Err(Ending::unreadable(kind)),
     }
 }
 
@@ -55,7 +55,7 @@ fn tell_verdict<R: Files>(
 }
 
 // How the program ends that found this, and said so.
-fn ending_by<'w>(verdict: &Verdict) -> Ending<'w> {
+fn ending_by(verdict: &Verdict) -> Ending {
     match verdict {
         Verdict::AsTold { .. } => Ending::Replayed,
         Verdict::Differs { .. } => Ending::Differs,
@@ -64,11 +64,7 @@ fn ending_by<'w>(verdict: &Verdict) -> Ending<'w> {
 }
 
 // Replays the trace in this file, and says what is found: how the program ends by that.
-fn replayed<'w, R: AllocGlobal + Files>(
-    rt: &R,
-    file: &'w str,
-    recording: &mut Recording<R>,
-) -> Ending<'w> {
+fn replayed<R: AllocGlobal + Files>(rt: &R, file: &str, recording: &mut Recording<R>) -> Ending {
     let verdict = match verdict_of(rt, rt.alloc(), file) {
         Ok(verdict) => verdict,
         Err(ending) => return ending,
@@ -79,12 +75,14 @@ fn replayed<'w, R: AllocGlobal + Files>(
     ending_by(&verdict)
 }
 
-/// Replays the trace in the file that the words behind `--replay` name, and says what is found: how the program ends by that.
+/// Replays the trace in the file that the words behind `--replay` name, and says what is found: how the program ends by that. The file is
+/// the one that the program reads.
 pub fn replay_trace<'w, R: AllocGlobal + Files>(
     rt: &R,
     words: &'w [String],
+    files: &mut FileNames<'w>,
     recording: &mut Recording<R>,
-) -> Ending<'w> {
+) -> Ending {
     let [file] = words else {
         return Ending::Common(CommonEnding::Usage);
     };
@@ -92,5 +90,6 @@ pub fn replay_trace<'w, R: AllocGlobal + Files>(
         Ok(file) => file,
         Err(ending) => return ending,
     };
+    files.read_from = file;
     replayed(rt, file, recording)
 }

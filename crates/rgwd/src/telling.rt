@@ -2,7 +2,7 @@
 use crate::ending::Ending;
 use crate::recording::Recording;
 use crate::words::unless_help;
-use live_ends::{AskFault, CommonEnding, address_in, ask};
+use live_ends::{AddressWord, AskFault, CommonEnding, address_in, ask};
 use std::alloc::Global;
 use std::net::{Net, SocketAddrV4};
 use std::rt::{Clock, Files};
@@ -21,7 +21,7 @@ struct Telling {
 }
 
 // What the words behind `--tell` say: an address, where no socket has port 0, and the words of a line.
-fn telling_of<'w>(alloc: Global, words: &'w [String]) -> Result<Telling, Ending<'w>> {
+fn telling_of(alloc: Global, words: &[String]) -> Result<Telling, Ending> {
     let (Some(word), Some(line)) = (words.first(), words.get(1..)) else {
         return Err(Ending::Common(CommonEnding::Usage));
     };
@@ -29,11 +29,15 @@ fn telling_of<'w>(alloc: Global, words: &'w [String]) -> Result<Telling, Ending<
         Ok(word) => word,
         Err(ending) => return Err(ending),
     };
-    let Ok(address) = address_in(TELL, word) else {
-        return Err(Ending::Common(CommonEnding::BadAddress { word: TELL }));
+    let Ok(address) = address_in(AddressWord::Tell, word) else {
+        return Err(Ending::Common(CommonEnding::BadAddress {
+            word: AddressWord::Tell,
+        }));
     };
     if address.port() == 0 {
-        return Err(Ending::Common(CommonEnding::BadAddress { word: TELL }));
+        return Err(Ending::Common(CommonEnding::BadAddress {
+            word: AddressWord::Tell,
+        }));
     }
     let Ok(line) = line.join(alloc, " ") else {
         return Err(Ending::Common(CommonEnding::OutOfMemory));
@@ -45,21 +49,21 @@ fn telling_of<'w>(alloc: Global, words: &'w [String]) -> Result<Telling, Ending<
 }
 
 // How the program ends where the line isn't answered.
-fn unanswered<'w>(address: SocketAddrV4, fault: AskFault) -> Ending<'w> {
+fn unanswered(address: SocketAddrV4, fault: AskFault) -> Ending {
     match fault {
         AskFault::NoAnswer => Ending::NoAnswer { address },
         AskFault::Clock => Ending::Common(CommonEnding::Clock),
-        AskFault::Refused { kind } => Ending::unbound(TELL, address, kind),
+        AskFault::Refused { kind } => Ending::unbound(AddressWord::Tell, address, kind),
     }
 }
 
 /// Sends the line that the words behind `--tell` say to the telephones at the address that they name, and prints the answer: how
 /// the program ends by that.
-pub fn tell_line<'w, R: AllocGlobal + Files + Net + Clock>(
+pub fn tell_line<R: AllocGlobal + Files + Net + Clock>(
     rt: &R,
-    words: &'w [String],
+    words: &[String],
     recording: &mut Recording<R>,
-) -> Ending<'w> {
+) -> Ending {
     let telling = match telling_of(rt.alloc(), words) {
         Ok(telling) => telling,
         Err(ending) => return ending,

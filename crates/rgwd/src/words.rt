@@ -10,7 +10,9 @@ use crate::recording::Recording;
 use bad_network::Spoiling;
 use clap::error::ErrorKind;
 use clap::{Arg, ArgAction, ArgMatches, Command, Error};
-use live_ends::{CommonEnding, Parting, VERSION, address_in, boxed, network_in};
+use live_ends::{
+    AddressWord, CommonEnding, FileNames, Parting, VERSION, address_in, boxed, network_in,
+};
 use live_page::HostNames;
 use new_start::{FirstNumber, spread_in};
 use std::alloc::{AllocError, Global};
@@ -55,7 +57,7 @@ impl From<AllocError> for ListFault {
 
 impl ListFault {
     /// How the program ends by it.
-    pub(crate) fn ending<'w>(self) -> Ending<'w>
+    pub(crate) fn ending(self) -> Ending
         ensures memory { self ≡ ListFault.OutOfMemory → result ≡ Ending.Common CommonEnding.OutOfMemory }
         ensures agents { self ≡ ListFault.BadAgents → result ≡ Ending.BadAgents }
         ensures hosts { self ≡ ListFault.BadHosts → result ≡ Ending.BadHosts }
@@ -91,6 +93,16 @@ pub struct Settings<'a> {
     pub spread: Option<u32>,
     /// The moment at which it ends, in ms.
     pub stop_after: Option<u64>,
+}
+
+impl<'a> Settings<'a> {
+    /// The names of the program's files: what it reads is its configuration, and what it writes a capture.
+    pub(crate) fn files(&self) -> FileNames<'a> {
+        FileNames {
+            read_from: self.config,
+            written_to: self.capture.unwrap_or(""),
+        }
+    }
 }
 
 // How a word stands.
@@ -181,7 +193,7 @@ fn matched<'a>(alloc: Global, words: &'a [String]) -> Result<ArgMatches<'a>, Err
 }
 
 /// A word that doesn't ask how the program is used.
-pub fn unless_help<'w>(word: &'w str) -> Result<&'w str, Ending<'w>>
+pub fn unless_help<'w>(word: &'w str) -> Result<&'w str, Ending>
     ensures itself { IfOk result (λ text. text.now ≡ word.now) }
     ensures help { IfErr result (λ ending. ending ≡ Ending.Common CommonEnding.Help) }
     ensures asks { IfErr result (λ ending. (word.now ≡ codes "--help") ⊎ (word.now ≡ codes "-h")) }
@@ -195,15 +207,14 @@ pub fn unless_help<'w>(word: &'w str) -> Result<&'w str, Ending<'w>>
 
 // The address of the site, if that stands there: one of the machine's, since the page answers only those who name its address; or where
 // it has further names, any. What says these, if that stands there, does say names.
-fn site_in<'a>(
-    alloc: Global,
-    matches: &ArgMatches<'a>,
-) -> Result<Option<SocketAddrV4>, Ending<'a>> {
+fn site_in(alloc: Global, matches: &ArgMatches<'_>) -> Result<Option<SocketAddrV4>, Ending> {
     let names = matches.get_str("http-host");
     let site = match matches.get_str("http") {
         Some(text) => {
-            let Ok(address) = address_in("--http", text) else {
-                return Err(Ending::Common(CommonEnding::BadAddress { word: "--http" }));
+            let Ok(address) = address_in(AddressWord::Http, text) else {
+                return Err(Ending::Common(CommonEnding::BadAddress {
+                    word: AddressWord::Http,
+                }));
             };
             Some(address)
         }
@@ -265,12 +276,22 @@ fn longest_wait_in(matches: &ArgMatches<'_>) -> Option<u32> {
     spread_in(matches.get_str("spread")?.as_bytes())
 }
 
-fn sockets_in<'a>(alloc: Global, matches: &ArgMatches<'a>) -> Result<Sockets<'a>, Ending<'a>> {
-    let Ok(listen) = address_in("--listen", matches.get_str("listen").unwrap_or(LISTEN)) else {
-        return Err(Ending::Common(CommonEnding::BadAddress { word: "--listen" }));
+fn sockets_in<'a>(alloc: Global, matches: &ArgMatches<'a>) -> Result<Sockets<'a>, Ending> {
+    let Ok(listen) = address_in(
+        AddressWord::Listen,
+        matches.get_str("listen").unwrap_or(LISTEN),
+    ) else {
+        return Err(Ending::Common(CommonEnding::BadAddress {
+            word: AddressWord::Listen,
+        }));
     };
-    let Ok(phones) = address_in("--phones", matches.get_str("phones").unwrap_or(PHONES)) else {
-        return Err(Ending::Common(CommonEnding::BadAddress { word: "--phones" }));
+    let Ok(phones) = address_in(
+        AddressWord::Phones,
+        matches.get_str("phones").unwrap_or(PHONES),
+    ) else {
+        return Err(Ending::Common(CommonEnding::BadAddress {
+            word: AddressWord::Phones,
+        }));
     };
     let agents = matches.get_str("agents");
     if let Some(text) = agents {
@@ -300,7 +321,7 @@ fn settings_with<'a>(
     matches: &ArgMatches<'a>,
     config: &'a str,
     sockets: Sockets<'a>,
-) -> Result<Box<Settings<'a>>, Ending<'a>> {
+) -> Result<Box<Settings<'a>>, Ending> {
     let capture = matches.get_str("capture");
     let size = bytes_in(matches, "capture-size");
     let parting = match parting_of(capture.is_some(), size, bytes_in(matches, "capture-files")) {
@@ -334,10 +355,7 @@ fn settings_with<'a>(
     }
 }
 
-fn settings_in<'a>(
-    alloc: Global,
-    matches: &ArgMatches<'a>,
-) -> Result<Box<Settings<'a>>, Ending<'a>> {
+fn settings_in<'a>(alloc: Global, matches: &ArgMatches<'a>) -> Result<Box<Settings<'a>>, Ending> {
     let Some(config) = matches.get_str("config") else {
         return Err(Ending::Common(CommonEnding::Usage));
     };
@@ -356,11 +374,7 @@ fn fault_text(alloc: Global, fault: &Error) -> Result<String, AllocError> {
 }
 
 // How the program ends where there are no settings in words, by clap's error: standard error says which words are wrong.
-fn ending_by<'a, R: Files>(
-    alloc: Global,
-    fault: &Error,
-    recording: &mut Recording<R>,
-) -> CommonEnding<'a> {
+fn ending_by<R: Files>(alloc: Global, fault: &Error, recording: &mut Recording<R>) -> CommonEnding {
     let kind = fault.kind();
     if kind == ErrorKind::OutOfMemory {
         return CommonEnding::OutOfMemory;
@@ -385,7 +399,7 @@ pub fn read_words<'a, R: Files>(
     alloc: Global,
     words: &'a [String],
     recording: &mut Recording<R>,
-) -> Result<Box<Settings<'a>>, Ending<'a>> {
+) -> Result<Box<Settings<'a>>, Ending> {
     let matches = match matched(alloc, words) {
         Ok(matches) => matches,
         Err(fault) => return Err(Ending::Common(ending_by(alloc, &fault, recording))),

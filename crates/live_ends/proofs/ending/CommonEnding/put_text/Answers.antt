@@ -3,11 +3,15 @@ use Rattle.live_ends.proofs.ending.CommonEnding.put_text.Goals as goal
 
 pub returns-in-Unreadable : goal.returns-in-Unreadable
 unfolding ending_text
-returns-in-Unreadable c = rw (c.in-Unreadable.is) c.put_refused.ensures
+returns-in-Unreadable c = rw (c.in-Unreadable.is) (rw (c.reason_of.ensures) at c.put_refused.ensures)
 
 pub returns-in-Unwritable : goal.returns-in-Unwritable
 unfolding ending_text
-returns-in-Unwritable c = rw (c.in-Unwritable.is) c.put_refused-in-Unwritable.ensures
+returns-in-Unwritable c = rw (c.in-Unwritable.is) (rw (c.reason_of-in-Unwritable.ensures) at c.put_refused-in-Unwritable.ensures)
+
+pub returns-in-Unbound : goal.returns-in-Unbound
+unfolding ending_text
+returns-in-Unbound c = rw (c.in-Unbound.is) (rw (c.text.ensures, c.reason_of-in-Unbound.ensures) at c.put_unbound.ensures)
 
 pub returns-in-Help : goal.returns-in-Help
 unfolding ending_text
@@ -23,11 +27,11 @@ returns-in-Usage c = rw (c.in-Usage.is) c.put_pieces-in-Usage.ensures
 
 pub returns-in-BadAddress : goal.returns-in-BadAddress
 unfolding ending_text
-returns-in-BadAddress c = rw (c.in-BadAddress.is) c.put_pieces-in-BadAddress.ensures
+returns-in-BadAddress c = rw (c.in-BadAddress.is) c.put_bad_address.ensures
 
 pub returns-in-BadNetwork : goal.returns-in-BadNetwork
 unfolding ending_text
-returns-in-BadNetwork c = rw (c.in-BadNetwork.is) c.put_pieces-in-BadNetwork.ensures
+returns-in-BadNetwork c = rw (c.in-BadNetwork.is) c.put_bad_network.ensures
 
 pub returns-in-Clock : goal.returns-in-Clock
 unfolding ending_text
