@@ -84,17 +84,24 @@ fn has_failed(is_told: &mut bool, kind: ErrorKind) -> bool {
 }
 
 impl<'a, R: Net + Clock> Live<'a, R> {
-    /// These sockets, and the clock at moment 0. To each something may have come already.
+    /// These sockets, and the clock at moment 0. To each something may have come already. An error is of the system's kind.
     pub fn watch(
         rt: &'a R,
         alloc: Global,
         mut socket: UdpSocket,
         mut commands: UdpSocket,
-    ) -> io::Result<Live<'a, R>> {
+    ) -> Result<Live<'a, R>, ErrorKind> {
         let own = [address_of(&socket), address_of(&commands)];
-        let ready = Readiness::watch(rt, alloc, &mut socket, &mut commands)?;
+        let ready = match Readiness::watch(rt, alloc, &mut socket, &mut commands) {
+            Ok(ready) => ready,
+            Err(fault) => return Err(fault.kind()),
+        };
         let Ok(ready) = boxed(alloc, ready) else {
-            return Err(io::Error::from(ErrorKind::OutOfMemory));
+            return Err(ErrorKind::OutOfMemory);
+        };
+        let clock = match LiveClock::start(rt) {
+            Ok(clock) => clock,
+            Err(fault) => return Err(fault.kind()),
         };
         Ok(Live {
             rt,
@@ -102,7 +109,7 @@ impl<'a, R: Net + Clock> Live<'a, R> {
             commands,
             own,
             ready,
-            clock: LiveClock::start(rt)?,
+            clock,
         })
     }
 
@@ -124,7 +131,7 @@ impl<'a, R: Net + Clock> Live<'a, R> {
         };
         let live = match Live::watch(rt, alloc, socket, commands) {
             Ok(live) => live,
-            Err(fault) => return Err(datagrams.refused(fault.kind())),
+            Err(kind) => return Err(datagrams.refused(kind)),
         };
         match boxed(alloc, live) {
             Ok(live) => Ok(live),

@@ -75,17 +75,23 @@ fn number_in<R: Files + Alloc + Clone + Drop>(
     }
 }
 
-// The numbers of the files of this name.
+// The numbers of the files of this name. An error is of the system's kind.
 fn numbers_of<R: Files + Alloc + Clone + Drop>(
     rt: &R,
     alloc: Global,
     file: &str,
-) -> io::Result<Vec<u64>> {
+) -> Result<Vec<u64>, ErrorKind> {
     let (folder, name) = sides_of(file);
+    let entries = match read_dir(rt, folder) {
+        Ok(entries) => entries,
+        Err(fault) => return Err(fault.kind()),
+    };
     let mut numbers = Vec::new(alloc);
-    for entry in read_dir(rt, folder)? {
-        if let Some(number) = number_in(name, entry) {
-            numbers.push(number)?;
+    for entry in entries {
+        if let Some(number) = number_in(name, entry)
+            && numbers.push(number).is_err()
+        {
+            return Err(ErrorKind::OutOfMemory);
         }
     }
     Ok(numbers)
@@ -109,7 +115,7 @@ impl CaptureFiles {
     ) -> Result<CaptureFiles, ErrorKind> {
         let numbers = match numbers_of(rt, alloc, name) {
             Ok(numbers) => numbers,
-            Err(fault) => return Err(fault.kind()),
+            Err(kind) => return Err(kind),
         };
         let Ok(copy) = String::from_str(alloc, name) else {
             return Err(ErrorKind::OutOfMemory);
