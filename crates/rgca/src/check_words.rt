@@ -1,11 +1,12 @@
 //! Reads the words behind `check`.
 use crate::ending::Named;
 use crate::help::CHECK_USAGE;
-use crate::words::{Kind, WordFault, address_behind, fault_of, with_words};
+use crate::words::{WordFault, address_behind};
 use clap::{ArgMatches, Command};
+use command_words::{Kind, matches_in};
 use live_agent::{CheckSettings, Telephone, is_check};
 use live_ends::{AddressWord, CommonEnding, Outlet, boxed};
-use std::alloc::{AllocError, Global};
+use std::alloc::Global;
 use std::io::Write;
 use std::net::SocketAddrV4;
 
@@ -27,11 +28,6 @@ const WORDS: [(&str, Kind); 11] = [
     ("json", Kind::Flag),
     ("junit", Kind::Valued),
 ];
-
-fn command<'a>(alloc: Global) -> Result<Command<'a>, AllocError> {
-    let command = Command::new(alloc, "check").override_usage(CHECK_USAGE);
-    with_words(alloc, command, &WORDS)
-}
 
 // The address that a word has, which stands there or has a default.
 fn address_in(
@@ -208,12 +204,9 @@ pub fn read_check_words<'a, F: Write + Drop>(
     words: &'a [String],
     said: &mut Outlet<F>,
 ) -> Result<Box<CheckWords<'a>>, WordFault> {
-    let Ok(parser) = command(alloc) else {
-        return Err(WordFault::Common(CommonEnding::OutOfMemory));
-    };
-    let matches = match parser.try_get_matches_from(words) {
-        Ok(matches) => matches,
-        Err(fault) => return Err(fault_of(alloc, &fault, said)),
-    };
-    settings_in(alloc, &matches)
+    let command = Command::new(alloc, "check").override_usage(CHECK_USAGE);
+    match matches_in(alloc, command, &WORDS, words, said) {
+        Ok(matches) => settings_in(alloc, &matches),
+        Err(ending) => Err(WordFault::Common(ending)),
+    }
 }

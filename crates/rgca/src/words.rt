@@ -1,17 +1,15 @@
 //! Reads the words of the command line.
-ghost use Rattle.std.specs.Prelude.{◌≡◌, ◌≢◌, None, IfOk, IfErr, IfSome};
+ghost use Rattle.std.specs.Prelude.{◌≡◌, None, IfOk, IfErr, IfSome};
 ghost use Rattle.std.specs.Net.Grammar.{IsSocketV4Text};
 ghost use Rattle.clap.specs.Matches.{found_of, first_value};
-ghost use Rattle.clap.specs.Values.{kind_of};
-ghost use Rattle.clap.specs.declared.error.kind.ErrorKind.TheVariants as kinds;
 
 use crate::ending::Named;
 use crate::help::{CONTROL, USAGE};
 use bad_network::Spoiling;
-use clap::error::ErrorKind;
-use clap::{Arg, ArgAction, ArgMatches, Command, Error};
+use clap::{ArgMatches, Command};
+use command_words::{Kind, matches_in};
 use live_ends::{AddressWord, CommonEnding, Outlet, VERSION, address_in, boxed, network_in};
-use std::alloc::{AllocError, Global};
+use std::alloc::Global;
 use std::io::Write;
 use std::net::SocketAddrV4;
 
@@ -57,25 +55,6 @@ pub enum WordFault {
     NoCheck,
 }
 
-/// How a word stands.
-#[derive(Clone, Copy)]
-pub enum Kind {
-    /// By itself, and it has to.
-    Bare,
-    /// With something behind it, and it has to.
-    Needed,
-    /// With something behind it.
-    Valued,
-    /// With something behind it, once or more.
-    Several,
-    /// With a number behind it.
-    Number,
-    /// With something behind it; else this is meant.
-    Or(&'static str),
-    /// With nothing behind it.
-    Flag,
-}
-
 const WORDS: [(&str, Kind); 8] = [
     ("config", Kind::Bare),
     ("listen", Kind::Valued),
@@ -86,49 +65,6 @@ const WORDS: [(&str, Kind); 8] = [
     ("network", Kind::Valued),
     ("stop-after", Kind::Number),
 ];
-
-// What clap is told stands in functions of few steps each: a check pays at each step for all that a word, or the command, holds inline.
-
-// A word with this name behind two hyphens.
-fn hyphened<'a>(alloc: Global, name: &'static str) -> Arg<'a> {
-    Arg::new(alloc, name).long(name)
-}
-
-// What clap is told of a word.
-fn arg_of<'a>(alloc: Global, name: &'static str, kind: Kind) -> Arg<'a> {
-    match kind {
-        Kind::Bare => Arg::new(alloc, name).required(true),
-        Kind::Valued => hyphened(alloc, name),
-        Kind::Needed => hyphened(alloc, name).required(true),
-        Kind::Several => hyphened(alloc, name).num_args(1usize..),
-        Kind::Number => hyphened(alloc, name).value_parser(clap::value_parser!(u64)),
-        Kind::Or(other) => hyphened(alloc, name).default_value(other),
-        Kind::Flag => hyphened(alloc, name).action(ArgAction::SetTrue),
-    }
-}
-
-/// A command that takes these words too. An error is for want of memory.
-pub fn with_words<'a>(
-    alloc: Global,
-    command: Command<'a>,
-    words: &[(&'static str, Kind)],
-) -> Result<Command<'a>, AllocError> {
-    let mut command = command;
-    for (name, kind) in words {
-        command = match command.arg(arg_of(alloc, *name, *kind)) {
-            Ok(command) => command,
-            Err(refused) => return Err(refused),
-        };
-    }
-    Ok(command)
-}
-
-fn command<'a>(alloc: Global) -> Result<Command<'a>, AllocError> {
-    let command = Command::new(alloc, "rgca")
-        .version(VERSION)
-        .override_usage(USAGE);
-    with_words(alloc, command, &WORDS)
-}
 
 /// The address behind a word, if that stands there.
 pub fn address_behind(
@@ -147,33 +83,6 @@ pub fn address_behind(
             Err(ending) => Err(WordFault::Common(ending)),
         },
         None => Ok(None),
-    }
-}
-
-/// Why no settings are found in words, by clap's error: this outlet says which words are wrong, where memory isn't refused for that.
-pub fn fault_of<F: Write + Drop>(alloc: Global, fault: &Error, said: &mut Outlet<F>) -> WordFault
-    ensures memory { kind_of fault.now ≡ kinds.OutOfMemory → result ≡ WordFault.Common CommonEnding.OutOfMemory }
-    ensures help { kind_of fault.now ≡ kinds.DisplayHelp → result ≡ WordFault.Common CommonEnding.Help }
-    ensures version { kind_of fault.now ≡ kinds.DisplayVersion → result ≡ WordFault.Common CommonEnding.Version }
-    ensures told { kind_of fault.now ≢ kinds.DisplayHelp → kind_of fault.now ≢ kinds.DisplayVersion
-        → result ≢ WordFault.Common CommonEnding.OutOfMemory → result ≡ WordFault.Common CommonEnding.Told }
-{
-    let kind = fault.kind();
-    if kind == ErrorKind::OutOfMemory {
-        return WordFault::Common(CommonEnding::OutOfMemory);
-    }
-    if kind == ErrorKind::DisplayHelp {
-        return WordFault::Common(CommonEnding::Help);
-    }
-    if kind == ErrorKind::DisplayVersion {
-        return WordFault::Common(CommonEnding::Version);
-    }
-    match format!(in alloc; "{fault}") {
-        Ok(text) => {
-            said.say(text.as_bytes());
-            WordFault::Common(CommonEnding::Told)
-        }
-        Err(_) => WordFault::Common(CommonEnding::OutOfMemory),
     }
 }
 
@@ -220,11 +129,11 @@ pub fn read_words<'a, F: Write + Drop>(
     words: &'a [String],
     said: &mut Outlet<F>,
 ) -> Result<Box<Settings<'a>>, WordFault> {
-    let Ok(parser) = command(alloc) else {
-        return Err(WordFault::Common(CommonEnding::OutOfMemory));
-    };
-    match parser.try_get_matches_from(words) {
+    let command = Command::new(alloc, "rgca")
+        .version(VERSION)
+        .override_usage(USAGE);
+    match matches_in(alloc, command, &WORDS, words, said) {
         Ok(matches) => settings_in(alloc, &matches),
-        Err(fault) => Err(fault_of(alloc, &fault, said)),
+        Err(ending) => Err(WordFault::Common(ending)),
     }
 }

@@ -8,8 +8,8 @@ use crate::help::{LISTEN, PHONES, USAGE};
 use crate::parted::parting_of;
 use crate::recording::Recording;
 use bad_network::Spoiling;
-use clap::error::ErrorKind;
-use clap::{Arg, ArgAction, ArgMatches, Command, Error};
+use clap::{ArgMatches, Command};
+use command_words::{Kind, matches_in};
 use live_ends::{
     AddressWord, CommonEnding, FileNames, Parting, VERSION, address_in, boxed, network_in,
 };
@@ -105,19 +105,6 @@ impl<'a> Settings<'a> {
     }
 }
 
-// How a word stands.
-#[derive(Clone, Copy)]
-enum Kind {
-    // By itself, and it has to.
-    Bare,
-    // With a number behind it.
-    Number,
-    // With nothing behind it.
-    Flag,
-    // With a text behind it.
-    Text,
-}
-
 // The words of the command line.
 const WORDS: [(&str, Kind); 17] = [
     ("config", Kind::Bare),
@@ -126,71 +113,18 @@ const WORDS: [(&str, Kind); 17] = [
     ("trace", Kind::Flag),
     ("log", Kind::Flag),
     ("phones-open", Kind::Flag),
-    ("listen", Kind::Text),
-    ("phones", Kind::Text),
-    ("agents", Kind::Text),
-    ("http", Kind::Text),
-    ("http-host", Kind::Text),
-    ("capture", Kind::Text),
-    ("capture-size", Kind::Text),
-    ("capture-files", Kind::Text),
-    ("network", Kind::Text),
-    ("first", Kind::Text),
-    ("spread", Kind::Text),
+    ("listen", Kind::Valued),
+    ("phones", Kind::Valued),
+    ("agents", Kind::Valued),
+    ("http", Kind::Valued),
+    ("http-host", Kind::Valued),
+    ("capture", Kind::Valued),
+    ("capture-size", Kind::Valued),
+    ("capture-files", Kind::Valued),
+    ("network", Kind::Valued),
+    ("first", Kind::Valued),
+    ("spread", Kind::Valued),
 ];
-
-// What clap is told stands in functions of few steps each: a check pays at each step for all that a word, or the command, holds inline.
-
-// A word with this name behind two hyphens.
-fn named<'a>(alloc: Global, name: &'static str) -> Arg<'a> {
-    Arg::new(alloc, name).long(name)
-}
-
-// What clap is told of a word.
-fn arg_of<'a>(alloc: Global, name: &'static str, kind: Kind) -> Arg<'a> {
-    match kind {
-        Kind::Bare => Arg::new(alloc, name).required(true),
-        Kind::Number => named(alloc, name).value_parser(clap::value_parser!(u64)),
-        Kind::Flag => named(alloc, name).action(ArgAction::SetTrue),
-        Kind::Text => named(alloc, name),
-    }
-}
-
-// The command without its words.
-fn bare_command<'a>(alloc: Global) -> Command<'a> {
-    Command::new(alloc, "rgwd")
-        .version(VERSION)
-        .override_usage(USAGE)
-}
-
-// The command with one word more.
-fn with_word<'a>(
-    command: Command<'a>,
-    alloc: Global,
-    name: &'static str,
-    kind: Kind,
-) -> Result<Command<'a>, AllocError> {
-    command.arg(arg_of(alloc, name, kind))
-}
-
-fn command<'a>(alloc: Global) -> Result<Command<'a>, AllocError> {
-    let mut command = bare_command(alloc);
-    for (name, kind) in WORDS.iter() {
-        command = match with_word(command, alloc, *name, *kind) {
-            Ok(command) => command,
-            Err(refused) => return Err(refused),
-        };
-    }
-    Ok(command)
-}
-
-// What clap makes of the words of a command line.
-fn matched<'a>(alloc: Global, words: &'a [String]) -> Result<ArgMatches<'a>, Error> {
-    match command(alloc) {
-        Ok(command) => command.try_get_matches_from(words),
-        Err(refused) => Err(Error::from(refused)),
-    }
-}
 
 /// A word that doesn't ask how the program is used.
 pub fn unless_help<'w>(word: &'w str) -> Result<&'w str, Ending>
@@ -368,41 +302,17 @@ fn settings_in<'a>(alloc: Global, matches: &ArgMatches<'a>) -> Result<Box<Settin
     }
 }
 
-// What clap says of words that are wrong.
-fn fault_text(alloc: Global, fault: &Error) -> Result<String, AllocError> {
-    format!(in alloc; "{fault}")
-}
-
-// How the program ends where there are no settings in words, by clap's error: standard error says which words are wrong.
-fn ending_by<R: Files>(alloc: Global, fault: &Error, recording: &mut Recording<R>) -> CommonEnding {
-    let kind = fault.kind();
-    if kind == ErrorKind::OutOfMemory {
-        return CommonEnding::OutOfMemory;
-    }
-    if kind == ErrorKind::DisplayHelp {
-        return CommonEnding::Help;
-    }
-    if kind == ErrorKind::DisplayVersion {
-        return CommonEnding::Version;
-    }
-    match fault_text(alloc, fault) {
-        Ok(text) => {
-            recording.say(text.as_bytes());
-            CommonEnding::Told
-        }
-        Err(_) => CommonEnding::OutOfMemory,
-    }
-}
-
 /// Reads the words of a command line, of which the first is the program's name; standard error says which are wrong.
 pub fn read_words<'a, R: Files>(
     alloc: Global,
     words: &'a [String],
     recording: &mut Recording<R>,
 ) -> Result<Box<Settings<'a>>, Ending> {
-    let matches = match matched(alloc, words) {
-        Ok(matches) => matches,
-        Err(fault) => return Err(Ending::Common(ending_by(alloc, &fault, recording))),
-    };
-    settings_in(alloc, &matches)
+    let command = Command::new(alloc, "rgwd")
+        .version(VERSION)
+        .override_usage(USAGE);
+    match matches_in(alloc, command, &WORDS, words, &mut recording.outlets.error) {
+        Ok(matches) => settings_in(alloc, &matches),
+        Err(ending) => Err(Ending::Common(ending)),
+    }
 }

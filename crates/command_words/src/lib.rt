@@ -1,0 +1,8 @@
+//! The words of a program's command line: how each stands, as a table says it, what stands behind them, and what is wrong with them.
+#![tactic(auto)]
+
+mod reading;
+mod table;
+
+pub use crate::reading::matches_in;
+pub use crate::table::Kind;
