@@ -205,8 +205,9 @@ pub fn read_check_words<'a, F: Write + Drop>(
     said: &mut Outlet<F>,
 ) -> Result<Box<CheckWords<'a>>, WordFault> {
     let command = Command::new(alloc, "check").override_usage(CHECK_USAGE);
-    match matches_in(alloc, command, &WORDS, words, said) {
-        Ok(matches) => settings_in(alloc, &matches),
-        Err(ending) => Err(WordFault::Common(ending)),
-    }
+    let matches = match matches_in(alloc, command, &WORDS, words, said) {
+        Ok(matches) => matches,
+        Err(ending) => return Err(WordFault::Common(ending)),
+    };
+    settings_in(alloc, &matches)
 }

@@ -132,8 +132,9 @@ pub fn read_words<'a, F: Write + Drop>(
     let command = Command::new(alloc, "rgca")
         .version(VERSION)
         .override_usage(USAGE);
-    match matches_in(alloc, command, &WORDS, words, said) {
-        Ok(matches) => settings_in(alloc, &matches),
-        Err(ending) => Err(WordFault::Common(ending)),
-    }
+    let matches = match matches_in(alloc, command, &WORDS, words, said) {
+        Ok(matches) => matches,
+        Err(ending) => return Err(WordFault::Common(ending)),
+    };
+    settings_in(alloc, &matches)
 }

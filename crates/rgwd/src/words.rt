@@ -311,8 +311,9 @@ pub fn read_words<'a, R: Files>(
     let command = Command::new(alloc, "rgwd")
         .version(VERSION)
         .override_usage(USAGE);
-    match matches_in(alloc, command, &WORDS, words, &mut recording.outlets.error) {
-        Ok(matches) => settings_in(alloc, &matches),
-        Err(ending) => Err(Ending::Common(ending)),
-    }
+    let matches = match matches_in(alloc, command, &WORDS, words, &mut recording.outlets.error) {
+        Ok(matches) => matches,
+        Err(ending) => return Err(Ending::Common(ending)),
+    };
+    settings_in(alloc, &matches)
 }
