@@ -79,23 +79,6 @@ fn gateway_in(
     }
 }
 
-// Whom a gateway hears, and who may type.
-fn admission_of(
-    alloc: Global,
-    words: &mut Words,
-    gateway: &Gateway,
-) -> Result<Admission, AllocError> {
-    let speakers = match words.agents.take() {
-        Some(speakers) => speakers,
-        None => speakers_of(alloc, gateway.setup())?,
-    };
-    Ok(Admission {
-        speakers,
-        own: words.own,
-        are_phones_open: words.are_phones_open,
-    })
-}
-
 // What is asked of a gateway, which ends behind what comes where no word says when.
 fn settings_of<'w>(words: &'w Words, story: &Story) -> DeskSettings<'w> {
     let capture = match &words.capture {
@@ -121,7 +104,15 @@ fn desk_of(
     gateway: Box<Gateway>,
     story: &mut Story,
 ) -> Result<Box<Desk<Scripted, Trace>>, AllocError> {
-    let admission = admission_of(alloc, words, &gateway)?;
+    let speakers = match words.agents.take() {
+        Some(speakers) => speakers,
+        None => speakers_of(alloc, gateway.setup())?,
+    };
+    let admission = Admission {
+        speakers,
+        own: words.own,
+        are_phones_open: words.are_phones_open,
+    };
     let around = boxed(alloc, story.take_around(words.own))?;
     let settings = settings_of(words, story);
     open_desk(
