@@ -33,7 +33,10 @@ impl Arrived {
 
 impl Inbox {
     /// Nothing has come.
-    pub fn new(alloc: Global) -> Inbox {
+    pub fn new(alloc: Global) -> Inbox
+        ensures waiting { result.waiting.items ≡ [] }
+        ensures taken { result.taken.items ≡ [] }
+    {
         Inbox {
             waiting: Vec::new(alloc),
             taken: Vec::new(alloc),
