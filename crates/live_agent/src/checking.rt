@@ -458,12 +458,12 @@ fn check_by<R: AllocGlobal + Net + Clock, F: Write + Drop>(
 /// can be checked.
 pub fn check_gateway<R: AllocGlobal + Net + Clock, F: Write + Drop>(
     rt: &R,
-    settings: CheckSettings<'_>,
+    settings: &CheckSettings<'_>,
     out: &mut Outlet<F>,
 ) -> Result<Checked, CheckFault> {
     let telephone = settings.telephone;
     match Ends::open(rt, rt.alloc(), settings.gateway, settings.own, telephone) {
-        Ok(mut ends) => check_by(rt, &settings, &mut ends, out),
+        Ok(mut ends) => check_by(rt, settings, &mut ends, out),
         Err(fault) => Err(fault),
     }
 }

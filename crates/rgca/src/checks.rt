@@ -2,7 +2,7 @@
 use crate::check_words::{CheckWords, read_check_words};
 use crate::ending::{Ending, Named, check_words_ending, unchecked_ending};
 use crate::help::of_all;
-use live_agent::{check_gateway, check_list, fault_text};
+use live_agent::{Checked, check_gateway, check_list, fault_text};
 use live_ends::{CommonEnding, Outlet, Outlets};
 use mg_bytes::OutOfMemory;
 use std::alloc::Global;
@@ -44,30 +44,40 @@ fn failed<F: Write + Drop>(
     ending
 }
 
+// Keeps the report of this check in its file, where one is asked for: how the program ends then.
+fn reported<R: AllocGlobal + Files, F: Write + Drop>(
+    rt: &R,
+    words: &CheckWords<'_>,
+    checked: &Checked,
+    out: &mut Outlet<F>,
+) -> Ending {
+    let status = checked.status;
+    let Some(file) = words.junit else {
+        return Ending::Checked { status };
+    };
+    match make_file(rt, file, checked.junit.as_str()) {
+        Ok(()) => Ending::Checked { status },
+        Err(fault) => {
+            let ending = Ending::Common(CommonEnding::unwritable(fault.kind()));
+            failed(rt.alloc(), words, out, ending)
+        }
+    }
+}
+
 // Checks a gateway as these words ask.
 fn check_by<R: AllocGlobal + Files + Net + Clock, F: Write + Drop>(
     rt: &R,
     words: &CheckWords<'_>,
     out: &mut Outlet<F>,
 ) -> Ending {
-    let checked = match check_gateway(rt, words.settings, out) {
+    let checked = match check_gateway(rt, &words.settings, out) {
         Ok(checked) => checked,
         Err(fault) => {
             let ending = unchecked_ending(fault, words.settings.gateway, words.settings.own);
             return failed(rt.alloc(), words, out, ending);
         }
     };
-    let status = checked.status;
-    match words.junit {
-        Some(file) => match make_file(rt, file, checked.junit.as_str()) {
-            Ok(()) => Ending::Checked { status },
-            Err(fault) => {
-                let ending = Ending::Common(CommonEnding::unwritable(fault.kind()));
-                failed(rt.alloc(), words, out, ending)
-            }
-        },
-        None => Ending::Checked { status },
-    }
+    reported(rt, words, &checked, out)
 }
 
 // Tells which checks there are.

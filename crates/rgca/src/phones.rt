@@ -21,6 +21,15 @@ fn failure_ending(alloc: Global, files: &[Text], names: &[Text], failure: &Failu
     }
 }
 
+// How the program ends by a play of these files at these gateways.
+fn play_ending(alloc: Global, files: &[Text], names: &[Text], played: &Played) -> Ending {
+    match played {
+        Played::Done => Ending::Played,
+        Played::Clock => Ending::Common(CommonEnding::Clock),
+        Played::Failed { failure } => failure_ending(alloc, files, names, failure),
+    }
+}
+
 // Plays a script with this player, over these sockets.
 fn play_with<R: Net + Clock>(
     alloc: Global,
@@ -31,12 +40,7 @@ fn play_with<R: Net + Clock>(
     let Ok(played) = play_phones(alloc, live, player, settings.addresses.as_slice()) else {
         return Ending::Common(CommonEnding::OutOfMemory);
     };
-    let failure = match &played {
-        Played::Done => return Ending::Played,
-        Played::Clock => return Ending::Common(CommonEnding::Clock),
-        Played::Failed { failure } => failure,
-    };
-    failure_ending(alloc, player.files(), settings.names.as_slice(), failure)
+    play_ending(alloc, player.files(), settings.names.as_slice(), &played)
 }
 
 // Plays a script over these sockets.
