@@ -96,9 +96,9 @@ goes_on_then told traffic old mid new a b = record {
 
 -- nothing changes before it, nor behind it
 pub between : {S T : Type 0} (told : T → Option (List ℕ)) (traffic : S → Traffic) (old mid after new : Desk S T)
-    → at_desk told traffic mid ≡ at_desk told traffic old → mid.admission ≡ old.admission → GoesOn told traffic mid after
+    → GoesOn told traffic mid after → at_desk told traffic mid ≡ at_desk told traffic old → mid.admission ≡ old.admission
     → at_desk told traffic new ≡ at_desk told traffic after → new.admission ≡ after.admission → GoesOn told traffic old new
-between told traffic old mid after new before same goes behind kept =
+between told traffic old mid after new goes before same behind kept =
     goes_on_then told traffic old mid new (stays_so told traffic old mid before same)
     (goes_on_then told traffic mid after new goes (stays_so told traffic after new behind kept))
 

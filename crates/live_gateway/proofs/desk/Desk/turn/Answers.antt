@@ -12,9 +12,9 @@ use Rattle.live_gateway.proofs.desk.Desk.turn.Goals as goal
 pub returns-clause-play : goal.returns-clause-play
 returns-clause-play g c =
     between g.T.Teller.told g.S.Surroundings.traffic _ _ _ _
+    c.do_turn.ensures.play
     (rw (c.begin.ensures.network, c.begin.ensures.around, c.begin.ensures.faults, c.situation-at.ensures.network, c.situation-at.ensures.around, c.situation-at.ensures.refused) refl)
     refl
-    c.do_turn.ensures.play
     (rw (c.tell.ensures.traffic) refl)
     refl
 
