@@ -6,13 +6,10 @@ use Rattle.mg_line.specs.declared.phone.Act.{Act}
 use Rattle.gateway_core.specs.Wire.{counted}
 use Rattle.plain_machine.specs.Event.{GatewayEvent, phone}
 use Rattle.plain_machine.specs.declared.refusal.Refusal.{Refusal}
-use Rattle.surroundings.specs.declared.surroundings.Fault.{Fault}
 use Rattle.traces.specs.Writing.{Input, typed}
-use Rattle.turns.specs.declared.turn.Turn.{Turn}
 use Rattle.live_gateway.specs.Running.{Live, Ran, HeardFrom, Takes, Refuses, Asked}
-use Rattle.live_gateway.specs.declared.admission.Admission.{Admission}
 use Rattle.live_gateway.specs.Desk.{Standing, with_input}
-use Rattle.live_gateway.specs.Turning.{Tries, TriesAct, DoesLine, Does}
+use Rattle.live_gateway.specs.Turning.{Tries, TriesAct, DoesLine}
 
 -- it was taken, or refused, and that is counted
 pub tries : {A B : Type 0} (input : Input) (event : GatewayEvent) (done : Result A B) (was mid is : Standing) → OnOk done (Takes was.live input event mid.live)
@@ -48,13 +45,6 @@ asks_of text line (Ok done) printed was is asked heard = inl (printed, asked)
 asks_of text line (Err why) printed was is asked heard = inr heard
 
 -- what comes before and behind changes nothing of how it stands
-
 pub line_between : (was mid after is : Standing) → mid ≡ was → is ≡ after → DoesLine mid after → DoesLine was is
 line_between was mid after is before behind does =
     subst (λ (s : Standing). DoesLine s is) before (subst (λ (s : Standing). DoesLine mid s) (sym behind) does)
-
-pub does_between : {S : Type 0} (receives : S → Result (Option (SocketAddrV4 × ℕ)) Fault → List ℕ → S → Type 0) (admission other : Admission) (turn : Turn)
-    (was mid after is : Standing) → other ≡ admission → mid ≡ was → is ≡ after → Does receives other turn mid after → Does receives admission turn was is
-does_between receives admission other turn was mid after is same before behind does =
-    subst (λ (a : Admission). Does receives a turn was is) same (subst (λ (s : Standing). Does receives other turn s is) before
-    (subst (λ (s : Standing). Does receives other turn mid s) (sym behind) does))

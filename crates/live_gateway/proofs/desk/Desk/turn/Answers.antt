@@ -1,4 +1,4 @@
-use Rattle.std.proofs.Common.{◌≡◌, List, refl, ◌∙◌, ap, subst}
+use Rattle.std.proofs.Common.{◌≡◌, List, refl, ◌∙◌, ap, subst, sym}
 use Rattle.std.specs.Prelude.{not}
 use Rattle.plain_machine.specs.Event.{GatewayEvent}
 use Rattle.plain_machine.specs.Lists.{plain}
@@ -6,7 +6,6 @@ use Rattle.gateway_core.specs.GatewayState.{GatewayState}
 use Rattle.gateway_core.specs.Stands.{Stands}
 use Rattle.live_gateway.proofs.DeskLemmas.{between}
 use Rattle.live_gateway.proofs.EndingLemmas.{turn_ends}
-use Rattle.live_gateway.proofs.TurningLemmas.{does_between}
 use Rattle.live_gateway.proofs.desk.Desk.turn.Goals as goal
 
 pub returns-clause-play : goal.returns-clause-play
@@ -35,7 +34,6 @@ returns-clause-does g c = (
   c.next-turn.result,
   _,
   c.next-turn.ensures,
-  does_between g.S.Surroundings.receives _ _ c.next-turn.result _ _ _ _ refl
-      (rw (c.begin.ensures.network, c.begin.ensures.around, c.begin.ensures.faults, c.situation-at.ensures.network, c.situation-at.ensures.around, c.situation-at.ensures.refused) refl)
-      (rw (c.tell.ensures.traffic) refl) c.do_turn.ensures.does,
+  rw (c.begin.ensures.network, c.begin.ensures.around, c.begin.ensures.faults, c.situation-at.ensures.network, c.situation-at.ensures.around,
+      c.situation-at.ensures.refused, sym c.tell.ensures.traffic) at c.do_turn.ensures.does,
 )
