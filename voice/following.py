@@ -16,7 +16,7 @@ from typing import Any
 # It is watched for so many seconds, and asked for that again after so many.
 WATCHED, ASKED_AGAIN = 10, 2.0
 MILLISECOND = 1_000_000
-# A gateway whose clock is behind by more, in nanoseconds, was started anew, or was paused.
+# What a clock shows that goes back by more, in nanoseconds, or came later by more and began since it was heard of, is another life's.
 NEW_LIFE = 1_000 * MILLISECOND
 WATCHING = re.compile(r"watching from (\d+) at (\d+)")
 CHANGE = re.compile(r"change (\d+) at (\d+) line (\d+) (.+)")
@@ -73,14 +73,20 @@ class Clock:
     def __init__(self) -> None:
         # The machine's moment at which it was 0. Of what is told, the least late says that best.
         self.zero: int | None = None
+        # What it showed at the latest, and the machine's moment at which it was heard of last.
+        self.latest = self.heard = 0
 
     def set(self, at: int, now: int) -> None:
         zero = now - at * MILLISECOND
         self.zero = zero if self.zero is None else min(self.zero, zero)
+        self.latest, self.heard = max(self.latest, at), now
 
-    def is_behind(self, at: int, now: int) -> bool:
-        """Whether it is another life's clock that shows this now."""
-        return self.zero is not None and now - at * MILLISECOND - self.zero > NEW_LIFE
+    def is_over(self, at: int, now: int) -> bool:
+        """Whether it is another life's clock that shows this now. One that was paused is only behind for a while."""
+        if self.zero is None:
+            return False
+        zero = now - at * MILLISECOND
+        return (self.latest - at) * MILLISECOND > NEW_LIFE or (zero - self.zero > NEW_LIFE and zero > self.heard)
 
     def time_of(self, at: int) -> int:
         """The machine's moment of one of its own."""
@@ -229,7 +235,7 @@ class Gateway:
 
     def hear_watching(self, next_number: int, at: int, now: int) -> set[int]:
         self.tell_once("")
-        if self.clock.is_behind(at, now):
+        if self.clock.is_over(at, now):
             self.begin_anew(now)
         self.clock.set(at, now)
         if self.number is None:

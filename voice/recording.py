@@ -69,7 +69,7 @@ class Recording:
             self.file.close()
 
     def tones(self) -> list[tuple[float, float, int, int]]:
-        """Each frequency that was heard, its greatest level, in dB of the loudest sound, and from when to when, in ms from the beginning."""
+        """Each frequency that was heard, its greatest level in dB of the loudest sound, and from when to when, in ms from the beginning."""
         window = 1_000 * WINDOW // RATE
         return [
             (round(it.hertz, 1), round(20 * math.log10(it.loud), 1), it.first * window, it.end * window) for it in self.hearing.heard()
