@@ -34,6 +34,13 @@ returns-clause-does g c = (
   c.next-turn.result,
   _,
   c.next-turn.ensures,
-  rw (c.begin.ensures.network, c.begin.ensures.around, c.begin.ensures.faults, c.situation-at.ensures.network, c.situation-at.ensures.around,
-      c.situation-at.ensures.refused, sym c.tell.ensures.traffic) at c.do_turn.ensures.does,
+  rw (
+    c.begin.ensures.network,
+    c.begin.ensures.around,
+    c.begin.ensures.faults,
+    c.situation-at.ensures.network,
+    c.situation-at.ensures.around,
+    c.situation-at.ensures.refused,
+    sym c.tell.ensures.traffic,
+  ) at c.do_turn.ensures.does,
 )
