@@ -265,7 +265,7 @@ fn put_config(out: &mut Vec<u8>, file: &str, line: &[u8]) -> Result<(), OutOfMem
 }
 
 // Says this of the line to be checked, or of the other one.
-fn put_of_line(out: &mut Vec<u8>, is_other: bool, what: &str) -> Result<(), OutOfMemory>
+fn put_of_line(out: &mut Vec<u8>, is_other: bool, what: &'static str) -> Result<(), OutOfMemory>
     ensures { OnOk result (out.new.items ≡ out.old.items ++ joined (line_word is_other ∷ what.now ∷ [])) }
 {
     put_pieces(out, &[line_word(is_other), what])
