@@ -6,8 +6,12 @@ use Rattle.call_routing.specs.declared.phase.Phase.{Phase}
 use Rattle.call_routing.specs.declared.line.Line.{Line}
 use Rattle.call_routing.specs.declared.told.Told.{Told}
 use Rattle.call_routing.specs.Phases.{talks_in}
+use Rattle.call_routing.specs.declared.fate.Fate.{Fate}
+use Rattle.call_routing.specs.declared.fate.Fate.TheVariants.{Open}
+use Rattle.call_routing.specs.declared.fate.PutOff.{PutOff}
 use Rattle.call_routing.specs.Calls.{CallState, all_resting, heard, failed, found}
-use Rattle.call_routing.specs.Line.{new_line, sent, landed, failing, finding, spent}
+use Rattle.call_routing.specs.Fates.{fate_of, put_off_by}
+use Rattle.call_routing.specs.Line.{new_line, sent, landed, failing, finding, heard_on, cleared}
 use Rattle.call_routing.specs.Next.{is_ready, next_of}
 
 -- the lines stand in one order in both
@@ -39,23 +43,53 @@ changed change lines line = changed_to change lines line (slice_get lines line)
 -- a line tells this
 unfoldable pub told : ExchangeState → ℕ → Told → ExchangeState
 told exchange line event =
-    record { calls = heard exchange.calls line event; lines = changed spent exchange.lines line }
+    record { calls = heard exchange.calls line event; lines = changed (heard_on event) exchange.lines line }
 
 -- the command in flight
 abbrev pub flight_in : Option Line → Option Command
 flight_in None = None
 flight_in (Some is) = is.flight
 
--- a call that can't be connected by what became of this command is over for both ends; and how it found the telephone
-abbrev pub settled : List Phase → ℕ → Option Command → Outcome → List Phase
-settled phases line flight outcome = found (failed phases line (failing flight outcome)) line (finding flight outcome)
+-- how the command found the telephone
+abbrev pub found_by : List Phase → ℕ → Option Command → Outcome → List Phase
+found_by phases line flight outcome = found phases line (finding flight outcome)
+
+abbrev pub fate_with : Option Command → Option Phase → Option PutOff → Outcome → Fate
+fate_with None phase was outcome = Open
+fate_with (Some command) phase was outcome = fate_of command phase was outcome
+
+-- what became of the command in flight to a line that is in this phase then; of none nothing did
+abbrev pub fate_in : Option Line → Option Phase → Outcome → Fate
+fate_in None phase outcome = Open
+fate_in (Some is) phase outcome = fate_with is.flight phase is.put_off outcome
+
+abbrev pub fate_at : ExchangeState → ℕ → Outcome → Fate
+fate_at exchange line outcome =
+    fate_in (line_of exchange line)
+    (slice_get (found_by exchange.calls.phases line (flight_in (line_of exchange line)) outcome) line) outcome
+
+-- a call that can't be connected by what became of this command is over for both ends
+abbrev pub settled : List Phase → ℕ → Option Command → Fate → Outcome → List Phase
+settled phases line flight fate outcome = failed (found_by phases line flight outcome) line (failing flight fate)
+
+abbrev pub settled_phases : ExchangeState → ℕ → Outcome → List Phase
+settled_phases exchange line outcome =
+    settled exchange.calls.phases line (flight_in (line_of exchange line)) (fate_at exchange line outcome) outcome
 
 -- what became of the command in flight to a line
 unfoldable pub answered : ExchangeState → ℕ → Outcome → ExchangeState
 answered exchange line outcome = record {
-  calls = record exchange.calls { phases = settled exchange.calls.phases line (flight_in (line_of exchange line)) outcome };
-  lines = changed (landed outcome) exchange.lines line;
+  calls = record exchange.calls { phases = settled_phases exchange line outcome };
+  lines = changed (landed (fate_at exchange line outcome) outcome) exchange.lines line;
 }
+
+-- how that command was put off, if it was
+abbrev pub put_off_at : ExchangeState → ℕ → Outcome → Option PutOff
+put_off_at exchange line outcome = put_off_by (fate_at exchange line outcome)
+
+-- its owner's deletion of all that the line has was answered by this code
+unfoldable pub cleared_at : ExchangeState → ℕ → ℕ → ExchangeState
+cleared_at exchange line code = record exchange { lines = changed (cleared code) exchange.lines line }
 
 abbrev pub due_by : ExchangeState → Option Phase → Option Line → Option Command
 due_by exchange None is = None

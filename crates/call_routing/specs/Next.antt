@@ -1,5 +1,5 @@
 -- Which command a line is to be sent next: the first difference between what it should be by its phase and what its gateway was
--- told, the connection before the request.
+-- told, the connection before the request. Behind a command that was put off it is to be sent a while later: that is its owner's.
 use Rattle.std.specs.Prelude.{ℕ, ◌==◌, is_some, if◌then◌else◌, Bool, true, false, List, Option, Some, None, slice_get}
 use Rattle.call_routing.specs.declared.phase.Side.{Side}
 use Rattle.call_routing.specs.declared.phase.Side.TheVariants.{Caller, Called}
@@ -8,11 +8,13 @@ use Rattle.call_routing.specs.declared.phase.Phase.{Phase}
 use Rattle.call_routing.specs.declared.asked.Asked.{Asked}
 use Rattle.call_routing.specs.declared.command.Command.{Command}
 use Rattle.call_routing.specs.declared.command.Command.TheVariants.{Ask, Create, Modify, Delete}
+use Rattle.call_routing.specs.declared.fate.PutOff.{PutOff}
 use Rattle.call_routing.specs.declared.line.Leg.{Leg}
 use Rattle.call_routing.specs.declared.line.Leg.TheVariants.{Absent, Unknown, Standing}
 use Rattle.call_routing.specs.declared.line.Line.{Line}
 use Rattle.call_routing.specs.Phases.{talks_in}
 use Rattle.call_routing.specs.Asking.{wanted_in, is_asked}
+use Rattle.call_routing.specs.Fates.{is_of_connection}
 
 -- Whether the other end can be heard: its connection for this call stands
 
@@ -63,8 +65,22 @@ abbrev pub request_or : Option Command → Asked → Option Asked → Option Com
 request_or (Some command) wanted asked = Some command
 request_or None wanted asked = request_next wanted asked
 
+abbrev pub connection_or : Option Command → Option Command → Option Command
+connection_or (Some command) connection = Some command
+connection_or None connection = connection
+
+-- the request comes first where it is the connection's command that was put off, so that nobody waits for a tone meanwhile
+abbrev pub is_request_first : Option PutOff → Bool
+is_request_first None = false
+is_request_first (Some off) = is_of_connection off.cause
+
+abbrev pub first_of : Bool → Option Command → Asked → Option Asked → Option Command
+first_of true connection wanted asked = connection_or (request_next wanted asked) connection
+first_of false connection wanted asked = request_or connection wanted asked
+
 -- nothing while a command is in flight
 unfoldable pub next_of : Phase → Bool → Line → Option Command
 next_of phase ready line =
     if is_some line.flight then None
-    else request_or (connection_next (talks_in phase) ready line.joined line.leg) (wanted_in phase) line.asked
+    else first_of (is_request_first line.put_off) (connection_next (talks_in phase) ready line.joined line.leg) (wanted_in phase)
+    line.asked

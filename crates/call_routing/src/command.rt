@@ -1,6 +1,5 @@
 //! Commands to a line, and what becomes of them.
 ghost use Rattle.std.specs.Prelude.{◌≡◌};
-ghost use Rattle.call_routing.specs.Line.{is_success, is_given_up, is_created, is_accepted};
 ghost use Rattle.call_routing.specs.Parameters.{verb_of};
 
 use crate::asked::Asked;
@@ -46,40 +45,4 @@ pub enum Outcome {
     Answered(u16),
     /// It was given up, or never went out.
     GivenUp,
-}
-
-// A return code says that the command was executed (RFC 3435, 2.4).
-pub(crate) fn is_success(code: u16) -> bool
-    ensures { result ≡ is_success code }
-{
-    code >= 200 && code < 300
-}
-
-pub(crate) fn is_given_up(outcome: &Outcome) -> bool
-    ensures { result ≡ is_given_up outcome.now }
-{
-    match outcome {
-        Outcome::GivenUp => true,
-        Outcome::Created { .. } | Outcome::Answered(_) => false,
-    }
-}
-
-pub(crate) fn is_created(outcome: &Outcome) -> bool
-    ensures { result ≡ is_created outcome.now }
-{
-    match outcome {
-        Outcome::Created { .. } => true,
-        Outcome::Answered(_) | Outcome::GivenUp => false,
-    }
-}
-
-// Whether the command was executed.
-pub(crate) fn is_accepted(outcome: &Outcome) -> bool
-    ensures { result ≡ is_accepted outcome.now }
-{
-    match outcome {
-        Outcome::Created { .. } => true,
-        Outcome::Answered(code) => is_success(*code),
-        Outcome::GivenUp => false,
-    }
 }

@@ -1,11 +1,12 @@
 //! An exchange.
 ghost use Rattle.std.specs.Prelude.{◌≡◌, IfOk, option_copied, slice_get};
-ghost use Rattle.call_routing.specs.Line.{sent, landed, spent};
-ghost use Rattle.call_routing.specs.Exchange.{new_lines, opening, phase_of, line_of, changed, told, flight_in, answered, due, sent_to};
+ghost use Rattle.call_routing.specs.Line.{sent, landed, heard_on, cleared};
+ghost use Rattle.call_routing.specs.Exchange.{new_lines, opening, phase_of, line_of, changed, told, flight_in, fate_in, answered, put_off_at, cleared_at, due, sent_to};
 ghost use Rattle.call_routing.specs.Parameters.{description_of_other, parameters_of};
 
 use crate::calls::Calls;
 use crate::command::{Command, Outcome};
+use crate::fate::{Fate, PutOff, fate_of, put_off_by};
 use crate::line::{Line, failing, finding};
 use crate::next::{is_ready, next_of};
 use crate::parameters::{description_in, flight_lines};
@@ -17,7 +18,8 @@ use std::marker::Model;
 
 /// A small exchange: calls between lines, each of which has a place from 0 on. Its owner knows the names and the gateways of
 /// the lines. For each event it calls `tell` or `answer`, then `send` for each line, and issues what that gives with
-/// `parameters` behind it; what can't be issued it answers as given up.
+/// `parameters` behind it; what can't be issued it answers as given up. A line whose command was put off it leaves alone for a while:
+/// there is no clock here.
 ///
 /// A contract sees the calls, and what is known of each line (`ExchangeState`). Only `new` and `parameters` take memory.
 #[derive(Drop)]
@@ -46,23 +48,33 @@ fn new_lines(alloc: Global, count: usize) -> Result<Vec<Line>, OutOfMemory>
 }
 
 // What became of the command in flight to a line.
-fn land_on(lines: &mut Vec<Line>, line: usize, outcome: Outcome)
-    ensures { lines.new.items ≡ changed (landed outcome) lines.old.items line }
+fn land_on(lines: &mut Vec<Line>, line: usize, fate: Fate, outcome: Outcome)
+    ensures { lines.new.items ≡ changed (landed fate outcome) lines.old.items line }
 {
     if line >= lines.len() {
         return;
     }
-    lines[line].land(outcome);
+    lines[line].land(fate, outcome);
 }
 
-// A line has told something.
-fn spend_on(lines: &mut Vec<Line>, line: usize)
-    ensures { lines.new.items ≡ changed spent lines.old.items line }
+// A line has told this.
+fn hear_on(lines: &mut Vec<Line>, line: usize, event: Told)
+    ensures { lines.new.items ≡ changed (heard_on event) lines.old.items line }
 {
     if line >= lines.len() {
         return;
     }
-    lines[line].spend();
+    lines[line].hear(event);
+}
+
+// A deletion of all that a line has was answered by this code.
+fn clear_on(lines: &mut Vec<Line>, line: usize, code: u16)
+    ensures { lines.new.items ≡ changed (cleared code) lines.old.items line }
+{
+    if line >= lines.len() {
+        return;
+    }
+    lines[line].clear(code);
 }
 
 // A command is sent to a line.
@@ -82,6 +94,19 @@ fn flight_at(lines: &[Line], line: usize) -> Option<Command>
     match lines.get(line) {
         Some(one) => one.flight,
         None => None,
+    }
+}
+
+// What became of the command in flight to a line that is in this phase then.
+fn fate_in(lines: &[Line], line: usize, phase: Option<Phase>, outcome: &Outcome) -> Fate
+    ensures { result ≡ fate_in (slice_get lines.now line) phase outcome.now }
+{
+    let Some(one) = lines.get(line) else {
+        return Fate::Open;
+    };
+    match one.flight {
+        Some(command) => fate_of(command, phase, one.put_off, outcome),
+        None => Fate::Open,
     }
 }
 
@@ -116,22 +141,36 @@ impl Exchange {
         ensures { self.new ≡ told self.old line event }
     {
         self.calls.hear(line, event);
-        spend_on(&mut self.lines, line);
+        hear_on(&mut self.lines, line, event);
     }
 
-    /// What became of the command in flight to a line. Where none is, nothing happens. A request that was refused because the
-    /// telephone is on hook already, or off hook, tells that (402, 401; RFC 3435, 2.4).
+    /// What became of the command in flight to a line: how it was put off, where it was refused for a cause that may pass; then it is
+    /// to be sent again, a while later. Where none is in flight nothing happens. A request that was refused because the telephone is on
+    /// hook already, or off hook, tells that (402, 401; RFC 3435, 2.4).
     #[tactic(auto, unfolding(crate::specs::Exchange::answered))]
-    pub fn answer(&mut self, line: usize, outcome: Outcome)
-        ensures { self.new ≡ answered self.old line outcome }
+    pub fn answer(&mut self, line: usize, outcome: Outcome) -> Option<PutOff>
+        ensures state { self.new ≡ answered self.old line outcome }
+        ensures put_off { result ≡ put_off_at self.old line outcome }
     {
         let flight = flight_at(&self.lines, line);
-        self.calls.fail(line, failing(flight, &outcome));
         self.calls.find(line, finding(flight, &outcome));
-        land_on(&mut self.lines, line, outcome);
+        let fate = fate_in(&self.lines, line, self.calls.phase(line), &outcome);
+        self.calls.fail(line, failing(flight, fate));
+        land_on(&mut self.lines, line, fate, outcome);
+        put_off_by(fate)
     }
 
-    /// The command that is to be sent to a line now; `None` where the line is as it should be, or a command to it is in flight.
+    /// A command of the owner's that deletes all connections of a line (DLCX without a call; RFC 3435, 2.3.7) was answered by this
+    /// return code: where it was executed, or there were none, none is left.
+    #[tactic(auto, unfolding(crate::specs::Exchange::cleared_at))]
+    pub fn clear(&mut self, line: usize, code: u16)
+        ensures { self.new ≡ cleared_at self.old line code }
+    {
+        clear_on(&mut self.lines, line, code);
+    }
+
+    /// The command that is to be sent to a line now, or where one was put off a while later; `None` where the line is as it should be,
+    /// or a command to it is in flight.
     #[tactic(auto, unfolding(crate::specs::Exchange::due))]
     pub fn due(&self, line: usize) -> Option<Command>
         ensures { result ≡ due self.now line }

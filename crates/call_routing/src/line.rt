@@ -1,9 +1,14 @@
 //! A line, as its gateway has it.
 ghost use Rattle.std.specs.Prelude.{◌≡◌};
-ghost use Rattle.call_routing.specs.Line.{new_line, sent, landed, failing, hook_in, finding, spent, created_then};
+ghost use Rattle.call_routing.specs.Fates.{put_off_then};
+ghost use Rattle.call_routing.specs.Line.{new_line, sent, landed, failing, hook_in, finding, spent, restarted, heard_on, cleared, created_then, asked_then, joined_then, deleted_then, left_then};
 
 use crate::asked::Asked;
-use crate::command::{Command, Outcome, is_accepted, is_created, is_given_up, is_success};
+use crate::command::{Command, Outcome};
+use crate::fate::{
+    Fate, PutOff, fails, hook_told, is_deleted, is_success, put_off_then, refused_by,
+};
+use crate::told::Told;
 use mg_bytes::{Identifier, Text};
 use mg_packages::Hook;
 
@@ -31,10 +36,46 @@ pub struct Line {
     /// Whether the connection was given the description of the other end.
     pub joined: bool,
     /// What the line is asked for; `None` where nothing was sent, where the line has told something since, and where the request
-    /// was given up.
+    /// was put off, or given up.
     pub asked: Option<Asked>,
     /// The command in flight.
     pub flight: Option<Command>,
+    /// How its commands were put off that were refused last, one behind another, for a cause that may pass.
+    pub put_off: Option<PutOff>,
+    /// The return code by which it refused for good what it is asked for.
+    pub refused: Option<u16>,
+    /// The return code by which the deletion of a connection was refused for good, which may stand still.
+    pub left: Option<u16>,
+}
+
+// What a line is asked for, once the request ended so.
+fn asked_then(fate: Fate, was: Option<Asked>) -> Option<Asked>
+    ensures { result ≡ asked_then fate was }
+{
+    match fate {
+        Fate::Done | Fate::Refused(_) => was,
+        Fate::Again(_) | Fate::Open => None,
+    }
+}
+
+// Whether a connection has the description of the other end, once MDCX ended so.
+fn joined_then(fate: Fate, was: bool) -> bool
+    ensures { result ≡ joined_then fate was }
+{
+    match fate {
+        Fate::Done => true,
+        Fate::Again(_) | Fate::Refused(_) | Fate::Open => was,
+    }
+}
+
+// The code by which a deletion was refused for good, once another one ended so.
+fn left_then(fate: Fate, was: Option<u16>) -> Option<u16>
+    ensures { result ≡ left_then fate was }
+{
+    match fate {
+        Fate::Refused(code) => Some(code),
+        Fate::Done | Fate::Again(_) | Fate::Open => was,
+    }
 }
 
 impl Line {
@@ -47,6 +88,9 @@ impl Line {
             joined: false,
             asked: None,
             flight: None,
+            put_off: None,
+            refused: None,
+            left: None,
         }
     }
 
@@ -57,7 +101,10 @@ impl Line {
     {
         self.flight = Some(command);
         match command {
-            Command::Ask(asked) => self.asked = Some(asked),
+            Command::Ask(asked) => {
+                self.asked = Some(asked);
+                self.refused = None;
+            }
             Command::Create { call, joined } => {
                 self.leg = Leg::Unknown { call };
                 self.joined = joined;
@@ -90,63 +137,91 @@ impl Line {
         }
     }
 
+    // What becomes of the connection by DLCX.
+    fn delete(&mut self, fate: Fate)
+        ensures { self.new ≡ record self.old { leg = deleted_then fate self.old.leg; left = left_then fate self.old.left } }
+    {
+        self.left = left_then(fate, self.left);
+        match fate {
+            Fate::Done | Fate::Refused(_) => self.leg = Leg::Absent,
+            Fate::Again(_) | Fate::Open => {}
+        }
+    }
+
     /// What became of the command in flight. Where nothing is, nothing changes.
     #[tactic(auto, unfolding(crate::specs::Line::landed))]
-    pub(crate) fn land(&mut self, outcome: Outcome)
-        ensures { self.new ≡ landed outcome self.old }
+    pub(crate) fn land(&mut self, fate: Fate, outcome: Outcome)
+        ensures { self.new ≡ landed fate outcome self.old }
     {
         let Some(command) = self.flight else {
             return;
         };
         self.flight = None;
+        self.put_off = put_off_then(fate, self.put_off);
         match command {
             Command::Ask(_) => {
-                if is_given_up(&outcome) {
-                    self.spend();
-                }
+                self.asked = asked_then(fate, self.asked);
+                self.refused = refused_by(fate);
             }
             Command::Create { call, .. } => self.create(call, outcome),
-            Command::Modify { .. } => {
-                if is_accepted(&outcome) {
-                    self.joined = true;
-                }
-            }
-            Command::Delete { .. } => {
-                if !is_given_up(&outcome) {
-                    self.leg = Leg::Absent;
-                }
-            }
+            Command::Modify { .. } => self.joined = joined_then(fate, self.joined),
+            Command::Delete { .. } => self.delete(fate),
         }
     }
 
-    /// The line isn't asked for anything any more, as far as is known: it has told something, and its request is used up (RFC
-    /// 3435, 4.4.1); or the request was given up.
-    pub(crate) fn spend(&mut self)
+    // The line has told something: its request is used up (RFC 3435, 4.4.1).
+    fn spend(&mut self)
         ensures { self.new ≡ spent self.old }
     {
         self.asked = None;
+        self.refused = None;
+    }
+
+    // Its gateway has started again: no connection is left there, and nothing is put off.
+    fn restart(&mut self)
+        ensures { self.new ≡ restarted self.old }
+    {
+        self.spend();
+        self.put_off = None;
+        self.left = None;
+    }
+
+    /// The line has told this.
+    pub(crate) fn hear(&mut self, told: Told)
+        ensures { self.new ≡ heard_on told self.old }
+    {
+        match told {
+            Told::Restarted => self.restart(),
+            Told::OffHook
+            | Told::OnHook
+            | Told::Flash
+            | Told::Dialled(_)
+            | Told::TimedOut
+            | Told::Disconnected => self.spend(),
+        }
+    }
+
+    /// A deletion of all that the line has was answered by this code.
+    #[tactic(auto, unfolding(crate::specs::Line::cleared))]
+    pub(crate) fn clear(&mut self, code: u16)
+        ensures { self.new ≡ cleared code self.old }
+    {
+        if is_deleted(code) {
+            self.leg = Leg::Absent;
+            self.left = None;
+        } else {
+            self.left = Some(code);
+        }
     }
 }
 
 // The call that can't be connected by what became of this command.
-pub(crate) fn failing(flight: Option<Command>, outcome: &Outcome) -> Option<u64>
-    ensures { result ≡ failing flight outcome.now }
+pub(crate) fn failing(flight: Option<Command>, fate: Fate) -> Option<u64>
+    ensures { result ≡ failing flight fate }
 {
     match flight {
-        Some(Command::Create { call, .. }) => {
-            if is_created(outcome) {
-                None
-            } else {
-                Some(call)
-            }
-        }
-        Some(Command::Modify { call }) => {
-            if is_accepted(outcome) {
-                None
-            } else {
-                Some(call)
-            }
-        }
+        Some(Command::Create { call, .. }) => { if fails(fate) { Some(call) } else { None } }
+        Some(Command::Modify { call }) => { if fails(fate) { Some(call) } else { None } }
         Some(Command::Ask(_) | Command::Delete { .. }) | None => None,
     }
 }
@@ -156,15 +231,7 @@ fn hook_in(outcome: &Outcome) -> Option<Hook>
     ensures { result ≡ hook_in outcome.now }
 {
     match outcome {
-        Outcome::Answered(code) => {
-            if *code == 401 {
-                Some(Hook::OffHook)
-            } else if *code == 402 {
-                Some(Hook::OnHook)
-            } else {
-                None
-            }
-        }
+        Outcome::Answered(code) => hook_told(*code),
         Outcome::Created { .. } | Outcome::GivenUp => None,
     }
 }

@@ -1,9 +1,10 @@
 //! Which command a line is to be sent next.
 ghost use Rattle.std.specs.Prelude.{◌≡◌};
-ghost use Rattle.call_routing.specs.Next.{stands_for, is_ready, created_for, joined_for, standing_for, absent_for, connection_next, request_next, next_of};
+ghost use Rattle.call_routing.specs.Next.{stands_for, is_ready, created_for, joined_for, standing_for, absent_for, connection_next, request_next, request_or, is_request_first, first_of, next_of};
 
 use crate::asked::{Asked, is_asked, wanted_in};
 use crate::command::Command;
+use crate::fate::{PutOff, is_of_connection};
 use crate::line::{Leg, Line};
 use crate::phase::{Part, Phase, Side, talks_in};
 
@@ -110,8 +111,46 @@ fn request_next(wanted: Asked, asked: Option<Asked>) -> Option<Command>
     }
 }
 
-/// The first difference between what a line in this phase should be and what its gateway was told. Nothing while a command is
-/// in flight.
+// Whether the request comes before the connection's command: where that was put off.
+fn is_request_first(put_off: Option<PutOff>) -> bool
+    ensures { result ≡ is_request_first put_off }
+{
+    match put_off {
+        Some(off) => is_of_connection(off.cause),
+        None => false,
+    }
+}
+
+// The connection's command, or else the request.
+fn request_or(connection: Option<Command>, wanted: Asked, asked: Option<Asked>) -> Option<Command>
+    ensures { result ≡ request_or connection wanted asked }
+{
+    match connection {
+        Some(command) => Some(command),
+        None => request_next(wanted, asked),
+    }
+}
+
+// Which of both comes first.
+fn first_of(
+    request_first: bool,
+    connection: Option<Command>,
+    wanted: Asked,
+    asked: Option<Asked>,
+) -> Option<Command>
+    ensures { result ≡ first_of request_first connection wanted asked }
+{
+    if !request_first {
+        return request_or(connection, wanted, asked);
+    }
+    match request_next(wanted, asked) {
+        Some(command) => Some(command),
+        None => connection,
+    }
+}
+
+/// The first difference between what a line in this phase should be and what its gateway was told: the connection before the
+/// request, but behind it once its command was put off. Nothing while a command is in flight.
 #[tactic(auto, unfolding(crate::specs::Next::next_of))]
 pub(crate) fn next_of(phase: Phase, ready: bool, line: &Line) -> Option<Command>
     ensures { result ≡ next_of phase ready line.now }
@@ -119,8 +158,10 @@ pub(crate) fn next_of(phase: Phase, ready: bool, line: &Line) -> Option<Command>
     if line.flight.is_some() {
         return None;
     }
-    match connection_next(talks_in(phase), ready, line.joined, &line.leg) {
-        Some(command) => Some(command),
-        None => request_next(wanted_in(phase), line.asked),
-    }
+    first_of(
+        is_request_first(line.put_off),
+        connection_next(talks_in(phase), ready, line.joined, &line.leg),
+        wanted_in(phase),
+        line.asked,
+    )
 }
