@@ -14,8 +14,8 @@ use Rattle.call_routing.specs.declared.command.Command.{Command}
 use Rattle.call_routing.specs.Phases.{other_end, left, rings, ringing_in, is_in_call, is_free, is_in, waits}
 use Rattle.call_routing.specs.Calls.{CallState, joined, parted, cut_off, cut_off_in, turned, answered_by, picked_up, hearing, greatest_call, caller_of, begun, put_through, reached, dialled, dialled_in, given_up_in, timed_out, heard, failed, found, found_in}
 use Rattle.call_routing.specs.Line.{failing, finding}
-use Rattle.call_routing.specs.Exchange.{ExchangeState, opening, phase_of, line_of, flight_in, told, answered, due, sent_by, sent_to}
-use Rattle.call_laws.specs.Turns.{Turn, tells, answers, sends, after_one, after}
+use Rattle.call_routing.specs.Exchange.{ExchangeState, opening, phase_of, line_of, flight_in, told, fate_at, answered, cleared_at, due, sent_by, sent_to}
+use Rattle.call_laws.specs.Turns.{Turn, tells, answers, sends, clears, after_one, after}
 use Rattle.call_routing.proofs.ElementLemmas.{set_here, set_other, set_still}
 use Rattle.call_laws.proofs.PhaseLemmas.{AreMutual, same_part, not_itself, left_free, free_here, free_still, unnamed, named_once, named_once_there, set_mutual, parted_mutual, joined_mutual, resting_mutual}
 
@@ -209,7 +209,7 @@ found_by phases line hook (Some Dialling) e named = found_free phases line hook 
 found_by phases line hook (Some (Hearing tone)) e named = found_free phases line hook named
 found_by phases line hook None e named = found_free phases line hook named
 
-found_mutual : (phases : List Phase) (line : ℕ) (hook : Option Hook) → AreMutual phases → AreMutual (found phases line hook)
+pub found_mutual : (phases : List Phase) (line : ℕ) (hook : Option Hook) → AreMutual phases → AreMutual (found phases line hook)
 unfolding found
 found_mutual phases line None named = named
 found_mutual phases line (Some hook) named = found_by phases line hook (slice_get phases line) refl named
@@ -225,13 +225,15 @@ unfolding sent_to
 sent_to_phases exchange line = sent_phases exchange line (due exchange line)
 
 pub one_mutual : (exchange : ExchangeState) (turn : Turn) → AreMutual exchange.calls.phases → AreMutual (after_one exchange turn).calls.phases
-unfolding told answered
+unfolding told answered cleared_at
 one_mutual exchange (tells line event) named = heard_mutual exchange.calls line event named
 one_mutual exchange (answers line outcome) named =
     let flight = flight_in (line_of exchange line) in
-    let call = failing flight outcome in
-    found_mutual (failed exchange.calls.phases line call) line (finding flight outcome) (failed_mutual exchange.calls.phases line call named)
+    let hook = finding flight outcome in
+    failed_mutual (found exchange.calls.phases line hook) line (failing flight (fate_at exchange line outcome))
+    (found_mutual exchange.calls.phases line hook named)
 one_mutual exchange (sends line) named = subst AreMutual (sym (sent_to_phases exchange line)) named
+one_mutual exchange (clears line code) named = named
 
 pub after_mutual : (exchange : ExchangeState) (turns : List Turn) → AreMutual exchange.calls.phases → AreMutual (after exchange turns).calls.phases
 unfolding after

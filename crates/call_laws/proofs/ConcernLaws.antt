@@ -15,13 +15,13 @@ use Rattle.call_routing.specs.declared.command.Outcome.{Outcome}
 use Rattle.call_routing.specs.declared.line.Line.{Line}
 use Rattle.call_routing.specs.Phases.{other_end, named_by, left, rings, ringing_in, is_free, is_in_call, is_in, waits}
 use Rattle.call_routing.specs.Calls.{CallState, joined, parted, cut_off, cut_off_in, turned, answered_by, picked_up, hearing, greatest_call, caller_of, begun, put_through, reached, dialled, dialled_in, given_up_in, timed_out, heard, failed, found, found_in}
-use Rattle.call_routing.specs.Line.{landed, failing, finding, spent}
+use Rattle.call_routing.specs.Line.{landed, failing, finding, heard_on}
 use Rattle.call_routing.specs.Next.{line_stands, is_ready, next_of}
-use Rattle.call_routing.specs.Exchange.{ExchangeState, opening, phase_of, line_of, flight_in, told, answered, due_by, due}
+use Rattle.call_routing.specs.Exchange.{ExchangeState, opening, phase_of, line_of, flight_in, told, fate_at, answered, due_by, due}
 use Rattle.call_laws.specs.Turns.{Turn, after, IsApart, IsAsBefore}
 use Rattle.call_routing.proofs.ElementLemmas.{set_here, set_other, changed_other}
-use Rattle.call_laws.proofs.PhaseLemmas.{AreMutual}
-use Rattle.call_laws.proofs.CallLaws.{cut_free, always_mutual}
+use Rattle.call_laws.proofs.PhaseLemmas.{AreMutual, left_free, free_here, free_still}
+use Rattle.call_laws.proofs.CallLaws.{always_mutual}
 
 -- it isn't at the other end
 abbrev IsFar : Option Phase → ℕ → Type 0
@@ -171,31 +171,42 @@ free_far (Some (Hearing tone)) k free e = absurd cc
 free_far None k free e = absurd cc
 
 failed_by : (phases : List Phase) (line k : ℕ) (b : Bool) → line ≢ k → IsFar (slice_get phases line) k
-    → (slice_get (if b then cut_off Reorder phases line else phases) k ≡ slice_get phases k)
-    × IsFar (slice_get (if b then cut_off Reorder phases line else phases) line) k
-failed_by phases line k true apart far =
-    (cut_far Reorder phases line k apart far, free_far (slice_get (cut_off Reorder phases line) line) k (cut_free Reorder phases line))
-failed_by phases line k false apart far = (refl, far)
+    → slice_get (if b then cut_off Reorder phases line else phases) k ≡ slice_get phases k
+failed_by phases line k true apart far = cut_far Reorder phases line k apart far
+failed_by phases line k false apart far = refl
 
 failed_far : (phases : List Phase) (line k : ℕ) (call : Option ℕ) → line ≢ k → IsFar (slice_get phases line) k
-    → (slice_get (failed phases line call) k ≡ slice_get phases k) × IsFar (slice_get (failed phases line call) line) k
+    → slice_get (failed phases line call) k ≡ slice_get phases k
 unfolding failed
-failed_far phases line k None apart far = (refl, far)
+failed_far phases line k None apart far = refl
 failed_far phases line k (Some call) apart far = failed_by phases line k (is_in call (slice_get phases line)) apart far
 
+-- another line stays as it was, and isn't at the other end of the line's call then
+abbrev StaysFar : List Phase → List Phase → ℕ → ℕ → Type 0
+StaysFar was is line k = (slice_get is k ≡ slice_get was k) × IsFar (slice_get is line) k
+
 found_free : (phases : List Phase) (line k : ℕ) (hook : Hook) → line ≢ k → IsFar (slice_get phases line) k
-    → slice_get (found_in phases line hook None) k ≡ slice_get phases k
-found_free phases line k hooks.OnHook apart far = turned_far Busy phases line k Resting apart far
-found_free phases line k hooks.OffHook apart far = refl
+    → StaysFar phases (found_in phases line hook None) line k
+found_free phases line k hooks.OnHook apart far = (
+  turned_far Busy phases line k Resting apart far,
+  free_far (slice_get (turned Busy phases line Resting) line) k (free_here (cut_off Busy phases line) line Resting refl),
+)
+found_free phases line k hooks.OffHook apart far = (refl, far)
+
+parted_free : (phases : List Phase) (line : ℕ) (part : Part) → is_in_call (slice_get (parted Busy phases line part) line) ≡ false
+parted_free phases line part =
+    free_still (slice_set phases line (left Busy part)) part.other line (left Busy (other_end line part)) (left_free Busy (other_end line part))
+    (free_here phases line (left Busy part) (left_free Busy part))
 
 found_ringing : (phases : List Phase) (line k : ℕ) (hook : Hook) (part : Part) (b : Bool) → line ≢ k → part.other ≢ k → IsFar (slice_get phases line) k
-    → slice_get (found_in phases line hook (if b then Some part else None)) k ≡ slice_get phases k
+    → StaysFar phases (found_in phases line hook (if b then Some part else None)) line k
 found_ringing phases line k hook part false apart other far = found_free phases line k hook apart far
-found_ringing phases line k hooks.OnHook part true apart other far = refl
-found_ringing phases line k hooks.OffHook part true apart other far = parted_far Busy phases line k part apart other
+found_ringing phases line k hooks.OnHook part true apart other far = (refl, far)
+found_ringing phases line k hooks.OffHook part true apart other far =
+    (parted_far Busy phases line k part apart other, free_far (slice_get (parted Busy phases line part) line) k (parted_free phases line part))
 
 found_by : (phases : List Phase) (line k : ℕ) (hook : Hook) (there : Option Phase) → line ≢ k → IsFar there k → IsFar (slice_get phases line) k
-    → slice_get (found_in phases line hook (ringing_in there)) k ≡ slice_get phases k
+    → StaysFar phases (found_in phases line hook (ringing_in there)) line k
 found_by phases line k hook (Some (InCall part)) apart near far =
     found_ringing phases line k hook part (rings part) apart (λ (same : part.other ≡ k). near (ap Some same)) far
 found_by phases line k hook (Some Resting) apart near far = found_free phases line k hook apart far
@@ -204,9 +215,9 @@ found_by phases line k hook (Some (Hearing tone)) apart near far = found_free ph
 found_by phases line k hook None apart near far = found_free phases line k hook apart far
 
 found_far : (phases : List Phase) (line k : ℕ) (hook : Option Hook) → line ≢ k → IsFar (slice_get phases line) k
-    → slice_get (found phases line hook) k ≡ slice_get phases k
+    → StaysFar phases (found phases line hook) line k
 unfolding found
-found_far phases line k None apart far = refl
+found_far phases line k None apart far = (refl, far)
 found_far phases line k (Some hook) apart far = found_by phases line k hook (slice_get phases line) apart far far
 
 -- What is to be sent
@@ -252,7 +263,7 @@ as_before was is line k named apart far others phase = record {
 
 told_lines : (was : ExchangeState) (line : ℕ) (event : Told) (j : ℕ) → line ≢ j → line_of (told was line event) j ≡ line_of was j
 unfolding told
-told_lines was line event j apart = changed_other spent was.lines line j apart
+told_lines was line event j apart = changed_other (heard_on event) was.lines line j apart
 
 told_phase : (was : ExchangeState) (line k : ℕ) (event : Told) → IsApart was (told was line event) line k
     → phase_of (told was line event) k ≡ phase_of was k
@@ -266,16 +277,16 @@ told_apart was line k event named far =
 
 answered_lines : (was : ExchangeState) (line : ℕ) (outcome : Outcome) (j : ℕ) → line ≢ j → line_of (answered was line outcome) j ≡ line_of was j
 unfolding answered
-answered_lines was line outcome j apart = changed_other (landed outcome) was.lines line j apart
+answered_lines was line outcome j apart = changed_other (landed (fate_at was line outcome) outcome) was.lines line j apart
 
 answered_phase : (was : ExchangeState) (line k : ℕ) (outcome : Outcome) → line ≢ k → IsFar (phase_of was line) k
     → phase_of (answered was line outcome) k ≡ phase_of was k
 unfolding answered
 answered_phase was line k outcome apart far =
     let flight = flight_in (line_of was line) in
-    let call = failing flight outcome in
-    let first = failed_far was.calls.phases line k call apart far in
-    found_far (failed was.calls.phases line call) line k (finding flight outcome) apart first.1 ∙ first.0
+    let hook = finding flight outcome in
+    let first = found_far was.calls.phases line k hook apart far in
+    failed_far (found was.calls.phases line hook) line k (failing flight (fate_at was line outcome)) apart first.1 ∙ first.0
 
 answered_apart : (was : ExchangeState) (line k : ℕ) (outcome : Outcome) → AreMutual was.calls.phases → IsApart was (answered was line outcome) line k
     → IsAsBefore was (answered was line outcome) k

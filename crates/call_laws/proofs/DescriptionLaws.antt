@@ -15,7 +15,7 @@ use Rattle.call_routing.specs.declared.line.Leg.TheVariants.{Absent, Unknown, St
 use Rattle.call_routing.specs.declared.line.Line.{Line}
 use Rattle.call_routing.specs.Phases.{talks_in}
 use Rattle.call_routing.specs.Asking.{wanted_in, is_asked}
-use Rattle.call_routing.specs.Next.{stands_for, line_stands, is_ready, created_for, joined_for, connection_next, request_or, next_of}
+use Rattle.call_routing.specs.Next.{stands_for, line_stands, is_ready, created_for, joined_for, connection_next, request_or, connection_or, is_request_first, first_of, next_of}
 use Rattle.call_routing.specs.Exchange.{ExchangeState, phase_of, line_of, due, due_by}
 use Rattle.call_routing.specs.Parameters.{description_in, description_on, description_by, description_of_other, gives, leg_in, leg_of}
 
@@ -60,15 +60,27 @@ module _ (wanted : Asked) (asked : Option Asked) (call : ℕ) where
   by_leg None joined ready Absent e = absurd (no_request (is_asked wanted asked) wanted call e)
   by_leg (Some part) joined ready Absent e = by_side part part.side ready e
 
-  by_flight : (talks : Option Part) (joined ready b : Bool) (leg : Leg)
-      → given_in (if b then None else request_or (connection_next talks ready joined leg) wanted asked) ≡ Some call → Ready talks ready call
-  by_flight talks joined ready true leg e = absurd cc
-  by_flight talks joined ready false leg e = by_leg talks joined ready leg e
+  behind_request : (b : Bool) (connection : Option Command) → given_in (connection_or (if b then None else Some (Ask wanted)) connection) ≡ Some call
+      → given_in (request_or connection wanted asked) ≡ Some call
+  behind_request true (Some command) e = e
+  behind_request true None e = absurd cc
+  behind_request false connection e = absurd cc
+
+  by_order : (talks : Option Part) (joined ready first : Bool) (leg : Leg)
+      → given_in (first_of first (connection_next talks ready joined leg) wanted asked) ≡ Some call → Ready talks ready call
+  by_order talks joined ready false leg e = by_leg talks joined ready leg e
+  by_order talks joined ready true leg e =
+      by_leg talks joined ready leg (behind_request (is_asked wanted asked) (connection_next talks ready joined leg) e)
+
+  by_flight : (talks : Option Part) (joined ready first b : Bool) (leg : Leg)
+      → given_in (if b then None else first_of first (connection_next talks ready joined leg) wanted asked) ≡ Some call → Ready talks ready call
+  by_flight talks joined ready first true leg e = absurd cc
+  by_flight talks joined ready first false leg e = by_order talks joined ready first leg e
 
 next_ready : (phase : Phase) (ready : Bool) (line : Line) (call : ℕ) → given_in (next_of phase ready line) ≡ Some call → Ready (talks_in phase) ready call
 unfolding next_of
 next_ready phase ready line call e =
-    by_flight (wanted_in phase) line.asked call (talks_in phase) line.joined ready (is_some line.flight) line.leg e
+    by_flight (wanted_in phase) line.asked call (talks_in phase) line.joined ready (is_request_first line.put_off) (is_some line.flight) line.leg e
 
 -- the connection of the other end
 

@@ -1,17 +1,21 @@
 -- No command is sent to a line while one is in flight to it.
 use Rattle.std.proofs.Common.{◌≡◌, ◌≢◌, ℕ, zero, suc, ◌+◌, Bool, true, false, List, [], ◌∷◌, replicate, Option, Some, None, refl, sym, ap, ◌∙◌, inl, inr, ◌⊎◌, arith}
-use Rattle.std.specs.Prelude.{◌&&◌, is_some, slice_get, option_map}
+use Rattle.std.specs.Prelude.{◌&&◌, is_some, slice_get, option_map, if◌then◌else◌}
 use Rattle.std.proofs.lemmas.Bool.{cases_eq, eq-eqb, ne_eqb, true≢false}
 use Rattle.call_routing.specs.declared.phase.Phase.{Phase}
 use Rattle.call_routing.specs.declared.told.Told.{Told}
 use Rattle.call_routing.specs.declared.command.Command.{Command}
 use Rattle.call_routing.specs.declared.command.Outcome.{Outcome}
+use Rattle.call_routing.specs.declared.line.Leg.TheVariants.{Absent}
 use Rattle.call_routing.specs.declared.line.Line.{Line}
+use Rattle.call_routing.specs.declared.told.Told.TheVariants.{OffHook, OnHook, Flash, Dialled, TimedOut, Restarted, Disconnected}
+use Rattle.call_routing.specs.declared.fate.Fate.{Fate}
 use Rattle.call_routing.specs.Phases.{talks_in}
-use Rattle.call_routing.specs.Line.{new_line, sent, landed, spent}
+use Rattle.call_routing.specs.Fates.{is_deleted}
+use Rattle.call_routing.specs.Line.{new_line, sent, landed, heard_on, cleared}
 use Rattle.call_routing.specs.Next.{is_ready}
-use Rattle.call_routing.specs.Exchange.{ExchangeState, opening, phase_of, line_of, changed, told, answered, due, due_by, sent_by, sent_to}
-use Rattle.call_laws.specs.Turns.{Turn, tells, answers, sends, after_one, after, is_flying, is_in_flight, count_if, is_sent, is_answered, count_turns}
+use Rattle.call_routing.specs.Exchange.{ExchangeState, opening, phase_of, line_of, changed, told, fate_at, answered, cleared_at, due, due_by, sent_by, sent_to}
+use Rattle.call_laws.specs.Turns.{Turn, tells, answers, sends, clears, after_one, after, is_flying, is_in_flight, count_if, is_sent, is_answered, count_turns}
 use Rattle.call_routing.proofs.ElementLemmas.{changed_here, changed_other}
 use Rattle.call_laws.proofs.LineLemmas.{landed_none, sent_flies, blocked, unblocked}
 
@@ -39,13 +43,32 @@ free_where_due exchange line command e = due_free exchange (phase_of exchange li
 
 -- What a turn leaves in flight
 
-spent_flying : (found : Option Line) → is_flying (option_map spent found) ≡ is_flying found
-spent_flying None = refl
-spent_flying (Some is) = refl
+heard_flight : (event : Told) (is : Line) → (heard_on event is).flight ≡ is.flight
+heard_flight OffHook is = refl
+heard_flight OnHook is = refl
+heard_flight Flash is = refl
+heard_flight (Dialled to) is = refl
+heard_flight TimedOut is = refl
+heard_flight Restarted is = refl
+heard_flight Disconnected is = refl
 
-landed_flying : (outcome : Outcome) (found : Option Line) → is_flying (option_map (landed outcome) found) ≡ false
-landed_flying outcome None = refl
-landed_flying outcome (Some is) = ap is_some (landed_none outcome is)
+heard_flying : (event : Told) (found : Option Line) → is_flying (option_map (heard_on event) found) ≡ is_flying found
+heard_flying event None = refl
+heard_flying event (Some is) = ap is_some (heard_flight event is)
+
+landed_flying : (fate : Fate) (outcome : Outcome) (found : Option Line) → is_flying (option_map (landed fate outcome) found) ≡ false
+landed_flying fate outcome None = refl
+landed_flying fate outcome (Some is) = ap is_some (landed_none fate outcome is)
+
+cleared_flight : (b : Bool) (code : ℕ) (is : Line)
+    → (if b then record is { leg = Absent; left = None } else record is { left = Some code }).flight ≡ is.flight
+cleared_flight true code is = refl
+cleared_flight false code is = refl
+
+cleared_flying : (code : ℕ) (found : Option Line) → is_flying (option_map (cleared code) found) ≡ is_flying found
+unfolding cleared
+cleared_flying code None = refl
+cleared_flying code (Some is) = ap is_some (cleared_flight (is_deleted code) code is)
 
 sent_flying : (command : Command) (found : Option Line) → is_some found ≡ true → is_flying (option_map (sent command) found) ≡ true
 sent_flying command None e = absurd (true≢false (sym e))
@@ -68,26 +91,36 @@ tell_by : (line of : ℕ) (exchange : ExchangeState) (event : Told) → ((of ≡
     → is_in_flight (told exchange of event) line ≡ is_in_flight exchange line
 unfolding told
 tell_by line of exchange event (inl same) =
-    ap (λ (n : ℕ). is_flying (slice_get (changed spent exchange.lines n) line)) same
-    ∙ ap is_flying (changed_here spent exchange.lines line)
-    ∙ spent_flying (slice_get exchange.lines line)
-tell_by line of exchange event (inr apart) = ap is_flying (changed_other spent exchange.lines of line apart)
+    ap (λ (n : ℕ). is_flying (slice_get (changed (heard_on event) exchange.lines n) line)) same
+    ∙ ap is_flying (changed_here (heard_on event) exchange.lines line)
+    ∙ heard_flying event (slice_get exchange.lines line)
+tell_by line of exchange event (inr apart) = ap is_flying (changed_other (heard_on event) exchange.lines of line apart)
+
+clear_by : (line of code : ℕ) (exchange : ExchangeState) → ((of ≡ line) ⊎ (of ≡ line → ⊥))
+    → is_in_flight (cleared_at exchange of code) line ≡ is_in_flight exchange line
+unfolding cleared_at
+clear_by line of code exchange (inl same) =
+    ap (λ (n : ℕ). is_flying (slice_get (changed (cleared code) exchange.lines n) line)) same
+    ∙ ap is_flying (changed_here (cleared code) exchange.lines line)
+    ∙ cleared_flying code (slice_get exchange.lines line)
+clear_by line of code exchange (inr apart) = ap is_flying (changed_other (cleared code) exchange.lines of line apart)
 
 answer_by : (line of : ℕ) (exchange : ExchangeState) (outcome : Outcome) → ((of ≡ line) ⊎ (of ≡ line → ⊥)) → Balances line exchange (answers of outcome)
 unfolding answered
 answer_by line of exchange outcome (inl same) =
     let here : is_answered line exchange (answers of outcome) ≡ is_in_flight exchange line =
     ap (λ (b : Bool). b && is_in_flight exchange of) (eq-eqb of line same) ∙ ap (is_in_flight exchange) same in
+    let fate = fate_at exchange of outcome in
     let gone : is_in_flight (answered exchange of outcome) line ≡ false =
-    ap (λ (n : ℕ). is_flying (slice_get (changed (landed outcome) exchange.lines n) line)) same
-    ∙ ap is_flying (changed_here (landed outcome) exchange.lines line)
-    ∙ landed_flying outcome (slice_get exchange.lines line) in
+    ap (λ (n : ℕ). is_flying (slice_get (changed (landed fate outcome) exchange.lines n) line)) same
+    ∙ ap is_flying (changed_here (landed fate outcome) exchange.lines line)
+    ∙ landed_flying fate outcome (slice_get exchange.lines line) in
     let one : count_if (is_answered line exchange (answers of outcome)) ≡ count_if (is_in_flight exchange line) = ap count_if here in
     let none : count_if (is_in_flight (answered exchange of outcome) line) ≡ 0 = ap count_if gone in
     omega (arith, one, none)
 answer_by line of exchange outcome (inr apart) =
     even line exchange (answers of outcome) refl (ap (λ (b : Bool). b && is_in_flight exchange of) (ne_eqb of line apart))
-    (ap is_flying (changed_other (landed outcome) exchange.lines of line apart))
+    (ap is_flying (changed_other (landed (fate_at exchange of outcome) outcome) exchange.lines of line apart))
 
 send_here : (line : ℕ) (exchange : ExchangeState) (command : Option Command) → due exchange line ≡ command
     → count_if (is_some command) + count_if (is_in_flight exchange line) ≡ count_if (is_in_flight (sent_by exchange line command) line)
@@ -124,6 +157,7 @@ balance : (line : ℕ) (exchange : ExchangeState) (turn : Turn) → Balances lin
 balance line exchange (tells of event) = even line exchange (tells of event) refl refl (tell_by line of exchange event (cases_eq of line))
 balance line exchange (answers of outcome) = answer_by line of exchange outcome (cases_eq of line)
 balance line exchange (sends of) = send_by line of exchange (cases_eq of line)
+balance line exchange (clears of code) = even line exchange (clears of code) refl refl (clear_by line of code exchange (cases_eq of line))
 
 balanced : (line : ℕ) (exchange : ExchangeState) (turns : List Turn)
     → count_turns (is_sent line) exchange turns + count_if (is_in_flight exchange line)

@@ -1,8 +1,12 @@
 pub mod PhaseLemmas
 pub mod CallLaws
 pub mod LineLemmas
+pub mod RowLaws
 pub mod FlightLaws
 pub mod RestLaws
+pub mod RecordLaws
+pub mod RefusalLaws
+pub mod GoingOnLaws
 pub mod DescriptionLaws
 pub mod Computing
 pub mod ExampleLemmas

@@ -1,6 +1,6 @@
 -- A line that hung up comes to rest.
-use Rattle.std.proofs.Common.{◌≡◌, ◌≢◌, ℕ, ◌+◌, ◌≤◌, Bool, true, false, List, [], ◌∷◌, Option, Some, None, refl, sym, ap, subst, ◌∙◌, inl, inr, ◌⊎◌, arith}
-use Rattle.std.specs.Prelude.{◌==◌, ◌&&◌, not, nat_lt, slice_get, slice_set, option_map, if◌then◌else◌}
+use Rattle.std.proofs.Common.{◌≡◌, ◌≢◌, ℕ, ◌+◌, ◌*◌, ◌≤◌, Bool, true, false, List, [], ◌∷◌, Option, Some, None, refl, sym, ap, subst, ◌∙◌, inl, inr, ◌⊎◌, arith}
+use Rattle.std.specs.Prelude.{◌==◌, ◌&&◌, not, is_some, nat_lt, slice_get, slice_set, option_map, if◌then◌else◌}
 use Rattle.std.specs.List.{list_all}
 use Rattle.std.proofs.lemmas.Bool.{cases_eq, eq-eqb, ne_eqb, true≢false, and_parts, not-true}
 use Rattle.mg_packages.specs.declared.hook.Hook.{Hook}
@@ -14,17 +14,20 @@ use Rattle.call_routing.specs.declared.told.Told.{Told}
 use Rattle.call_routing.specs.declared.told.Told.TheVariants.{OffHook, OnHook, Flash, Dialled, TimedOut, Restarted, Disconnected}
 use Rattle.call_routing.specs.declared.command.Command.{Command}
 use Rattle.call_routing.specs.declared.command.Outcome.{Outcome}
+use Rattle.call_routing.specs.declared.fate.Fate.{Fate}
 use Rattle.call_routing.specs.declared.line.Line.{Line}
 use Rattle.call_routing.specs.Phases.{other_end, left, rings, ringing_in, talks_in, is_free, is_in, waits}
 use Rattle.call_routing.specs.Calls.{CallState, parted, cut_off, cut_off_in, turned, answered_by, picked_up, hearing, greatest_call, caller_of, begun, put_through, reached, dialled, dialled_in, given_up_in, timed_out, heard, failed, found, found_in}
-use Rattle.call_routing.specs.Line.{sent, landed, failing, finding, spent, is_given_up}
+use Rattle.call_routing.specs.Fates.{most_put_off, times_of, put_off_by}
+use Rattle.call_routing.specs.Line.{sent, landed, failing, finding, heard_on, cleared}
 use Rattle.call_routing.specs.Next.{is_ready}
-use Rattle.call_routing.specs.Exchange.{ExchangeState, opening, phase_of, line_of, changed, flight_in, told, answered, due, due_by, sent_by, sent_to}
-use Rattle.call_laws.specs.Turns.{Turn, tells, answers, sends, after_one, after, is_flying, is_in_flight, count_if, is_coded, count_turns, dials, leaves_alone, AreQuietFor, IsClear, IsAtRest}
+use Rattle.call_routing.specs.Exchange.{ExchangeState, opening, phase_of, line_of, changed, flight_in, told, fate_in, fate_at, answered, cleared_at, due, due_by, sent_by, sent_to}
+use Rattle.call_laws.specs.Turns.{Turn, tells, answers, sends, clears, after_one, after, is_given_up, is_flying, is_in_flight, count_if, is_coded, is_put_off, is_settled, count_turns, dials, leaves_alone, AreQuietFor, IsClear, IsAtRest}
 use Rattle.call_routing.proofs.ElementLemmas.{set_here, set_other, changed_here, changed_other}
 use Rattle.call_laws.proofs.PhaseLemmas.{AreMutual}
-use Rattle.call_laws.proofs.CallLaws.{failed_mutual, sent_to_phases, one_mutual, always_mutual}
-use Rattle.call_laws.proofs.LineLemmas.{left_of, three_most, landed_less, sent_if, sent_no_more, clear_at_none, clear_at_idle}
+use Rattle.call_laws.proofs.CallLaws.{found_mutual, sent_to_phases, one_mutual, always_mutual}
+use Rattle.call_laws.proofs.LineLemmas.{left_of, three_most, landed_lands, landed_idle, cleared_less, sent_if, sent_no_more, clear_at_none, clear_at_idle}
+use Rattle.call_laws.proofs.RowLaws.{row_of, sent_row, cleared_row, one_short, all_short, always_short}
 
 -- A line that rests goes on to rest
 
@@ -210,17 +213,18 @@ apart_by line of event e =
 
 one_rests : (exchange : ExchangeState) (line : ℕ) (turn : Turn) → phase_of exchange line ≡ Some Resting → AreMutual exchange.calls.phases
     → leaves_alone line turn ≡ true → phase_of (after_one exchange turn) line ≡ Some Resting
-unfolding told answered
+unfolding told answered cleared_at
 one_rests exchange line (tells of event) rests named alone =
     let apart = apart_by line of event alone in
     heard_rests exchange.calls line of event rests named apart.0 apart.1
 one_rests exchange line (answers of outcome) rests named alone =
     let flight = flight_in (line_of exchange of) in
-    let call = failing flight outcome in
-    found_rests (failed exchange.calls.phases of call) line (failed_rests exchange.calls.phases line rests named of call)
-    (failed_mutual exchange.calls.phases of call named) of (finding flight outcome)
+    let hook = finding flight outcome in
+    failed_rests (found exchange.calls.phases of hook) line (found_rests exchange.calls.phases line rests named of hook)
+    (found_mutual exchange.calls.phases of hook named) of (failing flight (fate_at exchange of outcome))
 one_rests exchange line (sends of) rests named alone =
     ap (λ (phases : List Phase). slice_get phases line) (sent_to_phases exchange of) ∙ rests
+one_rests exchange line (clears of code) rests named alone = rests
 
 -- What it waits for gets less
 
@@ -235,38 +239,130 @@ remaining_most : (found : Option Line) → remaining_of found ≤ 3
 remaining_most None = omega arith
 remaining_most (Some line) = three_most line
 
+-- A turn leaves so many answers, of so many: each that is a code which doesn't put a command off is one fewer; and how many are put off
+-- in a row, counted with the codes
+pub record Leaves (was is coded settled before behind : ℕ) : Type 0 where
+  pub left : is + settled ≤ was
+  pub row : (is + most_put_off * is) + (coded + before) ≤ (was + most_put_off * was) + behind
+
+abbrev row : ℕ → ExchangeState → ℕ
+row line exchange = row_of (line_of exchange line)
+
 abbrev Lessens : ℕ → ExchangeState → Turn → Type 0
-Lessens line exchange turn = remaining line (after_one exchange turn) + count_if (is_coded line exchange turn) ≤ remaining line exchange
+Lessens line exchange turn =
+    Leaves (remaining line exchange) (remaining line (after_one exchange turn)) (count_if (is_coded line exchange turn))
+    (count_if (is_settled line exchange turn)) (row line exchange) (row line (after_one exchange turn))
+
+-- what answers nothing, and leaves no more
+no_more : (line : ℕ) (exchange : ExchangeState) (turn : Turn) → is_coded line exchange turn ≡ false
+    → remaining line (after_one exchange turn) ≤ remaining line exchange → row line (after_one exchange turn) ≡ row line exchange → Lessens line exchange turn
+no_more line exchange turn none less same =
+    let zero_more : count_if (is_coded line exchange turn) ≡ 0 = ap count_if none in
+    let none_settled : count_if (is_settled line exchange turn) ≡ 0 =
+    ap (λ (b : Bool). count_if (b && not (is_put_off line exchange turn))) none in
+    record { left = omega (arith, none_settled, less); row = omega (arith, zero_more, less, same) }
 
 no_less : (line : ℕ) (exchange : ExchangeState) (turn : Turn) → is_coded line exchange turn ≡ false
     → line_of (after_one exchange turn) line ≡ line_of exchange line → Lessens line exchange turn
 no_less line exchange turn none same =
-    let zero_more : count_if (is_coded line exchange turn) ≡ 0 = ap count_if none in
     let as_before : remaining line (after_one exchange turn) ≡ remaining line exchange = ap remaining_of same in
-    omega (arith, zero_more, as_before)
+    no_more line exchange turn none (omega (arith, as_before)) (ap row_of same)
 
-landed_on : (outcome : Outcome) (found : Option Line)
-    → remaining_of (option_map (landed outcome) found) + count_if (is_flying found && not (is_given_up outcome)) ≤ remaining_of found
-landed_on outcome None = omega arith
-landed_on outcome (Some line) = landed_less outcome line
+-- what became of the command in flight to a line that rests
 
-answer_by : (line of : ℕ) (exchange : ExchangeState) (outcome : Outcome) → ((of ≡ line) ⊎ (of ≡ line → ⊥)) → Lessens line exchange (answers of outcome)
+abbrev settled_as : Bool → Outcome → Bool → Bool
+settled_as flies outcome put = (flies && not (is_given_up outcome)) && not put
+
+no_flight : (flight : Option Command) → is_some flight ≡ false → flight ≡ None
+no_flight None e = refl
+no_flight (Some command) e = absurd (true≢false e)
+
+landed_flying : (outcome : Outcome) (line : Line) (b : Bool) → is_some line.flight ≡ b → times_of line.put_off ≤ most_put_off
+    → Leaves (left_of line) (left_of (landed (fate_in (Some line) (Some Resting) outcome) outcome line)) (count_if (b && not (is_given_up outcome)))
+    (count_if (settled_as b outcome (is_some (put_off_by (fate_in (Some line) (Some Resting) outcome))))) (times_of line.put_off)
+    (times_of (landed (fate_in (Some line) (Some Resting) outcome) outcome line).put_off)
+landed_flying outcome line true flies most =
+    let lands = landed_lands outcome line flies most in
+    let left = lands.left in
+    let room = lands.row in
+    record { left = omega (arith, left); row = omega (arith, room) }
+landed_flying outcome line false free most =
+    let same = landed_idle (fate_in (Some line) (Some Resting) outcome) outcome line (no_flight line.flight free) in
+    let left : left_of (landed (fate_in (Some line) (Some Resting) outcome) outcome line) ≡ left_of line = ap left_of same in
+    let off : times_of (landed (fate_in (Some line) (Some Resting) outcome) outcome line).put_off ≡ times_of line.put_off =
+    ap (λ (is : Line). times_of is.put_off) same in
+    record { left = omega (arith, left); row = omega (arith, left, off) }
+
+landed_on : (outcome : Outcome) (found : Option Line) → row_of found ≤ most_put_off
+    → Leaves (remaining_of found) (remaining_of (option_map (landed (fate_in found (Some Resting) outcome) outcome) found))
+    (count_if (is_flying found && not (is_given_up outcome)))
+    (count_if (settled_as (is_flying found) outcome (is_some (put_off_by (fate_in found (Some Resting) outcome))))) (row_of found)
+    (row_of (option_map (landed (fate_in found (Some Resting) outcome) outcome) found))
+landed_on outcome None most = record { left = omega arith; row = omega arith }
+landed_on outcome (Some line) most = landed_flying outcome line (is_some line.flight) refl most
+
+-- the line rests also as the answer finds it
+resting_fate : (exchange : ExchangeState) (line : ℕ) (outcome : Outcome) → phase_of exchange line ≡ Some Resting → AreMutual exchange.calls.phases
+    → fate_at exchange line outcome ≡ fate_in (line_of exchange line) (Some Resting) outcome
+resting_fate exchange line outcome rests named =
+    ap (λ (phase : Option Phase). fate_in (line_of exchange line) phase outcome)
+    (found_rests exchange.calls.phases line rests named line (finding (flight_in (line_of exchange line)) outcome))
+
+answer_here : (line : ℕ) (exchange : ExchangeState) (outcome : Outcome) → phase_of exchange line ≡ Some Resting → AreMutual exchange.calls.phases
+    → row line exchange ≤ most_put_off → Lessens line exchange (answers line outcome)
 unfolding answered
-answer_by line of exchange outcome (inl same) =
-    let coded : is_coded line exchange (answers of outcome) ≡ is_in_flight exchange line && not (is_given_up outcome) =
-    ap (λ (b : Bool). b && (is_in_flight exchange of && not (is_given_up outcome))) (eq-eqb of line same)
-    ∙ ap (λ (n : ℕ). is_in_flight exchange n && not (is_given_up outcome)) same in
-    let counted : count_if (is_coded line exchange (answers of outcome)) ≡ count_if (is_in_flight exchange line && not (is_given_up outcome)) =
-    ap count_if coded in
-    let left_then : remaining line (answered exchange of outcome) ≡ remaining_of (option_map (landed outcome) (slice_get exchange.lines line)) =
-    ap (λ (n : ℕ). remaining_of (slice_get (changed (landed outcome) exchange.lines n) line)) same
-    ∙ ap remaining_of (changed_here (landed outcome) exchange.lines line) in
-    let less = landed_on outcome (slice_get exchange.lines line) in
-    omega (arith, counted, left_then, less)
-answer_by line of exchange outcome (inr apart) =
+answer_here line exchange outcome rests named most =
+    let fate = resting_fate exchange line outcome rests named in
+    let found = line_of exchange line in
+    let here : (line == line) ≡ true = eq-eqb line line refl in
+    let coded : is_coded line exchange (answers line outcome) ≡ is_flying found && not (is_given_up outcome) =
+    ap (λ (b : Bool). b && (is_flying found && not (is_given_up outcome))) here in
+    let settled : is_settled line exchange (answers line outcome)
+    ≡ settled_as (is_flying found) outcome (is_some (put_off_by (fate_in found (Some Resting) outcome))) =
+    ap (λ (b : Bool). (b && (is_flying found && not (is_given_up outcome))) && not (b && is_some (put_off_by (fate_at exchange line outcome)))) here
+    ∙ ap (λ (f : Fate). (is_flying found && not (is_given_up outcome)) && not (is_some (put_off_by f))) fate in
+    let then_is : line_of (answered exchange line outcome) line ≡ option_map (landed (fate_in found (Some Resting) outcome) outcome) found =
+    changed_here (landed (fate_at exchange line outcome) outcome) exchange.lines line
+    ∙ ap (λ (f : Fate). option_map (landed f outcome) found) fate in
+    let leaves = landed_on outcome found most in
+    let left = leaves.left in
+    let room = leaves.row in
+    let one : count_if (is_coded line exchange (answers line outcome)) ≡ count_if (is_flying found && not (is_given_up outcome)) = ap count_if coded in
+    let two : count_if (is_settled line exchange (answers line outcome))
+    ≡ count_if (settled_as (is_flying found) outcome (is_some (put_off_by (fate_in found (Some Resting) outcome)))) = ap count_if settled in
+    let three : remaining line (answered exchange line outcome) ≡ remaining_of (option_map (landed (fate_in found (Some Resting) outcome) outcome) found) =
+    ap remaining_of then_is in
+    let four : row line (answered exchange line outcome) ≡ row_of (option_map (landed (fate_in found (Some Resting) outcome) outcome) found) =
+    ap row_of then_is in
+    record { left = omega (arith, left, two, three); row = omega (arith, room, one, three, four) }
+
+answer_by : (line of : ℕ) (exchange : ExchangeState) (outcome : Outcome) → ((of ≡ line) ⊎ (of ≡ line → ⊥)) → phase_of exchange line ≡ Some Resting
+    → AreMutual exchange.calls.phases → row line exchange ≤ most_put_off → Lessens line exchange (answers of outcome)
+unfolding answered
+answer_by line of exchange outcome (inl same) rests named most =
+    subst (λ (n : ℕ). Lessens line exchange (answers n outcome)) (sym same) (answer_here line exchange outcome rests named most)
+answer_by line of exchange outcome (inr apart) rests named most =
     no_less line exchange (answers of outcome)
     (ap (λ (b : Bool). b && (is_in_flight exchange of && not (is_given_up outcome))) (ne_eqb of line apart))
-    (changed_other (landed outcome) exchange.lines of line apart)
+    (changed_other (landed (fate_at exchange of outcome) outcome) exchange.lines of line apart)
+
+-- all that it has is deleted
+
+clear_on : (code : ℕ) (found : Option Line) → remaining_of (option_map (cleared code) found) ≤ remaining_of found
+clear_on code None = omega arith
+clear_on code (Some line) = (cleared_less code line).0
+
+clear_by : (line of code : ℕ) (exchange : ExchangeState) → ((of ≡ line) ⊎ (of ≡ line → ⊥)) → Lessens line exchange (clears of code)
+unfolding cleared_at
+clear_by line of code exchange (inr apart) =
+    no_less line exchange (clears of code) refl (changed_other (cleared code) exchange.lines of line apart)
+clear_by line of code exchange (inl same) =
+    let found = line_of exchange line in
+    let then_is : line_of (cleared_at exchange of code) line ≡ option_map (cleared code) found =
+    ap (λ (n : ℕ). slice_get (changed (cleared code) exchange.lines n) line) same ∙ changed_here (cleared code) exchange.lines line in
+    let left : remaining line (cleared_at exchange of code) ≡ remaining_of (option_map (cleared code) found) = ap remaining_of then_is in
+    let less = clear_on code found in
+    no_more line exchange (clears of code) refl (omega (arith, left, less)) (ap row_of then_is ∙ cleared_row code found)
 
 -- what is sent to a line that rests
 
@@ -306,15 +402,18 @@ send_by line of exchange rests (inl same) =
     let here : remaining line (sent_by exchange of (due exchange of)) ≡ remaining line (sent_by exchange line (due exchange line)) =
     ap (λ (n : ℕ). remaining line (sent_by exchange n (due exchange n))) same in
     let less = send_here line exchange rests in
-    omega (arith, here, less)
+    no_more line exchange (sends of) refl (omega (arith, here, less))
+    (ap (λ (n : ℕ). row_of (line_of (sent_by exchange n (due exchange n)) line)) same ∙ sent_row (due exchange line) exchange line)
 send_by line of exchange rests (inr apart) = no_less line exchange (sends of) refl (sent_far line of exchange (due exchange of) apart)
 
-lessens : (line : ℕ) (exchange : ExchangeState) (turn : Turn) → phase_of exchange line ≡ Some Resting → leaves_alone line turn ≡ true → Lessens line exchange turn
+lessens : (line : ℕ) (exchange : ExchangeState) (turn : Turn) → phase_of exchange line ≡ Some Resting → AreMutual exchange.calls.phases
+    → row line exchange ≤ most_put_off → leaves_alone line turn ≡ true → Lessens line exchange turn
 unfolding told
-lessens line exchange (tells of event) rests alone =
-    no_less line exchange (tells of event) refl (changed_other spent exchange.lines of line (apart_by line of event alone).0)
-lessens line exchange (answers of outcome) rests alone = answer_by line of exchange outcome (cases_eq of line)
-lessens line exchange (sends of) rests alone = send_by line of exchange rests (cases_eq of line)
+lessens line exchange (tells of event) rests named most alone =
+    no_less line exchange (tells of event) refl (changed_other (heard_on event) exchange.lines of line (apart_by line of event alone).0)
+lessens line exchange (answers of outcome) rests named most alone = answer_by line of exchange outcome (cases_eq of line) rests named most
+lessens line exchange (sends of) rests named most alone = send_by line of exchange rests (cases_eq of line)
+lessens line exchange (clears of code) rests named most alone = clear_by line of code exchange (cases_eq of line)
 
 -- All turns
 
@@ -327,15 +426,22 @@ all_rest exchange line (turn ∷ turns) rests named quiet =
     all_rest (after_one exchange turn) line turns (one_rests exchange line turn rests named parts.0) (one_mutual exchange turn named) parts.1
 
 all_lessen : (exchange : ExchangeState) (line : ℕ) (turns : List Turn) → phase_of exchange line ≡ Some Resting → AreMutual exchange.calls.phases
-    → AreQuietFor line turns → remaining line (after exchange turns) + count_turns (is_coded line) exchange turns ≤ remaining line exchange
+    → row line exchange ≤ most_put_off → AreQuietFor line turns
+    → Leaves (remaining line exchange) (remaining line (after exchange turns)) (count_turns (is_coded line) exchange turns)
+    (count_turns (is_settled line) exchange turns) (row line exchange) (row line (after exchange turns))
 unfolding after count_turns
-all_lessen exchange line [] rests named quiet = omega arith
-all_lessen exchange line (turn ∷ turns) rests named quiet =
+all_lessen exchange line [] rests named most quiet = record { left = omega arith; row = omega arith }
+all_lessen exchange line (turn ∷ turns) rests named most quiet =
     let parts = and_parts (leaves_alone line turn) (list_all (leaves_alone line) turns) quiet in
-    let one = lessens line exchange turn rests parts.0 in
+    let one = lessens line exchange turn rests named most parts.0 in
     let more =
-    all_lessen (after_one exchange turn) line turns (one_rests exchange line turn rests named parts.0) (one_mutual exchange turn named) parts.1 in
-    omega (arith, one, more)
+    all_lessen (after_one exchange turn) line turns (one_rests exchange line turn rests named parts.0) (one_mutual exchange turn named)
+    (one_short exchange line turn most) parts.1 in
+    let left = one.left in
+    let room = one.row in
+    let left_then = more.left in
+    let room_then = more.row in
+    record { left = omega (arith, left, left_then); row = omega (arith, room, room_then) }
 
 -- The laws
 
@@ -344,39 +450,51 @@ pub stays_at_rest : (count last line : ℕ) (before turns : List Turn) → phase
 stays_at_rest count last line before turns rests quiet =
     all_rest (after (opening count last) before) line turns rests (always_mutual count last before) quiet
 
-at_most_three : (exchange : ExchangeState) (line : ℕ) (turns : List Turn) → phase_of exchange line ≡ Some Resting → AreMutual exchange.calls.phases
-    → AreQuietFor line turns → count_turns (is_coded line) exchange turns ≤ 3
-at_most_three exchange line turns rests named quiet =
-    let less = all_lessen exchange line turns rests named quiet in
-    let most = remaining_most (line_of exchange line) in
-    omega (arith, less, most)
+-- what is left of a line that rests, and stands after these turns
+abbrev LeavesAfter : ℕ → ℕ → ℕ → List Turn → List Turn → Type 0
+LeavesAfter count last line before turns =
+    Leaves (remaining line (after (opening count last) before)) (remaining line (after (after (opening count last) before) turns))
+    (count_turns (is_coded line) (after (opening count last) before) turns) (count_turns (is_settled line) (after (opening count last) before) turns)
+    (row line (after (opening count last) before)) (row line (after (after (opening count last) before) turns))
+
+leaves_after : (count last line : ℕ) (before turns : List Turn) → phase_of (after (opening count last) before) line ≡ Some Resting
+    → AreQuietFor line turns → LeavesAfter count last line before turns
+leaves_after count last line before turns rests quiet =
+    all_lessen (after (opening count last) before) line turns rests (always_mutual count last before) (always_short count last line before) quiet
 
 pub three_at_most : (count last line : ℕ) (before turns : List Turn) → phase_of (after (opening count last) before) line ≡ Some Resting
-    → AreQuietFor line turns → count_turns (is_coded line) (after (opening count last) before) turns ≤ 3
+    → AreQuietFor line turns → count_turns (is_settled line) (after (opening count last) before) turns ≤ 3
 three_at_most count last line before turns rests quiet =
-    at_most_three (after (opening count last) before) line turns rests (always_mutual count last before) quiet
+    let leaves = leaves_after count last line before turns rests quiet in
+    let left = leaves.left in
+    let most = remaining_most (line_of (after (opening count last) before) line) in
+    omega (arith, left, most)
+
+pub so_many_in_all : (count last line : ℕ) (before turns : List Turn) → phase_of (after (opening count last) before) line ≡ Some Resting
+    → AreQuietFor line turns → count_turns (is_coded line) (after (opening count last) before) turns ≤ 3 + 4 * most_put_off
+so_many_in_all count last line before turns rests quiet =
+    let leaves = leaves_after count last line before turns rests quiet in
+    let room = leaves.row in
+    let most = remaining_most (line_of (after (opening count last) before) line) in
+    let short = all_short (after (opening count last) before) line turns (always_short count last line before) in
+    omega (arith, room, most, short)
 
 clear_of : (found : Option Line) (is : Line) → remaining_of found ≤ 0 → found ≡ Some is → IsClear is
 clear_of None is none e = absurd cc
 clear_of (Some line) is none e =
     let same : line ≡ is = cc in subst IsClear same (clear_at_none line none)
 
-nothing_left : (exchange : ExchangeState) (line : ℕ) (turns : List Turn) → phase_of exchange line ≡ Some Resting → AreMutual exchange.calls.phases
-    → AreQuietFor line turns → 3 ≤ count_turns (is_coded line) exchange turns → remaining line (after exchange turns) ≤ 0
-nothing_left exchange line turns rests named quiet three =
-    let less = all_lessen exchange line turns rests named quiet in
-    let most = remaining_most (line_of exchange line) in
-    omega (arith, less, most, three)
-
 pub rest_after_three : (count last line : ℕ) (before turns : List Turn) → phase_of (after (opening count last) before) line ≡ Some Resting
-    → AreQuietFor line turns → 3 ≤ count_turns (is_coded line) (after (opening count last) before) turns
+    → AreQuietFor line turns → 3 ≤ count_turns (is_settled line) (after (opening count last) before) turns
     → IsAtRest (after (after (opening count last) before) turns) line
 rest_after_three count last line before turns rests quiet three =
     let exchange = after (opening count last) before in
-    let named = always_mutual count last before in
+    let left = (leaves_after count last line before turns rests quiet).left in
+    let most = remaining_most (line_of exchange line) in
+    let none : remaining line (after exchange turns) ≤ 0 = omega (arith, left, most, three) in
     record {
-      no_call = all_rest exchange line turns rests named quiet;
-      clear = λ is e. clear_of (line_of (after exchange turns) line) is (nothing_left exchange line turns rests named quiet three) e;
+      no_call = all_rest exchange line turns rests (always_mutual count last before) quiet;
+      clear = λ is e. clear_of (line_of (after exchange turns) line) is none e;
     }
 
 -- until then it goes on

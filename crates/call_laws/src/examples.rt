@@ -1,21 +1,24 @@
 //! Worked examples of the definitions, as theorems: each sentence of a definition has one that a slip in it breaks.
 #![tactic(auto, unfolding(crate::proofs::Computing::on_examples))]
 
-ghost use Rattle.std.specs.Prelude.{◌≡◌, ◌++◌, ◌∷◌, [], true, false, codes, Some, None};
+ghost use Rattle.std.specs.Prelude.{◌≡◌, ◌++◌, ◌∷◌, [], true, false, codes, option_map, Some, None};
 ghost use Rattle.mg_bytes.specs.declared.letter.Letter.TheVariants as keys;
 ghost use Rattle.mg_packages.specs.declared.event.LineEvent.TheVariants as events;
 ghost use Rattle.mg_packages.specs.declared.signal.Signal.TheVariants.{DialTone};
 ghost use Rattle.event_values.specs.declared.observed.Observed.TheVariants as observed;
 ghost use Rattle.call_routing.specs.Phases.{other_end, named_by};
 ghost use Rattle.call_routing.specs.Calls.{greatest_call, caller_of, put_through, all_resting};
-ghost use Rattle.call_routing.specs.Line.{is_success};
+ghost use Rattle.call_routing.specs.declared.fate.Fate.TheVariants as fates;
+ghost use Rattle.call_routing.specs.declared.line.Line.{Line};
+ghost use Rattle.call_routing.specs.Fates.{is_success, may_pass, is_deleted, hook_told, refusal_fate, put_off_then};
 ghost use Rattle.call_routing.specs.Numbers.{line_called, told_in};
 ghost use Rattle.call_routing.specs.Parameters.{verb_of, request_lines, creation_lines, change_lines, deletion_lines, parameters_of};
-ghost use Rattle.call_routing.specs.Exchange.{phase_of, due};
-ghost use Rattle.call_laws.specs.Turns.{tells, sends, after, is_sent, is_answered, is_coded, count_turns, commands_in, leaves_alone};
+ghost use Rattle.call_routing.specs.Exchange.{phase_of, line_of, put_off_at, due};
+ghost use Rattle.call_laws.specs.Turns.{tells, sends, clears, after, is_sent, is_answered, is_coded, is_put_off, is_settled, count_turns, commands_in, leaves_alone, is_asked_on, is_bare, is_request, is_creation, accepts, ends};
 ghost use Rattle.call_laws.specs.Example.{opened, all_sent, driven, coded, accepted, given_up, created_first, created_second, ready, dial, ring, pick_up, connect, hang_up, then_is, phase_then, sent_at, key};
 
-use call_routing::{Asked, Command, Leg, Phase, Side, Told, Tone};
+use call_routing::{Asked, Cause, Command, Leg, Outcome, Phase, Side, Told, Tone};
+use mg_packages::Hook;
 
 /// Each sentence at an example.
 pub fn each_sentence_has_an_example()
@@ -30,9 +33,11 @@ pub fn each_sentence_has_an_example()
     ensures lines_are_asked_for_off_hook_first_given_up { commands_in opened (all_sent ++ given_up 1 ∷ all_sent)
         ≡ (0, Command.Ask Asked.Rest)
         ∷ (1, Command.Ask Asked.Rest) ∷ (2, Command.Ask Asked.Rest) ∷ (1, Command.Ask Asked.Rest) ∷ [] }
-    ensures lines_are_asked_for_off_hook_first_refused { commands_in opened (all_sent ++ coded 1 401 ∷ all_sent)
+    ensures lines_are_asked_for_off_hook_first_refused { commands_in opened (all_sent ++ coded 1 512 ∷ all_sent)
         ≡ (0, Command.Ask Asked.Rest)
         ∷ (1, Command.Ask Asked.Rest) ∷ (2, Command.Ask Asked.Rest) ∷ [] }
+    ensures put_off { commands_in opened (all_sent ++ coded 1 401 ∷ all_sent) ≡ (0, Command.Ask Asked.Rest)
+        ∷ (1, Command.Ask Asked.Rest) ∷ (2, Command.Ask Asked.Rest) ∷ (1, Command.Ask Asked.Rest) ∷ [] }
     // A whole call: off hook asks for digits; the number of a line that rests rings it, and its caller hears that.
     ensures a_call_rings_off_hook { sent_at [] (tells 0 Told.OffHook) ≡ (0, Command.Ask Asked.Digits) ∷ [] }
     ensures a_call_rings_waits { sent_at (tells 0 Told.OffHook ∷ []) (tells 0 (Told.Dialled (Some 1)))
@@ -174,6 +179,7 @@ pub fn other_sentences_have_examples()
     ensures restart { leaves_alone 0 (tells 1 Told.Restarted) ≡ true }
     ensures disconnected { leaves_alone 0 (tells 1 Told.Disconnected) ≡ true }
     ensures command { leaves_alone 0 (sends 0) ≡ true }
+    ensures deletion { leaves_alone 0 (clears 0 250) ≡ true }
     // Whom what happens to a line concerns besides.
     ensures a_call_has_another_end_caller { named_by (phase_then 0 ring) ≡ Some 1 }
     ensures a_call_has_another_end_called { named_by (phase_then 1 ring) ≡ Some 0 }
@@ -266,4 +272,167 @@ pub fn a_restart_begins_anew()
     ensures rests { sent_at [] (tells 2 Told.Restarted) ≡ (2, Command.Ask Asked.Rest) ∷ [] }
     ensures disconnected { sent_at connect (tells 0 Told.Disconnected) ≡ (0, Command.Ask Asked.Talk) ∷ [] }
     ensures goes_on { phase_then 0 (connect ++ tells 0 Told.Disconnected ∷ []) ≡ phase_then 0 connect }
+{}
+
+/// Return codes of 400 to 499 say that a cause may pass, and 501 and 520; 515 and 516 that there is no such connection; 401 and 402 how
+/// the telephone is.
+pub fn return_codes_say_whether_a_cause_may_pass()
+    ensures below { may_pass 399 ≡ false }
+    ensures first { may_pass 400 ≡ true }
+    ensures last { may_pass 499 ≡ true }
+    ensures hook { may_pass 401 ≡ false }
+    ensures other_hook { may_pass 402 ≡ false }
+    ensures restarts { may_pass 405 ≡ true }
+    ensures unknown_endpoint { may_pass 500 ≡ false }
+    ensures not_ready { may_pass 501 ≡ true }
+    ensures resources { may_pass 502 ≡ false }
+    ensures restarting { may_pass 520 ≡ true }
+    ensures redirected { may_pass 521 ≡ false }
+    ensures deleted { is_deleted 250 ≡ true }
+    ensures no_such_connection { is_deleted 515 ≡ true }
+    ensures no_such_call { is_deleted 516 ≡ true }
+    ensures no_such_mode { is_deleted 517 ≡ false }
+    ensures refused { is_deleted 400 ≡ false }
+    ensures off_hook { hook_told 401 ≡ Some Hook.OffHook }
+    ensures on_hook { hook_told 402 ≡ Some Hook.OnHook }
+    ensures no_hook { hook_told 405 ≡ None }
+{}
+
+/// What was refused for a cause that may pass is sent again: the request before the connection's command that was put off.
+pub fn what_was_put_off_is_sent_again()
+    ensures ringing { sent_at dial (coded 1 405) ≡ (1, Command.Ask Asked.Ring) ∷ [] }
+    ensures request_first { sent_at (connect ++ tells 0 Told.OnHook ∷ []) (coded 0 400) ≡ (0, Command.Ask Asked.Rest) ∷ [] }
+    ensures then_deletion { sent_at (connect ++ tells 0 Told.OnHook ∷ coded 0 400 ∷ []) (accepted 0) ≡ (0, Command.Delete 1) ∷ [] }
+    ensures creation { sent_at (pick_up ++ coded 0 409 ∷ []) (accepted 0) ≡ (0, Command.Create 1 false) ∷ [] }
+    ensures goes_on { phase_then 0 (pick_up ++ coded 0 409 ∷ [])
+        ≡ Some (Phase.InCall (record { call = 1; other = 1; side = Side.Caller; answered = true })) }
+    ensures change { sent_at (pick_up ++ created_first ∷ accepted 0 ∷ created_second ∷ []) (coded 0 400)
+        ≡ (0, Command.Modify 1) ∷ [] }
+    ensures past { sent_at (dial ++ tells 0 Told.OnHook ∷ []) (coded 1 405) ≡ (1, Command.Ask Asked.Rest) ∷ [] }
+{}
+
+/// How a command is put off: for which cause, and how many were put off one behind another. What is past isn't put off.
+pub fn commands_are_put_off_in_a_row()
+    ensures request { put_off_at (then_is dial) 1 (Outcome.Answered 405) ≡ Some (record { cause = Cause.Request; times = 1 }) }
+    ensures second { put_off_at (then_is (dial ++ coded 1 405 ∷ [])) 1 (Outcome.Answered 520)
+        ≡ Some (record { cause = Cause.Request; times = 2 }) }
+    ensures hook { put_off_at (after opened all_sent) 1 (Outcome.Answered 401) ≡ Some (record { cause = Cause.Hook; times = 1 }) }
+    ensures connection { put_off_at (then_is pick_up) 0 (Outcome.Answered 403) ≡ Some (record { cause = Cause.Connection; times = 1 }) }
+    ensures deletion { put_off_at (then_is (connect ++ tells 0 Told.OnHook ∷ [])) 0 (Outcome.Answered 400)
+        ≡ Some (record { cause = Cause.Connection; times = 1 }) }
+    ensures past { put_off_at (then_is (dial ++ tells 0 Told.OnHook ∷ [])) 1 (Outcome.Answered 405) ≡ None }
+    ensures past_call { put_off_at (then_is (pick_up ++ tells 0 Told.OnHook ∷ [])) 0 (Outcome.Answered 403) ≡ None }
+    ensures news { put_off_at (then_is (tells 0 Told.OffHook ∷ [])) 0 (Outcome.Answered 402) ≡ None }
+    ensures accepted { put_off_at (then_is dial) 1 (Outcome.Answered 200) ≡ None }
+    ensures given_up { put_off_at (then_is dial) 1 Outcome.GivenUp ≡ None }
+    ensures nothing_in_flight { put_off_at ready 1 (Outcome.Answered 405) ≡ None }
+    ensures last { refusal_fate Cause.Request 405 (Some (record { cause = Cause.Hook; times = 29 }))
+        ≡ fates.Again (record { cause = Cause.Request; times = 30 }) }
+    ensures no_more { refusal_fate Cause.Request 405 (Some (record { cause = Cause.Request; times = 30 })) ≡ fates.Refused 405 }
+    ensures for_good { refusal_fate Cause.Request 512 None ≡ fates.Refused 512 }
+    ensures of_a_hook { refusal_fate Cause.Hook 402 None ≡ fates.Again (record { cause = Cause.Hook; times = 1 }) }
+    ensures of_a_connection { refusal_fate Cause.Connection 402 None ≡ fates.Refused 402 }
+    ensures ends { put_off_then fates.Done (Some (record { cause = Cause.Request; times = 3 })) ≡ None }
+    ensures ends_for_good { put_off_then (fates.Refused 512) (Some (record { cause = Cause.Request; times = 3 })) ≡ None }
+    ensures lost { put_off_then fates.Open (Some (record { cause = Cause.Request; times = 3 }))
+        ≡ Some (record { cause = Cause.Request; times = 3 }) }
+{}
+
+/// What was refused for good is on record, by its code: a request until the line tells something, and a connection until its gateway
+/// starts again, or all that the line has is deleted.
+pub fn what_was_refused_for_good_is_on_record()
+    ensures request { option_map (λ (l : Line). l.refused) (line_of (after opened (all_sent ++ coded 1 512 ∷ [])) 1) ≡ Some (Some 512) }
+    ensures asked_for { option_map (λ (l : Line). l.asked) (line_of (after opened (all_sent ++ coded 1 512 ∷ [])) 1)
+        ≡ Some (Some Asked.Rest) }
+    ensures anew { option_map (λ (l : Line). l.refused) (line_of (after opened (all_sent ++ coded 1 512 ∷ tells 1 Told.Flash ∷ [])) 1)
+        ≡ Some None }
+    ensures other_request { option_map (λ (l : Line). l.refused) (line_of (then_is (dial ++ coded 1 512 ∷ tells 0 Told.OnHook ∷ [])) 1)
+        ≡ Some None }
+    ensures connection { option_map (λ (l : Line). l.left) (line_of (then_is (connect ++ tells 0 Told.OnHook ∷ coded 0 510 ∷ [])) 0)
+        ≡ Some (Some 510) }
+    ensures goes_on { sent_at (connect ++ tells 0 Told.OnHook ∷ []) (coded 0 510) ≡ (0, Command.Ask Asked.Rest) ∷ [] }
+    ensures gone { option_map (λ (l : Line). l.left) (line_of (then_is (connect ++ tells 0 Told.OnHook ∷ coded 0 515 ∷ [])) 0)
+        ≡ Some None }
+    ensures restarted { option_map (λ (l : Line). l.left)
+        (line_of (then_is (connect ++ tells 0 Told.OnHook ∷ coded 0 510 ∷ tells 0 Told.Restarted ∷ [])) 0) ≡ Some None }
+    ensures flash { option_map (λ (l : Line). l.left)
+        (line_of (then_is (connect ++ tells 0 Told.OnHook ∷ coded 0 510 ∷ tells 0 Told.Flash ∷ [])) 0) ≡ Some (Some 510) }
+    ensures cleared { option_map (λ (l : Line). l.left)
+        (line_of (then_is (connect ++ tells 0 Told.OnHook ∷ coded 0 510 ∷ clears 0 250 ∷ [])) 0) ≡ Some None }
+    ensures not_cleared { option_map (λ (l : Line). l.left) (line_of (after ready (clears 1 510 ∷ [])) 1) ≡ Some (Some 510) }
+    ensures deleted_too { option_map (λ (l : Line). l.leg) (line_of (after (then_is connect) (clears 0 516 ∷ [])) 0) ≡ Some Leg.Absent }
+    ensures not_put_off_then { option_map (λ (l : Line). l.put_off)
+        (line_of (then_is (dial ++ coded 1 405 ∷ tells 1 Told.Restarted ∷ [])) 1) ≡ Some None }
+    ensures put_off_still { option_map (λ (l : Line). l.put_off) (line_of (then_is (dial ++ coded 1 405 ∷ tells 1 Told.Flash ∷ [])) 1)
+        ≡ Some (Some (record { cause = Cause.Request; times = 1 })) }
+{}
+
+/// What the laws say of what is on record: who put a command off, accepted a request, or has no connection any more.
+pub fn records_are_told_of()
+    ensures put_off { is_put_off 1 (then_is dial) (coded 1 405) ≡ true }
+    ensures not_put_off { is_put_off 1 (then_is dial) (coded 1 512) ≡ false }
+    ensures of_another { is_put_off 0 (then_is dial) (coded 1 405) ≡ false }
+    ensures settled { is_settled 1 (then_is dial) (coded 1 512) ≡ true }
+    ensures not_settled { is_settled 1 (then_is dial) (coded 1 405) ≡ false }
+    ensures lost { is_settled 1 (then_is dial) (given_up 1) ≡ false }
+    ensures asked { is_asked_on (line_of ready 1) ≡ true }
+    ensures in_flight { is_asked_on (line_of (then_is dial) 1) ≡ false }
+    ensures refused { is_asked_on (line_of (after opened (all_sent ++ coded 1 512 ∷ [])) 1) ≡ false }
+    ensures told { is_asked_on (line_of (after ready (tells 1 Told.Flash ∷ [])) 1) ≡ false }
+    ensures no_line { is_asked_on (line_of ready 3) ≡ false }
+    ensures accepts { accepts 1 (then_is dial) (accepted 1) ≡ true }
+    ensures refuses { accepts 1 (then_is dial) (coded 1 405) ≡ false }
+    ensures gives_up { accepts 1 (then_is dial) (given_up 1) ≡ false }
+    ensures accepts_another { accepts 0 (then_is dial) (accepted 1) ≡ false }
+    ensures accepts_a_deletion { accepts 0 (then_is (connect ++ tells 0 Told.OnHook ∷ [])) (accepted 0) ≡ false }
+    ensures bare { is_bare (line_of ready 1) ≡ true }
+    ensures creating { is_bare (line_of (then_is pick_up) 0) ≡ false }
+    ensures standing { is_bare (line_of (then_is connect) 0) ≡ false }
+    ensures left { is_bare (line_of (then_is (connect ++ tells 0 Told.OnHook ∷ coded 0 510 ∷ [])) 0) ≡ false }
+    ensures none_made { ends 0 (then_is pick_up) (coded 0 540) ≡ true }
+    ensures one_made { ends 0 (then_is pick_up) created_first ≡ false }
+    ensures unnamed { ends 0 (then_is pick_up) (accepted 0) ≡ false }
+    ensures deleted { ends 0 (then_is (connect ++ tells 0 Told.OnHook ∷ [])) (coded 0 516) ≡ true }
+    ensures not_deleted { ends 0 (then_is (connect ++ tells 0 Told.OnHook ∷ [])) (coded 0 400) ≡ false }
+    ensures lost_deletion { ends 0 (then_is (connect ++ tells 0 Told.OnHook ∷ [])) (given_up 0) ≡ false }
+    ensures restarted { ends 0 (then_is connect) (tells 0 Told.Restarted) ≡ true }
+    ensures disconnected { ends 0 (then_is connect) (tells 0 Told.Disconnected) ≡ false }
+    ensures cleared { ends 0 (then_is connect) (clears 0 250) ≡ true }
+    ensures not_cleared { ends 0 (then_is connect) (clears 0 400) ≡ false }
+    ensures another_ends { ends 1 (then_is connect) (tells 0 Told.Restarted) ≡ false }
+    ensures creates { is_creation (Some (Command.Create 1 false)) ≡ true }
+    ensures not_created { is_creation (Some (Command.Ask Asked.Rest)) ≡ false }
+    ensures asks { is_request (Some (Command.Ask Asked.Rest)) ≡ true }
+    ensures not_asked { is_request (Some (Command.Modify 1)) ≡ false }
+{}
+
+/// Each premise of the laws of what is on record is wanted. Where nothing was sent, a line is on record as asked, or without a connection,
+/// and accepted, or ended, nothing since; what was accepted, or is past, isn't on record as refused; and a line to which a command is in
+/// flight, or is to be sent, isn't asked for what it tells.
+pub fn else_it_may_be_on_record()
+    ensures not_sent { due ready 1 ≡ None }
+    ensures accepted_before { is_asked_on (line_of ready 1) ≡ true }
+    ensures not_created { is_bare (line_of ready 1) ≡ true }
+    ensures accepted_request { option_map (λ (l : Line). l.put_off) (line_of (after (then_is dial) (accepted 1 ∷ [])) 1) ≡ Some None }
+    ensures not_refused { option_map (λ (l : Line). l.refused) (line_of (after (then_is dial) (accepted 1 ∷ [])) 1) ≡ Some None }
+    ensures past_request { option_map (λ (l : Line). l.put_off)
+        (line_of (after (then_is (dial ++ tells 0 Told.OnHook ∷ [])) (coded 1 405 ∷ [])) 1) ≡ Some None }
+    ensures past_refusal { option_map (λ (l : Line). l.refused)
+        (line_of (after (then_is (dial ++ tells 0 Told.OnHook ∷ [])) (coded 1 512 ∷ [])) 1) ≡ Some None }
+    ensures deleted { option_map (λ (l : Line). l.put_off)
+        (line_of (after (then_is (connect ++ tells 0 Told.OnHook ∷ [])) (coded 0 516 ∷ [])) 0) ≡ Some None }
+    ensures nothing_left { option_map (λ (l : Line). l.left)
+        (line_of (after (then_is (connect ++ tells 0 Told.OnHook ∷ [])) (coded 0 516 ∷ [])) 0) ≡ Some None }
+    ensures changed { option_map (λ (l : Line). l.put_off)
+        (line_of (after (then_is (pick_up ++ created_first ∷ accepted 0 ∷ created_second ∷ [])) (accepted 0 ∷ [])) 0) ≡ Some None }
+    ensures goes_on { phase_then 0 (pick_up ++ created_first ∷ accepted 0 ∷ created_second ∷ accepted 0 ∷ [])
+        ≡ Some (Phase.InCall (record { call = 1; other = 1; side = Side.Caller; answered = true })) }
+    ensures in_flight { due (after opened (all_sent ++ tells 0 Told.OffHook ∷ [])) 0 ≡ None }
+    ensures in_flight_still { option_map (λ (l : Line). l.asked) (line_of (after opened (all_sent ++ tells 0 Told.OffHook ∷ [])) 0)
+        ≡ Some None }
+    ensures to_be_sent { due opened 0 ≡ Some (Command.Ask Asked.Rest) }
+    ensures to_be_sent_still { option_map (λ (l : Line). l.asked) (line_of opened 0) ≡ Some None }
+    ensures unanswered { option_map (λ (l : Line). l.leg) (line_of (then_is ring) 0) ≡ Some Leg.Absent }
+    ensures nothing_due { due (then_is ring) 0 ≡ None }
+    ensures nothing_due_there { due (then_is ring) 1 ≡ None }
 {}
