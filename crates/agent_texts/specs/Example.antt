@@ -1,5 +1,5 @@
 -- What the worked examples speak of.
-use Rattle.std.specs.Prelude.{ℕ, Bool, true, false, codes, List, [], ◌∷◌, None}
+use Rattle.std.specs.Prelude.{ℕ, Bool, true, false, codes, List, [], ◌∷◌, Option}
 use Rattle.call_routing.specs.declared.phase.Side.TheVariants as sides
 use Rattle.call_routing.specs.declared.phase.Part.{Part}
 use Rattle.call_routing.specs.declared.phase.Phase.{Phase}
@@ -7,6 +7,7 @@ use Rattle.call_routing.specs.declared.phase.Phase.TheVariants.{InCall}
 use Rattle.call_routing.specs.declared.line.Leg.{Leg}
 use Rattle.call_routing.specs.declared.line.Leg.TheVariants as legs
 use Rattle.call_routing.specs.declared.line.Line.{Line}
+use Rattle.call_routing.specs.Line.{new_line}
 use Rattle.call_routing.specs.Exchange.{ExchangeState, opening}
 use Rattle.agent_texts.specs.declared.standing.Progress.{Progress}
 use Rattle.agent_texts.specs.declared.standing.Standing.{Standing}
@@ -33,7 +34,7 @@ leg_in call = legs.Standing call (codes "A") (codes "v=0")
 
 -- a line whose connection for that call was given the description of the other's, or wasn't
 abbrev pub joined_line : Bool → Line
-joined_line joined = record { leg = leg_in 3; joined = joined; asked = None; flight = None }
+joined_line joined = record new_line { leg = leg_in 3; joined = joined }
 
 -- an exchange whose first line is in this phase
 abbrev pub exchange_with : Phase → ExchangeState
@@ -47,6 +48,11 @@ answered_with one other =
       calls = record opened.calls { phases = InCall caller ∷ InCall called ∷ [] };
       lines = joined_line one ∷ joined_line other ∷ [];
     }
+
+-- one whose first line refused what it is asked for, and the deletion of a connection, by these codes
+abbrev pub refused_with : Option ℕ → Option ℕ → ExchangeState
+refused_with request deletion =
+    let opened = opening 2 0 in record opened { lines = record new_line { refused = request; left = deletion } ∷ [] }
 
 -- of each kind another count
 abbrev pub each_counted : Tally

@@ -14,7 +14,8 @@ ghost use Rattle.agent_texts.specs.ConfigFaults.{place_by, value_text, fault_tex
 ghost use Rattle.agent_texts.specs.Standings.{stands_for, standing_of, with_change};
 ghost use Rattle.agent_texts.specs.Stations.{number_at};
 ghost use Rattle.agent_texts.specs.Telling.{plain, change_told};
-ghost use Rattle.agent_texts.specs.Example.{leg_in, rings_other, calls, exchange_with, answered_with, each_counted, station, two_stations};
+ghost use Rattle.agent_texts.specs.Refusals.{no_refusals, refusals_of, refusals_told};
+ghost use Rattle.agent_texts.specs.Example.{leg_in, rings_other, calls, exchange_with, answered_with, refused_with, each_counted, station, two_stations};
 
 /// Each sentence at an example.
 pub fn each_sentence_has_an_example()
@@ -112,4 +113,22 @@ pub fn further_sentences_have_examples()
     // A station has the number by which it is dialled; a place without one has none.
     ensures second { number_at (station (codes "201") ∷ station (codes "202") ∷ []) 1 ≡ codes "202" }
     ensures a_station_has_a_number_none { number_at [] 3 ≡ codes "?" }
+{}
+
+/// What a line refused for good is told by its code, once; what it takes again isn't told.
+pub fn refusals_are_told_once()
+    ensures request { (refusals_of (refused_with (Some 512) None) 0).request ≡ Some 512 }
+    ensures deletion { (refusals_of (refused_with None (Some 510)) 0).deletion ≡ Some 510 }
+    ensures no_line { refusals_of (refused_with (Some 512) (Some 510)) 7 ≡ no_refusals }
+    ensures new { refusals_told two_stations 1 no_refusals (record { request = Some 512; deletion = None })
+        ≡ codes "line 202: takes no request: 512\n" }
+    ensures keeps { refusals_told two_stations 1 no_refusals (record { request = None; deletion = Some 510 })
+        ≡ codes "line 202: keeps a connection: 510\n" }
+    ensures both { refusals_told two_stations 0 no_refusals (record { request = Some 405; deletion = Some 400 })
+        ≡ codes "line 201: takes no request: 405\nline 201: keeps a connection: 400\n" }
+    ensures told { refusals_told two_stations 1 (record { request = Some 512; deletion = Some 510 })
+        (record { request = Some 512; deletion = Some 510 }) ≡ [] }
+    ensures other_code { refusals_told two_stations 1 (record { request = Some 512; deletion = None })
+        (record { request = Some 513; deletion = None }) ≡ codes "line 202: takes no request: 513\n" }
+    ensures taken_again { refusals_told two_stations 1 (record { request = Some 512; deletion = Some 510 }) no_refusals ≡ [] }
 {}
