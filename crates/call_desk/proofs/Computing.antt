@@ -2,6 +2,7 @@
 use Rattle.std.specs.Prelude.{⊤}
 use Rattle.mgcp_text.proofs.Computing.{on_examples as text_examples}
 use Rattle.outbound.proofs.Computing.{on_examples as send_examples}
+use Rattle.call_routing.specs.Calls.{found}
 use Rattle.call_routing.specs.Line.{sent}
 use Rattle.call_routing.specs.Next.{next_of}
 use Rattle.call_routing.specs.Exchange.{changed, due, sent_to}
@@ -10,5 +11,5 @@ use Rattle.call_desk.specs.Hooks.{hook_among}
 use Rattle.call_desk.specs.Typed.{typed_from}
 
 unfoldable pub on_examples : ⊤
-unfolding text_examples send_examples sent next_of changed due sent_to falls hook_among typed_from
+unfolding text_examples send_examples found sent next_of changed due sent_to falls hook_among typed_from
 on_examples = tt

@@ -12,6 +12,7 @@ use Rattle.call_routing.specs.declared.command.Command.TheVariants.{Create}
 use Rattle.call_routing.specs.Line.{new_line, sent}
 use Rattle.call_routing.specs.Exchange.{ExchangeState}
 use Rattle.call_desk.specs.declared.care.Care.{Care}
+use Rattle.call_desk.specs.declared.gateway.Wake.{Wake}
 use Rattle.call_desk.specs.Duties.{new_care, begun, landed}
 
 -- a line once it was cleared, and once it was audited
@@ -24,6 +25,10 @@ audited = landed (begun cleared)
 -- an audit found its handset lifted
 abbrev pub found_off : Care
 found_off = record audited { is_found_off = true }
+
+-- a line to which a command is sent again at a moment
+abbrev pub wake_at : ℕ → ℕ → Wake
+wake_at moment line = record { moment = moment; line = line }
 
 abbrev pub param : List ℕ → List ℕ → Param
 param code value = record { code = code; value = value }

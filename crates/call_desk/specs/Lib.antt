@@ -1,6 +1,7 @@
 pub mod Waiting
 pub mod Flights
 pub mod Clock
+pub mod Wakes
 pub mod Duties
 pub mod Hooks
 pub mod Responses

@@ -6,7 +6,7 @@ use Rattle.call_routing.specs.Exchange.{ExchangeState, due, sent_to}
 use Rattle.call_desk.specs.declared.care.Duty.{Duty}
 use Rattle.call_desk.specs.declared.care.Care.{Care}
 use Rattle.call_desk.specs.declared.office.Order.{Order}
-use Rattle.call_desk.specs.Duties.{duty_begun, fixed_order}
+use Rattle.call_desk.specs.Duties.{duty_begun, is_put_off, fixed_order}
 
 -- a verb, and what stands behind the command line
 abbrev pub Shown : Type 0
@@ -37,6 +37,16 @@ is_outlived (Some care) = care.is_outlived
 abbrev pub has_told : Option Care → Bool
 has_told None = true
 has_told (Some care) = care.has_told
+
+-- when what was put off of the line is sent again
+abbrev pub again_of : Option Care → Option ℕ
+again_of None = None
+again_of (Some care) = care.again
+
+-- a duty beside the exchange that was refused by this code is put off
+abbrev pub is_put_off_in : ℕ → Option Care → Bool
+is_put_off_in code None = false
+is_put_off_in code (Some care) = is_put_off code care
 
 abbrev pub cared_to : (Care → Care) → List Care → ℕ → Option Care → List Care
 cared_to change cares line None = cares

@@ -3,14 +3,15 @@ use Rattle.std.specs.Prelude.{◌≡◌, ◌⊎◌, ℕ, Bool, true, false, if�
 use Rattle.mgcp_text.specs.Reading.{read_text}
 use Rattle.call_routing.specs.declared.told.Told.{Told}
 use Rattle.call_routing.specs.declared.told.Told.TheVariants.{Flash, Restarted}
+use Rattle.call_routing.specs.declared.command.Outcome.{Outcome}
 use Rattle.call_routing.specs.declared.command.Outcome.TheVariants.{GivenUp}
-use Rattle.call_routing.specs.Exchange.{ExchangeState, phase_of, line_of, flight_in, told, answered}
+use Rattle.call_routing.specs.Exchange.{ExchangeState, phase_of, line_of, flight_in, told, answered, put_off_at, cleared_at}
 use Rattle.call_desk.specs.declared.care.Duty.{Duty}
 use Rattle.call_desk.specs.declared.care.Duty.TheVariants.{Clear, Audit, Route}
 use Rattle.call_desk.specs.declared.care.Care.{Care}
-use Rattle.call_desk.specs.Duties.{found}
+use Rattle.call_desk.specs.Duties.{found, duty_answered, routed_by}
 use Rattle.call_desk.specs.Hooks.{hook_by, was_off, told_by_hook, is_off_hook}
-use Rattle.call_desk.specs.Orders.{has_told, cared}
+use Rattle.call_desk.specs.Orders.{has_told, is_put_off_in, cared}
 use Rattle.call_desk.specs.Responses.{outcome_by}
 
 -- a command to the line that was for this was given up: one of the exchange's own is answered so
@@ -29,9 +30,18 @@ heard_by exchange line (Some event) = told exchange line event
 abbrev pub announced_by : Bool → ExchangeState → ℕ → ExchangeState
 announced_by is_restart exchange line = if is_restart then told exchange line Restarted else exchange
 
--- a final response with this code answered the exchange's command to the line
-abbrev pub answered_with : ExchangeState → ℕ → ℕ → List ℕ → ExchangeState
-answered_with exchange line code text = answered exchange line (outcome_by code (flight_in (line_of exchange line)) text)
+-- what a final response with this code says became of the exchange's command to the line
+abbrev pub outcome_with : ExchangeState → ℕ → ℕ → List ℕ → Outcome
+outcome_with exchange line code text = outcome_by code (flight_in (line_of exchange line)) text
+
+-- this became of it, at this moment; and what is kept of the line is as that puts it off, if it does
+abbrev pub Routes : Outcome → ℕ → ℕ → ExchangeState → List Care → ExchangeState → List Care → Type 0
+Routes outcome line moment was cares is kept =
+    (is ≡ answered was line outcome) × (kept ≡ cared (routed_by moment (put_off_at was line outcome)) cares line)
+
+-- what is kept once a duty beside the exchange was answered by this code
+abbrev pub kept_behind : Duty → ℕ → ℕ → ℕ → List Care → List Care
+kept_behind duty line moment code cares = cared (duty_answered moment code duty) cares line
 
 -- what the exchange is told of the line by an answer to an audit of it
 abbrev pub told_by_audit : ExchangeState → ℕ → List ℕ → Told
@@ -48,11 +58,23 @@ TakesAudit true line text was cares is kept = (is ≡ was) × (kept ≡ cares)
 TakesAudit false line text was cares is kept =
     TellsAudit (told_by_audit was line text) line was cares is kept ⊎ TellsAudit Flash line was cares is kept
 
--- A final response with this code is taken, to a command to the line that was for this, and has landed. Where memory is refused for
--- reading it a command of the exchange counts as given up.
-abbrev pub TakesResponse : Option Duty → ℕ → ℕ → List ℕ → ExchangeState → List Care → ExchangeState → List Care → Type 0
-TakesResponse None line code text was cares is kept = (is ≡ was) × (kept ≡ cares)
-TakesResponse (Some Clear) line code text was cares is kept = (is ≡ was) × (kept ≡ cares)
-TakesResponse (Some Audit) line code text was cares is kept = TakesAudit (has_told (slice_get cares line)) line text was cares is kept
-TakesResponse (Some Route) line code text was cares is kept =
-    ((is ≡ answered_with was line code text) ⊎ (is ≡ forsaken was line (Some Route))) × (kept ≡ cares)
+-- an audit was answered by this code: it is put off, or taken
+abbrev pub AnswersAudit : Bool → ℕ → List ℕ → ExchangeState → List Care → ExchangeState → List Care → Type 0
+AnswersAudit true line text was cares is kept = (is ≡ was) × (kept ≡ cares)
+AnswersAudit false line text was cares is kept = TakesAudit (has_told (slice_get cares line)) line text was cares is kept
+
+-- a deletion of all that the line has was answered by this code: it is put off, or over
+abbrev pub cleared_by : Bool → ExchangeState → ℕ → ℕ → ExchangeState
+cleared_by true exchange line code = exchange
+cleared_by false exchange line code = cleared_at exchange line code
+
+-- A final response with this code is taken, at this moment, to a command to the line that was for this, and has landed. Where memory is
+-- refused for reading it a command of the exchange counts as given up.
+abbrev pub TakesResponse : Option Duty → ℕ → ℕ → ℕ → List ℕ → ExchangeState → List Care → ExchangeState → List Care → Type 0
+TakesResponse None line moment code text was cares is kept = (is ≡ was) × (kept ≡ cares)
+TakesResponse (Some Clear) line moment code text was cares is kept =
+    (is ≡ cleared_by (is_put_off_in code (slice_get cares line)) was line code) × (kept ≡ kept_behind Clear line moment code cares)
+TakesResponse (Some Audit) line moment code text was cares is kept =
+    AnswersAudit (is_put_off_in code (slice_get cares line)) line text was (kept_behind Audit line moment code cares) is kept
+TakesResponse (Some Route) line moment code text was cares is kept =
+    Routes (outcome_with was line code text) line moment was cares is kept ⊎ Routes GivenUp line moment was cares is kept

@@ -7,7 +7,7 @@ ghost use Rattle.mg_bytes.specs.Items.{items_of};
 ghost use Rattle.mgcp_text.specs.declared.message.Message.TheVariants as messages;
 ghost use Rattle.mgcp_text.specs.Reading.{message, bad_version, bad_body};
 ghost use Rattle.call_routing.specs.Phases.{named_by};
-ghost use Rattle.call_routing.specs.Exchange.{opening, sent_to, told, answered};
+ghost use Rattle.call_routing.specs.Exchange.{opening, sent_to, told, answered, cleared_at};
 ghost use Rattle.call_desk.specs.declared.gateway.Gateway.{Gateway};
 ghost use Rattle.call_desk.specs.declared.office.Office.{Office};
 ghost use Rattle.call_desk.specs.declared.worklist.Worklist.{Worklist};
@@ -15,17 +15,19 @@ ghost use Rattle.call_desk.specs.declared.care.Duty.TheVariants.{Clear, Audit, R
 ghost use Rattle.call_desk.specs.Waiting.{waits, settling, settled_at};
 ghost use Rattle.call_desk.specs.Flights.{end_of_time, most_steps, falls, over_by};
 ghost use Rattle.call_desk.specs.Clock.{first_id, tick_to};
-ghost use Rattle.call_desk.specs.Duties.{new_care, duty_begun, begun, landed, owed, lost, outlived, announced, found, told_of, told_care, fixed_order};
+ghost use Rattle.agent_texts.specs.Refusals.{no_refusals};
+ghost use Rattle.call_desk.specs.Duties.{new_care, duty_begun, begun, landed, owed, lost, outlived, announced, found, told_of, told_care, again_at, held_from, woken, duty_answered, routed_by, fixed_order};
+ghost use Rattle.call_desk.specs.Wakes.{first_moment, first_woken, behind_woken};
 ghost use Rattle.call_desk.specs.Hooks.{hook_of, hook_among, hook_told, is_off, was_off, told_by_hook, notified};
 ghost use Rattle.call_desk.specs.Responses.{creates, connection_in, created, is_creation, created_by, outcome_by};
-ghost use Rattle.call_desk.specs.Orders.{duty_of, flight_of, was_found_off, is_outlived, has_told, cared, ordered};
-ghost use Rattle.call_desk.specs.Turns.{forsaken, heard_by, announced_by, answered_with, told_by_audit, TakesResponse};
+ghost use Rattle.call_desk.specs.Orders.{duty_of, flight_of, was_found_off, is_outlived, has_told, again_of, is_put_off_in, cared, ordered};
+ghost use Rattle.call_desk.specs.Turns.{forsaken, heard_by, announced_by, outcome_with, told_by_audit, TakesResponse};
 ghost use Rattle.call_desk.specs.Boards.{settling_in, taking_in};
 ghost use Rattle.call_desk.specs.Typed.{typed_from, typed_text, typed_in};
-ghost use Rattle.call_desk.specs.Example.{cleared, audited, found_off, param, part, answered_part, creating, issued};
+ghost use Rattle.call_desk.specs.Example.{cleared, audited, found_off, wake_at, param, part, answered_part, creating, issued};
 
 use agent_texts::Standing;
-use call_routing::{Asked, Command, Outcome, Phase, Side, Told, Tone};
+use call_routing::{Asked, Cause, Command, Outcome, Phase, Side, Told, Tone};
 
 /// Each sentence at an example.
 pub fn each_sentence_has_an_example()
@@ -33,7 +35,7 @@ pub fn each_sentence_has_an_example()
     ensures nothing_told { new_care.has_told ≡ false }
     ensures nothing_found { new_care.is_found_off ≡ false }
     ensures a_line_is_cleared_audited_and_routed_not_outlived { new_care.is_outlived ≡ false }
-    ensures at_rest { new_care.shown ≡ Standing.Rest }
+    ensures at_rest { new_care.shown.standing ≡ Standing.Rest }
     ensures first { duty_begun new_care ≡ Some Clear }
     ensures second { duty_begun cleared ≡ Some Audit }
     ensures third { duty_begun audited ≡ Some Route }
@@ -75,7 +77,8 @@ pub fn further_sentences_have_examples()
     ensures found_before { (announced true (found true audited)).is_found_off ≡ false }
     ensures found_still { (announced false (found true audited)).is_found_off ≡ true }
     ensures a_line_that_is_announced_is_audited_found { (found true audited).is_found_off ≡ true }
-    ensures shown { (told_of Standing.Busy audited).shown ≡ Standing.Busy }
+    ensures shown { (told_of (record { standing = Standing.Busy; refusals = no_refusals }) audited).shown.standing
+        ≡ Standing.Busy }
     // The commands that the exchange doesn't know of.
     ensures orders_beside_the_exchange_clear { fixed_order Clear ≡ Some (codes "DLCX", []) }
     ensures orders_beside_the_exchange_audit { fixed_order Audit ≡ Some (codes "AUEP", codes "F: ES\r\n") }
@@ -115,28 +118,28 @@ pub fn more_sentences_have_examples()
     ensures heard { (exchange line : _) → heard_by exchange line (Some Told.OffHook) ≡ told exchange line Told.OffHook }
     ensures restarted { (exchange line : _) → announced_by true exchange line ≡ told exchange line Told.Restarted }
     ensures what_happens_to_a_line_is_a_turn_disconnected { (exchange line : _) → announced_by false exchange line ≡ exchange }
-    ensures created { answered_with creating 1 200 (codes "200 7 OK\r\nI: 1F\r\n\r\nv=0\r\n")
-        ≡ answered creating 1 (Outcome.Created (codes "1F") (codes "v=0\r\n")) }
-    ensures refused { (text : _) → answered_with creating 1 500 text ≡ answered creating 1 (Outcome.Answered 500) }
+    ensures created { outcome_with creating 1 200 (codes "200 7 OK\r\nI: 1F\r\n\r\nv=0\r\n")
+        ≡ Outcome.Created (codes "1F") (codes "v=0\r\n") }
+    ensures refused { (text : _) → outcome_with creating 1 500 text ≡ Outcome.Answered 500 }
     ensures what_happens_to_a_line_is_a_turn_audited { told_by_audit creating 1 (codes "200 7 OK\r\nES: L/hu\r\n") ≡ Told.OnHook }
-    // What an answer is to a line is by what its command was for: one that is older than what the line told is nothing, nor is one to a
-    // command that cleared it.
+    // What an answer is to a line is by what its command was for: one that is older than what the line told is nothing.
     ensures outlived { is_outlived (Some (outlived (begun new_care))) ≡ true }
     ensures a_response_is_taken_by_what_was_asked_not_outlived { is_outlived (Some new_care) ≡ false }
     ensures never_outlived { is_outlived None ≡ false }
     ensures has_told { has_told (Some (told_care audited)) ≡ true }
     ensures has_not { has_told (Some audited) ≡ false }
     ensures a_response_is_taken_by_what_was_asked_no_line { has_told None ≡ true }
-    ensures nothing { (text : _) → TakesResponse None 1 200 text creating [] creating [] }
-    ensures a_response_is_taken_by_what_was_asked_clearing { (text : _) → TakesResponse (Some Clear) 1 200 text creating [] creating [] }
-    ensures a_response_is_taken_by_what_was_asked_older { (text : _) → TakesResponse (Some Audit) 1 200 text creating [] creating [] }
-    ensures a_response_is_taken_by_what_was_asked_audited { TakesResponse (Some Audit) 1 200 (codes "200 7 OK\r\nES: L/hu\r\n") creating
+    ensures nothing { (text : _) → TakesResponse None 1 70 200 text creating [] creating [] }
+    ensures a_response_is_taken_by_what_was_asked_clearing { (text : _) → TakesResponse (Some Clear) 1 70 250 text creating
+        (cleared ∷ cleared ∷ []) (cleared_at creating 1 250) (cleared ∷ cleared ∷ []) }
+    ensures a_response_is_taken_by_what_was_asked_older { (text : _) → TakesResponse (Some Audit) 1 70 200 text creating [] creating [] }
+    ensures a_response_is_taken_by_what_was_asked_audited { TakesResponse (Some Audit) 1 70 200 (codes "200 7 OK\r\nES: L/hu\r\n") creating
         (cleared ∷ audited ∷ [])
         (told creating 1 Told.OnHook) (cleared ∷ found false audited ∷ []) }
-    ensures unread { (text : _) → TakesResponse (Some Audit) 1 200 text creating (cleared ∷ audited ∷ [])
+    ensures unread { (text : _) → TakesResponse (Some Audit) 1 70 200 text creating (cleared ∷ audited ∷ [])
         (told creating 1 Told.Flash) (cleared ∷ found false audited ∷ []) }
-    ensures routed { (text : _) → TakesResponse (Some Route) 1 500 text creating [] (answered creating 1 (Outcome.Answered 500)) [] }
-    ensures a_response_is_taken_by_what_was_asked_given_up { (text : _) → TakesResponse (Some Route) 1 500 text creating []
+    ensures routed { (text : _) → TakesResponse (Some Route) 1 70 500 text creating [] (answered creating 1 (Outcome.Answered 500)) [] }
+    ensures a_response_is_taken_by_what_was_asked_given_up { (text : _) → TakesResponse (Some Route) 1 70 500 text creating []
         (answered creating 1 Outcome.GivenUp) [] }
     // An exchange settles its own lines; a gateway's lines are taken where there is one.
     ensures no_exchange { settling_in None ≡ 0 }
@@ -270,4 +273,67 @@ pub fn yet_more_sentences_have_examples()
     ensures clocks_go_on_by_a_second_first { first_id 0 ≡ 1 }
     ensures clocks_go_on_by_a_second_last { first_id 899999999 ≡ 900000000 }
     ensures again { first_id 900000000 ≡ 1 }
+{}
+
+/// A duty beside the exchange that was refused for a cause that may pass is owed again a second later, thirty times in a row. Until then
+/// its line is held, unless its gateway starts again.
+pub fn a_duty_that_was_put_off_is_owed_again()
+    ensures refuses_nothing { new_care.shown.refusals ≡ no_refusals }
+    ensures nothing_put_off { new_care.put_off ≡ 0 }
+    ensures held_by_nothing { new_care.again ≡ None }
+    ensures none_while_held { duty_begun (held_from 5 cleared) ≡ None }
+    ensures held_stays { begun (held_from 5 cleared) ≡ held_from 5 cleared }
+    ensures at_once { (outlived (held_from 5 audited)).again ≡ None }
+    ensures anew { (outlived (record audited { put_off = 7 })).put_off ≡ 0 }
+    ensures again_at_its_moment { again_of (Some (held_from 70 audited)) ≡ Some 1070 }
+    ensures not_again { again_of (Some audited) ≡ None }
+    ensures no_line_again { again_of None ≡ None }
+    ensures put_off { is_put_off_in 405 (Some audited) ≡ true }
+    ensures refused { is_put_off_in 510 (Some audited) ≡ false }
+    ensures no_line_put_off { is_put_off_in 405 None ≡ false }
+    ensures clearing { (duty_answered 70 405 Clear (landed (begun new_care))).next ≡ Clear }
+    ensures later { (duty_answered 70 405 Clear (landed (begun new_care))).again ≡ Some 1070 }
+    ensures counted { (duty_answered 70 405 Clear (landed (begun new_care))).put_off ≡ 1 }
+    ensures audit { (duty_answered 70 400 Audit audited).next ≡ Audit }
+    ensures last { (duty_answered 70 400 Audit (record audited { put_off = 29 })).put_off ≡ 30 }
+    ensures no_more { duty_answered 70 400 Audit (record audited { put_off = 30 }) ≡ audited }
+    ensures over { (duty_answered 70 250 Clear (record cleared { put_off = 3 })).put_off ≡ 0 }
+    ensures over_next { (duty_answered 70 250 Clear cleared).next ≡ Audit }
+    ensures for_good { (duty_answered 70 510 Clear cleared).again ≡ None }
+    ensures latest { again_at 18446744073709551615 ≡ 18446744073709551615 }
+    ensures woken { (woken 1070 (held_from 70 audited)).again ≡ None }
+    ensures another_moment { (woken 1071 (held_from 70 audited)).again ≡ Some 1070 }
+    ensures not_held { (woken 1070 audited).again ≡ None }
+{}
+
+/// A command of the exchange's that was put off is sent again a second later. Its line is audited first where its hook was told; and at the
+/// last time, or cleared. What an answer puts off is held, and no more comes of it.
+pub fn what_comes_before_a_command_that_was_put_off()
+    ensures second { routed_by 70 (Some (record { cause = Cause.Request; times = 1 })) audited ≡ held_from 70 audited }
+    ensures connection { (routed_by 70 (Some (record { cause = Cause.Connection; times = 1 })) audited).again ≡ Some 1070 }
+    ensures hook { routed_by 70 (Some (record { cause = Cause.Hook; times = 1 })) audited ≡ owed audited Audit }
+    ensures hook_again { (routed_by 70 (Some (record { cause = Cause.Hook; times = 2 })) audited).again ≡ Some 1070 }
+    ensures before_last { (routed_by 70 (Some (record { cause = Cause.Request; times = 29 })) audited).again ≡ Some 1070 }
+    ensures last { routed_by 70 (Some (record { cause = Cause.Request; times = 30 })) audited ≡ owed audited Audit }
+    ensures last_hook { routed_by 70 (Some (record { cause = Cause.Hook; times = 30 })) audited ≡ owed audited Audit }
+    ensures last_connection { routed_by 70 (Some (record { cause = Cause.Connection; times = 30 })) audited ≡ owed audited Clear }
+    ensures not_put_off { routed_by 70 None audited ≡ audited }
+    ensures clearing_again { (text : _) → TakesResponse (Some Clear) 1 70 405 text creating (cleared ∷ cleared ∷ [])
+        creating (cleared ∷ held_from 70 (record (owed cleared Clear) { put_off = 1 }) ∷ []) }
+    ensures audited_again { (text : _) → TakesResponse (Some Audit) 1 70 400 text creating (cleared ∷ audited ∷ [])
+        creating (cleared ∷ held_from 70 (record (owed audited Audit) { put_off = 1 }) ∷ []) }
+    ensures routed_again { (text : _) → TakesResponse (Some Route) 1 70 409 text creating (cleared ∷ audited ∷ [])
+        (answered creating 1 (Outcome.Answered 409)) (cleared ∷ held_from 70 audited ∷ []) }
+{}
+
+/// Lines are woken in the order of their moments, each at its own.
+pub fn lines_are_woken_in_their_order()
+    ensures first { first_moment (wake_at 7 0 ∷ wake_at 9 1 ∷ []) ≡ Some 7 }
+    ensures none { first_moment [] ≡ None }
+    ensures now { first_woken 7 (wake_at 7 0 ∷ wake_at 9 1 ∷ []) ≡ Some (wake_at 7 0) }
+    ensures not_yet { first_woken 6 (wake_at 7 0 ∷ []) ≡ None }
+    ensures nobody { first_woken 6 [] ≡ None }
+    ensures behind { behind_woken 7 (wake_at 7 0 ∷ wake_at 9 1 ∷ []) ≡ wake_at 9 1 ∷ [] }
+    ensures stays { behind_woken 6 (wake_at 7 0 ∷ []) ≡ wake_at 7 0 ∷ [] }
+    ensures no_line { behind_woken 6 [] ≡ [] }
 {}

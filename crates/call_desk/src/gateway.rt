@@ -1,10 +1,11 @@
 //! A gateway that a call agent works with.
-ghost use Rattle.std.specs.Prelude.{◌≡◌, ◌≤◌, [], None, IfOk, OnOk, OnErr};
+ghost use Rattle.std.specs.Prelude.{◌≡◌, ◌≤◌, [], ◌∷◌, ◌++◌, None, IfOk, OnOk, OnErr};
 ghost use Rattle.endpoint_names.specs.declared.route.Route.TheVariants as routes;
 ghost use Rattle.plain_machine.specs.Event.{tick};
 ghost use Rattle.call_agent.specs.Hearing.{hears};
 ghost use Rattle.call_agent.specs.AgentStands.{AgentStands, AgentTook, AgentStays};
 ghost use Rattle.call_desk.specs.Clock.{first_id, tick_to};
+ghost use Rattle.call_desk.specs.Wakes.{first_moment, first_woken, behind_woken};
 
 use crate::flight::Flight;
 use agent_texts::copied;
@@ -25,6 +26,13 @@ const REPEAT_TIME: u64 = 30_000;
 // Ids begin up to here, so that enough are left.
 const FIRST_IDS: u64 = 900_000_000;
 
+/// A line to which a command is sent again at a moment, in ms.
+#[derive(Clone, Copy)]
+pub(crate) struct Wake {
+    pub(crate) moment: u64,
+    pub(crate) line: usize,
+}
+
 /// A gateway, with the agent that works with it.
 #[derive(Drop)]
 pub(crate) struct Gateway {
@@ -38,6 +46,8 @@ pub(crate) struct Gateway {
     pub(crate) lines: u16,
     // What isn't answered yet, in the order in which it was issued.
     flights: Vec<Flight>,
+    // The lines of which commands were put off. Each is sent again as long behind its answer, so they stand in the order of that.
+    wakes: Vec<Wake>,
     // The moment of the agent's clock, in ms.
     ticked: u64,
     // The id of the last announcement, and when it came.
@@ -109,6 +119,7 @@ impl Gateway {
         ensures named { IfOk result (λ made. (made.address ≡ address) × (made.domain ≡ domain.now)) }
         ensures lines { IfOk result (λ made. (made.first ≡ first) × (made.lines ≡ lines)) }
         ensures quiet { IfOk result (λ made. (made.flights.items ≡ []) × (made.ticked ≡ 0) × (made.announced ≡ None)) }
+        ensures none_put_off { IfOk result (λ made. made.wakes.items ≡ []) }
     {
         let kept = copied(alloc, domain)?;
         let named = copied(alloc, domain)?;
@@ -120,6 +131,7 @@ impl Gateway {
             first,
             lines,
             flights: Vec::new(alloc),
+            wakes: Vec::new(alloc),
             ticked: 0,
             announced: None,
         })
@@ -154,6 +166,48 @@ impl Gateway {
         let outputs = self.agent.step(Event::Tick { moment })?;
         self.ticked = moment;
         Ok(outputs)
+    }
+
+    /// The moment of its clock, in ms.
+    pub(crate) fn ticked(&self) -> u64
+        ensures { result ≡ self.now.ticked }
+    {
+        self.ticked
+    }
+
+    /// A command to the line at this place is sent again at a moment, in ms: no earlier one than those before. An error is for want of
+    /// memory only, and leaves that out.
+    pub(crate) fn put_off(&mut self, line: usize, moment: u64) -> Result<(), OutOfMemory>
+        ensures ok { OnOk result (self.new.wakes.items ≡ self.old.wakes.items ++ (record { moment = moment; line = line }) ∷ []) }
+        ensures err { OnErr result (self.new.wakes.items ≡ self.old.wakes.items) }
+    {
+        match self.wakes.push(Wake { moment, line }) {
+            Ok(()) => Ok(()),
+            Err(_) => Err(AllocError),
+        }
+    }
+
+    /// When a command is sent again next that was put off, in ms.
+    pub(crate) fn next_wake(&self) -> Option<u64>
+        ensures { result ≡ first_moment self.now.wakes.items }
+    {
+        match self.wakes.first() {
+            Some(wake) => Some(wake.moment),
+            None => None,
+        }
+    }
+
+    /// The next line to which a command is sent again by now. It isn't put off any more.
+    pub(crate) fn woken(&mut self) -> Option<Wake>
+        ensures wake { result ≡ first_woken self.old.ticked self.old.wakes.items }
+        ensures rest { self.new.wakes.items ≡ behind_woken self.old.ticked self.old.wakes.items }
+    {
+        let first = self.wakes.first().copied()?;
+        if first.moment <= self.ticked {
+            self.wakes.remove(0);
+            return Some(first);
+        }
+        None
     }
 
     /// The command that a response with this id and return code answers; without a response, the next one that is given up by now. It

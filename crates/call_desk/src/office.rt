@@ -4,20 +4,21 @@
 ghost use Rattle.std.specs.Prelude.{◌≡◌, ◌⊎◌, ℕ, true, false, length, replicate, Some, IfOk, IfSome, OnOk, OnErr, option_map, slice_get, slice_set};
 ghost use Rattle.call_routing.specs.Phases.{named_by};
 ghost use Rattle.call_routing.specs.declared.told.Told.TheVariants.{Flash};
+ghost use Rattle.call_routing.specs.declared.command.Outcome.TheVariants.{GivenUp};
 ghost use Rattle.call_routing.specs.Exchange.{opening, phase_of, flight_in, line_of, told};
 ghost use Rattle.call_routing.specs.Numbers.{told_in};
-ghost use Rattle.call_desk.specs.declared.care.Duty.TheVariants.{Audit, Route};
-ghost use Rattle.call_desk.specs.Duties.{new_care, landed, owed, lost, announced, told_care, changed_by};
+ghost use Rattle.call_desk.specs.declared.care.Duty.TheVariants.{Clear, Audit};
+ghost use Rattle.call_desk.specs.Duties.{new_care, landed, owed, lost, announced, told_care, woken, changed_by};
 ghost use Rattle.call_desk.specs.Hooks.{notified};
-ghost use Rattle.call_desk.specs.Orders.{shown, duty_of, flight_of, was_found_off, is_outlived, has_told, cared, routed, ordered};
-ghost use Rattle.call_desk.specs.Turns.{forsaken, heard_by, announced_by, answered_with, told_by_audit, TakesAudit, TakesResponse};
+ghost use Rattle.call_desk.specs.Orders.{shown, duty_of, flight_of, was_found_off, is_outlived, has_told, again_of, is_put_off_in, cared, routed, ordered};
+ghost use Rattle.call_desk.specs.Turns.{forsaken, heard_by, announced_by, outcome_with, told_by_audit, kept_behind, cleared_by, Routes, TakesAudit, AnswersAudit, TakesResponse};
 ghost use Rattle.call_desk.specs.Waiting.{waits, settling, settled_at, Settles};
 
-use crate::care::{Care, Change, Duty, NEW_CARE, fixed_order};
+use crate::care::{Care, Change, Duty, NEW_CARE, Shown, fixed_order};
 use crate::hooks::{audited_hook, is_off_hook, notified, told_by_hook};
 use crate::responses::outcome_of;
 use crate::worklist::Worklist;
-use agent_texts::{Journal, Station, copied, standing_of, tell_change};
+use agent_texts::{Journal, Station, copied, refusals_of, standing_of, tell_change, tell_refusals};
 use call_routing::{Command, Exchange, NumberPlan, Outcome, Told, named_by, told_in};
 use event_values::Observed;
 use mg_bytes::{OutOfMemory, Text};
@@ -101,7 +102,7 @@ fn duty_of(care: Option<Care>) -> Option<Duty>
     ensures { result ≡ duty_of care }
 {
     let care = care?;
-    if care.flight.is_some() {
+    if care.is_held() {
         return None;
     }
     Some(care.next)
@@ -147,6 +148,26 @@ fn has_told(care: Option<Care>) -> bool
     }
 }
 
+// When what was put off of a line is sent again of which this is kept, in ms, if anything was.
+fn again_of(care: Option<Care>) -> Option<u64>
+    ensures { result ≡ again_of care }
+{
+    match care {
+        Some(care) => care.again,
+        None => None,
+    }
+}
+
+// Whether a duty beside the exchange that was refused by this code is put off at a line of which this is kept.
+fn is_put_off(care: Option<Care>, code: u16) -> bool
+    ensures { result ≡ is_put_off_in code care }
+{
+    match care {
+        Some(care) => care.is_put_off(code),
+        None => false,
+    }
+}
+
 // The exchange's command to a line, if one is in flight.
 fn flight_at(exchange: &Exchange, line: usize) -> Option<Command>
     ensures { result ≡ flight_in (line_of exchange.now line) }
@@ -180,19 +201,43 @@ fn forsake(exchange: &mut Exchange, line: usize, duty: Option<Duty>)
     ensures { exchange.new ≡ forsaken exchange.old line duty }
 {
     match duty {
-        Some(Duty::Route) => exchange.answer(line, Outcome::GivenUp),
+        Some(Duty::Route) => {
+            let _ = exchange.answer(line, Outcome::GivenUp);
+        }
         Some(Duty::Clear | Duty::Audit) | None => {}
     }
 }
 
+// This became of the exchange's command to the line.
+fn route_answered(
+    exchange: &mut Exchange,
+    cares: &mut Vec<Care>,
+    line: usize,
+    moment: u64,
+    outcome: Outcome,
+)
+    ensures { Routes outcome line moment exchange.old cares.old.items exchange.new cares.new.items }
+{
+    let off = exchange.answer(line, outcome);
+    let _ = change_at(cares, line, Change::Routed { moment, off });
+}
+
 // The exchange's command to the line was answered. Where memory is refused for reading that it counts as given up.
-fn answer(alloc: Global, exchange: &mut Exchange, line: usize, code: u16, text: &[u8])
-    ensures { (exchange.new ≡ answered_with exchange.old line code text.now)
-        ⊎ (exchange.new ≡ forsaken exchange.old line (Some Route)) }
+fn answer(
+    alloc: Global,
+    exchange: &mut Exchange,
+    cares: &mut Vec<Care>,
+    line: usize,
+    moment: u64,
+    code: u16,
+    text: &[u8],
+)
+    ensures { Routes (outcome_with exchange.old line code text.now) line moment exchange.old cares.old.items exchange.new cares.new.items
+        ⊎ Routes GivenUp line moment exchange.old cares.old.items exchange.new cares.new.items }
 {
     match outcome_of(alloc, code, flight_at(exchange, line), text) {
-        Ok(outcome) => exchange.answer(line, outcome),
-        Err(_) => exchange.answer(line, Outcome::GivenUp),
+        Ok(outcome) => route_answered(exchange, cares, line, moment, outcome),
+        Err(_) => route_answered(exchange, cares, line, moment, Outcome::GivenUp),
     }
 }
 
@@ -233,22 +278,63 @@ fn take_audit(
     let _ = change_at(cares, line, Change::Find { is_off });
 }
 
-// A final response came to a command to the line that was for this, which has landed.
+// The line's audit was answered: it is put off, or taken.
+fn audit_answered(
+    alloc: Global,
+    exchange: &mut Exchange,
+    cares: &mut Vec<Care>,
+    line: usize,
+    moment: u64,
+    code: u16,
+    text: &[u8],
+)
+    ensures { AnswersAudit (is_put_off_in code (slice_get cares.old.items line)) line text.now exchange.old
+        (kept_behind Audit line moment code cares.old.items) exchange.new cares.new.items }
+{
+    let duty = Duty::Audit;
+    let was = change_at(cares, line, Change::Answer { moment, code, duty });
+    if is_put_off(was, code) {
+        return;
+    }
+    take_audit(alloc, exchange, cares, line, text);
+}
+
+// The deletion of all that the line has was answered: it is put off, or over.
+fn clear_answered(
+    exchange: &mut Exchange,
+    cares: &mut Vec<Care>,
+    line: usize,
+    moment: u64,
+    code: u16,
+)
+    ensures exchange { exchange.new ≡ cleared_by (is_put_off_in code (slice_get cares.old.items line)) exchange.old line code }
+    ensures cares { cares.new.items ≡ kept_behind Clear line moment code cares.old.items }
+{
+    let duty = Duty::Clear;
+    let was = change_at(cares, line, Change::Answer { moment, code, duty });
+    if is_put_off(was, code) {
+        return;
+    }
+    exchange.clear(line, code);
+}
+
+// A final response came at this moment to a command to the line that was for this, which has landed.
 fn take_response(
     alloc: Global,
     exchange: &mut Exchange,
     cares: &mut Vec<Care>,
     line: usize,
     duty: Option<Duty>,
+    moment: u64,
     code: u16,
     text: &[u8],
 )
-    ensures { TakesResponse duty line code text.now exchange.old cares.old.items exchange.new cares.new.items }
+    ensures { TakesResponse duty line moment code text.now exchange.old cares.old.items exchange.new cares.new.items }
 {
     match duty {
-        Some(Duty::Route) => answer(alloc, exchange, line, code, text),
-        Some(Duty::Audit) => take_audit(alloc, exchange, cares, line, text),
-        Some(Duty::Clear) => {}
+        Some(Duty::Route) => answer(alloc, exchange, cares, line, moment, code, text),
+        Some(Duty::Audit) => audit_answered(alloc, exchange, cares, line, moment, code, text),
+        Some(Duty::Clear) => clear_answered(exchange, cares, line, moment, code),
         None => {}
     }
 }
@@ -397,13 +483,12 @@ impl Office {
         Ok(order)
     }
 
-    /// The command in flight to the line was answered by this final response. Where the gateway has started again since, that says
-    /// nothing of what is there now, and the command counts as given up.
-    pub(crate) fn answered(&mut self, alloc: Global, line: usize, code: u16, text: &[u8])
+    // The command in flight to the line was answered by this final response at this moment.
+    fn take_answer(&mut self, alloc: Global, line: usize, moment: u64, code: u16, text: &[u8])
         ensures outlived { is_outlived (slice_get self.old.cares.items line) ≡ true
             → self.new.exchange ≡ forsaken self.old.exchange line (flight_of (slice_get self.old.cares.items line)) }
         ensures taken { is_outlived (slice_get self.old.cares.items line) ≡ false
-            → TakesResponse (flight_of (slice_get self.old.cares.items line)) line code text.now
+            → TakesResponse (flight_of (slice_get self.old.cares.items line)) line moment code text.now
             self.old.exchange (cared landed self.old.cares.items line) self.new.exchange self.new.cares.items }
         ensures waits { waits self.new.worklist.waiting.items self.new.worklist.is_all line ≡ true }
     {
@@ -418,10 +503,44 @@ impl Office {
             &mut self.cares,
             line,
             duty,
+            moment,
             code,
             text,
         );
         touch(&mut self.worklist, &self.exchange, line);
+    }
+
+    /// The command in flight to the line was answered by this final response at this moment, in ms: when what was put off of the line is
+    /// sent again, if anything was. Where the gateway has started again since, the answer says nothing of what is there now, and the
+    /// command counts as given up.
+    pub(crate) fn answered(
+        &mut self,
+        alloc: Global,
+        line: usize,
+        moment: u64,
+        code: u16,
+        text: &[u8],
+    ) -> Option<u64>
+        ensures outlived { is_outlived (slice_get self.old.cares.items line) ≡ true
+            → self.new.exchange ≡ forsaken self.old.exchange line (flight_of (slice_get self.old.cares.items line)) }
+        ensures taken { is_outlived (slice_get self.old.cares.items line) ≡ false
+            → TakesResponse (flight_of (slice_get self.old.cares.items line)) line moment code text.now
+            self.old.exchange (cared landed self.old.cares.items line) self.new.exchange self.new.cares.items }
+        ensures waits { waits self.new.worklist.waiting.items self.new.worklist.is_all line ≡ true }
+        ensures again { result ≡ again_of (slice_get self.new.cares.items line) }
+    {
+        self.take_answer(alloc, line, moment, code, text);
+        again_of(care_at(self.cares.as_slice(), line))
+    }
+
+    /// At this moment, in ms, what was put off of the line is sent again, if it was to be.
+    pub(crate) fn wake(&mut self, line: usize, moment: u64)
+        ensures exchange { self.new.exchange ≡ self.old.exchange }
+        ensures cares { self.new.cares.items ≡ cared (woken moment) self.old.cares.items line }
+        ensures waits { waits self.new.worklist.waiting.items self.new.worklist.is_all line ≡ true }
+    {
+        let _ = change_at(&mut self.cares, line, Change::Wake { moment });
+        self.worklist.put(line);
     }
 
     /// The command in flight to the line was given up, or couldn't be issued.
@@ -471,7 +590,7 @@ impl Office {
         touch(&mut self.worklist, &self.exchange, line);
     }
 
-    /// Tells and counts how the line stands, where that has changed.
+    /// Tells and counts how the line stands, and tells what it refuses for good, where that has changed.
     pub(crate) fn show(
         &mut self,
         alloc: Global,
@@ -479,12 +598,17 @@ impl Office {
         stations: &[Station],
         line: usize,
     ) {
-        let is = standing_of(&self.exchange, line);
-        let Some(was) = change_at(&mut self.cares, line, Change::Show { standing: is }) else {
+        let is = Shown {
+            standing: standing_of(&self.exchange, line),
+            refusals: refusals_of(&self.exchange, line),
+        };
+        let Some(was) = change_at(&mut self.cares, line, Change::Show { shown: is }) else {
             return;
         };
-        if was.shown != is {
-            tell_change(alloc, journal, stations, line, was.shown, is);
+        let was = was.shown;
+        if was.standing != is.standing {
+            tell_change(alloc, journal, stations, line, was.standing, is.standing);
         }
+        tell_refusals(alloc, journal, stations, line, was.refusals, is.refusals);
     }
 }

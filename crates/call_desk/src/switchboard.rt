@@ -253,11 +253,12 @@ impl Switchboard {
         }
     }
 
-    /// The moment at which something falls due next at an agent, in ms.
+    /// The moment at which something falls due next at an agent, or a command is sent again that was put off, in ms.
     pub fn next_due(&self) -> Option<u64> {
         let mut least = None;
         for gateway in self.gateways.iter() {
             least = earlier(least, gateway.agent.next_due());
+            least = earlier(least, gateway.next_wake());
         }
         least
     }
@@ -356,6 +357,38 @@ impl Switchboard {
         true
     }
 
+    // The exchange's command to a line of the gateway at this place was answered. Where memory is refused for keeping when it is sent
+    // again, it is so at once.
+    fn answer(&mut self, place: usize, line: usize, code: u16, text: &[u8]) {
+        let Some(gateway) = self.gateways.get_mut(place) else {
+            return;
+        };
+        let moment = gateway.ticked();
+        let Some(office) = &mut self.office else {
+            return;
+        };
+        let Some(again) = office.answered(self.alloc, line, moment, code, text) else {
+            return;
+        };
+        if gateway.put_off(line, again).is_err() {
+            office.wake(line, again);
+        }
+    }
+
+    /// The next line of the gateway at this place to which a command is sent again by now waits to be settled: whether there is one.
+    pub fn wake(&mut self, place: usize) -> bool {
+        let Some(gateway) = self.gateways.get_mut(place) else {
+            return false;
+        };
+        let Some(wake) = gateway.woken() else {
+            return false;
+        };
+        if let Some(office) = &mut self.office {
+            office.wake(wake.line, wake.moment);
+        }
+        true
+    }
+
     // A response came from the gateway at this place.
     fn hear_response(
         &mut self,
@@ -370,9 +403,7 @@ impl Switchboard {
         };
         journal.tell_answer(flight.pending.text(), text);
         if let Some(line) = flight.line {
-            if let Some(office) = &mut self.office {
-                office.answered(self.alloc, line, code, text);
-            }
+            self.answer(place, line, code, text);
         }
     }
 
