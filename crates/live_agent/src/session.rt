@@ -279,6 +279,23 @@ fn give_up_all<S: Surroundings + Drop>(board: &mut Switchboard, wire: &mut Wire<
     }
 }
 
+// The lines of a gateway to which what was put off is sent again by now wait to be settled.
+fn wake(board: &mut Switchboard, place: usize) {
+    for _ in 0..u16::MAX {
+        if !board.wake(place) {
+            return;
+        }
+    }
+}
+
+// The same of all gateways, and they are settled.
+fn wake_all<S: Surroundings + Drop>(board: &mut Switchboard, wire: &mut Wire<S>) {
+    for place in 0..board.gateways() {
+        wake(board, place);
+    }
+    settle(board, wire);
+}
+
 // The clock goes on, that of each agent first: by one that was behind what is issued now would be sent again at once.
 fn tick<S: Surroundings + Drop>(board: &mut Switchboard, wire: &mut Wire<S>, to: u64, moment: u64) {
     wire.now.clock = to;
@@ -287,6 +304,7 @@ fn tick<S: Surroundings + Drop>(board: &mut Switchboard, wire: &mut Wire<S>, to:
     }
     wire.is_behind = is_behind(moment, to);
     give_up_all(board, wire);
+    wake_all(board, wire);
 }
 
 // How things stand. An error is of the clock.
