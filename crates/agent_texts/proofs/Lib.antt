@@ -1,3 +1,3 @@
 pub mod Computing
-mod TellingLemmas
+pub mod TellingLemmas
 mod PuttingLemmas

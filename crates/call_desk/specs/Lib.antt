@@ -7,6 +7,7 @@ pub mod Hooks
 pub mod Responses
 pub mod Orders
 pub mod Turns
+pub mod Showing
 pub mod Boards
 pub mod Typed
 pub mod Example

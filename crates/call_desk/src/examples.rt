@@ -16,12 +16,14 @@ ghost use Rattle.call_desk.specs.Waiting.{waits, settling, settled_at};
 ghost use Rattle.call_desk.specs.Flights.{end_of_time, most_steps, falls, over_by};
 ghost use Rattle.call_desk.specs.Clock.{first_id, tick_to};
 ghost use Rattle.agent_texts.specs.Refusals.{no_refusals};
+ghost use Rattle.agent_texts.specs.Example.{refused_with};
 ghost use Rattle.call_desk.specs.Duties.{new_care, duty_begun, begun, landed, owed, lost, outlived, announced, found, told_of, told_care, again_at, held_from, woken, duty_answered, routed_by, fixed_order};
 ghost use Rattle.call_desk.specs.Wakes.{first_moment, first_woken, behind_woken};
 ghost use Rattle.call_desk.specs.Hooks.{hook_of, hook_among, hook_told, is_off, was_off, told_by_hook, notified};
 ghost use Rattle.call_desk.specs.Responses.{creates, connection_in, created, is_creation, created_by, outcome_by};
 ghost use Rattle.call_desk.specs.Orders.{duty_of, flight_of, was_found_off, is_outlived, has_told, again_of, is_put_off_in, cared, ordered};
 ghost use Rattle.call_desk.specs.Turns.{forsaken, heard_by, announced_by, outcome_with, told_by_audit, TakesResponse};
+ghost use Rattle.call_desk.specs.Showing.{shown_in};
 ghost use Rattle.call_desk.specs.Boards.{settling_in, taking_in};
 ghost use Rattle.call_desk.specs.Typed.{typed_from, typed_text, typed_in};
 ghost use Rattle.call_desk.specs.Example.{cleared, audited, found_off, wake_at, param, part, answered_part, creating, issued};
@@ -79,6 +81,8 @@ pub fn further_sentences_have_examples()
     ensures a_line_that_is_announced_is_audited_found { (found true audited).is_found_off ≡ true }
     ensures shown { (told_of (record { standing = Standing.Busy; refusals = no_refusals }) audited).shown.standing
         ≡ Standing.Busy }
+    ensures stands { (shown_in (opening 2 0) 1).standing ≡ Standing.Rest }
+    ensures refuses { (shown_in (refused_with (Some 512) None) 0).refusals ≡ record { request = Some 512; deletion = None } }
     // The commands that the exchange doesn't know of.
     ensures orders_beside_the_exchange_clear { fixed_order Clear ≡ Some (codes "DLCX", []) }
     ensures orders_beside_the_exchange_audit { fixed_order Audit ≡ Some (codes "AUEP", codes "F: ES\r\n") }

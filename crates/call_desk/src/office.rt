@@ -1,16 +1,18 @@
 //! The exchange in the program's hands: which command each line is sent, and what its answer means for the line's calls.
 //!
 //! Nothing goes over all lines but the opening: those to which something has happened wait, and are settled.
-ghost use Rattle.std.specs.Prelude.{◌≡◌, ◌⊎◌, ℕ, true, false, length, replicate, Some, IfOk, IfSome, OnOk, OnErr, option_map, slice_get, slice_set};
+ghost use Rattle.std.specs.Prelude.{◌≡◌, ◌≢◌, ◌⊎◌, ◌↔◌, ℕ, true, false, length, replicate, Some, IfOk, IfSome, IsTrue, OnOk, OnErr, option_map, slice_get, slice_set};
 ghost use Rattle.call_routing.specs.Phases.{named_by};
 ghost use Rattle.call_routing.specs.declared.told.Told.TheVariants.{Flash};
 ghost use Rattle.call_routing.specs.declared.command.Outcome.TheVariants.{GivenUp};
 ghost use Rattle.call_routing.specs.Exchange.{opening, phase_of, flight_in, line_of, told};
 ghost use Rattle.call_routing.specs.Numbers.{told_in};
+ghost use Rattle.agent_texts.specs.Telling.{change_told, Tells};
 ghost use Rattle.call_desk.specs.declared.care.Duty.TheVariants.{Clear, Audit};
-ghost use Rattle.call_desk.specs.Duties.{new_care, landed, owed, lost, announced, told_care, woken, changed_by};
+ghost use Rattle.call_desk.specs.Duties.{new_care, landed, owed, lost, announced, told_care, told_of, woken, changed_by};
 ghost use Rattle.call_desk.specs.Hooks.{notified};
 ghost use Rattle.call_desk.specs.Orders.{shown, duty_of, flight_of, was_found_off, is_outlived, has_told, again_of, is_put_off_in, cared, routed, ordered};
+ghost use Rattle.call_desk.specs.Showing.{shown_in, Shows};
 ghost use Rattle.call_desk.specs.Turns.{forsaken, heard_by, announced_by, outcome_with, told_by_audit, kept_behind, cleared_by, Routes, TakesAudit, AnswersAudit, TakesResponse};
 ghost use Rattle.call_desk.specs.Waiting.{waits, settling, settled_at, Settles};
 
@@ -18,7 +20,9 @@ use crate::care::{Care, Change, Duty, NEW_CARE, Shown, fixed_order};
 use crate::hooks::{audited_hook, is_off_hook, notified, told_by_hook};
 use crate::responses::outcome_of;
 use crate::worklist::Worklist;
-use agent_texts::{Journal, Station, copied, refusals_of, standing_of, tell_change, tell_refusals};
+use agent_texts::{
+    Journal, Standing, Station, copied, refusals_of, standing_of, tell_change, tell_refusals,
+};
 use call_routing::{Command, Exchange, NumberPlan, Outcome, Told, named_by, told_in};
 use event_values::Observed;
 use mg_bytes::{OutOfMemory, Text};
@@ -404,6 +408,56 @@ fn take_told(
     }
 }
 
+// How a line stands, and what it refuses for good.
+fn shown_of(exchange: &Exchange, line: usize) -> Shown
+    ensures { result ≡ shown_in exchange.now line }
+{
+    Shown {
+        standing: standing_of(exchange, line),
+        refusals: refusals_of(exchange, line),
+    }
+}
+
+// Whether a line stands so still.
+fn stands_so(was: Standing, is: Standing) -> bool
+    ensures { IsTrue result ↔ (was ≡ is) }
+{
+    was == is
+}
+
+// Tells and counts how a line stands, where that has changed.
+fn tell_standing(
+    alloc: Global,
+    journal: &mut Journal,
+    stations: &[Station],
+    line: usize,
+    was: Standing,
+    is: Standing,
+)
+    ensures same { was ≡ is → journal.new.told ≡ journal.old.told }
+    ensures changed { was ≢ is → Tells (change_told stations.now line was is) journal.old.told journal.new.told }
+{
+    if stands_so(was, is) {
+        return;
+    }
+    tell_change(alloc, journal, stations, line, was, is);
+}
+
+// Tells how a line stands, and what it refuses for good, where that has changed.
+fn tell_shown(
+    alloc: Global,
+    journal: &mut Journal,
+    stations: &[Station],
+    line: usize,
+    was: Shown,
+    is: Shown,
+)
+    ensures { Shows stations.now line was is journal.old journal.new }
+{
+    tell_standing(alloc, journal, stations, line, was.standing, is.standing);
+    tell_refusals(alloc, journal, stations, line, was.refusals, is.refusals);
+}
+
 impl Office {
     /// An exchange for so many lines, none of which is known yet.
     pub(crate) fn new(
@@ -597,18 +651,16 @@ impl Office {
         journal: &mut Journal,
         stations: &[Station],
         line: usize,
-    ) {
-        let is = Shown {
-            standing: standing_of(&self.exchange, line),
-            refusals: refusals_of(&self.exchange, line),
-        };
+    )
+        ensures told { IfSome (slice_get self.old.cares.items line) (λ care.
+            Shows stations.now line care.shown (shown_in self.old.exchange line) journal.old journal.new) }
+        ensures cares { self.new.cares.items ≡ cared (told_of (shown_in self.old.exchange line)) self.old.cares.items line }
+        ensures exchange { self.new.exchange ≡ self.old.exchange }
+    {
+        let is = shown_of(&self.exchange, line);
         let Some(was) = change_at(&mut self.cares, line, Change::Show { shown: is }) else {
             return;
         };
-        let was = was.shown;
-        if was.standing != is.standing {
-            tell_change(alloc, journal, stations, line, was.standing, is.standing);
-        }
-        tell_refusals(alloc, journal, stations, line, was.refusals, is.refusals);
+        tell_shown(alloc, journal, stations, line, was.shown, is);
     }
 }
