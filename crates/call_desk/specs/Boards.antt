@@ -1,12 +1,16 @@
 -- What is asked of the gateways of a board, and of the lines of its exchange.
-use Rattle.std.specs.Prelude.{◌≡◌, ℕ, Bool, length, Option, Some, None, IsSomeAnd}
+use Rattle.std.specs.Prelude.{◌≡◌, ℕ, Bool, true, length, Option, Some, None, IsSomeAnd}
 use Rattle.std.specs.Global.{Box}
 use Rattle.std.specs.declared.net.socket_addr.SocketAddrV4.{SocketAddrV4}
 use Rattle.transmission.specs.Packing.{same_address}
 use Rattle.call_desk.specs.declared.gateway.Gateway.{Gateway}
+use Rattle.call_desk.specs.declared.gateway.Wake.{Wake}
 use Rattle.call_desk.specs.declared.office.Office.{Office}
 use Rattle.call_desk.specs.declared.worklist.Worklist.{Worklist}
-use Rattle.call_desk.specs.Waiting.{settling, Settles}
+use Rattle.call_desk.specs.Duties.{woken}
+use Rattle.call_desk.specs.Orders.{cared}
+use Rattle.call_desk.specs.Waiting.{waits, settling, Settles}
+use Rattle.call_desk.specs.Wakes.{first_woken}
 
 -- the gateway is at this address
 abbrev pub is_at : SocketAddrV4 → Gateway → Bool
@@ -29,3 +33,17 @@ SettlesIn (Some was) is =
 abbrev pub taking_in : Option Gateway → Worklist → ℕ
 taking_in None notifying = 0
 taking_in (Some gateway) notifying = settling notifying.settled.items notifying.settles_all gateway.lines
+
+-- the next line of the gateway to which a command is sent again by now; none where there is no such gateway
+abbrev pub woken_at : Option Gateway → Option Wake
+woken_at None = None
+woken_at (Some gateway) = first_woken gateway.ticked gateway.wakes.items
+
+-- What was put off of that line is sent again, if this was its moment: it waits to be settled. Nothing has happened to the exchange.
+abbrev pub WakesIn : Option Wake → Option (Box Office) → Option (Box Office) → Type 0
+WakesIn None was is = is ≡ was
+WakesIn (Some wake) None is = is ≡ None
+WakesIn (Some wake) (Some was) is =
+    IsSomeAnd is (λ office. (office.value.exchange ≡ was.value.exchange)
+    × ((office.value.cares.items ≡ cared (woken wake.moment) was.value.cares.items wake.line)
+    × (waits office.value.worklist.waiting.items office.value.worklist.is_all wake.line ≡ true)))

@@ -1,7 +1,7 @@
 //! Worked examples of the definitions, as theorems: each sentence of a definition has one that a slip in it breaks.
 #![tactic(auto, unfolding(crate::proofs::Computing::on_examples))]
 
-ghost use Rattle.std.specs.Prelude.{◌≡◌, [], ◌∷◌, length, true, false, Some, None, codes};
+ghost use Rattle.std.specs.Prelude.{◌≡◌, [], ◌∷◌, length, true, false, Option, Some, None, codes};
 ghost use Rattle.std.specs.Global.{Box};
 ghost use Rattle.mg_bytes.specs.Items.{items_of};
 ghost use Rattle.mgcp_text.specs.declared.message.Message.TheVariants as messages;
@@ -24,7 +24,7 @@ ghost use Rattle.call_desk.specs.Responses.{creates, connection_in, created, is_
 ghost use Rattle.call_desk.specs.Orders.{duty_of, flight_of, was_found_off, is_outlived, has_told, again_of, is_put_off_in, cared, ordered};
 ghost use Rattle.call_desk.specs.Turns.{forsaken, heard_by, announced_by, outcome_with, told_by_audit, TakesResponse};
 ghost use Rattle.call_desk.specs.Showing.{shown_in};
-ghost use Rattle.call_desk.specs.Boards.{settling_in, taking_in};
+ghost use Rattle.call_desk.specs.Boards.{settling_in, taking_in, woken_at, WakesIn};
 ghost use Rattle.call_desk.specs.Typed.{typed_from, typed_text, typed_in};
 ghost use Rattle.call_desk.specs.Example.{cleared, audited, found_off, wake_at, param, part, answered_part, creating, issued};
 
@@ -340,4 +340,7 @@ pub fn lines_are_woken_in_their_order()
     ensures behind { behind_woken 7 (wake_at 7 0 ∷ wake_at 9 1 ∷ []) ≡ wake_at 9 1 ∷ [] }
     ensures stays { behind_woken 6 (wake_at 7 0 ∷ []) ≡ wake_at 7 0 ∷ [] }
     ensures no_line { behind_woken 6 [] ≡ [] }
+    ensures no_gateway { woken_at None ≡ None }
+    ensures nothing_woken { (office : Option (Box Office)) → WakesIn None office office }
+    ensures no_exchange { WakesIn (Some (wake_at 7 0)) None None }
 {}

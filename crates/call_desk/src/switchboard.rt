@@ -1,10 +1,10 @@
 //! The gateways that a call agent works with, and their lines.
-ghost use Rattle.std.specs.Prelude.{◌≡◌, length, position, slice_get};
-ghost use Rattle.call_desk.specs.Boards.{is_at, settling_in, SettlesIn, taking_in};
+ghost use Rattle.std.specs.Prelude.{◌≡◌, is_some, length, position, slice_get};
+ghost use Rattle.call_desk.specs.Boards.{is_at, settling_in, SettlesIn, taking_in, woken_at, WakesIn};
 ghost use Rattle.call_desk.specs.Waiting.{Settles};
 
 use crate::flight::Flight;
-use crate::gateway::Gateway;
+use crate::gateway::{Gateway, Wake};
 use crate::office::{Office, Order};
 use crate::typed::{TypedFault, typed_in};
 use crate::worklist::Worklist;
@@ -375,12 +375,21 @@ impl Switchboard {
         }
     }
 
+    // The next line of the gateway at this place to which a command is sent again by now. It isn't put off any more.
+    fn woken(&mut self, place: usize) -> Option<Wake>
+        ensures wake { result ≡ woken_at (slice_get self.old.gateways.items place) }
+        ensures office { self.new.office ≡ self.old.office }
+    {
+        let gateway = self.gateways.get_mut(place)?;
+        gateway.woken()
+    }
+
     /// The next line of the gateway at this place to which a command is sent again by now waits to be settled: whether there is one.
-    pub fn wake(&mut self, place: usize) -> bool {
-        let Some(gateway) = self.gateways.get_mut(place) else {
-            return false;
-        };
-        let Some(wake) = gateway.woken() else {
+    pub fn wake(&mut self, place: usize) -> bool
+        ensures found { result ≡ is_some (woken_at (slice_get self.old.gateways.items place)) }
+        ensures line { WakesIn (woken_at (slice_get self.old.gateways.items place)) self.old.office self.new.office }
+    {
+        let Some(wake) = self.woken(place) else {
             return false;
         };
         if let Some(office) = &mut self.office {
