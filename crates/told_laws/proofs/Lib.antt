@@ -1,0 +1,10 @@
+pub mod StepLemmas
+pub mod AmongLemmas
+pub mod OccursLemmas
+pub mod WalkLemmas
+pub mod WalkFrontLemmas
+pub mod ToldCourses
+pub mod TakenCourses
+pub mod ExampleLemmas
+pub mod Computing
+pub mod WorldComputing

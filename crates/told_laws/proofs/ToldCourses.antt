@@ -1,0 +1,64 @@
+-- What lines tell, for whole courses from the opening on.
+use Rattle.std.proofs.Common.{◌≡◌, ℕ, ◌≤◌, false, List, [], ◌∷◌, ◌++◌, Some, None, subst}
+use Rattle.event_values.specs.declared.observed.Observed.{Observed}
+use Rattle.event_requests.specs.declared.request.Request.{Request}
+use Rattle.mg_line.specs.Answering.{is_loop}
+use Rattle.plain_machine.specs.declared.setup.Setup.{Setup}
+use Rattle.plain_machine.specs.declared.endpoint.Endpoint.{Endpoint}
+use Rattle.plain_machine.specs.Event.{GatewayEvent}
+use Rattle.plain_machine.specs.Lists.{plain}
+use Rattle.plain_machine.specs.Machine.{endpoint_at}
+use Rattle.machine_laws.proofs.LineLemmas.{place_of}
+use Rattle.delivery_laws.specs.Course.{CourseStep, accepts, notifies, course_of}
+use Rattle.delivery_laws.specs.Dialled.{done_in, told_along, latest_from}
+use Rattle.delivery_laws.specs.Rounds.{of_telephone}
+use Rattle.told_laws.specs.Among.{AreAmong, IsToldInOrder}
+use Rattle.told_laws.specs.Walking.{nothing_asked, EmbedsNone, Walks, Stays, AreActs, TellsAFront, TellsWhatWasKept}
+use Rattle.told_laws.proofs.AmongLemmas.{ToldInOrder, calls_in_order, opening_in_order, told_alone}
+use Rattle.told_laws.proofs.WalkLemmas.{At, Walked, calls_walk, opening_walks, stays, walks_map}
+use Rattle.told_laws.proofs.WalkFrontLemmas.{tells_a_front, tells_what_was_kept}
+use Rattle.delivery_laws.proofs.OverLists.{always}
+
+-- a line that there is has a number from 1 on
+numbered : (setup : Setup) (line : ℕ) (events : List GatewayEvent) (endpoint : Endpoint) → endpoint_at (plain setup events).endpoints line ≡ Some endpoint → 1 ≤ line
+numbered setup line events endpoint at = (place_of (plain setup events).endpoints line endpoint at).0
+
+-- What is told was done
+
+pub course_in_order : (setup : Setup) (line : ℕ) (events : List GatewayEvent) (endpoint : Endpoint) → endpoint_at (plain setup events).endpoints line ≡ Some endpoint
+    → IsToldInOrder (course_of setup line events) endpoint.line
+course_in_order setup line events endpoint at =
+    let all = always setup ToldInOrder calls_in_order line (numbered setup line events endpoint at) opening_in_order events in
+    (all.holds endpoint at).holds.among
+
+pub told_in_order : (setup : Setup) (line : ℕ) (events : List GatewayEvent) (endpoint : Endpoint) → endpoint_at (plain setup events).endpoints line ≡ Some endpoint
+    → AreAmong (of_telephone (told_along (course_of setup line events))) (done_in (course_of setup line events))
+told_in_order setup line events endpoint at = told_alone (course_of setup line events) endpoint.line (course_in_order setup line events endpoint at)
+
+-- How that walks through what was done
+
+pub course_walks : (setup : Setup) (line : ℕ) (events : List GatewayEvent) (endpoint : Endpoint) → endpoint_at (plain setup events).endpoints line ≡ Some endpoint
+    → endpoint.line.quarantined.lost ≡ 0 → Walks nothing_asked [] (course_of setup line events) (Stays endpoint.line)
+course_walks setup line events endpoint at none =
+    let all = always setup Walked calls_walk line (numbered setup line events endpoint at) opening_walks events in
+    walks_map (course_of setup line events) (At endpoint.line) (Stays endpoint.line) nothing_asked [] (stays endpoint.line)
+    ((all.holds endpoint at).holds.walk none)
+
+pub first_tells : (setup : Setup) (line : ℕ) (events : List GatewayEvent) (endpoint : Endpoint) (before between after : List CourseStep) (request : Request)
+    (identifier : List ℕ) (observed : List Observed) → endpoint_at (plain setup events).endpoints line ≡ Some endpoint
+    → EmbedsNone request.events → endpoint.line.quarantined.lost ≡ 0
+    → course_of setup line events ≡ before ++ accepts request ∷ (between ++ notifies identifier observed ∷ after) → AreActs between
+    → TellsAFront request (of_telephone (told_along before)) (done_in before) (done_in between) observed
+first_tells setup line events endpoint before between after request identifier observed at bare none order only =
+    tells_a_front before between after request identifier observed (Stays endpoint.line) only bare
+    (subst (λ (c : List CourseStep). Walks nothing_asked [] c (Stays endpoint.line)) order (course_walks setup line events endpoint at none))
+
+pub meanwhile_told : (setup : Setup) (line : ℕ) (events : List GatewayEvent) (endpoint : Endpoint) (before some between after : List CourseStep)
+    (latest request : Request) (first second : List ℕ) (earlier observed : List Observed) → endpoint_at (plain setup events).endpoints line ≡ Some endpoint
+    → EmbedsNone latest.events → EmbedsNone request.events → endpoint.line.quarantined.lost ≡ 0
+    → course_of setup line events ≡ before ++ notifies first earlier ∷ (some ++ accepts request ∷ (between ++ notifies second observed ∷ after))
+    → latest_from None before ≡ Some latest → is_loop latest.handling.notifying ≡ false → AreActs some → AreActs between
+    → TellsWhatWasKept latest request (of_telephone (told_along before) ++ of_telephone earlier) (done_in before) (done_in some) (done_in between) observed
+meanwhile_told setup line events endpoint before some between after latest request first second earlier observed at bare then_bare none order is in_step kept only =
+    tells_what_was_kept before some between after latest request first second earlier observed (Stays endpoint.line) in_step kept only bare then_bare is
+    (subst (λ (c : List CourseStep). Walks nothing_asked [] c (Stays endpoint.line)) order (course_walks setup line events endpoint at none))

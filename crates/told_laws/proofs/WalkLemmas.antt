@@ -1,0 +1,872 @@
+-- How what a line tells walks through what was done at its telephone.
+use Rattle.std.proofs.Common.{◌≡◌, ◌≢◌, ℕ, ◌+◌, ◌≤◌, Bool, true, false, List, [], ◌∷◌, ◌++◌, Option, Some, None, refl, sym, ap, subst, ◌∙◌, inl, inr, ◌⊎◌, append_assoc, append-nil, arith}
+use Rattle.std.specs.Prelude.{filter, not, ◌||◌, nat_lt, length, if◌then◌else◌}
+use Rattle.std.proofs.lemmas.Bool.{true≢false, not-true}
+use Rattle.mg_bytes.specs.declared.letter.Letter.TheVariants as letters
+use Rattle.mg_packages.specs.declared.event.LineEvent.TheVariants as events
+use Rattle.mg_packages.specs.declared.signal.Kind.{Kind}
+use Rattle.mg_packages.specs.declared.signal.Kind.TheVariants.{TimeOut, Brief, OnOff}
+use Rattle.mg_packages.specs.declared.signal.Signal.{Signal}
+use Rattle.mg_packages.specs.Looking.{kind_of}
+use Rattle.event_values.specs.declared.handling.Handling.{Handling}
+use Rattle.event_values.specs.declared.handling.Quarantined.{Quarantined}
+use Rattle.event_values.specs.declared.handling.Quarantined.TheVariants.{Process, Discard}
+use Rattle.event_values.specs.declared.observed.Observed.{Observed}
+use Rattle.event_values.specs.declared.observed.Observed.TheVariants.{Happened, Ended}
+use Rattle.event_syntax.specs.declared.request.EmbeddedRequest.{EmbeddedRequest}
+use Rattle.event_syntax.specs.declared.request.Reaction.{Reaction}
+use Rattle.event_syntax.specs.declared.request.Reaction.TheVariants.{Embed, AccumulateAndEmbed}
+use Rattle.event_requests.specs.Choice.{is_kept}
+use Rattle.event_requests.specs.Requests.{EventRequests, with_embedded}
+use Rattle.event_requests.specs.declared.request.Request.{Request}
+use Rattle.quarantine.specs.Held.{Held, one_lost, one_kept, holding, most_lost}
+use Rattle.signals.specs.Stopping.{without}
+use Rattle.timers.specs.declared.kind.LineDue.{LineDue}
+use Rattle.timers.specs.declared.kind.LineDue.TheVariants.{DigitTimer, SignalEnd}
+use Rattle.mg_line.specs.declared.phone.Act.{Act}
+use Rattle.mg_line.specs.declared.phone.Act.TheVariants.{OffHook, OnHook, Flash, Key}
+use Rattle.mg_line.specs.State.{State}
+use Rattle.mg_line.specs.State.TheVariants.{Normal, Notification, Lockstep}
+use Rattle.mg_line.specs.Line.{LineState, Notice, LineDone, still, opening_line}
+use Rattle.mg_line.specs.Occurring.{occurred}
+use Rattle.mg_line.specs.Detecting.{quarantining, detected_in, detected, with_quarantined, unless_notified, drained_of, drained, resumed}
+use Rattle.mg_line.specs.Acting.{hooked, observed_at, phoned}
+use Rattle.mg_line.specs.Requesting.{quarantined_after, replaced, resumed_in, asked}
+use Rattle.mg_line.specs.Answering.{is_loop, answered}
+use Rattle.mg_line.specs.Opening.{opened}
+use Rattle.mg_line.specs.Falling.{ended_by, fired}
+use Rattle.mg_line.proofs.DrainLemmas.{occurred_keeps}
+use Rattle.mg_line.proofs.LoseLemmas.{lost_only_grows, unasked_events_do_nothing}
+use Rattle.delivery_laws.specs.Rounds.{is_of_telephone, of_telephone}
+use Rattle.delivery_laws.specs.Course.{CourseStep, acts, accepts, notifies}
+use Rattle.told_laws.specs.Walking.{is_collected, is_quiet, reaction_to, collects, are_quiet, left_by, Place, nothing_asked, behind_request, behind_notification, End, with_act, told_of_front, Brings, behind_embedded, Embeds, no_more, by_event, Then, Walks, Stays}
+use Rattle.told_laws.proofs.AmongLemmas.{IsDrained, act_of_phone, phoned_moves, asked_moves, answered_moves, opened_moves, fired_moves}
+use Rattle.told_laws.proofs.OccursLemmas.{GathersAll, TellsAll, Collects, Same, Ignores, Turns, OccursBy, occurred_occurs, with_one, one_if, phone_more, collected_by, ignored_by, quiet_by, next_in, one_more, split_one}
+use Rattle.delivery_laws.proofs.OnceCountLemmas.{acts_count, fires_count}
+use Rattle.delivery_laws.proofs.EndpointLemmas.{steps_of, Calls}
+
+-- Embedded requests
+
+here : (end : End) (place : Place) (waiting : List Observed) → end place waiting → Then place waiting end
+here end place waiting stands = (place, waiting, no_more place waiting, stands)
+
+embeds_both : (place middle next : Place) (waiting left last : List Observed) → Embeds place waiting middle left → Embeds middle left next last
+    → Embeds place waiting next last
+embeds_both place middle next waiting left last (no_more p w) more = more
+embeds_both place middle next waiting left last (by_event p n w front rest l carried event request unshut order quiet brings behind) more =
+    by_event place next waiting front rest last carried event request unshut order quiet brings
+    (embeds_both (behind_embedded place request carried) middle next rest left last behind more)
+
+-- they change neither whether it is in step, nor whether a request is waited for
+pub embeds_keeps : (place next : Place) (waiting left : List Observed) → Embeds place waiting next left
+    → (next.in_step ≡ place.in_step) × (next.is_shut ≡ place.is_shut)
+embeds_keeps place next waiting left (no_more p w) = (refl, refl)
+embeds_keeps place next waiting left (by_event p n w front rest l carried event request unshut order quiet brings behind) =
+    embeds_keeps (behind_embedded place request carried) next rest left behind
+
+-- Walks
+
+pub walks_map : (course : List CourseStep) (one other : End) (place : Place) (waiting : List Observed)
+    → ((p : Place) (w : List Observed) → one p w → other p w) → Walks place waiting course one → Walks place waiting course other
+walks_map [] one other place waiting to (next, left, moves, walk) = (next, left, moves, to next left walk)
+walks_map (acts act ∷ course) one other place waiting to (next, left, moves, walk) =
+    (next, left, moves, walks_map course one other next (with_act next.requests left (observed_at act)) to walk)
+walks_map (accepts request ∷ course) one other place waiting to (next, left, moves, (past, held, order, quiet, shut, walk)) =
+    let then_walks = walks_map course one other (behind_request request) (left_by request.handling.quarantined held) to walk in
+    (next, left, moves, (past, held, order, quiet, shut, then_walks))
+walks_map (notifies identifier observed ∷ course) one other place waiting to (next, left, moves, (front, held, order, told, walk)) =
+    (next, left, moves, (front, held, order, told, walks_map course one other (behind_notification next) held to walk))
+
+-- from where embedded requests came into force
+pub walks_from : (course : List CourseStep) (end : End) (place middle : Place) (waiting there : List Observed) → Embeds place waiting middle there
+    → Walks middle there course end → Walks place waiting course end
+walks_from [] end place middle waiting there first (next, left, moves, walk) =
+    (next, left, embeds_both place middle next waiting there left first moves, walk)
+walks_from (acts act ∷ course) end place middle waiting there first (next, left, moves, walk) =
+    (next, left, embeds_both place middle next waiting there left first moves, walk)
+walks_from (accepts request ∷ course) end place middle waiting there first (next, left, moves, walk) =
+    (next, left, embeds_both place middle next waiting there left first moves, walk)
+walks_from (notifies identifier observed ∷ course) end place middle waiting there first (next, left, moves, walk) =
+    (next, left, embeds_both place middle next waiting there left first moves, walk)
+
+-- one course behind another
+pub walks_both : (course more : List CourseStep) (end : End) (place : Place) (waiting : List Observed)
+    → Walks place waiting course (λ (p : Place) (w : List Observed). Walks p w more end) → Walks place waiting (course ++ more) end
+walks_both [] more end place waiting (next, left, moves, walk) = walks_from more end place next waiting left moves walk
+walks_both (acts act ∷ course) more end place waiting (next, left, moves, walk) =
+    (next, left, moves, walks_both course more end next (with_act next.requests left (observed_at act)) walk)
+walks_both (accepts request ∷ course) more end place waiting (next, left, moves, (past, held, order, quiet, shut, walk)) =
+    let then_walks = walks_both course more end (behind_request request) (left_by request.handling.quarantined held) walk in
+    (next, left, moves, (past, held, order, quiet, shut, then_walks))
+walks_both (notifies identifier observed ∷ course) more end place waiting (next, left, moves, (front, held, order, told, walk)) =
+    (next, left, moves, (front, held, order, told, walks_both course more end (behind_notification next) held walk))
+
+-- Where a line stands in the walk
+
+-- in step the line waits for a request behind each notification
+abbrev StepsIn : LineState → Place → Type 0
+StepsIn line place = place.in_step ≡ true → is_loop line.handling.notifying ≡ false
+
+-- what has occurred since the last notification, where events occur
+record Has (line : LineState) (place : Place) (past : List Observed) : Type 0 where
+  asks : line.requests ≡ place.requests
+  accumulated : of_telephone line.accumulated ≡ told_of_front place past
+  quiet : are_quiet place.requests past ≡ true
+  steps : StepsIn line place
+  unshut : place.is_shut ≡ false
+
+-- a line that notified, in step, and was sent no request since: nothing has occurred
+pub record IsShut (line : LineState) (past : List Observed) : Type 0 where
+  pub none_past : past ≡ []
+  pub awaits : line.state ≢ Normal
+  pub fresh : line.renewed ≡ false
+
+-- and what is quarantined behind it
+pub record At (line : LineState) (place : Place) (waiting : List Observed) : Type 0 where
+  pub past : List Observed
+  pub held : List Observed
+  pub order : waiting ≡ past ++ held
+  pub asks : line.requests ≡ place.requests
+  pub accumulated : of_telephone line.accumulated ≡ told_of_front place past
+  pub quiet : are_quiet place.requests past ≡ true
+  pub quarantined : of_telephone line.quarantined.events ≡ held
+  pub steps : StepsIn line place
+  pub shuts : place.is_shut ≡ true → place.in_step ≡ true
+  pub shut : place.is_shut ≡ true → IsShut line past
+
+has_at : (line : LineState) (place : Place) (past : List Observed) → Has line place past
+    → At line place (past ++ of_telephone line.quarantined.events)
+has_at line place past has = record {
+  past = past;
+  held = of_telephone line.quarantined.events;
+  order = refl;
+  asks = has.asks;
+  accumulated = has.accumulated;
+  quiet = has.quiet;
+  quarantined = refl;
+  steps = has.steps;
+  shuts = λ (is : place.is_shut ≡ true). absurd (true≢false (sym is ∙ has.unshut));
+  shut = λ (is : place.is_shut ≡ true). absurd (true≢false (sym is ∙ has.unshut));
+}
+
+-- a call, and what it tells
+abbrev WalksOn : Place → List Observed → LineDone → Type 0
+WalksOn place waiting done = Walks place waiting (steps_of done.notice) (At done.line)
+
+silent_walks : (place : Place) (waiting : List Observed) (done : LineDone) → done.notice ≡ None → At done.line place waiting
+    → WalksOn place waiting done
+silent_walks place waiting done silent at =
+    subst (λ (n : Option Notice). Walks place waiting (steps_of n) (At done.line)) (sym silent) (here (At done.line) place waiting at)
+
+telling_walks : (place : Place) (front held : List Observed) (done : LineDone) (notice : Notice) → done.notice ≡ Some notice
+    → of_telephone notice.observed ≡ told_of_front place front → At done.line (behind_notification place) held
+    → WalksOn place (front ++ held) done
+telling_walks place front held done notice tells told at =
+    let behind : Then (behind_notification place) held (At done.line) = here (At done.line) (behind_notification place) held at in
+    subst (λ (n : Option Notice). Walks place (front ++ held) (steps_of n) (At done.line)) (sym tells)
+    (place, front ++ held, no_more place (front ++ held), (front, held, refl, told, behind))
+
+-- An event occurs
+
+steps_on : (line other : LineState) (place : Place) → Same other line → StepsIn line place → StepsIn other place
+steps_on line other place same steps is = ap (λ (handling : Handling). is_loop handling.notifying) same.1 ∙ steps is
+
+ignored_has : (line : LineState) (place : Place) (past : List Observed) (event : Observed) (done : LineDone) → Has line place past
+    → Ignores (reaction_to place.requests event) line done → Has done.line place (with_one past event)
+ignored_has line place past event done has ignores = record {
+  asks = ignores.same.0 ∙ has.asks;
+  accumulated = ap of_telephone ignores.gathers.gathered
+      ∙ has.accumulated
+      ∙ ap (λ (xs : List Observed). place.carried ++ xs) (sym (ignored_by place.requests past event (is_of_telephone event) ignores.uncollected));
+  quiet = quiet_by place.requests past event (is_of_telephone event) has.quiet ignores.quiet;
+  steps = steps_on line done.line place ignores.same has.steps;
+  unshut = has.unshut;
+}
+
+collected_all : (line : LineState) (place : Place) (past : List Observed) (event : Observed) → Has line place past
+    → is_collected (reaction_to place.requests event) ≡ true → of_telephone (line.accumulated ++ event ∷ []) ≡ told_of_front place (with_one past event)
+collected_all line place past event has collected =
+    phone_more line.accumulated event
+    ∙ ap (λ (xs : List Observed). xs ++ one_if (is_of_telephone event) event) has.accumulated
+    ∙ append_assoc place.carried (filter (collects place.requests) past) (one_if (is_of_telephone event) event)
+    ∙ ap (λ (xs : List Observed). place.carried ++ xs) (sym (collected_by place.requests past event (is_of_telephone event) collected))
+
+gathered_has : (line : LineState) (place : Place) (past : List Observed) (event : Observed) (done : LineDone) → Has line place past
+    → Same done.line line → is_collected (reaction_to place.requests event) ≡ true → is_quiet (reaction_to place.requests event) ≡ true
+    → GathersAll (line.accumulated ++ event ∷ []) done → Has done.line place (with_one past event)
+gathered_has line place past event done has same collected quiet gathers = record {
+  asks = same.0 ∙ has.asks;
+  accumulated = ap of_telephone gathers.gathered ∙ collected_all line place past event has collected;
+  quiet = quiet_by place.requests past event (is_of_telephone event) has.quiet quiet;
+  steps = steps_on line done.line place same has.steps;
+  unshut = has.unshut;
+}
+
+-- once it was told nothing has occurred
+told_at : (place : Place) (all : List Observed) (done : LineDone) → done.line.requests ≡ place.requests → StepsIn done.line place → TellsAll all done
+    → At done.line (behind_notification place) (of_telephone done.line.quarantined.events)
+told_at place all done asks steps tells = record {
+  past = [];
+  held = of_telephone done.line.quarantined.events;
+  order = refl;
+  asks = asks;
+  accumulated = ap of_telephone tells.none_left;
+  quiet = refl;
+  quarantined = refl;
+  steps = steps;
+  shuts = λ (is : place.in_step ≡ true). is;
+  shut = λ (is : place.in_step ≡ true). record {
+    none_past = refl;
+    awaits = λ normal. (let clash : Notification ≡ Normal = sym tells.awaits ∙ normal in cc);
+    fresh = tells.fresh;
+  };
+}
+
+-- all that R has told, with that event
+abbrev gathered_at : Place → List Observed → Observed → List Observed
+gathered_at place past event = told_of_front place (past ++ of_telephone (event ∷ []))
+
+-- A request is embedded at it: behind that nothing has occurred, and what was gathered, if it was, is carried on.
+record Turned (line : LineState) (place : Place) (past : List Observed) (event : Observed) (done : LineDone) : Type 0 where
+  request : EmbeddedRequest
+  carried : List Observed
+  brings : Brings (reaction_to place.requests event) (gathered_at place past event) request carried
+  asks : done.line.requests ≡ with_embedded place.requests request
+  steps : StepsIn done.line place
+  how : ((done.notice ≡ None) × (of_telephone done.line.accumulated ≡ carried ++ []))
+      ⊎ ((all : List Observed) × (of_telephone all ≡ carried ++ []) × TellsAll all done)
+
+turned : (line : LineState) (place : Place) (past : List Observed) (event : Observed) (done : LineDone) → Has line place past
+    → Turns (reaction_to place.requests event) line event done → Turned line place past event done
+turned line place past event done has turns = by_how turns.how where
+  asks : done.line.requests ≡ with_embedded place.requests turns.request
+  asks = turns.asks ∙ ap (λ (r : EventRequests). with_embedded r turns.request) has.asks
+
+  steps : StepsIn done.line place
+  steps = λ (is : place.in_step ≡ true). ap (λ (handling : Handling). is_loop handling.notifying) turns.handled ∙ has.steps is
+
+  all_is : reaction_to place.requests event ≡ AccumulateAndEmbed turns.request → of_telephone (line.accumulated ++ event ∷ []) ≡ gathered_at place past event ++ []
+  all_is is =
+      collected_all line place past event has (ap is_collected is) ∙ ap (told_of_front place) (sym (one_more past event)) ∙ sym (append-nil (gathered_at place past event))
+
+  brings_all : reaction_to place.requests event ≡ AccumulateAndEmbed turns.request → Brings (reaction_to place.requests event) (gathered_at place past event) turns.request (gathered_at place past event)
+  brings_all is = subst (λ (r : Reaction). Brings r (gathered_at place past event) turns.request (gathered_at place past event)) (sym is) (refl, refl)
+
+  by_how : ((reaction_to place.requests event ≡ Embed turns.request) × GathersAll [] done)
+      ⊎ ((reaction_to place.requests event ≡ AccumulateAndEmbed turns.request) × Collects (line.accumulated ++ event ∷ []) done)
+      → Turned line place past event done
+  by_how (inl (is, gathers)) = record {
+    request = turns.request;
+    carried = [];
+    brings = subst (λ (r : Reaction). Brings r (gathered_at place past event) turns.request []) (sym is) (refl, refl);
+    asks = asks;
+    steps = steps;
+    how = inl (gathers.silent, ap of_telephone gathers.gathered);
+  }
+  by_how (inr (is, (inl gathers))) = record {
+    request = turns.request;
+    carried = gathered_at place past event;
+    brings = brings_all is;
+    asks = asks;
+    steps = steps;
+    how = inl (gathers.silent, ap of_telephone gathers.gathered ∙ all_is is);
+  }
+  by_how (inr (is, (inr tells))) = record {
+    request = turns.request;
+    carried = gathered_at place past event;
+    brings = brings_all is;
+    asks = asks;
+    steps = steps;
+    how = inr (line.accumulated ++ event ∷ [], all_is is, tells);
+  }
+
+-- with what is quarantined behind it
+turned_embeds : (line : LineState) (place : Place) (past : List Observed) (event : Observed) (done : LineDone) (waiting rest : List Observed)
+    → Has line place past → (t : Turned line place past event done) → waiting ≡ past ++ (of_telephone (event ∷ []) ++ rest)
+    → Embeds place waiting (behind_embedded place t.request t.carried) rest
+turned_embeds line place past event done waiting rest has t order =
+    let to : Place = behind_embedded place t.request t.carried in
+    by_event place to waiting past rest rest t.carried event t.request has.unshut order has.quiet t.brings (no_more to rest)
+
+turned_has : (line : LineState) (place : Place) (past : List Observed) (event : Observed) (done : LineDone) → Has line place past
+    → (t : Turned line place past event done) → of_telephone done.line.accumulated ≡ t.carried ++ []
+    → Has done.line (behind_embedded place t.request t.carried) []
+turned_has line place past event done has t gathered =
+    record { asks = t.asks; accumulated = gathered; quiet = refl; steps = t.steps; unshut = has.unshut }
+
+-- it is told there and then
+turned_tells : (line : LineState) (place : Place) (past : List Observed) (event : Observed) (done : LineDone) (waiting all : List Observed) → Has line place past
+    → (t : Turned line place past event done) → waiting ≡ past ++ (of_telephone (event ∷ []) ++ of_telephone done.line.quarantined.events)
+    → of_telephone all ≡ t.carried ++ [] → TellsAll all done → WalksOn place waiting done
+turned_tells line place past event done waiting all has t order is tells =
+    let to : Place = behind_embedded place t.request t.carried in
+    let held : List Observed = of_telephone done.line.quarantined.events in
+    walks_from (steps_of done.notice) (At done.line) place to waiting held (turned_embeds line place past event done waiting held has t order)
+    (telling_walks to [] held done tells.notice tells.tells (ap of_telephone tells.told ∙ is) (told_at to all done t.asks t.steps tells))
+
+-- Draining
+
+-- a quarantined event occurs, and those behind it where it isn't told
+drain_turned : (line : LineState) (place : Place) (past : List Observed) (event : Observed) (rest : List Observed) (done : LineDone)
+    (next : LineState → LineDone) → Has line place past → done.line.quarantined.events ≡ rest → Turned line place past event done
+    → ((p : Place) (now : List Observed) → Has done.line p now → WalksOn p (now ++ of_telephone rest) (next done.line))
+    → WalksOn place (past ++ of_telephone (event ∷ rest)) (unless_notified done.notice done next)
+drain_turned line place past event rest done next has left t more = by_how t.how where
+  by_how : ((done.notice ≡ None) × (of_telephone done.line.accumulated ≡ t.carried ++ []))
+      ⊎ ((all : List Observed) × (of_telephone all ≡ t.carried ++ []) × TellsAll all done)
+      → WalksOn place (past ++ of_telephone (event ∷ rest)) (unless_notified done.notice done next)
+  by_how (inl (silent, gathered)) =
+      let to : Place = behind_embedded place t.request t.carried in
+      let waiting : List Observed = past ++ of_telephone (event ∷ rest) in
+      subst (λ (n : Option Notice). WalksOn place waiting (unless_notified n done next)) (sym silent)
+      (walks_from (steps_of (next done.line).notice) (At (next done.line).line) place to waiting (of_telephone rest)
+      (turned_embeds line place past event done waiting (of_telephone rest) has t (ap (λ (xs : List Observed). past ++ xs) (split_one event rest)))
+      (more to [] (turned_has line place past event done has t gathered)))
+  by_how (inr (all, is, tells)) =
+      let waiting : List Observed = past ++ of_telephone (event ∷ rest) in
+      subst (λ (n : Option Notice). WalksOn place waiting (unless_notified n done next)) (sym tells.tells)
+      (turned_tells line place past event done waiting all has t
+      (ap (λ (xs : List Observed). past ++ xs) (split_one event rest)
+      ∙ ap (λ (xs : List Observed). past ++ (of_telephone (event ∷ []) ++ of_telephone xs)) (sym left))
+      is tells)
+
+drain_more : (line : LineState) (place : Place) (past : List Observed) (event : Observed) (rest : List Observed) (done : LineDone)
+    (next : LineState → LineDone) → Has line place past → done.line.quarantined.events ≡ rest
+    → OccursBy (reaction_to place.requests event) line event done
+    → ((p : Place) (now : List Observed) → Has done.line p now → WalksOn p (now ++ of_telephone rest) (next done.line))
+    → WalksOn place (past ++ of_telephone (event ∷ rest)) (unless_notified done.notice done next)
+drain_more line place past event rest done next has left (inl ignores) more =
+    subst (λ (n : Option Notice). WalksOn place (past ++ of_telephone (event ∷ rest)) (unless_notified n done next)) (sym ignores.gathers.silent)
+    (subst (λ (w : List Observed). WalksOn place w (next done.line)) (sym (next_in past event rest))
+    (more place (with_one past event) (ignored_has line place past event done has ignores)))
+drain_more line place past event rest done next has left (inr (inl takes)) more = by_how takes.how where
+  by_how : (((is_quiet (reaction_to place.requests event) ≡ true) × GathersAll (line.accumulated ++ event ∷ []) done)
+      ⊎ TellsAll (line.accumulated ++ event ∷ []) done)
+      → WalksOn place (past ++ of_telephone (event ∷ rest)) (unless_notified done.notice done next)
+  by_how (inl later) =
+      subst (λ (n : Option Notice). WalksOn place (past ++ of_telephone (event ∷ rest)) (unless_notified n done next)) (sym later.1.silent)
+      (subst (λ (w : List Observed). WalksOn place w (next done.line)) (sym (next_in past event rest))
+      (more place (with_one past event) (gathered_has line place past event done has takes.same takes.collected later.0 later.1)))
+  by_how (inr tells) =
+      subst (λ (n : Option Notice). WalksOn place (past ++ of_telephone (event ∷ rest)) (unless_notified n done next)) (sym tells.tells)
+      (subst (λ (w : List Observed). WalksOn place w done) (sym (next_in past event rest))
+      (subst (λ (held : List Observed). WalksOn place (with_one past event ++ of_telephone held) done) left
+      (telling_walks place (with_one past event) (of_telephone done.line.quarantined.events) done tells.notice tells.tells
+      (ap of_telephone tells.told ∙ collected_all line place past event has takes.collected)
+      (told_at place (line.accumulated ++ event ∷ []) done (takes.same.0 ∙ has.asks) (steps_on line done.line place takes.same has.steps) tells))))
+drain_more line place past event rest done next has left (inr (inr turns)) more =
+    drain_turned line place past event rest done next has left (turned line place past event done has turns) more
+
+drains : (was : List Observed) (line : LineState) (moment : ℕ) (place : Place) (past : List Observed) → line.quarantined.events ≡ was
+    → Has line place past → WalksOn place (past ++ of_telephone was) (drained_of was line moment)
+unfolding drained_of
+drains [] line moment place past same has =
+    here (At line) place (past ++ of_telephone [])
+    (subst (λ (held : List Observed). At line place (past ++ of_telephone held)) same (has_at line place past has))
+drains (event ∷ events) line moment place past same has =
+    let from : LineState = with_quarantined line events in
+    let done : LineDone = occurred from event moment in
+    let left : done.line.quarantined.events ≡ events = ap (λ (held : Held). held.events) (occurred_keeps from event moment) in
+    let from_has : Has from place past =
+    record { asks = has.asks; accumulated = has.accumulated; quiet = has.quiet; steps = has.steps; unshut = has.unshut } in
+    drain_more from place past event events done (λ next. drained_of events next moment) from_has left
+    (subst (λ (r : EventRequests). OccursBy (reaction_to r event) from event done) has.asks (occurred_occurs from event moment))
+    (λ (p : Place) (now : List Observed) (then_has : Has done.line p now). drains events done.line moment p now left then_has)
+
+resumes : (line : LineState) (moment : ℕ) (place : Place) (past : List Observed) → Has line place past
+    → WalksOn place (past ++ of_telephone line.quarantined.events) (resumed line moment)
+unfolding resumed drained
+resumes line moment place past has =
+    drains line.quarantined.events (record line { state = Normal }) moment place past refl
+    (record { asks = has.asks; accumulated = has.accumulated; quiet = has.quiet; steps = has.steps; unshut = has.unshut })
+
+at_has : (line : LineState) (place : Place) (waiting : List Observed) → (at : At line place waiting) → place.is_shut ≡ false → Has line place at.past
+at_has line place waiting at unshut =
+    record { asks = at.asks; accumulated = at.accumulated; quiet = at.quiet; steps = at.steps; unshut = unshut }
+
+-- where it isn't so that a line waits for a request
+open_by : (place : Place) (b : Bool) → place.is_shut ≡ b → (place.is_shut ≡ true → ⊥) → place.is_shut ≡ false
+open_by place true e never = absurd (never e)
+open_by place false e never = e
+
+at_normal : (line : LineState) (place : Place) (waiting : List Observed) → At line place waiting → line.state ≡ Normal → place.is_shut ≡ false
+at_normal line place waiting at normal = open_by place place.is_shut refl (λ (is : place.is_shut ≡ true). (at.shut is).awaits normal)
+
+at_order : (line : LineState) (place : Place) (waiting : List Observed) → (at : At line place waiting)
+    → waiting ≡ at.past ++ of_telephone line.quarantined.events
+at_order line place waiting at = at.order ∙ ap (λ (held : List Observed). at.past ++ held) (sym at.quarantined)
+
+at_resumes : (line : LineState) (moment : ℕ) (place : Place) (waiting : List Observed) → At line place waiting → place.is_shut ≡ false
+    → WalksOn place waiting (resumed line moment)
+at_resumes line moment place waiting at unshut =
+    subst (λ (w : List Observed). WalksOn place w (resumed line moment)) (sym (at_order line place waiting at))
+    (resumes line moment place at.past (at_has line place waiting at unshut))
+
+-- Events are detected
+
+-- in the state normal nothing is quarantined
+empty_held : (line : LineState) (place : Place) (waiting : List Observed) → (at : At line place waiting) → line.quarantined.events ≡ []
+    → waiting ≡ at.past
+empty_held line place waiting at empty =
+    at_order line place waiting at ∙ ap (λ (held : List Observed). at.past ++ of_telephone held) empty ∙ append-nil at.past
+
+-- behind what occurred nothing is held
+alone_at : (done : LineDone) (place : Place) (now : List Observed) → Has done.line place now → done.line.quarantined.events ≡ []
+    → At done.line place now
+alone_at done place now has left =
+    subst (At done.line place) (ap (λ (held : List Observed). now ++ of_telephone held) left ∙ append-nil now) (has_at done.line place now has)
+
+told_alone : (place : Place) (front : List Observed) (done : LineDone) (notice : Notice) → done.notice ≡ Some notice
+    → of_telephone notice.observed ≡ told_of_front place front → At done.line (behind_notification place) [] → WalksOn place front done
+told_alone place front done notice tells told at =
+    subst (λ (w : List Observed). WalksOn place w done) (append-nil front) (telling_walks place front [] done notice tells told at)
+
+turned_order : (past : List Observed) (event : Observed) (rest : List Observed) → rest ≡ []
+    → with_one past event ≡ past ++ (of_telephone (event ∷ []) ++ of_telephone rest)
+turned_order past event rest none =
+    sym
+    (ap (λ (xs : List Observed). past ++ (of_telephone (event ∷ []) ++ of_telephone xs)) none
+    ∙ ap (λ (xs : List Observed). past ++ xs) (append-nil (of_telephone (event ∷ [])))
+    ∙ one_more past event)
+
+turned_alone : (line : LineState) (event : Observed) (place : Place) (past : List Observed) (done : LineDone) → Has line place past
+    → done.line.quarantined.events ≡ [] → Turned line place past event done → WalksOn place (with_one past event) done
+turned_alone line event place past done has left t = by_how t.how where
+  by_how : ((done.notice ≡ None) × (of_telephone done.line.accumulated ≡ t.carried ++ []))
+      ⊎ ((all : List Observed) × (of_telephone all ≡ t.carried ++ []) × TellsAll all done)
+      → WalksOn place (with_one past event) done
+  by_how (inl (silent, gathered)) =
+      let to : Place = behind_embedded place t.request t.carried in
+      walks_from (steps_of done.notice) (At done.line) place to (with_one past event) []
+      (turned_embeds line place past event done (with_one past event) [] has t (turned_order past event [] refl))
+      (silent_walks to [] done silent (alone_at done to [] (turned_has line place past event done has t gathered) left))
+  by_how (inr (all, is, tells)) =
+      turned_tells line place past event done (with_one past event) all has t (turned_order past event done.line.quarantined.events left) is tells
+
+alone : (line : LineState) (event : Observed) (place : Place) (past : List Observed) (done : LineDone) → Has line place past
+    → done.line.quarantined.events ≡ [] → OccursBy (reaction_to place.requests event) line event done → WalksOn place (with_one past event) done
+alone line event place past done has left (inl ignores) =
+    silent_walks place (with_one past event) done ignores.gathers.silent
+    (alone_at done place (with_one past event) (ignored_has line place past event done has ignores) left)
+alone line event place past done has left (inr (inl takes)) = by_how takes.how where
+  by_how : (((is_quiet (reaction_to place.requests event) ≡ true) × GathersAll (line.accumulated ++ event ∷ []) done)
+      ⊎ TellsAll (line.accumulated ++ event ∷ []) done) → WalksOn place (with_one past event) done
+  by_how (inl later) =
+      silent_walks place (with_one past event) done later.1.silent
+      (alone_at done place (with_one past event) (gathered_has line place past event done has takes.same takes.collected later.0 later.1) left)
+  by_how (inr tells) =
+      told_alone place (with_one past event) done tells.notice tells.tells
+      (ap of_telephone tells.told ∙ collected_all line place past event has takes.collected)
+      (subst (At done.line (behind_notification place)) (ap of_telephone left)
+      (told_at place (line.accumulated ++ event ∷ []) done (takes.same.0 ∙ has.asks) (steps_on line done.line place takes.same has.steps) tells))
+alone line event place past done has left (inr (inr turns)) =
+    turned_alone line event place past done has left (turned line place past event done has turns)
+
+-- as where it were the last one that is quarantined
+occurs_alone : (line : LineState) (event : Observed) (moment : ℕ) (place : Place) (waiting : List Observed) → At line place waiting
+    → line.state ≡ Normal → line.quarantined.events ≡ [] → WalksOn place (with_one waiting event) (occurred line event moment)
+occurs_alone line event moment place waiting at normal empty =
+    let done : LineDone = occurred line event moment in
+    let left : done.line.quarantined.events ≡ [] = ap (λ (held : Held). held.events) (occurred_keeps line event moment) ∙ empty in
+    let same : waiting ≡ at.past = empty_held line place waiting at empty in
+    let occurs : OccursBy (reaction_to place.requests event) line event done =
+    subst (λ (r : EventRequests). OccursBy (reaction_to r event) line event done) at.asks (occurred_occurs line event moment) in
+    subst (λ (w : List Observed). WalksOn place (with_one w event) done) (sym same)
+    (alone line event place at.past done (at_has line place waiting at (at_normal line place waiting at normal)) left occurs)
+
+-- while no event occurs it is quarantined, where it is kept, and there is room
+holds_by : (held : Held) (event : Observed) (b : Bool) → (if b then one_kept held event else one_lost held).lost ≡ 0
+    → (if b then one_kept held event else one_lost held).events ≡ held.events ++ event ∷ []
+holds_by held event true none = refl
+holds_by held event false none = absurd (omega (arith, none))
+
+holds_all : (held : Held) (event : Observed) → (holding held event).lost ≡ 0 → (holding held event).events ≡ held.events ++ event ∷ []
+unfolding holding
+holds_all held event none = holds_by held event (nat_lt (length held.events) held.room) none
+
+kept_held : (line : LineState) (event : Observed) → is_kept line.requests event ≡ true → (quarantining line event).quarantined.lost ≡ 0
+    → (quarantining line event).quarantined.events ≡ line.quarantined.events ++ event ∷ []
+unfolding quarantining
+kept_held line event kept = by_kept (is_kept line.requests event) kept where
+  by_kept : (b : Bool) → b ≡ true → (if b then holding line.quarantined event else line.quarantined).lost ≡ 0
+      → (if b then holding line.quarantined event else line.quarantined).events ≡ line.quarantined.events ++ event ∷ []
+  by_kept true is none = holds_all line.quarantined event none
+  by_kept false is none = absurd (true≢false (sym is))
+
+-- a telephone's event, which is kept
+waits_at : (line : LineState) (event : Observed) (place : Place) (waiting : List Observed) → At line place waiting
+    → is_of_telephone event ≡ true → (quarantining line event).quarantined.events ≡ line.quarantined.events ++ event ∷ []
+    → At (quarantining line event) place (waiting ++ event ∷ [])
+unfolding quarantining
+waits_at line event place waiting at phone grew = record {
+  past = at.past;
+  held = at.held ++ event ∷ [];
+  order = ap (λ (w : List Observed). w ++ event ∷ []) at.order ∙ append_assoc at.past at.held (event ∷ []);
+  asks = at.asks;
+  accumulated = at.accumulated;
+  quiet = at.quiet;
+  quarantined = ap of_telephone grew
+      ∙ phone_more line.quarantined.events event
+      ∙ ap (λ (b : Bool). of_telephone line.quarantined.events ++ one_if b event) phone
+      ∙ ap (λ (held : List Observed). held ++ event ∷ []) at.quarantined;
+  steps = at.steps;
+  shuts = at.shuts;
+  shut = λ (is : place.is_shut ≡ true).
+      (let shut = at.shut is in record { none_past = shut.none_past; awaits = shut.awaits; fresh = shut.fresh });
+}
+
+-- what is no telephone's changes nothing of that
+other_held : (line : LineState) (event : Observed) → is_of_telephone event ≡ false
+    → of_telephone (quarantining line event).quarantined.events ≡ of_telephone line.quarantined.events
+unfolding quarantining holding
+other_held line event other = by_kept (is_kept line.requests event) where
+  more : of_telephone (line.quarantined.events ++ event ∷ []) ≡ of_telephone line.quarantined.events
+  more =
+      phone_more line.quarantined.events event
+      ∙ ap (λ (b : Bool). of_telephone line.quarantined.events ++ one_if b event) other
+      ∙ append-nil (of_telephone line.quarantined.events)
+
+  by_room : (b : Bool) → of_telephone (if b then one_kept line.quarantined event else one_lost line.quarantined).events ≡ of_telephone line.quarantined.events
+  by_room true = more
+  by_room false = refl
+
+  by_kept : (b : Bool) → of_telephone (if b then holding line.quarantined event else line.quarantined).events ≡ of_telephone line.quarantined.events
+  by_kept true = by_room (nat_lt (length line.quarantined.events) line.quarantined.room)
+  by_kept false = refl
+
+-- what a line keeps for the walk
+record Keeps (line other : LineState) : Type 0 where
+  asks : Same other line
+  accumulated : other.accumulated ≡ line.accumulated
+  quarantined : of_telephone other.quarantined.events ≡ of_telephone line.quarantined.events
+  awaits : line.state ≢ Normal → other.state ≢ Normal
+  renewed : other.renewed ≡ line.renewed
+
+other_at : (line other : LineState) (place : Place) (waiting : List Observed) → At line place waiting → Keeps line other → At other place waiting
+other_at line other place waiting at keeps = record {
+  past = at.past;
+  held = at.held;
+  order = at.order;
+  asks = keeps.asks.0 ∙ at.asks;
+  accumulated = ap of_telephone keeps.accumulated ∙ at.accumulated;
+  quiet = at.quiet;
+  quarantined = keeps.quarantined ∙ at.quarantined;
+  steps = steps_on line other place keeps.asks at.steps;
+  shuts = at.shuts;
+  shut = λ (is : place.is_shut ≡ true).
+      (let shut = at.shut is in
+      record { none_past = shut.none_past; awaits = keeps.awaits shut.awaits; fresh = keeps.renewed ∙ shut.fresh });
+}
+
+keeps_same : (line other : LineState) → Same other line → other.accumulated ≡ line.accumulated → other.quarantined ≡ line.quarantined
+    → other.state ≡ line.state → other.renewed ≡ line.renewed → Keeps line other
+keeps_same line other asks acc held state renewed = record {
+  asks = asks;
+  accumulated = acc;
+  quarantined = ap (λ (h : Held). of_telephone h.events) held;
+  awaits = λ (awaits : line.state ≢ Normal) (normal : other.state ≡ Normal). awaits (sym state ∙ normal);
+  renewed = renewed;
+}
+
+quarantining_keeps : (line : LineState) (event : Observed) → is_of_telephone event ≡ false → Keeps line (quarantining line event)
+unfolding quarantining
+quarantining_keeps line event other = record {
+  asks = (refl, refl);
+  accumulated = refl;
+  quarantined = other_held line event other;
+  awaits = λ (awaits : line.state ≢ Normal). awaits;
+  renewed = refl;
+}
+
+-- an act: kept or dropped
+
+kept_in : (state : State) (line : LineState) (event : Observed) (moment : ℕ) (place : Place) (waiting : List Observed) → line.state ≡ state
+    → IsDrained line → is_of_telephone event ≡ true → is_kept line.requests event ≡ true → At line place waiting
+    → (detected_in state line event moment).line.quarantined.lost ≡ 0 → WalksOn place (waiting ++ event ∷ []) (detected_in state line event moment)
+kept_in Normal line event moment place waiting is drained phone kept at none =
+    subst (λ (w : List Observed). WalksOn place w (occurred line event moment)) (ap (λ (b : Bool). if b then waiting ++ event ∷ [] else waiting) phone)
+    (occurs_alone line event moment place waiting at is (drained is))
+kept_in Notification line event moment place waiting is drained phone kept at none =
+    here (At (quarantining line event)) place (waiting ++ event ∷ []) (waits_at line event place waiting at phone (kept_held line event kept none))
+kept_in Lockstep line event moment place waiting is drained phone kept at none =
+    here (At (quarantining line event)) place (waiting ++ event ∷ []) (waits_at line event place waiting at phone (kept_held line event kept none))
+
+kept_walks : (line : LineState) (event : Observed) (moment : ℕ) (place : Place) (waiting : List Observed) → IsDrained line
+    → is_of_telephone event ≡ true → is_kept line.requests event ≡ true → At line place waiting
+    → (detected line event moment).line.quarantined.lost ≡ 0 → WalksOn place (waiting ++ event ∷ []) (detected line event moment)
+unfolding detected
+kept_walks line event moment place waiting drained phone kept at none =
+    kept_in line.state line event moment place waiting refl drained phone kept at none
+
+act_by : (line : LineState) (event : Observed) (moment : ℕ) (place : Place) (waiting : List Observed) (b : Bool) → is_kept line.requests event ≡ b
+    → IsDrained line → is_of_telephone event ≡ true → At line place waiting → (detected line event moment).line.quarantined.lost ≡ 0
+    → WalksOn place (if b then waiting ++ event ∷ [] else waiting) (detected line event moment)
+act_by line event moment place waiting true kept drained phone at none = kept_walks line event moment place waiting drained phone kept at none
+act_by line event moment place waiting false kept drained phone at none =
+    subst (WalksOn place waiting) (sym (unasked_events_do_nothing.detecting line event moment kept)) (here (At line) place waiting at)
+
+act_walks : (line : LineState) (event : Observed) (moment : ℕ) (place : Place) (waiting : List Observed) → IsDrained line
+    → is_of_telephone event ≡ true → At line place waiting → (detected line event moment).line.quarantined.lost ≡ 0
+    → WalksOn place (with_act place.requests waiting event) (detected line event moment)
+act_walks line event moment place waiting drained phone at none =
+    act_by line event moment place waiting (is_kept place.requests event) (ap (λ (r : EventRequests). is_kept r event) at.asks) drained phone at none
+
+-- what is no act: an end
+
+end_in : (state : State) (line : LineState) (event : Observed) (moment : ℕ) (place : Place) (waiting : List Observed) → line.state ≡ state
+    → IsDrained line → is_of_telephone event ≡ false → At line place waiting → WalksOn place waiting (detected_in state line event moment)
+unfolding quarantining
+end_in Normal line event moment place waiting is drained other at =
+    subst (λ (w : List Observed). WalksOn place w (occurred line event moment)) (ap (λ (b : Bool). if b then waiting ++ event ∷ [] else waiting) other)
+    (occurs_alone line event moment place waiting at is (drained is))
+end_in Notification line event moment place waiting is drained other at =
+    here (At (quarantining line event)) place waiting (other_at line (quarantining line event) place waiting at (quarantining_keeps line event other))
+end_in Lockstep line event moment place waiting is drained other at =
+    here (At (quarantining line event)) place waiting (other_at line (quarantining line event) place waiting at (quarantining_keeps line event other))
+
+end_walks : (line : LineState) (event : Observed) (moment : ℕ) (place : Place) (waiting : List Observed) → IsDrained line
+    → is_of_telephone event ≡ false → At line place waiting → WalksOn place waiting (detected line event moment)
+unfolding detected
+end_walks line event moment place waiting drained other at = end_in line.state line event moment place waiting refl drained other at
+
+-- Each call
+
+phoned_walks : (line : LineState) (act : Act) (moment : ℕ) (place : Place) (waiting : List Observed) → IsDrained line
+    → At line place waiting → (phoned line act moment).line.quarantined.lost ≡ 0
+    → WalksOn place (with_act place.requests waiting (observed_at act)) (phoned line act moment)
+unfolding phoned
+phoned_walks line OffHook moment place waiting drained at none =
+    act_walks (hooked line OffHook) (observed_at OffHook) moment place waiting drained (act_of_phone OffHook)
+    (other_at line (hooked line OffHook) place waiting at (keeps_same line (hooked line OffHook) (refl, refl) refl refl refl refl)) none
+phoned_walks line OnHook moment place waiting drained at none =
+    act_walks (hooked line OnHook) (observed_at OnHook) moment place waiting drained (act_of_phone OnHook)
+    (other_at line (hooked line OnHook) place waiting at (keeps_same line (hooked line OnHook) (refl, refl) refl refl refl refl)) none
+phoned_walks line Flash moment place waiting drained at none =
+    act_walks line (observed_at Flash) moment place waiting drained (act_of_phone Flash) at none
+phoned_walks line (Key key) moment place waiting drained at none =
+    act_walks line (observed_at (Key key)) moment place waiting drained (act_of_phone (Key key)) at none
+
+-- a request
+left_held : (handling : Quarantined) (line : LineState) (held : List Observed) → of_telephone line.quarantined.events ≡ held
+    → of_telephone (quarantined_after handling line.quarantined).events ≡ left_by handling held
+left_held Process line held same = same
+left_held Discard line held same = refl
+
+replaced_has : (line : LineState) (request : Request) (moment : ℕ) → Has (replaced line request moment) (behind_request request) []
+unfolding replaced
+replaced_has line request moment = record {
+  asks = refl;
+  accumulated = refl;
+  quiet = refl;
+  steps = λ (is : not (is_loop request.handling.notifying) ≡ true). not-true (is_loop request.handling.notifying) is;
+  unshut = refl;
+}
+
+request_by : (state : State) (line : LineState) (moment : ℕ) (place : Place) → Has line place []
+    → WalksOn place (of_telephone line.quarantined.events) (resumed_in state line moment)
+request_by Normal line moment place has = resumes line moment place [] has
+request_by Lockstep line moment place has = resumes line moment place [] has
+request_by Notification line moment place has =
+    let to : LineState = record line { renewed = true } in
+    here (At to) place (of_telephone line.quarantined.events)
+    (has_at to place []
+    (record { asks = has.asks; accumulated = has.accumulated; quiet = has.quiet; steps = has.steps; unshut = has.unshut }))
+
+asked_walks : (line : LineState) (request : Request) (moment : ℕ) (place : Place) (waiting : List Observed) → At line place waiting
+    → Walks place waiting (accepts request ∷ steps_of (asked line request moment).notice) (At (asked line request moment).line)
+unfolding asked replaced
+asked_walks line request moment place waiting at =
+    let to : LineState = replaced line request moment in
+    let goes : WalksOn (behind_request request) (of_telephone to.quarantined.events) (asked line request moment) =
+    request_by line.state to moment (behind_request request) (replaced_has line request moment) in
+    let walk : WalksOn (behind_request request) (left_by request.handling.quarantined at.held) (asked line request moment) =
+    subst (λ (w : List Observed). WalksOn (behind_request request) w (asked line request moment))
+    (left_held request.handling.quarantined line at.held at.quarantined) goes in
+    let shut : place.is_shut ≡ true → at.past ≡ [] = λ (is : place.is_shut ≡ true). (at.shut is).none_past in
+    (place, waiting, no_more place waiting, (at.past, at.held, at.order, at.quiet, shut, walk))
+
+-- a line that waits for a request isn't answered so that events occur
+neither : (one other : Bool) → one ≡ false → other ≡ false → (one || other) ≡ false
+neither one other none nor = ap (λ (b : Bool). b || other) none ∙ nor
+
+answered_by : (line : LineState) (moment : ℕ) (place : Place) (waiting : List Observed) (b : Bool) → At line place waiting
+    → (place.is_shut ≡ true → b ≡ false) → WalksOn place waiting (if b then resumed line moment else still (record line { state = Lockstep }))
+answered_by line moment place waiting true at shut =
+    at_resumes line moment place waiting at (open_by place place.is_shut refl (λ (is : place.is_shut ≡ true). true≢false (shut is)))
+answered_by line moment place waiting false at shut =
+    let to : LineState = record line { state = Lockstep } in
+    here (At to) place waiting
+    (other_at line to place waiting at
+    (record {
+      asks = (refl, refl);
+      accumulated = refl;
+      quarantined = refl;
+      awaits = λ (awaits : line.state ≢ Normal) (normal : Lockstep ≡ Normal). cc;
+      renewed = refl;
+    }))
+
+answered_walks : (line : LineState) (moment : ℕ) (place : Place) (waiting : List Observed) → At line place waiting
+    → WalksOn place waiting (answered line moment)
+unfolding answered
+answered_walks line moment place waiting at =
+    answered_by line moment place waiting (is_loop line.handling.notifying || line.renewed) at
+    (λ (is : place.is_shut ≡ true). neither (is_loop line.handling.notifying) line.renewed (at.steps (at.shuts is)) (at.shut is).fresh)
+
+opened_walks : (line : LineState) (moment : ℕ) (place : Place) (waiting : List Observed) → At line place waiting → place.is_shut ≡ false
+    → WalksOn place waiting (opened line moment)
+unfolding opened
+opened_walks line moment place waiting at unshut = at_resumes line moment place waiting at unshut
+
+ended_walks : (kind : Kind) (signal : Signal) (line : LineState) (moment : ℕ) (place : Place) (waiting : List Observed) → IsDrained line
+    → At line place waiting → WalksOn place waiting (ended_by kind signal line moment)
+ended_walks TimeOut signal line moment place waiting drained at = end_walks line (Ended signal) moment place waiting drained refl at
+ended_walks Brief signal line moment place waiting drained at = here (At line) place waiting at
+ended_walks OnOff signal line moment place waiting drained at = here (At line) place waiting at
+
+fired_walks : (line : LineState) (due : LineDue) (moment : ℕ) (place : Place) (waiting : List Observed) → IsDrained line
+    → At line place waiting → WalksOn place waiting (fired line due moment)
+unfolding fired
+fired_walks line DigitTimer moment place waiting drained at =
+    end_walks (record line { timer = None }) (Happened (events.Letter letters.Timer)) moment place waiting drained refl
+    (other_at line (record line { timer = None }) place waiting at (keeps_same line (record line { timer = None }) (refl, refl) refl refl refl refl))
+fired_walks line (SignalEnd signal) moment place waiting drained at =
+    let to : LineState = record line { signals = without signal line.signals } in
+    ended_walks (kind_of signal) signal to moment place waiting drained
+    (other_at line to place waiting at (keeps_same line to (refl, refl) refl refl refl refl))
+
+-- The course
+
+-- no request was accepted
+
+abbrev NoneAsked : List CourseStep → Type 0
+NoneAsked [] = Unit {0}
+NoneAsked (acts act ∷ course) = NoneAsked course
+NoneAsked (accepts request ∷ course) = ⊥
+NoneAsked (notifies identifier observed ∷ course) = NoneAsked course
+
+none_both : (some more : List CourseStep) → NoneAsked some → NoneAsked more → NoneAsked (some ++ more)
+none_both [] more none nor = nor
+none_both (acts act ∷ some) more none nor = none_both some more none nor
+none_both (accepts request ∷ some) more none nor = absurd none
+none_both (notifies identifier observed ∷ some) more none nor = none_both some more none nor
+
+none_told : (notice : Option Notice) → NoneAsked (steps_of notice)
+none_told None = tt
+none_told (Some notice) = tt
+
+-- so long no request is waited for
+open_walks : (course : List CourseStep) (end : End) (place : Place) (waiting : List Observed) → NoneAsked course → place.in_step ≡ false
+    → place.is_shut ≡ false → Walks place waiting course end
+    → Walks place waiting course (λ (p : Place) (w : List Observed). end p w × (p.is_shut ≡ false))
+open_walks [] end place waiting none loops unshut (next, left, moves, walk) =
+    (next, left, moves, (walk, (embeds_keeps place next waiting left moves).1 ∙ unshut))
+open_walks (acts act ∷ course) end place waiting none loops unshut (next, left, moves, walk) =
+    let keeps = embeds_keeps place next waiting left moves in
+    (next, left, moves, open_walks course end next (with_act next.requests left (observed_at act)) none (keeps.0 ∙ loops) (keeps.1 ∙ unshut) walk)
+open_walks (accepts request ∷ course) end place waiting none loops unshut walk = absurd none
+open_walks (notifies identifier observed ∷ course) end place waiting none loops unshut (next, left, moves, (front, held, order, told, walk)) =
+    let still_loops = (embeds_keeps place next waiting left moves).0 ∙ loops in
+    let then_walks = open_walks course end (behind_notification next) held none still_loops still_loops walk in
+    (next, left, moves, (front, held, order, told, then_walks))
+
+pub record Walked (serving : Bool) (course : List CourseStep) (line : LineState) : Type 0 where
+  pub drained : IsDrained line
+  pub counted : line.quarantined.lost ≤ most_lost
+  pub unasked : serving ≡ false → NoneAsked course
+  pub walk : line.quarantined.lost ≡ 0 → Walks nothing_asked [] course (At line)
+
+-- a call goes on where the course stands
+goes_on : (course step : List CourseStep) (line : LineState) (done : LineDone) → Walks nothing_asked [] course (At line)
+    → ((p : Place) (w : List Observed) → At line p w → Walks p w (step ++ steps_of done.notice) (At done.line))
+    → Walks nothing_asked [] ((course ++ step) ++ steps_of done.notice) (At done.line)
+goes_on course step line done walk call =
+    subst (λ (c : List CourseStep). Walks nothing_asked [] c (At done.line)) (sym (append_assoc course step (steps_of done.notice)))
+    (walks_both course (step ++ steps_of done.notice) (At done.line) nothing_asked []
+    (walks_map course (At line) (λ (p : Place) (w : List Observed). Walks p w (step ++ steps_of done.notice) (At done.line)) nothing_asked [] call walk))
+
+goes_plain : (course : List CourseStep) (line : LineState) (done : LineDone) → Walks nothing_asked [] course (At line)
+    → ((p : Place) (w : List Observed) → At line p w → WalksOn p w done) → Walks nothing_asked [] (course ++ steps_of done.notice) (At done.line)
+goes_plain course line done walk call =
+    walks_both course (steps_of done.notice) (At done.line) nothing_asked []
+    (walks_map course (At line) (λ (p : Place) (w : List Observed). Walks p w (steps_of done.notice) (At done.line)) nothing_asked [] call walk)
+
+pub calls_walk : Calls Walked
+calls_walk = record {
+  act = λ serving course line act moment f. record {
+    drained = (phoned_moves line act moment f.drained).drained;
+    counted = acts_count line act moment f.counted;
+    unasked = λ nor.
+        none_both (course ++ acts act ∷ []) (steps_of (phoned line act moment).notice) (none_both course (acts act ∷ []) (f.unasked nor) tt)
+        (none_told (phoned line act moment).notice);
+    walk = λ none.
+        let grows = (lost_only_grows.act line act moment).grows f.counted in
+        let before : line.quarantined.lost ≡ 0 = omega (arith, grows, none) in
+        let done : LineDone = phoned line act moment in
+        goes_on course (acts act ∷ []) line done (f.walk before)
+        (λ p w at. here
+        (λ (next : Place) (left : List Observed). Walks next (with_act next.requests left (observed_at act)) (steps_of done.notice) (At done.line))
+        p w (phoned_walks line act moment p w f.drained at none));
+  };
+  request = λ course line request moment f. record {
+    drained = (asked_moves line request moment).drained;
+    counted = subst (λ (n : ℕ). n ≤ most_lost) (sym (lost_only_grows.request line request moment)) f.counted;
+    unasked = λ nor. absurd (true≢false nor);
+    walk = λ none.
+        goes_on course (accepts request ∷ []) line (asked line request moment) (f.walk (sym (lost_only_grows.request line request moment) ∙ none))
+        (λ p w at. asked_walks line request moment p w at);
+  };
+  answering = λ serving course line moment f. record {
+    drained = (answered_moves line moment).drained;
+    counted = subst (λ (n : ℕ). n ≤ most_lost) (sym (lost_only_grows.answering line moment)) f.counted;
+    unasked = λ nor. none_both course (steps_of (answered line moment).notice) (f.unasked nor) (none_told (answered line moment).notice);
+    walk = λ none.
+        goes_plain course line (answered line moment) (f.walk (sym (lost_only_grows.answering line moment) ∙ none))
+        (λ p w at. answered_walks line moment p w at);
+  };
+  serving = λ course line moment f. record {
+    drained = (opened_moves line moment).drained;
+    counted = subst (λ (n : ℕ). n ≤ most_lost) (sym (lost_only_grows.serving line moment)) f.counted;
+    unasked = λ nor. absurd (true≢false nor);
+    walk = λ none.
+        let done : LineDone = opened line moment in
+        let walk =
+        open_walks course (At line) nothing_asked [] (f.unasked refl) refl refl (f.walk (sym (lost_only_grows.serving line moment) ∙ none)) in
+        walks_both course (steps_of done.notice) (At done.line) nothing_asked []
+        (walks_map course (λ (p : Place) (w : List Observed). At line p w × (p.is_shut ≡ false))
+        (λ (p : Place) (w : List Observed). Walks p w (steps_of done.notice) (At done.line)) nothing_asked []
+        (λ p w at. opened_walks line moment p w at.0 at.1) walk);
+  };
+  firing = λ serving course line at due moment is f. record {
+    drained = (fired_moves line due moment f.drained).drained;
+    counted = fires_count line due moment f.counted;
+    unasked = λ nor. none_both course (steps_of (fired line due moment).notice) (f.unasked nor) (none_told (fired line due moment).notice);
+    walk = λ none.
+        let grows = (lost_only_grows.firing line due moment).grows f.counted in
+        let before : line.quarantined.lost ≡ 0 = omega (arith, grows, none) in
+        goes_plain course line (fired line due moment) (f.walk before) (λ p w here. fired_walks line due moment p w f.drained here);
+  };
+}
+
+pub opening_walks : Walked false [] opening_line
+opening_walks = record {
+  drained = λ normal. absurd cc;
+  counted = omega arith;
+  unasked = λ nor. tt;
+  walk = λ none. here (At opening_line) nothing_asked []
+      (record {
+        past = [];
+        held = [];
+        order = refl;
+        asks = refl;
+        accumulated = refl;
+        quiet = refl;
+        quarantined = refl;
+        steps = λ (is : false ≡ true). absurd (true≢false (sym is));
+        shuts = λ (is : false ≡ true). absurd (true≢false (sym is));
+        shut = λ (is : false ≡ true). absurd (true≢false (sym is));
+      });
+}
+
+-- where it stands, in the words of the law
+pub stays : (line : LineState) (place : Place) (waiting : List Observed) → At line place waiting → Stays line place waiting
+stays line place waiting at = (at.past, at.held, at.order, at.accumulated, at.quiet, at.quarantined)

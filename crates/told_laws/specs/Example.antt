@@ -1,0 +1,75 @@
+-- What comes to the gateway of the worked examples, which has two lines; and requests of which walks begin.
+use Rattle.std.specs.Prelude.{◌≡◌, List, [], ◌∷◌, codes}
+use Rattle.event_values.specs.declared.observed.Observed.{Observed}
+use Rattle.event_values.specs.declared.observed.Observed.TheVariants.{Happened}
+use Rattle.mg_packages.specs.declared.event.LineEvent.TheVariants as events
+use Rattle.event_requests.specs.declared.request.Request.{Request}
+use Rattle.mg_line.specs.declared.phone.Act.TheVariants.{OffHook, OnHook, Flash, Key}
+use Rattle.mg_line.specs.declared.phone.Key.TheVariants.{Five, Six}
+use Rattle.mg_line.specs.Scenario.{requests, with_handling}
+use Rattle.plain_machine.specs.Event.{GatewayEvent, phone}
+use Rattle.plain_machine.specs.Example.{rqnt, response}
+use Rattle.delivery_laws.specs.Course.{requests_in}
+use Rattle.delivery_laws.specs.OnceExample.{flash_embeds, course_then, line_then}
+use Rattle.told_laws.specs.Walking.{nothing_asked, End, Walks, Stays}
+
+-- line 1 is lifted, which is answered, and keys 5 and 6 are pressed
+abbrev pub dials_two : List GatewayEvent
+dials_two = phone 1 OffHook ∷ response 200 10000000 ∷ phone 1 (Key Five) ∷ phone 1 (Key Six) ∷ []
+
+-- a flash comes behind a lifting that is answered, and then a key
+abbrev pub flashes_and_dials : List GatewayEvent
+flashes_and_dials = flash_embeds ∷ phone 1 OffHook ∷ response 200 10000000 ∷ phone 1 Flash ∷ phone 1 (Key Five) ∷ []
+
+-- requests that have keys collected, a lifting told at once, and a lifting told with others; the last discards besides
+abbrev pub has_keys_collected : Request
+has_keys_collected = requests (codes "A1") (codes "D/[0-9](D)")
+
+abbrev pub has_lifting_told : Request
+has_lifting_told = requests (codes "A1") (codes "L/hd(N)")
+
+abbrev pub has_lifting_kept : Request
+has_lifting_kept = requests (codes "A1") (codes "L/hd(A)")
+
+-- a lifting told at once, and keys collected; once a request, or as often as that comes about
+abbrev pub has_all_told : Request
+has_all_told = requests (codes "A1") (codes "L/hd(N),D/[0-9](D)")
+
+abbrev pub has_all_told_in_loop : Request
+has_all_told_in_loop = with_handling (codes "loop") has_all_told
+
+abbrev pub discards_then : Request
+discards_then = with_handling (codes "discard") has_lifting_told
+
+-- a flash drops what had occurred, or carries it on, and from then on the handset's return is told alone
+abbrev pub flashed : Observed
+flashed = Happened events.Flash
+
+abbrev pub flash_drops : Request
+flash_drops = requests (codes "A1") (codes "L/hd(A),L/hu(N),L/hf(E(R(L/hu(N)))),D/[0-9](N)")
+
+abbrev pub flash_carries : Request
+flash_carries = requests (codes "A1") (codes "L/hd(A),L/hf(A,E(R(L/hu(N))))")
+
+-- line 1 is lifted, which is answered; it is asked for the same once more, and flashes, key 5 is pressed, and the handset put back
+abbrev pub flashes_and_hangs_up : List GatewayEvent
+flashes_and_hangs_up =
+    flash_embeds ∷ phone 1 OffHook ∷ response 200 10000000
+    ∷ rqnt 8 (codes "aaln/1") (codes "X: 2\r\nR: L/hd(N),L/hu(N),L/hf(E(R(L/hu(N)))),D/[0-9*#ABCD](N)\r\nQ: loop\r\n") ∷ phone 1 Flash
+    ∷ phone 1 (Key Five) ∷ phone 1 OnHook ∷ []
+
+-- what waits at the end of a walk
+abbrev pub waits : List Observed → End
+waits events place waiting = waiting ≡ events
+
+-- the first request that line 1 accepts
+abbrev first_of : List Request → Request
+first_of [] = has_lifting_told
+first_of (request ∷ more) = request
+
+abbrev pub request_then : List GatewayEvent → Request
+request_then events = first_of (requests_in (course_then events))
+
+-- what is told of line 1 then walks through what was done at it
+abbrev pub WalksThen : List GatewayEvent → Type 0
+WalksThen events = Walks nothing_asked [] (course_then events) (Stays (line_then events))

@@ -1,0 +1,4 @@
+pub mod Among
+pub mod Walking
+pub mod Example
+pub mod WorldExample

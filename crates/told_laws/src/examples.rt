@@ -1,0 +1,100 @@
+//! Worked examples of the definitions, as theorems: each sentence of a definition has one that a slip in it breaks.
+#![tactic(auto, unfolding(crate::proofs::Computing::on_examples))]
+
+ghost use Rattle.std.specs.Prelude.{◌≡◌, codes, [], ◌∷◌, Some};
+ghost use Rattle.event_values.specs.declared.observed.Observed.TheVariants.{Happened, Ended};
+ghost use Rattle.event_syntax.specs.declared.request.EmbeddedRequest.{EmbeddedRequest};
+ghost use Rattle.mg_line.specs.declared.phone.Act.TheVariants as acts;
+ghost use Rattle.mg_line.specs.declared.phone.Key.TheVariants as keys;
+ghost use Rattle.mg_packages.specs.declared.event.LineEvent.TheVariants as events;
+ghost use Rattle.mg_packages.specs.declared.signal.Signal.TheVariants as tones;
+ghost use Rattle.mg_bytes.specs.declared.letter.Letter.TheVariants as letters;
+ghost use Rattle.plain_machine.specs.Event.{phone};
+ghost use Rattle.plain_machine.specs.Example.{response};
+ghost use Rattle.delivery_laws.specs.Course.{acts as does, accepts, notifies};
+ghost use Rattle.delivery_laws.specs.Rounds.{of_telephone};
+ghost use Rattle.told_laws.specs.Among.{AreAmong, kept_by};
+ghost use Rattle.delivery_laws.specs.Dialled.{told_along};
+ghost use Rattle.told_laws.specs.Walking.{nothing_asked, EmbedsNone, reaction_to, Brings, TellsAFront, TellsWhatWasKept, Walks};
+ghost use Rattle.told_laws.specs.Example.{dials_two, flashes_and_dials, has_keys_collected, has_lifting_told, has_lifting_kept, has_all_told, has_all_told_in_loop, discards_then, flashed, flash_drops, flash_carries, flashes_and_hangs_up, waits, WalksThen};
+ghost use Rattle.delivery_laws.specs.OnceExample.{lifted, hung_up, five, six, keys_are_collected, asked_and_full};
+ghost use Rattle.delivery_laws.specs.OnceExample.{course_then, line_then, told_then};
+
+/// Some events are among others where they stand there in that order, each once.
+pub fn some_are_among_others()
+    ensures some { AreAmong (lifted ∷ six ∷ []) (lifted ∷ five ∷ six ∷ []) }
+    ensures none { AreAmong [] (five ∷ []) }
+    ensures twice { ¬ AreAmong (five ∷ five ∷ []) (five ∷ []) }
+    ensures order { ¬ AreAmong (six ∷ five ∷ []) (five ∷ six ∷ []) }
+    ensures other { ¬ AreAmong (six ∷ []) (five ∷ []) }
+    ensures of_telephones { of_telephone (lifted ∷ Ended tones.Ringing ∷ Happened (events.Letter letters.Timer) ∷ five ∷ []) ≡ lifted ∷ five ∷ [] }
+{}
+
+/// A key that is collected by a digit map is kept until that is completed, and then all of them are told, in their order.
+pub fn keys_are_told_together()
+    ensures first { kept_by (line_then (keys_are_collected ∷ phone 1 acts.OffHook ∷ response 200 10000000 ∷ phone 1 (acts.Key keys.Five) ∷ []))
+        ≡ five ∷ [] }
+    ensures told { of_telephone (told_along (course_then (keys_are_collected ∷ dials_two))) ≡ lifted ∷ five ∷ six ∷ [] }
+    ensures kept { kept_by (line_then (keys_are_collected ∷ dials_two)) ≡ [] }
+    ensures walk { WalksThen (keys_are_collected ∷ dials_two) }
+{}
+
+/// A walk tells a front of what waits, all that R has told of it, and the rest waits on. What neither is named nor is persistent doesn't
+/// wait. A request drops what is told with others, but not what is told at once, unless it discards what is quarantined; and nothing that
+/// was done since a notification, in step.
+pub fn a_walk_says_where_each_act_is()
+    ensures told { Walks nothing_asked [] (accepts has_keys_collected ∷ does (acts.Key keys.Five) ∷ does (acts.Key keys.Six)
+        ∷ notifies (codes "A1") (five ∷ six ∷ []) ∷ []) (waits []) }
+    ensures front { Walks nothing_asked [] (accepts has_keys_collected ∷ does (acts.Key keys.Five) ∷ does (acts.Key keys.Six)
+        ∷ notifies (codes "A1") (five ∷ []) ∷ []) (waits (six ∷ [])) }
+    ensures skipped { ¬ Walks nothing_asked [] (accepts has_keys_collected ∷ does (acts.Key keys.Five) ∷ does (acts.Key keys.Six)
+        ∷ notifies (codes "A1") (six ∷ []) ∷ []) (waits []) }
+    ensures unnamed { Walks nothing_asked [] (accepts has_lifting_told ∷ does (acts.Key keys.Five) ∷ []) (waits []) }
+    ensures persistent { Walks nothing_asked [] (does acts.OffHook ∷ does (acts.Key keys.Five) ∷ []) (waits (lifted ∷ [])) }
+    ensures dropped { Walks nothing_asked [] (accepts has_lifting_kept ∷ does acts.OffHook ∷ accepts has_lifting_kept ∷ []) (waits []) }
+    ensures at_once { ¬ Walks nothing_asked [] (accepts has_lifting_told ∷ does acts.OffHook ∷ accepts has_lifting_told ∷ []) (waits []) }
+    ensures processed { Walks nothing_asked [] (accepts has_lifting_told ∷ does acts.OffHook ∷ accepts has_lifting_told ∷ []) (waits (lifted ∷ [])) }
+    ensures discarded { Walks nothing_asked [] (accepts has_lifting_told ∷ does acts.OffHook ∷ accepts discards_then ∷ []) (waits []) }
+    ensures quarantined { Walks nothing_asked [] (accepts has_all_told ∷ does acts.OffHook ∷ notifies (codes "A1") (lifted ∷ [])
+        ∷ does (acts.Key keys.Five) ∷ accepts has_all_told ∷ []) (waits (five ∷ [])) }
+    ensures not_dropped { ¬ Walks nothing_asked [] (accepts has_all_told ∷ does acts.OffHook ∷ notifies (codes "A1") (lifted ∷ [])
+        ∷ does (acts.Key keys.Five) ∷ accepts has_all_told ∷ []) (waits []) }
+    ensures in_loop { Walks nothing_asked [] (accepts has_all_told_in_loop ∷ does acts.OffHook ∷ notifies (codes "A1") (lifted ∷ [])
+        ∷ does (acts.Key keys.Five) ∷ accepts has_all_told ∷ []) (waits []) }
+{}
+
+/// The first notification tells a front of what was quarantined at the request, and done since; it skips nothing of it.
+pub fn a_front_is_told()
+    ensures all { TellsAFront has_keys_collected [] [] (five ∷ six ∷ []) (five ∷ six ∷ []) }
+    ensures front { TellsAFront has_keys_collected [] [] (five ∷ six ∷ []) (five ∷ []) }
+    ensures quarantined { TellsAFront has_keys_collected (lifted ∷ []) (lifted ∷ five ∷ []) (six ∷ []) (five ∷ six ∷ []) }
+    ensures skipped { ¬ TellsAFront has_keys_collected [] [] (five ∷ six ∷ []) (six ∷ []) }
+    ensures kept_meanwhile { TellsWhatWasKept has_keys_collected has_keys_collected (lifted ∷ []) (lifted ∷ []) (five ∷ []) (six ∷ []) (five ∷ six ∷ []) }
+    ensures not_kept { TellsWhatWasKept has_lifting_told has_keys_collected (lifted ∷ []) (lifted ∷ []) (five ∷ []) (six ∷ []) (six ∷ []) }
+    ensures dropped { ¬ TellsWhatWasKept has_keys_collected has_keys_collected (lifted ∷ []) (lifted ∷ []) (five ∷ []) (six ∷ []) (six ∷ []) }
+{}
+
+/// By E alone an event is dropped, and with it what had occurred; with A that is carried on, and told behind the embedded request.
+pub fn a_walk_goes_on_behind_an_embedded_request()
+    ensures dropped { Walks nothing_asked [] (accepts flash_drops ∷ does acts.OffHook ∷ does acts.Flash ∷ does acts.OnHook
+        ∷ notifies (codes "A1") (hung_up ∷ []) ∷ []) (waits []) }
+    ensures carried { Walks nothing_asked [] (accepts flash_carries ∷ does acts.OffHook ∷ does acts.Flash ∷ does acts.OnHook
+        ∷ notifies (codes "A1") (lifted ∷ flashed ∷ hung_up ∷ []) ∷ []) (waits []) }
+    ensures not_carried { (request : EmbeddedRequest) → ¬ Brings (reaction_to flash_carries.events flashed) (lifted ∷ []) request [] }
+    ensures not_dropped { (request : EmbeddedRequest) → ¬ Brings (reaction_to flash_drops.events flashed) (lifted ∷ []) request (lifted ∷ []) }
+    ensures no_request { (request : EmbeddedRequest) → ¬ Brings (reaction_to flash_drops.events hung_up) [] request [] }
+    ensures on_a_line { WalksThen flashes_and_dials }
+{}
+
+/// Where more comes than there is room for, the last is lost, and the walk says so of none.
+pub fn else_an_act_may_leave_the_walk()
+    ensures lost { ¬ WalksThen asked_and_full }
+    ensures is_lost { (line_then asked_and_full).quarantined.lost ≡ 1 }
+{}
+
+/// The first notification behind a request that embeds another may skip what its R names.
+pub fn else_the_first_notification_may_skip()
+    ensures embeds { ¬ EmbedsNone flash_drops.events }
+    ensures told { told_then flashes_and_hangs_up ≡ lifted ∷ hung_up ∷ [] }
+    ensures skipped { ¬ TellsAFront flash_drops (lifted ∷ []) (lifted ∷ []) (flashed ∷ five ∷ hung_up ∷ []) (hung_up ∷ []) }
+{}

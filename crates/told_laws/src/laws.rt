@@ -1,0 +1,80 @@
+//! Laws of what a line tells, whatever is asked of it, over every list of events.
+ghost use Rattle.std.specs.Prelude.{◌≡◌, ◌++◌, ◌∷◌, [], ℕ, true, false, List, Some, None};
+ghost use Rattle.event_values.specs.declared.observed.Observed.{Observed};
+ghost use Rattle.event_requests.specs.declared.request.Request.{Request};
+ghost use Rattle.mg_line.specs.Answering.{is_loop};
+ghost use Rattle.plain_machine.specs.declared.setup.Setup.{Setup};
+ghost use Rattle.plain_machine.specs.declared.endpoint.Endpoint.{Endpoint};
+ghost use Rattle.plain_machine.specs.Event.{GatewayEvent};
+ghost use Rattle.plain_machine.specs.Lists.{plain, sent_of};
+ghost use Rattle.plain_machine.specs.Machine.{endpoint_at};
+ghost use Rattle.plain_machine.specs.Setup.{IsSetUp};
+ghost use Rattle.machine_laws.specs.Belonging.{of_line};
+ghost use Rattle.call_agent.specs.Agent.{observed_on};
+ghost use Rattle.agent_core.specs.World.{WorldStep, agent_in, gateway_in, plain_world, steps_are_taken, world_opening};
+ghost use Rattle.delivery_laws.specs.GivenUp.{has_given_up};
+ghost use Rattle.delivery_laws.specs.Course.{CourseStep, accepts, notifies, course_of};
+ghost use Rattle.delivery_laws.specs.Rounds.{of_telephone};
+ghost use Rattle.told_laws.specs.Among.{AreAmong, IsToldInOrder};
+ghost use Rattle.delivery_laws.specs.Dialled.{done_in, told_along, latest_from};
+ghost use Rattle.told_laws.specs.Walking.{nothing_asked, EmbedsNone, Walks, Stays, AreActs, TellsAFront, TellsWhatWasKept};
+
+/// Whatever is asked of a line, and by whatever requests: what its notifications told, each at its first send, joined, and then what it
+/// keeps to tell it, was done at its telephone, in that order, and nothing of it twice, but for the ends of signals and of timer T.
+pub fn what_is_told_was_done_in_that_order()
+    ensures told { (setup : Setup) (line : ℕ) (events : List GatewayEvent) (endpoint : Endpoint) →
+        endpoint_at (plain setup events).endpoints line ≡ Some endpoint →
+        AreAmong (of_telephone (told_along (course_of setup line events))) (done_in (course_of setup line events)) }
+    ensures kept { (setup : Setup) (line : ℕ) (events : List GatewayEvent) (endpoint : Endpoint) →
+        endpoint_at (plain setup events).endpoints line ≡ Some endpoint →
+        IsToldInOrder (course_of setup line events) endpoint.line }
+{}
+
+/// Where nothing is lost for want of room, each act is walked through by what the line tells: it is told, in its order, by a notification
+/// that tells all that R has told of a front of what waits; or it waits, accumulated or quarantined; or it was dropped: neither R nor T
+/// named it, and it isn't persistent; R gave it nothing, or I; E without A took it, or emptied the list in which it was; or a request emptied
+/// that list, in which R had none told at once, and which was empty where the line waited for that request, in step; or it discards what is
+/// quarantined.
+pub fn each_act_is_walked_through()
+    ensures { (setup : Setup) (line : ℕ) (events : List GatewayEvent) (endpoint : Endpoint) →
+        endpoint_at (plain setup events).endpoints line ≡ Some endpoint → endpoint.line.quarantined.lost ≡ 0 →
+        Walks nothing_asked [] (course_of setup line events) (Stays endpoint.line) }
+{}
+
+/// So the first notification behind a request that embeds none, with a digit map too, tells in their order each event that R names, up to
+/// it, of what the request left of what waited, and of what was done since: of these none is skipped, and none comes of anywhere else.
+pub fn the_first_notification_tells_what_was_asked_for()
+    ensures { (setup : Setup) (line : ℕ) (events : List GatewayEvent) (endpoint : Endpoint) (before between after : List CourseStep)
+        (request : Request) (identifier : List ℕ) (observed : List Observed) →
+        endpoint_at (plain setup events).endpoints line ≡ Some endpoint →
+        EmbedsNone request.events → endpoint.line.quarantined.lost ≡ 0 →
+        course_of setup line events ≡ before ++ accepts request ∷ (between ++ notifies identifier observed ∷ after) →
+        AreActs between →
+        TellsAFront request (of_telephone (told_along before)) (done_in before) (done_in between) observed }
+{}
+
+/// And what is done between a notification, in step, and the next request is quarantined still at that, where neither that request nor the
+/// one before embeds another: the first notification behind that request tells, in their order, each event that its R names, up to it, of
+/// what the notification before left and what was kept since, unless the request discards these, and of what was done behind it.
+pub fn what_is_done_meanwhile_is_told_behind_the_next_request()
+    ensures { (setup : Setup) (line : ℕ) (events : List GatewayEvent) (endpoint : Endpoint) (before some between after : List CourseStep)
+        (latest request : Request) (first second : List ℕ) (earlier observed : List Observed) →
+        endpoint_at (plain setup events).endpoints line ≡ Some endpoint →
+        EmbedsNone latest.events → EmbedsNone request.events → endpoint.line.quarantined.lost ≡ 0 →
+        course_of setup line events
+        ≡ before ++ notifies first earlier ∷ (some ++ accepts request ∷ (between ++ notifies second observed ∷ after)) →
+        latest_from None before ≡ Some latest → is_loop latest.handling.notifying ≡ false → AreActs some → AreActs between →
+        TellsWhatWasKept latest request (of_telephone (told_along before) ++ of_telephone earlier) (done_in before) (done_in some)
+        (done_in between) observed }
+{}
+
+/// In a world, whatever the network does, and whatever is asked of a line that gave no command up: what the agent took of it, joined, was
+/// done at its telephone, in that order, and nothing of it twice, but for the ends of signals and of timer T. No numbers need be left.
+pub fn what_the_agent_took_was_done_in_that_order()
+    ensures { (setup : Setup) (steps : List WorldStep) (line : ℕ) (endpoint : Endpoint) →
+        IsSetUp setup → steps_are_taken setup world_opening steps ≡ true →
+        endpoint_at (gateway_in setup (plain_world setup steps)).endpoints line ≡ Some endpoint →
+        has_given_up (of_line line (sent_of setup (plain_world setup steps).gateway_took)) endpoint.post ≡ false →
+        AreAmong (of_telephone (observed_on line (agent_in setup (plain_world setup steps))))
+        (done_in (course_of setup line (plain_world setup steps).gateway_took)) }
+{}
