@@ -3,8 +3,10 @@ pub mod AmongLemmas
 pub mod OccursLemmas
 pub mod WalkLemmas
 pub mod WalkFrontLemmas
+pub mod AskedLemmas
 pub mod ToldCourses
 pub mod TakenCourses
 pub mod ExampleLemmas
+pub mod AskedCourses
 pub mod Computing
 pub mod WorldComputing

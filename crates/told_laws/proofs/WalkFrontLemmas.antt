@@ -25,7 +25,7 @@ use Rattle.told_laws.proofs.WalkLemmas.{embeds_keeps}
 use Rattle.told_laws.proofs.AmongLemmas.{some_left, some_kept, among_none, among_same, among_is, among_front, among_both, among_pass}
 
 -- a walk along two courses
-walks_split : (course more : List CourseStep) (end : End) (place : Place) (waiting : List Observed) → Walks place waiting (course ++ more) end
+pub walks_split : (course more : List CourseStep) (end : End) (place : Place) (waiting : List Observed) → Walks place waiting (course ++ more) end
     → Walks place waiting course (λ (p : Place) (w : List Observed). Walks p w more end)
 walks_split [] more end place waiting walk = (place, waiting, no_more place waiting, walk)
 walks_split (acts act ∷ course) more end place waiting (next, left, moves, walk) =
@@ -60,7 +60,7 @@ left_among Process past held = among_both [] past held held (among_none past) (a
 left_among Discard past held = among_none (past ++ held)
 
 -- what is carried on, and what waits
-abbrev all_of : Place → List Observed → List Observed
+abbrev pub all_of : Place → List Observed → List Observed
 all_of place waiting = place.carried ++ waiting
 
 told_among : (place : Place) (front : List Observed) → AreAmong (told_of_front place front) (place.carried ++ front)
@@ -89,11 +89,11 @@ embeds_among place next waiting left (by_event p n w front rest l carried event 
     (subst (λ (xs : List Observed). AreAmong (carried ++ rest) xs) same
     (among_both carried (place.carried ++ (front ++ one)) rest rest so (among_same rest)))
 
-record Ends (end : End) (told all : List Observed) : Type 0 where
-  place : Place
-  waiting : List Observed
-  stands : end place waiting
-  among : AreAmong (told ++ all_of place waiting) all
+pub record Ends (end : End) (told all : List Observed) : Type 0 where
+  pub place : Place
+  pub waiting : List Observed
+  pub stands : end place waiting
+  pub among : AreAmong (told ++ all_of place waiting) all
 
 ends_in : (end : End) (told all more : List Observed) → AreAmong all more → Ends end told all → Ends end told more
 ends_in end told all more so e = record {
@@ -110,7 +110,7 @@ ends_from end told done place next waiting left moves e =
     ends_in end told (all_of next left ++ done) (all_of place waiting ++ done)
     (among_both (all_of next left) (all_of place waiting) done done (embeds_among place next waiting left moves) (among_same done)) e
 
-walk_ends : (course : List CourseStep) (end : End) (place : Place) (waiting : List Observed) → Walks place waiting course end
+pub walk_ends : (course : List CourseStep) (end : End) (place : Place) (waiting : List Observed) → Walks place waiting course end
     → Ends end (of_telephone (told_along course)) (all_of place waiting ++ done_in course)
 walk_ends [] end place waiting (next, left, moves, walk) =
     ends_from end [] [] place next waiting left moves
@@ -252,7 +252,7 @@ tells_a_front before between after request identifier observed end only bare wal
 
 -- Where the walk stands: R, where it embeds no request, and Q of the latest request
 
-abbrev IsPlaceOf : Option Request → Place → Type 0
+abbrev pub IsPlaceOf : Option Request → Place → Type 0
 IsPlaceOf None place = Unit {0}
 IsPlaceOf (Some request) place =
     (EmbedsNone request.events → place.requests ≡ request.events) × (place.in_step ≡ not (is_loop request.handling.notifying))
@@ -267,7 +267,7 @@ place_then : (latest : Option Request) (place next : Place) (waiting left : List
 place_then None place next waiting left moves is = tt
 place_then (Some request) place next waiting left moves is = (λ (bare : EmbedsNone request.events). (let never : NoneBrought place = none_by_requests place (subst EmbedsNone (sym (is.0 bare)) bare) in sym (embeds_none (λ (p : Place) (w : List Observed). p.requests ≡ next.requests) place next waiting left never moves refl) ∙ is.0 bare), (embeds_keeps place next waiting left moves).0 ∙ is.1)
 
-walk_place : (course : List CourseStep) (end : End) (place : Place) (waiting : List Observed) (latest : Option Request) → IsPlaceOf latest place
+pub walk_place : (course : List CourseStep) (end : End) (place : Place) (waiting : List Observed) (latest : Option Request) → IsPlaceOf latest place
     → Walks place waiting course end → Walks place waiting course (λ (p : Place) (w : List Observed). IsPlaceOf (latest_from latest course) p × end p w)
 walk_place [] end place waiting latest is (next, left, moves, walk) =
     (next, left, moves, (place_then latest place next waiting left moves is, walk))

@@ -13,10 +13,10 @@ ghost use Rattle.machine_laws.specs.Belonging.{of_line};
 ghost use Rattle.call_agent.specs.Agent.{observed_on};
 ghost use Rattle.agent_core.specs.World.{WorldStep, agent_in, gateway_in, plain_world, steps_are_taken, world_opening};
 ghost use Rattle.delivery_laws.specs.GivenUp.{has_given_up};
-ghost use Rattle.delivery_laws.specs.Course.{CourseStep, accepts, notifies, course_of};
+ghost use Rattle.delivery_laws.specs.Course.{CourseStep, accepts, notifies, course_from, course_of};
 ghost use Rattle.delivery_laws.specs.Rounds.{of_telephone};
 ghost use Rattle.told_laws.specs.Among.{AreAmong, IsToldInOrder};
-ghost use Rattle.delivery_laws.specs.Dialled.{done_in, told_along, latest_from};
+ghost use Rattle.delivery_laws.specs.Dialled.{done_in, told_along, latest_from, IsAskedForAll};
 ghost use Rattle.told_laws.specs.Walking.{nothing_asked, EmbedsNone, Walks, Stays, AreActs, TellsAFront, TellsWhatWasKept};
 
 /// Whatever is asked of a line, and by whatever requests: what its notifications told, each at its first send, joined, and then what it
@@ -66,6 +66,17 @@ pub fn what_is_done_meanwhile_is_told_behind_the_next_request()
         latest_from None before ≡ Some latest → is_loop latest.handling.notifying ≡ false → AreActs some → AreActs between →
         TellsWhatWasKept latest request (of_telephone (told_along before) ++ of_telephone earlier) (done_in before) (done_in some)
         (done_in between) observed }
+{}
+
+/// And where a line is asked for all that its telephone does before that does anything, and so at each request since, and nothing is lost
+/// for want of room, the walk drops nothing: all that was done is what was told, and then what is quarantined, but for the ends of signals
+/// and of timer T.
+pub fn where_all_is_asked_for_all_is_told()
+    ensures { (setup : Setup) (line : ℕ) (before after : List GatewayEvent) (endpoint : Endpoint) →
+        endpoint_at (plain setup (before ++ after)).endpoints line ≡ Some endpoint →
+        IsAskedForAll (course_of setup line before) (course_from setup (plain setup before) line after) endpoint.line →
+        done_in (course_of setup line (before ++ after))
+        ≡ of_telephone (told_along (course_of setup line (before ++ after))) ++ of_telephone endpoint.line.quarantined.events }
 {}
 
 /// In a world, whatever the network does, and whatever is asked of a line that gave no command up: what the agent took of it, joined, was
