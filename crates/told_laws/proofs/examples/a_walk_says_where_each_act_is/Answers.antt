@@ -6,7 +6,7 @@ use Rattle.mg_line.specs.declared.phone.Key.TheVariants.{Five, Six}
 use Rattle.delivery_laws.specs.Course.{acts, accepts, notifies}
 use Rattle.delivery_laws.specs.OnceExample.{five, lifted, six}
 use Rattle.told_laws.specs.Example.{has_all_told, has_keys_collected, has_lifting_told, waits}
-use Rattle.told_laws.specs.Walking.{Place, behind_notification, behind_request, collects, no_more, Walks}
+use Rattle.told_laws.specs.Walking.{Place, behind_notification, behind_request, collects, no_more, with_act, Walks}
 use Rattle.told_laws.proofs.Computing.{on_examples}
 use Rattle.told_laws.proofs.ExampleLemmas.{AtRequest, at_once_stays, bare_all, behind_one, ends_there, from_a_request, kept_where_shut, tells_first}
 use Rattle.told_laws.proofs.WalkFrontLemmas.{front_told, none_by_requests, none_where_shut}
@@ -58,7 +58,7 @@ returns-clause-at_once c =
     let never = none_by_requests place bare in
     let more = accepts has_lifting_told ∷ [] in
     let w = from_a_request has_lifting_told (acts OffHook ∷ more) (waits []) h in
-    let at = ends_there (λ (p : Place) (x : List Observed). Walks p (lifted ∷ []) more (waits [])) place [] never w in
+    let at = ends_there (λ (p : Place) (x : List Observed). Walks p (with_act p.requests x lifted) more (waits [])) place [] never w in
     let v = ends_there (AtRequest has_lifting_told [] (waits [])) place (lifted ∷ []) never at in
     at_once_stays has_lifting_told.events lifted v.0 v.1 [] (λ more. refl) v.2 v.3 (ends_there (waits []) place v.1 never v.5))
 
@@ -86,7 +86,7 @@ returns-clause-not_dropped c =
     let shut = none_where_shut place refl in
     let more = accepts has_all_told ∷ [] in
     let w = behind_one has_all_told OffHook (codes "A1") (acts (Key Five) ∷ more) (waits []) never refl refl h in
-    let at = ends_there (λ (p : Place) (x : List Observed). Walks p (five ∷ []) more (waits [])) place [] shut w in
+    let at = ends_there (λ (p : Place) (x : List Observed). Walks p (with_act p.requests x five) more (waits [])) place [] shut w in
     let v = ends_there (AtRequest has_all_told [] (waits [])) place (five ∷ []) shut at in
     kept_where_shut five v.0 v.1 v.2 (v.4 refl) (ends_there (waits []) (behind_request has_all_told) v.1 never v.5))
 
