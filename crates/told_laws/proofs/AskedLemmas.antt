@@ -121,6 +121,12 @@ front_is : (place : Place) (front : List Observed) → NotifiesAll place.request
 front_is place front all none phone =
     ap (λ (xs : List Observed). xs ++ filter (collects place.requests) front) none ∙ all_collected place.requests front all phone
 
+-- all is told, or waits, from each place at which all is asked for
+abbrev TellsAll : List CourseStep → LineState → Type 0
+TellsAll course line =
+    (place : Place) (waiting : List Observed) → Asks place waiting → AskForAll course → Walks place waiting course (Stays line)
+    → waiting ++ done_in course ≡ of_telephone (told_along course) ++ of_telephone line.quarantined.events
+
 all_told : (course : List CourseStep) (line : LineState) (place : Place) (waiting : List Observed) → Asks place waiting → AskForAll course
     → Walks place waiting course (Stays line) → waiting ++ done_in course ≡ of_telephone (told_along course) ++ of_telephone line.quarantined.events
 all_told [] line place waiting asks since (next, left, moves, walk) =
@@ -140,35 +146,34 @@ all_told (acts act ∷ course) line place waiting asks since (next, left, moves,
     (record { all = asks.all; none_carried = asks.none_carried; phone = phone_one waiting event asks.phone (act_of_phone act) }) since
     (subst (λ (w : List Observed). Walks place w course (Stays line)) (act_waits place waiting act asks.all) now)
 all_told (accepts request ∷ course) line place waiting asks since (next, left, moves, walk) =
-    accepted
+    accepted (all_told course line)
     (embeds_none
     (λ (p : Place) (w : List Observed). (occurred : List Observed) × (held : List Observed) × (w ≡ occurred ++ held)
     × (are_quiet p.requests occurred ≡ true) × (p.is_shut ≡ true → occurred ≡ [])
     × Walks (behind_request request) (left_by request.handling.quarantined held) course (Stays line)) place next waiting left
     (none_by_requests place asks.all.bare) moves walk) where
-      accepted : (occurred : List Observed) × (held : List Observed) × (waiting ≡ occurred ++ held)
+      accepted : TellsAll course line → (occurred : List Observed) × (held : List Observed) × (waiting ≡ occurred ++ held)
           × (are_quiet place.requests occurred ≡ true) × (place.is_shut ≡ true → occurred ≡ [])
           × Walks (behind_request request) (left_by request.handling.quarantined held) course (Stays line)
           → waiting ++ done_in course ≡ of_telephone (told_along course) ++ of_telephone line.quarantined.events
-      accepted (occurred, held, order, quiet, shut, rest) =
+      accepted tells (occurred, held, order, quiet, shut, rest) =
           let none : occurred ≡ [] =
           none_quiet place.requests occurred asks.all (phone_front occurred held (subst AllPhone order asks.phone)) quiet in
           let same : waiting ≡ held = order ∙ ap (λ (xs : List Observed). xs ++ held) none in
           let stays : left_by request.handling.quarantined held ≡ waiting =
           ap (λ (handling : Quarantined). left_by handling held) since.0.quarantined ∙ sym same in
-          all_told course line (behind_request request) waiting
-          (record { all = since.0.requested; none_carried = refl; phone = asks.phone }) since.1
+          tells (behind_request request) waiting (record { all = since.0.requested; none_carried = refl; phone = asks.phone }) since.1
           (subst (λ (w : List Observed). Walks (behind_request request) w course (Stays line)) stays rest)
 all_told (notifies identifier observed ∷ course) line place waiting asks since (next, left, moves, walk) =
-    noticed
+    noticed (all_told course line)
     (embeds_none
     (λ (p : Place) (w : List Observed). (front : List Observed) × (held : List Observed) × (w ≡ front ++ held)
     × (of_telephone observed ≡ told_of_front p front) × Walks (behind_notification p) held course (Stays line)) place next waiting left
     (none_by_requests place asks.all.bare) moves walk) where
-      noticed : (front : List Observed) × (held : List Observed) × (waiting ≡ front ++ held)
+      noticed : TellsAll course line → (front : List Observed) × (held : List Observed) × (waiting ≡ front ++ held)
           × (of_telephone observed ≡ told_of_front place front) × Walks (behind_notification place) held course (Stays line)
           → waiting ++ done_in course ≡ of_telephone (observed ++ told_along course) ++ of_telephone line.quarantined.events
-      noticed (front, held, order, told, rest) =
+      noticed tells (front, held, order, told, rest) =
           let phone : AllPhone (front ++ held) = subst AllPhone order asks.phone in
           let is : of_telephone observed ≡ front = told ∙ front_is place front asks.all asks.none_carried (phone_front front held phone) in
           let more = of_telephone (told_along course) in
@@ -176,8 +181,7 @@ all_told (notifies identifier observed ∷ course) line place waiting asks since
           ap (λ (xs : List Observed). xs ++ done_in course) order
           ∙ append_assoc front held (done_in course)
           ∙ ap (λ (xs : List Observed). front ++ xs)
-          (all_told course line (behind_notification place) held
-          (record { all = asks.all; none_carried = refl; phone = phone_back front held phone }) since rest)
+          (tells (behind_notification place) held (record { all = asks.all; none_carried = refl; phone = phone_back front held phone }) since rest)
           ∙ sym (append_assoc front more quarantined)
           ∙ ap (λ (xs : List Observed). xs ++ quarantined)
           (sym (filter-append is_of_telephone observed (told_along course) ∙ ap (λ (xs : List Observed). xs ++ more) is))
