@@ -1,5 +1,5 @@
 -- What the worked examples are compared by.
-use Rattle.std.proofs.Common.{◌≡◌, ℕ, ◌+◌, ◌<◌, Bool, true, false, Some, List, [], ◌∷◌, ◌++◌, length, refl, sym, ap, subst, ◌∙◌, arith}
+use Rattle.std.proofs.Common.{◌≡◌, ℕ, suc, ◌+◌, ◌<◌, Bool, true, false, Some, List, [], ◌∷◌, ◌++◌, length, refl, sym, ap, subst, ◌∙◌, arith}
 use Rattle.std.specs.Prelude.{find, nat_lt, filter, if◌then◌else◌}
 use Rattle.std.proofs.lemmas.Bool.{ltb-true, and_parts}
 use Rattle.std.specs.List.{list_all}
@@ -35,7 +35,8 @@ among_fewer some all (n, so) fewer =
 
 pub none_among : (some : List Observed) → AreAmong some [] → some ≡ []
 none_among [] so = refl
-none_among (event ∷ some) so = absurd (among_fewer (event ∷ some) [] so refl)
+none_among (event ∷ some) (n, so) =
+    let count : suc (length some) + n ≡ 0 = counted_out n (event ∷ some) [] so in absurd (omega (arith, count))
 
 pub among_as_many : (some all : List Observed) → AreAmong some all → length some ≡ length all → some ≡ all
 among_as_many some all (n, so) same =
@@ -105,8 +106,8 @@ first_request : (request : Request) (course : List CourseStep) (end : End) → A
     → Walks (behind_request request) [] course end
 first_request request course end ([], [], order, quiet, shut, walk) =
     subst (λ (xs : List Observed). Walks (behind_request request) xs course end) (left_none request.handling.quarantined) walk
-first_request request course end ([], x ∷ held, order, more) = absurd cc
-first_request request course end (x ∷ past, held, order, more) = absurd cc
+first_request request course end ([], x ∷ held, order, quiet, shut, walk) = absurd cc
+first_request request course end (x ∷ past, held, order, quiet, shut, walk) = absurd cc
 
 pub from_a_request : (request : Request) (course : List CourseStep) (end : End) → Walks nothing_asked [] (accepts request ∷ course) end
     → Walks (behind_request request) [] course end
