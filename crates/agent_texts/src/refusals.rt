@@ -82,7 +82,6 @@ fn tell_code(
 }
 
 /// Tells what the line at this place refuses for good, which refused otherwise before.
-#[tactic(auto, using(crate::proofs::TellingLemmas::tells_both))]
 pub fn tell_refusals(
     alloc: Global,
     journal: &mut Journal,
