@@ -19,7 +19,7 @@ use Rattle.delivery_laws.proofs.ServedLaws.{served_by}
 
 -- Fewer numbers don't meet all of more
 
-abbrev AreApart : List ℕ → Type 0
+abbrev pub AreApart : List ℕ → Type 0
 AreApart [] = Unit {0}
 AreApart (x ∷ xs) = Each (λ (y : ℕ). x ≢ y) xs × AreApart xs
 
@@ -115,10 +115,10 @@ module _ (setup : Setup) (w : World) (b : Begun) where
 far : (a b : ℕ) → a < b → a ≢ b
 far a b less same = absurd (omega (arith, less, same))
 
-chances_apart : AreApart chances
+pub chances_apart : AreApart chances
 chances_apart = ((far 0 500 (omega arith), (far 0 1500 (omega arith), (far 0 3500 (omega arith), (far 0 7500 (omega arith), (far 0 11500 (omega arith), (far 0 15500 (omega arith), (far 0 last_chance (omega arith), tt))))))), ((far 500 1500 (omega arith), (far 500 3500 (omega arith), (far 500 7500 (omega arith), (far 500 11500 (omega arith), (far 500 15500 (omega arith), (far 500 last_chance (omega arith), tt)))))), ((far 1500 3500 (omega arith), (far 1500 7500 (omega arith), (far 1500 11500 (omega arith), (far 1500 15500 (omega arith), (far 1500 last_chance (omega arith), tt))))), ((far 3500 7500 (omega arith), (far 3500 11500 (omega arith), (far 3500 15500 (omega arith), (far 3500 last_chance (omega arith), tt)))), ((far 7500 11500 (omega arith), (far 7500 15500 (omega arith), (far 7500 last_chance (omega arith), tt))), ((far 11500 15500 (omega arith), (far 11500 last_chance (omega arith), tt)), ((far 15500 last_chance (omega arith), tt), (tt, tt))))))))
 
-chances_low : Each (λ (wait : ℕ). wait ≤ last_chance) chances
+pub chances_low : Each (λ (wait : ℕ). wait ≤ last_chance) chances
 chances_low = (omega arith, (omega arith, (omega arith, (omega arith, (omega arith, (omega arith, (omega arith, (omega arith, tt))))))))
 
 -- A carried copy is answered

@@ -116,7 +116,7 @@ handed_there : (number : ℕ) (before later : List WorldStep) → hand_over numb
 handed_there number [] later = ap (λ (b : Bool). b || hand_over number later) ((Decides-eqb number number).1 refl)
 handed_there number (step ∷ before) later = either_holds (hands number step) (hand_over number ((before ++ delivering number ∷ []) ++ later)) (handed_there number before later)
 
-none_handed : (setup : Setup) (steps : List WorldStep) (within number : ℕ) (post : Posted) → hand_over number steps ≡ false → IsHandedOver setup steps within number post → ⊥
+pub none_handed : (setup : Setup) (steps : List WorldStep) (within number : ℕ) (post : Posted) → hand_over number steps ≡ false → IsHandedOver setup steps within number post → ⊥
 none_handed setup steps within number post none handed =
     absurd (let e : false ≡ true = sym none ∙ ap (hand_over number) handed.order ∙ handed_there number handed.before handed.later in cc)
 

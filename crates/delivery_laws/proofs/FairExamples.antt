@@ -59,7 +59,7 @@ was_there setup before more number post low found =
     was.1 ∙ ap (λ (p : Posted). Some p) (ap (λ (o : Option Posted). unwrap_or o post) (sym there ∙ found))
 
 module _ (setup : Setup) (within : ℕ) (steps : List WorldStep) (number : ℕ) (post : Posted) (found : slice_get (plain_world setup steps).posted number ≡ Some post) where
-  handed : (before rest : List WorldStep) (w : World) → w ≡ plain_world setup before → steps ≡ before ++ rest → is_handed setup within number post.packet.moment w rest ≡ true
+  pub handed : (before rest : List WorldStep) (w : World) → w ≡ plain_world setup before → steps ≡ before ++ rest → is_handed setup within number post.packet.moment w rest ≡ true
       → IsHandedOver setup steps within number post
   handed before [] w same order is = absurd cc
   handed before (step ∷ rest) w same order is =
@@ -104,7 +104,7 @@ handed_at setup within now steps first (one ∷ posts) (suc place) post found al
       same : (n m : ℕ) → n + 1 + m ≡ n + suc m
       same n m = omega arith
 
-not_young : (now old : ℕ) (b : Bool) → old ≤ now → (nat_lt now old || b) ≡ true → b ≡ true
+pub not_young : (now old : ℕ) (b : Bool) → old ≤ now → (nat_lt now old || b) ≡ true → b ≡ true
 not_young now old b late either = by_test (nat_lt now old) refl either where
   by_test : (young : Bool) → nat_lt now old ≡ young → (young || b) ≡ true → b ≡ true
   by_test true is all = absurd (let soon = ltb-true now old is in omega (arith, soon, late))

@@ -242,7 +242,7 @@ there_young issued sent now back is young early = omega (arith, is, young, early
 
 -- what is handed over is 10,000 ms old at most
 
-taken_last : (setup : Setup) (w : World) (front : List WorldStep) (step : WorldStep) → steps_are_taken setup w (front ++ step ∷ []) ≡ true
+pub taken_last : (setup : Setup) (w : World) (front : List WorldStep) (step : WorldStep) → steps_are_taken setup w (front ++ step ∷ []) ≡ true
     → step_refusal setup (world_after setup w front) step ≡ None
 unfolding steps_are_taken world_after
 taken_last setup w [] step all = is_none-None (step_refusal setup w step) (and_parts (is_none (step_refusal setup w step)) true all).0

@@ -19,7 +19,7 @@ use Rattle.delivery_laws.proofs.FirstSendLemmas.{PostedThen, handed_behind, post
 use Rattle.delivery_laws.proofs.PlaceLemmas.{one_parted}
 
 -- what a line began the gateway began
-begun_of_all : (P : Begun → Type 0) (line : ℕ) (sent : List Sent) → OneOf P (begun_in (of_line line sent)) → OneOf P (begun_in sent)
+pub begun_of_all : (P : Begun → Type 0) (line : ℕ) (sent : List Sent) → OneOf P (begun_in (of_line line sent)) → OneOf P (begun_in sent)
 begun_of_all P line [] one = one
 begun_of_all P line (s ∷ sent) one = by_test (is_of line s.owner) one (λ there. begun_of_all P line sent there) where
   by_part : OneOf P (begun_at s) ⊎ OneOf P (begun_in (of_line line sent))

@@ -97,9 +97,9 @@ by_is moment (Some other) item e = by_test (nat_le other.moment moment) e where
 
 -- A holds of the ids of the responses that came
 module _ (A : ℕ → Type 0) where
-  record OwnSends (sent : List Sent) (own : Post) : Type 0 where
-    rests : Rests own.restart own.pending
-    sends : Sends A sent own.pending
+  pub record OwnSends (sent : List Sent) (own : Post) : Type 0 where
+    pub rests : Rests own.restart own.pending
+    pub sends : Sends A sent own.pending
 
   abbrev OwnOn : List Sent → Effect Post → Type 0
   OwnOn sent turn = OwnSends (sent ++ turn.sent) turn.value
@@ -320,7 +320,7 @@ module _ (A : ℕ → Type 0) where
       from_still sent m.endpoints _ (line_still m.endpoints line (acted_on setup line m.now act) (λ x. acted_owned setup line m.now act x)) s
   event_own setup m (tick moment) sent hears s = own_passed setup moment m.endpoints.own _ (own_passes setup moment m.endpoints) sent s
 
-  events_own : (setup : Setup) (m : Machine) (events : List GatewayEvent) (sent : List Sent) → AllHear setup HasA (arrivals_from m.now events) → OwnSends sent m.endpoints.own
+  pub events_own : (setup : Setup) (m : Machine) (events : List GatewayEvent) (sent : List Sent) → AllHear setup HasA (arrivals_from m.now events) → OwnSends sent m.endpoints.own
       → OwnSends (sent ++ of_line 0 (sent_from setup m events)) (machine_after setup m events).endpoints.own
   unfolding machine_after sent_from arrivals_from
   events_own setup m [] sent hears s = still_own sent m.endpoints.own s
@@ -332,7 +332,7 @@ module _ (A : ℕ → Type 0) where
       (subst (λ (now : ℕ). AllHear setup HasA (arrivals_from now events)) (sym (effect_now setup m event)) (each_back Q (arrivals_at m.now event) (arrivals_from (clock_after m.now event) events) hears))
       (event_own setup m event sent (each_front Q (arrivals_at m.now event) (arrivals_from (clock_after m.now event) events) hears) s))
 
-  opening_own : (setup : Setup) → OwnSends [] (opening setup).endpoints.own
+  pub opening_own : (setup : Setup) → OwnSends [] (opening setup).endpoints.own
   opening_own setup = record { rests = refl; sends = record { each = tt; on = tt } }
 
   -- It is due behind the clock
@@ -421,7 +421,7 @@ module _ (A : ℕ → Type 0) where
       still_later m.now m.endpoints _ (line_still m.endpoints line (acted_on setup line m.now act) (λ x. acted_owned setup line m.now act x)) later
   event_later setup m (tick moment) hears later = passed_later setup m.endpoints moment
 
-  events_later : (setup : Setup) (m : Machine) (events : List GatewayEvent) → AllHear setup HasA (arrivals_from m.now events) → LaterIn m → LaterIn (machine_after setup m events)
+  pub events_later : (setup : Setup) (m : Machine) (events : List GatewayEvent) → AllHear setup HasA (arrivals_from m.now events) → LaterIn m → LaterIn (machine_after setup m events)
   unfolding machine_after arrivals_from
   events_later setup m [] hears later = later
   events_later setup m (event ∷ events) hears later =

@@ -66,7 +66,7 @@ use Rattle.delivery_laws.proofs.ChanceLemmas.{next_at, offset_low}
 abbrev pub WentOut : List Sent → List ℕ → ℕ → ℕ → Type 0
 WentOut sent text first until = (number : ℕ) → number ≤ until → OneOf (SaysAt text (first + offset number)) sent
 
-went_on : (sent more : List Sent) (text : List ℕ) (first until : ℕ) → WentOut sent text first until → WentOut (sent ++ more) text first until
+pub went_on : (sent more : List Sent) (text : List ℕ) (first until : ℕ) → WentOut sent text first until → WentOut (sent ++ more) text first until
 went_on sent more text first until out = λ number less. one_before (SaysAt text (first + offset number)) sent more (out number less)
 
 -- what is in flight is due at the next of its moments, and went out at all before
@@ -75,17 +75,17 @@ pub record IsOn (sent : List Sent) (flight : InFlight) : Type 0 where
   pub next : flight.due ≡ flight.first + offset (flight.repeats + 1)
   pub out : WentOut sent flight.text flight.first flight.repeats
 
-on_more : (sent more : List Sent) (flight : InFlight) → IsOn sent flight → IsOn (sent ++ more) flight
+pub on_more : (sent more : List Sent) (flight : InFlight) → IsOn sent flight → IsOn (sent ++ more) flight
 on_more sent more flight on = record { few = on.few; next = on.next; out = went_on sent more flight.text flight.first flight.repeats on.out }
 
-on_begins : (sent : List Sent) (one : Sent) (id : ℕ) (route : Route SocketAddrV4) (text : List ℕ) (moment : ℕ) → SaysAt text moment one → IsOn (sent ++ one ∷ []) (sent_first id route text moment)
+pub on_begins : (sent : List Sent) (one : Sent) (id : ℕ) (route : Route SocketAddrV4) (text : List ℕ) (moment : ℕ) → SaysAt text moment one → IsOn (sent ++ one ∷ []) (sent_first id route text moment)
 on_begins sent one id route text moment says = record {
   few = omega arith;
   next = ap (λ (o : ℕ). moment + o) (sym offset_first);
   out = λ number less. one_behind (SaysAt text (moment + offset number)) sent (one ∷ []) (inl (says.0, says.1 ∙ at_once moment number less));
 }
 
-on_again : (sent : List Sent) (one : Sent) (flight : InFlight) → repeat_of flight flight.due ≡ SentAgain → SaysAt flight.text flight.due one → IsOn sent flight
+pub on_again : (sent : List Sent) (one : Sent) (flight : InFlight) → repeat_of flight flight.due ≡ SentAgain → SaysAt flight.text flight.due one → IsOn sent flight
     → IsOn (sent ++ one ∷ []) (repeated flight flight.due)
 on_again sent one flight resends says on =
     subst (IsOn (sent ++ one ∷ [])) (sym (again_is flight flight.due resends)) (record {

@@ -68,7 +68,7 @@ each_filtered P p (x ∷ xs) all = by_test (p x) (each_filtered P p xs all.1) wh
   by_test true rest = (all.0, rest)
   by_test false rest = rest
 
-one_unfiltered : {X : Type 0} (P : X → Type 0) (p : X → Bool) (xs : List X) → OneOf P (filter p xs) → OneOf P xs
+pub one_unfiltered : {X : Type 0} (P : X → Type 0) (p : X → Bool) (xs : List X) → OneOf P (filter p xs) → OneOf P xs
 one_unfiltered P p [] one = one
 one_unfiltered P p (x ∷ xs) one = by_test (p x) one (one_unfiltered P p xs) where
   by_test : (b : Bool) → OneOf P (if b then x ∷ filter p xs else filter p xs) → (OneOf P (filter p xs) → OneOf P xs) → P x ⊎ OneOf P xs
@@ -90,7 +90,7 @@ module _ (setup : Setup) (A : ℕ → Type 0) (line : ℕ) (some : 1 ≤ line) w
         (on_made (λ n endpoint. LineSends A [] endpoint) (opening_endpoint setup) 1 setup.names.lines (λ i low high. opening_sends A (opening_endpoint setup i) refl refl)) at;
   }
 
-  line_on : (events : List GatewayEvent) → AllHear setup HasA (arrivals_of events) → (s : Endpoint) → endpoint_at (plain setup events).endpoints line ≡ Some s
+  pub line_on : (events : List GatewayEvent) → AllHear setup HasA (arrivals_of events) → (s : Endpoint) → endpoint_at (plain setup events).endpoints line ≡ Some s
       → LineSends A (of_line line (sent_of setup events)) s
   line_on events hears = (events_stand setup HasA (SendsBeside A) (send_turns A setup) line some (opening setup) [] [] 0 events hears opening_on).holds
 
@@ -149,7 +149,7 @@ module _ (setup : Setup) (A : ℕ → Type 0) (line : ℕ) (some : 1 ≤ line) w
       (at_once_later m (phone n act) order hears (act_at_once setup m n act) later s at)
   event_later m (tick moment) order hears later = ticked_later m moment
 
-  events_later : (m : Machine) (events : List GatewayEvent) → KeepOrder m.endpoints → AllHear setup HasA (arrivals_from m.now events) → LaterIn m → LaterIn (machine_after setup m events)
+  pub events_later : (m : Machine) (events : List GatewayEvent) → KeepOrder m.endpoints → AllHear setup HasA (arrivals_from m.now events) → LaterIn m → LaterIn (machine_after setup m events)
   unfolding machine_after arrivals_from
   events_later m [] order hears later = later
   events_later m (event ∷ events) order hears later =
@@ -164,17 +164,17 @@ module _ (setup : Setup) (A : ℕ → Type 0) (line : ℕ) (some : 1 ≤ line) w
       of_its_line (λ n endpoint. DueLater A 0 endpoint.post.pending) (opening setup).endpoints line s
       (on_made (λ n endpoint. DueLater A 0 endpoint.post.pending) (opening_endpoint setup) 1 setup.names.lines (λ i low high. tt)) at
 
-  line_later : (events : List GatewayEvent) → AllHear setup HasA (arrivals_of events) → LaterIn (plain setup events)
+  pub line_later : (events : List GatewayEvent) → AllHear setup HasA (arrivals_of events) → LaterIn (plain setup events)
   line_later events hears = events_later (opening setup) events (opening_waits setup) hears opening_later
 
 -- Each command of a line's own
 
 -- it went out so many ms after its first send, once the clock is so late
-abbrev SaidBy : List Sent → Begun → ℕ → ℕ → Type 0
+abbrev pub SaidBy : List Sent → Begun → ℕ → ℕ → Type 0
 SaidBy sent b now wait = b.moment + wait ≤ now → OneOf (SaysAt b.text (b.moment + wait)) sent
 
 -- what is in flight went out so often as the clock is late
-flying_said : (sent : List Sent) (b : Begun) (flight : InFlight) (now : ℕ) → IsIt b flight → IsOn sent flight → now < flight.due → (number : ℕ) → SaidBy sent b now (offset number)
+pub flying_said : (sent : List Sent) (b : Begun) (flight : InFlight) (now : ℕ) → IsIt b flight → IsOn sent flight → now < flight.due → (number : ℕ) → SaidBy sent b now (offset number)
 flying_said sent b flight now is on soon number = λ past. by_test (nat_le number flight.repeats) refl past where
   by_test : (x : Bool) → nat_le number flight.repeats ≡ x → b.moment + offset number ≤ now → OneOf (SaysAt b.text (b.moment + offset number)) sent
   by_test true low past = its_sends sent b flight flight.repeats is on.out number (leb-true number flight.repeats low)
@@ -186,7 +186,7 @@ flying_said sent b flight now is on soon number = λ past. by_test (nat_le numbe
       let first : flight.first ≡ b.moment = is.first in
       omega (arith, later, soon, next, first, past))
 
-told_after : (setup : Setup) (w : World) (b : Begun) (wait : ℕ) → OneOf (HasText b.text (b.moment + wait)) w.posted → IsToldAfter setup w b wait
+pub told_after : (setup : Setup) (w : World) (b : Begun) (wait : ℕ) → OneOf (HasText b.text (b.moment + wait)) w.posted → IsToldAfter setup w b wait
 told_after setup w b wait one =
     let at = one_at (HasText b.text (b.moment + wait)) w.posted one in
     record {

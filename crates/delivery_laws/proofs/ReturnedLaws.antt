@@ -201,7 +201,7 @@ is_returned setup steps limit within b set_up taken fair roomy own goes late =
     (returned_behind setup steps limit within b taken fair late is).0
 
 -- where it is handed over it comes
-has_come : (setup : Setup) (steps : List WorldStep) (b : Begun) → IsReturned setup steps b → HasCome (plain_world setup steps) b.id
+pub has_come : (setup : Setup) (steps : List WorldStep) (b : Begun) → IsReturned setup steps b → HasCome (plain_world setup steps) b.id
 has_come setup steps b back =
     any_from_one Comes (arrivals_of (plain_world setup steps).gateway_took)
     (subst (λ (s : List WorldStep). HasOne Comes setup (plain_world setup s)) (sym back.order)

@@ -38,7 +38,7 @@ use Rattle.delivery_laws.proofs.AmidLaws.{FirstOf, first_of, it_responds, respon
 use Rattle.delivery_laws.proofs.LineLaws.{IsAnswered, heard_is}
 
 -- what holds of the gateway's own post stays at a text, where it does at each response
-own_keeps : (setup : Setup) (P : Post → Type 0) (m : Machine) (source : SocketAddrV4) (outcome : Outcome)
+pub own_keeps : (setup : Setup) (P : Post → Type 0) (m : Machine) (source : SocketAddrV4) (outcome : Outcome)
     → ((code id : ℕ) (params : List Param) (body : List ℕ) → outcome ≡ message (messages.Response code id params body)
     → P (responded setup m.endpoints m.now (response_with setup id code params)).value.own) → P m.endpoints.own → P (handled setup m source outcome).value.endpoints.own
 own_keeps setup P m source outcome hears is =
@@ -79,7 +79,7 @@ response_serves setup endpoints moment response order served = by_own (line_of_i
       ap (λ (t : Effect Endpoints). serves t.value) (a_served_gateway_hears_nothing setup endpoints moment response (eqb-true (line_of_id response.id) 0 own) order.order served) ∙ served
   by_own false some = ap (λ (own : Post). is_serving own.restart) (own_stays_at setup endpoints moment response (eqb-false (line_of_id response.id) 0 some)) ∙ served
 
-texts_serve : (setup : Setup) (m : Machine) (source : SocketAddrV4) (texts : List (List ℕ)) → KeepOrder m.endpoints → serves m.endpoints ≡ true
+pub texts_serve : (setup : Setup) (m : Machine) (source : SocketAddrV4) (texts : List (List ℕ)) → KeepOrder m.endpoints → serves m.endpoints ≡ true
     → serves (took_all setup m source texts).value.endpoints ≡ true
 unfolding took_all
 texts_serve setup m source [] order served = served
