@@ -1,0 +1,33 @@
+-- What a gateway sends of its own, whoever its agent is and whatever the network does: by the events that it took (RFC 3435, 3.5.3).
+use Rattle.std.specs.Prelude.{◌≡◌, ℕ, List, Any}
+use Rattle.plain_machine.specs.declared.setup.Setup.{Setup}
+use Rattle.plain_machine.specs.Arriving.{TextArrival, arrivals_from, arrivals_of}
+use Rattle.plain_machine.specs.Event.{GatewayEvent}
+use Rattle.plain_machine.specs.Lists.{plain, sent_from, sent_of}
+use Rattle.plain_machine.specs.Message.{Sent, text_of}
+use Rattle.machine_laws.specs.Belonging.{of_line}
+use Rattle.machine_laws.specs.Saying.{Begun, begun_in}
+use Rattle.delivery_laws.specs.OwnChances.{IsResponse}
+
+-- a line began this command, a notification or its announcement; or the gateway itself did, as line 0, an announcement
+abbrev pub HasBegun : Setup → List GatewayEvent → ℕ → Begun → Type 0
+HasBegun setup events line b = Any (λ (one : Begun). one ≡ b) (begun_in (of_line line (sent_of setup events)))
+
+-- a response with this id came (RFC 3435, 3.2.1.2)
+abbrev pub HasResponse : List GatewayEvent → ℕ → Type 0
+HasResponse events id = Any (λ (a : TextArrival). IsResponse id a.outcome) (arrivals_of events)
+
+-- the line sent this text at this moment
+abbrev pub IsSentAt : Setup → List GatewayEvent → ℕ → List ℕ → ℕ → Type 0
+IsSentAt setup events line text moment =
+    Any (λ (one : Sent). (text_of one.said ≡ text) × (one.moment ≡ moment)) (of_line line (sent_of setup events))
+
+-- The same behind some events
+
+abbrev pub HasResponseSince : Setup → List GatewayEvent → List GatewayEvent → ℕ → Type 0
+HasResponseSince setup before after id =
+    Any (λ (a : TextArrival). IsResponse id a.outcome) (arrivals_from (plain setup before).now after)
+
+abbrev pub IsSentSince : Setup → List GatewayEvent → List GatewayEvent → ℕ → List ℕ → ℕ → Type 0
+IsSentSince setup before after line text moment =
+    Any (λ (one : Sent). (text_of one.said ≡ text) × (one.moment ≡ moment)) (of_line line (sent_from setup (plain setup before) after))
