@@ -4,10 +4,18 @@
 #![tactic(auto, unfolding(crate::proofs::Computing::on_examples))]
 
 ghost use Rattle.std.specs.Prelude.{◌≡◌, ◌≤◌, ◌+◌, ◌*◌, ◌++◌, [], ◌∷◌, map, true, false, None, Some};
+ghost use Rattle.restart.specs.declared.restart.Restart.TheVariants.{Waiting};
 ghost use Rattle.plain_machine.specs.Event.{tick};
 ghost use Rattle.plain_machine.specs.Example.{naming_other, response, two_lines};
+ghost use Rattle.agent_core.specs.World.{delivering, steps_are_taken, ticking, world_opening};
+ghost use Rattle.world_laws.specs.Reached.{key_reached, taken_in};
+ghost use Rattle.world_laws.specs.Example.{moments_in, world};
+ghost use Rattle.delivery_laws.specs.Copies.{IsRun};
+ghost use Rattle.delivery_laws.specs.DialledExample.{endpoint_then};
+ghost use Rattle.delivery_laws.specs.Example.{flying_after, lifted, notification};
 ghost use Rattle.outage_laws.specs.Alone.{HasBegun, HasResponse, IsSentAt};
-ghost use Rattle.outage_laws.specs.Example.{announcement, moments_of, put_off, put_off_twice};
+ghost use Rattle.outage_laws.specs.Carrying.{IsCarriedBack};
+ghost use Rattle.outage_laws.specs.Example.{all_lost, announcement, last_copy, moments_of, put_off, put_off_twice, saved};
 
 /// An announcement goes out again after 500 ms, unless a response to it came. A provisional one puts that off to 5,000 ms after the last of
 /// them, and 521 that names another agent is announced at once.
@@ -26,4 +34,17 @@ pub fn an_announcement_goes_out_again()
     ensures of_an_other_id { moments_of 0 (tick 1 ∷ response 100 2 ∷ tick 501 ∷ []) ≡ 1 ∷ 501 ∷ [] }
     ensures answered { moments_of 0 (tick 1 ∷ response 200 1 ∷ tick 501 ∷ []) ≡ 1 ∷ [] }
     ensures redirected { moments_of 0 (tick 1 ∷ tick 2 ∷ naming_other 521 1 ∷ []) ≡ 1 ∷ 2 ∷ [] }
+{}
+
+/// Of eight copies the last is enough, where it is handed over, and its answer is. Where none is the line gives its notification up.
+pub fn the_last_copy_of_a_notification_is_enough()
+    ensures moments { moments_in last_copy ≡ 1 ∷ 1 ∷ 1 ∷ 501 ∷ 1501 ∷ 3501 ∷ 7501 ∷ 11501 ∷ 15501 ∷ 19501 ∷ [] }
+    ensures run { IsRun two_lines saved }
+    ensures carried { IsCarriedBack two_lines saved lifted 9 }
+    ensures taken { map key_reached (taken_in (world saved)) ≡ (1, 1) ∷ (10000000, 20001) ∷ [] }
+    ensures over { flying_after saved ≡ None }
+    ensures not_back { flying_after (last_copy ++ delivering 9 ∷ ticking 21001 ∷ []) ≡ Some 10000000 }
+    ensures lost { steps_are_taken two_lines world_opening all_lost ≡ true }
+    ensures not_taken { map key_reached (taken_in (world all_lost)) ≡ (1, 1) ∷ [] }
+    ensures given_up { (endpoint_then all_lost).post.restart ≡ Waiting 28501 }
 {}
