@@ -5,4 +5,11 @@ pub mod NextOwnLaws
 pub mod PlainArrivals
 pub mod OwnCopyLemmas
 pub mod CarriedBackLaws
+pub mod NextSendLemmas
+pub mod SinceLaws
+pub mod TrackLemmas
+pub mod TrackLaws
+pub mod ServesLaws
+pub mod YoungLemmas
 pub mod Computing
+pub mod FairFromExamples

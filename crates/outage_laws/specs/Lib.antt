@@ -1,3 +1,4 @@
 pub mod Alone
 pub mod Carrying
+pub mod AfterOutage
 pub mod Example

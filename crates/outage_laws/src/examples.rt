@@ -7,15 +7,21 @@ ghost use Rattle.std.specs.Prelude.{◌≡◌, ◌≤◌, ◌+◌, ◌*◌, ◌+
 ghost use Rattle.restart.specs.declared.restart.Restart.TheVariants.{Waiting};
 ghost use Rattle.plain_machine.specs.Event.{tick};
 ghost use Rattle.plain_machine.specs.Example.{naming_other, response, two_lines};
-ghost use Rattle.agent_core.specs.World.{delivering, steps_are_taken, ticking, world_opening};
+ghost use Rattle.plain_machine.specs.Machine.{serves};
+ghost use Rattle.machine_laws.specs.Saying.{Begun};
+ghost use Rattle.agent_core.specs.World.{delivering, gateway_in, now_in, steps_are_taken, ticking, world_opening};
 ghost use Rattle.world_laws.specs.Reached.{key_reached, taken_in};
 ghost use Rattle.world_laws.specs.Example.{moments_in, world};
+ghost use Rattle.delivery_laws.specs.Chances.{last_chance};
 ghost use Rattle.delivery_laws.specs.Copies.{IsRun};
 ghost use Rattle.delivery_laws.specs.DialledExample.{endpoint_then};
-ghost use Rattle.delivery_laws.specs.Example.{flying_after, lifted, notification};
+ghost use Rattle.delivery_laws.specs.Example.{flying_after, lifted, notification, notified};
+ghost use Rattle.delivery_laws.specs.Fairness.{GoesToAgent, IsFair};
+ghost use Rattle.delivery_laws.specs.OwnChances.{IsOfLine};
+ghost use Rattle.outage_laws.specs.AfterOutage.{AgentHasRoomFrom, IsFairFrom, gap_of, longest_pause};
 ghost use Rattle.outage_laws.specs.Alone.{HasBegun, HasResponse, IsSentAt};
 ghost use Rattle.outage_laws.specs.Carrying.{IsCarriedBack};
-ghost use Rattle.outage_laws.specs.Example.{all_lost, announcement, last_copy, moments_of, put_off, put_off_twice, saved};
+ghost use Rattle.outage_laws.specs.Example.{all_lost, announcement, answered_late, found_again, last_copy, lost_at_first, moments_of, put_off, put_off_twice, saved, sent_elsewhere, serving_late, unserved};
 
 /// An announcement goes out again after 500 ms, unless a response to it came. A provisional one puts that off to 5,000 ms after the last of
 /// them, and 521 that names another agent is announced at once.
@@ -47,4 +53,65 @@ pub fn the_last_copy_of_a_notification_is_enough()
     ensures lost { steps_are_taken two_lines world_opening all_lost ≡ true }
     ensures not_taken { map key_reached (taken_in (world all_lost)) ≡ (1, 1) ∷ [] }
     ensures given_up { (endpoint_then all_lost).post.restart ≡ Waiting 28501 }
+{}
+
+/// The network is there again 1 ms behind the send of 3,501, and hands each packet over in 300 ms: the notification is taken 3,999 + 300 ms
+/// behind that, and answered 300 ms later, and no sooner. All that the law asks for holds at once.
+pub fn what_was_lost_is_taken_at_the_next_send()
+    ensures run { IsRun two_lines found_again }
+    ensures fair { IsFairFrom two_lines found_again 3502 300 }
+    ensures fair_not_before { ¬ IsFairFrom two_lines found_again 3501 300 }
+    ensures fair_yet { IsFairFrom two_lines lost_at_first 3502 301 }
+    ensures fair_no_more { ¬ IsFairFrom two_lines lost_at_first 3502 300 }
+    ensures not_fair { ¬ IsFair two_lines found_again 300 }
+    ensures room { AgentHasRoomFrom two_lines found_again 3502 }
+    ensures of_line { IsOfLine two_lines (world found_again) 1 lifted }
+    ensures goes { GoesToAgent two_lines (world found_again) notification }
+    ensures in_flight { 3502 ≤ lifted.moment + last_chance }
+    ensures late { 3502 + longest_pause + 300 ≡ now_in two_lines (world lost_at_first) + 1 }
+    ensures not_yet { map key_reached (taken_in (world lost_at_first)) ≡ (1, 1) ∷ [] }
+    ensures taken { map key_reached (taken_in (world found_again)) ≡ (1, 1) ∷ (10000000, 7801) ∷ [] }
+    ensures late_too { 3502 + longest_pause + 2 * 300 ≡ now_in two_lines (world answered_late) + 1 }
+    ensures not_answered { flying_after answered_late ≡ Some 10000000 }
+    ensures answered { flying_after found_again ≡ None }
+{}
+
+/// The eight sends of the gateway's announcement, from 1 on, are lost, and the network is there again 1 ms behind the last; the gateway
+/// gives it up, and announces itself anew 1 ms later. It serves 4,000 ms, that wait and twice 300 ms behind that, and no sooner.
+pub fn a_gateway_that_gave_up_serves_at_last()
+    ensures run { IsRun two_lines serving_late }
+    ensures fair { IsFairFrom two_lines serving_late 19502 300 }
+    ensures fair_not_before { ¬ IsFairFrom two_lines serving_late 19501 300 }
+    ensures room { AgentHasRoomFrom two_lines serving_late 19502 }
+    ensures moments { moments_in unserved ≡ 1 ∷ 501 ∷ 1501 ∷ 3501 ∷ 7501 ∷ 11501 ∷ 15501 ∷ 19501 ∷ 23502 ∷ 23802 ∷ 24002 ∷ [] }
+    ensures goes { (b : Begun) → IsOfLine two_lines (world serving_late) 0 b → GoesToAgent two_lines (world serving_late) b.text }
+    ensures late { 19502 + gap_of 300 + two_lines.restart_wait + 2 * 300 ≡ now_in two_lines (world serving_late) + 1 }
+    ensures not_yet { serves (gateway_in two_lines (world unserved)).endpoints ≡ false }
+    ensures serving { serves (gateway_in two_lines (world serving_late)).endpoints ≡ true }
+{}
+
+/// The slower the network, the earlier the last send whose answer comes in time.
+pub fn what_a_gap_is()
+    ensures fast { gap_of 0 ≡ 4000 }
+    ensures less { gap_of 1999 ≡ 4000 }
+    ensures twice { gap_of 2000 ≡ 8000 }
+    ensures slow { gap_of 4000 ≡ 12000 }
+    ensures slower { gap_of 6000 ≡ 16000 }
+    ensures very_slow { gap_of 8000 ≡ 20000 }
+    ensures as_slow { gap_of 9999 ≡ 20000 }
+    ensures slowest { gap_of 10000 ≡ 22000 }
+    ensures too_slow { gap_of 12000 ≡ 23500 }
+{}
+
+/// Where nothing is handed over it is never taken, nor where it goes elsewhere, nor where the last of its sends was before.
+pub fn what_is_wanting_leaves_it_untaken()
+    ensures unfair { ¬ IsFairFrom two_lines (lost_at_first ++ ticking 8101 ∷ []) 3502 300 }
+    ensures none_taken { map key_reached (taken_in (world (lost_at_first ++ ticking 8101 ∷ []))) ≡ (1, 1) ∷ [] }
+    ensures fair { IsFairFrom two_lines sent_elsewhere 0 0 }
+    ensures run { steps_are_taken two_lines world_opening sent_elsewhere ≡ true }
+    ensures late { 0 + longest_pause + 0 ≤ now_in two_lines (world sent_elsewhere) + 1 }
+    ensures none_there { map key_reached (taken_in (world sent_elsewhere)) ≡ (1, 1) ∷ [] }
+    ensures fair_since { IsFairFrom two_lines all_lost 19502 0 }
+    ensures late_too { 19502 + longest_pause + 0 ≤ now_in two_lines (world all_lost) + 1 }
+    ensures none_left { map key_reached (taken_in (world all_lost)) ≡ (1, 1) ∷ [] }
 {}

@@ -1,10 +1,11 @@
-//! What a gateway sends of its own, whoever its agent is and whatever the network does, and of how many copies one is enough (RFC 3435,
-//! 3.5, 4.3, 4.4.6 and 4.4.7).
+//! A network that was down and came back (RFC 3435, 3.5, 4.3, 4.4.6 and 4.4.7): what a gateway sends of its own meanwhile, whoever its
+//! agent is, of how many copies one is enough, and by when what is in flight is taken and answered.
 //!
 //! Nothing here runs: each law is a function without a body, whose clauses are proved for every setup and every list of steps, or of
-//! events. `specs/` says what a line began, what came, and what was sent, and what is carried.
+//! events. `specs/` says what a command of the gateway's own is sent at, what is carried, and when a network is fair from a moment on.
 #![tactic(auto)]
 
 pub mod alone_laws;
 pub mod carrying_laws;
 pub mod examples;
+pub mod since_laws;

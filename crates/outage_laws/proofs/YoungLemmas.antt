@@ -1,0 +1,82 @@
+-- Firsts that grow old are young no longer, and make room.
+use Rattle.std.proofs.Common.{◌≡◌, ℕ, suc, ◌+◌, ◌-◌, ◌<◌, ◌≤◌, Bool, true, false, if◌then◌else◌, List, [], ◌∷◌, length, inl, inr, refl, subst, ap, sym, ◌∙◌, arith}
+use Rattle.std.specs.Prelude.{◌⊎◌, All, Any, nat_lt}
+use Rattle.std.proofs.lemmas.Bool.{ltb-true, ltb-false}
+use Rattle.history.specs.Arrival.{Arrival}
+use Rattle.history.specs.Firsts.{young_of}
+use Rattle.history.specs.Memory.{is_young, memory_time, most_firsts}
+use Rattle.machine_laws.specs.Saying.{OneOf}
+use Rattle.machine_laws.proofs.EachLemmas.{Each, each_from_all, one_from_any}
+use Rattle.delivery_laws.specs.Copies.{HasRoom}
+
+-- what is old isn't young
+old_test : (moment later : ℕ) → moment + memory_time ≤ later → is_young later moment ≡ false
+old_test moment later old = by_test (is_young later moment) refl where
+  by_test : (b : Bool) → nat_lt (later - moment) memory_time ≡ b → b ≡ false
+  by_test true young = absurd (let few : later - moment < memory_time = ltb-true (later - moment) memory_time young in omega (arith, old, few))
+  by_test false young = refl
+
+-- what is young later was young before
+young_before : (moment now later : ℕ) → now ≤ later → is_young now moment ≡ false → is_young later moment ≡ false
+young_before moment now later past old = by_test (is_young later moment) refl where
+  by_test : (b : Bool) → nat_lt (later - moment) memory_time ≡ b → b ≡ false
+  by_test true young =
+      absurd (
+      let few : later - moment < memory_time = ltb-true (later - moment) memory_time young in
+      let many : memory_time ≤ now - moment = ltb-false (now - moment) memory_time old in
+      omega (arith, past, few, many))
+  by_test false young = refl
+
+-- so no more of them are
+no_more : (firsts : List Arrival) (now later : ℕ) → now ≤ later → length (young_of later firsts) ≤ length (young_of now firsts)
+no_more [] now later past = omega arith
+no_more (first ∷ firsts) now later past = by_tests (is_young now first.moment) (is_young later first.moment) refl refl (no_more firsts now later past) where
+  by_tests : (a b : Bool) → is_young now first.moment ≡ a → is_young later first.moment ≡ b → length (young_of later firsts) ≤ length (young_of now firsts)
+      → length (if b then first ∷ young_of later firsts else young_of later firsts) ≤ length (if a then first ∷ young_of now firsts else young_of now firsts)
+  by_tests true true one two less = omega (arith, less)
+  by_tests true false one two less = omega (arith, less)
+  by_tests false true one two less = absurd (let clash : true ≡ false = sym two ∙ young_before first.moment now later past one in cc)
+  by_tests false false one two less = less
+
+-- one less at least for each that is old
+one_less : (firsts : List Arrival) (now later : ℕ) (first : Arrival) → now ≤ later → OneOf (λ (one : Arrival). one ≡ first) (young_of now firsts) → first.moment + memory_time ≤ later
+    → length (young_of later firsts) < length (young_of now firsts)
+one_less [] now later first past one old = absurd one
+one_less (x ∷ firsts) now later first past one old =
+    by_tests (is_young now x.moment) (is_young later x.moment) refl refl one (no_more firsts now later past) (λ there. one_less firsts now later first past there old) where
+      by_here : (b : Bool) → is_young later x.moment ≡ b → (x ≡ first) ⊎ OneOf (λ (one : Arrival). one ≡ first) (young_of now firsts) → length (young_of later firsts) ≤ length (young_of now firsts)
+          → (OneOf (λ (one : Arrival). one ≡ first) (young_of now firsts) → length (young_of later firsts) < length (young_of now firsts))
+          → length (if b then x ∷ young_of later firsts else young_of later firsts) < suc (length (young_of now firsts))
+      by_here true young (inl same) less on =
+          absurd (
+          let aged : is_young later x.moment ≡ false = old_test x.moment later (subst (λ (a : Arrival). a.moment + memory_time ≤ later) (sym same) old) in
+          let clash : true ≡ false = sym young ∙ aged in cc)
+      by_here true young (inr there) less on = let fewer = on there in omega (arith, fewer)
+      by_here false young (inl same) less on = omega (arith, less)
+      by_here false young (inr there) less on = let fewer = on there in omega (arith, fewer)
+
+      by_tests : (a b : Bool) → is_young now x.moment ≡ a → is_young later x.moment ≡ b
+          → OneOf (λ (one : Arrival). one ≡ first) (if a then x ∷ young_of now firsts else young_of now firsts) → length (young_of later firsts) ≤ length (young_of now firsts)
+          → (OneOf (λ (one : Arrival). one ≡ first) (young_of now firsts) → length (young_of later firsts) < length (young_of now firsts))
+          → length (if b then x ∷ young_of later firsts else young_of later firsts) < length (if a then x ∷ young_of now firsts else young_of now firsts)
+      by_tests true b one two among less on = by_here b two among less on
+      by_tests false true one two among less on = absurd (let clash : true ≡ false = sym two ∙ young_before x.moment now later past one in cc)
+      by_tests false false one two among less on = on among
+
+pub each_makes_room : (firsts : List Arrival) (now later : ℕ) (first : Arrival) → now ≤ later → Any (λ (one : Arrival). one ≡ first) (young_of now firsts) → first.moment + memory_time ≤ later
+    → length (young_of later firsts) < length (young_of now firsts)
+each_makes_room firsts now later first past among old = one_less firsts now later first past (one_from_any (λ (one : Arrival). one ≡ first) (young_of now firsts) among) old
+
+none_young : (firsts : List Arrival) (now later : ℕ) → now + memory_time ≤ later → Each (λ (first : Arrival). first.moment ≤ now) firsts → young_of later firsts ≡ []
+none_young [] now later old all = refl
+none_young (first ∷ firsts) now later old all =
+    ap (λ (b : Bool). if b then first ∷ young_of later firsts else young_of later firsts)
+    (old_test first.moment later (let past : first.moment ≤ now = all.0 in omega (arith, past, old)))
+    ∙ none_young firsts now later old all.1
+
+pub all_make_room : (firsts : List Arrival) (now later : ℕ) → All (λ (first : Arrival). first.moment ≤ now) firsts → now + memory_time ≤ later → young_of later firsts ≡ []
+all_make_room firsts now later all old = none_young firsts now later old (each_from_all (λ (first : Arrival). first.moment ≤ now) firsts all)
+
+pub has_room : (firsts : List Arrival) (now later : ℕ) → All (λ (first : Arrival). first.moment ≤ now) firsts → now + memory_time ≤ later → HasRoom later firsts
+has_room firsts now later all old =
+    subst (λ (young : List Arrival). length young < most_firsts) (sym (all_make_room firsts now later all old)) (omega arith)

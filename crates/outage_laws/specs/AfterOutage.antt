@@ -1,0 +1,36 @@
+-- A network that was down and came back, and by when what is in flight is taken and answered (RFC 3435, 3.5.3 and 4.3).
+use Rattle.std.specs.Prelude.{◌≡◌, ℕ, ◌+◌, ◌-◌, ◌*◌, ◌≤◌, nat_lt, if◌then◌else◌, List, [], ◌∷◌, ◌++◌, Some, slice_get}
+use Rattle.plain_machine.specs.declared.setup.Setup.{Setup}
+use Rattle.agent_core.specs.declared.packet.Posted.{Posted}
+use Rattle.agent_core.specs.World.{WorldStep, now_in, plain_world}
+use Rattle.delivery_laws.specs.Chances.{chances}
+use Rattle.delivery_laws.specs.Copies.{answer_wait}
+use Rattle.delivery_laws.specs.Fairness.{IsHandedOver}
+use Rattle.delivery_laws.specs.Taking.{AgentHasRoom}
+
+-- each packet that is sent at this moment or later is handed over, so many ms after it was sent at the latest; whatever was before
+abbrev pub IsFairFrom : Setup → List WorldStep → ℕ → ℕ → Type 0
+IsFairFrom setup steps since within =
+    (number : ℕ) (post : Posted) → slice_get (plain_world setup steps).posted number ≡ Some post → since ≤ post.packet.moment
+    → post.packet.moment + within ≤ now_in setup (plain_world setup steps) → IsHandedOver setup steps within number post
+
+-- at that moment and later fewer firsts of the agent are young than there may be
+abbrev pub AgentHasRoomFrom : Setup → List WorldStep → ℕ → Type 0
+AgentHasRoomFrom setup steps since =
+    (before later : List WorldStep) → steps ≡ before ++ later → since ≤ now_in setup (plain_world setup before)
+    → AgentHasRoom setup (plain_world setup before)
+
+-- the longest time between two sends of a command that isn't given up
+abbrev pub longest_pause : ℕ
+longest_pause = 4000
+
+-- Of these waits between the first send and another the last one behind which an answer comes before the command is given up, where the
+-- network takes that long there, and as long back; the one before them, where none is.
+abbrev pub last_in_time : ℕ → ℕ → List ℕ → ℕ
+last_in_time within was [] = was
+last_in_time within was (wait ∷ waits) = if nat_lt (wait + 2 * within) answer_wait then last_in_time within wait waits else was
+
+-- So long behind that send a command is given up: 4,000 ms where twice the network's time is less than that, 8,000 where it is less than
+-- 8,000, and so on; 22,000 for the greatest age of a packet.
+abbrev pub gap_of : ℕ → ℕ
+gap_of within = answer_wait - last_in_time within 0 chances

@@ -1,0 +1,78 @@
+//! Laws of a network that was down and came back.
+ghost use Rattle.std.specs.Prelude.{◌≡◌, ◌≤◌, ◌<◌, ◌+◌, ◌*◌, ℕ, List, All, Any, [], Some, length, true};
+ghost use Rattle.history.specs.Arrival.{Arrival};
+ghost use Rattle.history.specs.Firsts.{young_of};
+ghost use Rattle.history.specs.Memory.{memory_time};
+ghost use Rattle.plain_machine.specs.declared.endpoint.Endpoint.{Endpoint};
+ghost use Rattle.plain_machine.specs.declared.setup.Setup.{Setup};
+ghost use Rattle.plain_machine.specs.Machine.{endpoint_at, serves};
+ghost use Rattle.machine_laws.specs.Saying.{Begun};
+ghost use Rattle.agent_core.specs.World.{WorldStep, gateway_in, now_in, oldest_packet, plain_world};
+ghost use Rattle.world_laws.specs.Reached.{Reached, taken_in};
+ghost use Rattle.delivery_laws.specs.Chances.{chances, last_chance};
+ghost use Rattle.delivery_laws.specs.Copies.{HasRoom, IsRun, answer_wait};
+ghost use Rattle.delivery_laws.specs.Fairness.{GoesToAgent, IsFair};
+ghost use Rattle.delivery_laws.specs.OwnChances.{HasCome, IsOfLine};
+ghost use Rattle.outage_laws.specs.AfterOutage.{AgentHasRoomFrom, IsFairFrom, gap_of, longest_pause};
+
+/// A network is fair where it is so from the first moment on; and one that is so from a moment on is so from each later one.
+pub fn a_fair_network_is_fair_from_any_moment_on()
+    ensures fair { (setup : Setup) (steps : List WorldStep) (within : ℕ) → IsFair setup steps within → IsFairFrom setup steps 0 within }
+    ensures from_the_first { (setup : Setup) (steps : List WorldStep) (within : ℕ) → IsFairFrom setup steps 0 within →
+        IsFair setup steps within }
+    ensures later { (setup : Setup) (steps : List WorldStep) (since later within : ℕ) → since ≤ later →
+        IsFairFrom setup steps since within → IsFairFrom setup steps later within }
+{}
+
+/// A notification or an announcement that was in flight when the network came back, or began since, is taken 3,999 ms and the time of the
+/// network behind that moment at the latest, or that time behind its first send; and a response to it comes by twice that time: unless the
+/// last of its eight sends was before (RFC 3435, 3.5.3).
+pub fn what_is_in_flight_is_taken_after_an_outage()
+    ensures line_taken { (setup : Setup) (steps : List WorldStep) (since within line : ℕ) (endpoint : Endpoint) (b : Begun) →
+        IsRun setup steps → IsFairFrom setup steps since within → AgentHasRoomFrom setup steps since →
+        let w = plain_world setup steps in endpoint_at (gateway_in setup w).endpoints line ≡ Some endpoint →
+        IsOfLine setup w line b → GoesToAgent setup w b.text → since ≤ b.moment + last_chance → b.moment + within ≤ now_in setup w →
+        since + longest_pause + within ≤ now_in setup w + 1 → Any (λ (one : Reached). one.asked.id ≡ b.id) (taken_in w) }
+    ensures own_taken { (setup : Setup) (steps : List WorldStep) (since within : ℕ) (b : Begun) →
+        IsRun setup steps → IsFairFrom setup steps since within → AgentHasRoomFrom setup steps since →
+        let w = plain_world setup steps in
+        IsOfLine setup w 0 b → GoesToAgent setup w b.text → since ≤ b.moment + last_chance → b.moment + within ≤ now_in setup w →
+        since + longest_pause + within ≤ now_in setup w + 1 → Any (λ (one : Reached). one.asked.id ≡ b.id) (taken_in w) }
+    ensures line_answered { (setup : Setup) (steps : List WorldStep) (since within line : ℕ) (endpoint : Endpoint) (b : Begun) →
+        IsRun setup steps → IsFairFrom setup steps since within → AgentHasRoomFrom setup steps since →
+        let w = plain_world setup steps in endpoint_at (gateway_in setup w).endpoints line ≡ Some endpoint →
+        IsOfLine setup w line b → GoesToAgent setup w b.text → since ≤ b.moment + last_chance → b.moment + 2 * within ≤ now_in setup w →
+        since + longest_pause + 2 * within ≤ now_in setup w + 1 → HasCome w b.id }
+    ensures own_answered { (setup : Setup) (steps : List WorldStep) (since within : ℕ) (b : Begun) →
+        IsRun setup steps → IsFairFrom setup steps since within → AgentHasRoomFrom setup steps since →
+        let w = plain_world setup steps in
+        IsOfLine setup w 0 b → GoesToAgent setup w b.text → since ≤ b.moment + last_chance → b.moment + 2 * within ≤ now_in setup w →
+        since + longest_pause + 2 * within ≤ now_in setup w + 1 → HasCome w b.id }
+{}
+
+/// A gateway that isn't answered yet when the network comes back serves by then: that long behind it as a command is given up behind the
+/// last of its sends whose answer may still come in time, then the wait before it announces itself anew, and then twice the time of the
+/// network: 4,000 ms, the wait and twice that time, where twice that time is less than 4,000 ms (RFC 3435, 3.5.3, 4.3 and 4.4.6).
+pub fn a_gateway_serves_after_an_outage()
+    ensures behind_the_last { (setup : Setup) (steps : List WorldStep) (since within : ℕ) → IsRun setup steps → 1 ≤ since →
+        within ≤ oldest_packet → IsFairFrom setup steps since within → AgentHasRoomFrom setup steps since →
+        let w = plain_world setup steps in ((b : Begun) → IsOfLine setup w 0 b → GoesToAgent setup w b.text) →
+        since + gap_of within + setup.restart_wait + 2 * within ≤ now_in setup w + 1 → serves (gateway_in setup w).endpoints ≡ true }
+    ensures behind_any { (setup : Setup) (steps : List WorldStep) (since within wait : ℕ) → IsRun setup steps → 1 ≤ since →
+        IsFairFrom setup steps since within → AgentHasRoomFrom setup steps since → let w = plain_world setup steps in
+        ((b : Begun) → IsOfLine setup w 0 b → GoesToAgent setup w b.text) → Any (λ (one : ℕ). one ≡ wait) chances →
+        wait + 2 * within < answer_wait → since + answer_wait + setup.restart_wait + 2 * within ≤ now_in setup w + 1 + wait →
+        serves (gateway_in setup w).endpoints ≡ true }
+{}
+
+/// Where as many firsts are young as there may be, there is room again as one of them is 30,000 ms old, for one for each that is so; and
+/// once all of them are, none is young (RFC 3435, 3.5.1).
+pub fn a_full_history_takes_a_command_again()
+    ensures each { (firsts : List Arrival) (now later : ℕ) (first : Arrival) → now ≤ later →
+        Any (λ (one : Arrival). one ≡ first) (young_of now firsts) → first.moment + memory_time ≤ later →
+        length (young_of later firsts) < length (young_of now firsts) }
+    ensures all { (firsts : List Arrival) (now later : ℕ) → All (λ (first : Arrival). first.moment ≤ now) firsts →
+        now + memory_time ≤ later → young_of later firsts ≡ [] }
+    ensures room { (firsts : List Arrival) (now later : ℕ) → All (λ (first : Arrival). first.moment ≤ now) firsts →
+        now + memory_time ≤ later → HasRoom later firsts }
+{}
