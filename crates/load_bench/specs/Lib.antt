@@ -1,0 +1,17 @@
+pub mod Drawing
+pub mod Planning
+pub mod Phones
+pub mod Hooks
+pub mod Calls
+pub mod Seeing
+pub mod Waiting
+pub mod Offsets
+pub mod Buckets
+pub mod Times
+pub mod Ranks
+pub mod Counting
+pub mod Example
+pub mod Heard
+pub mod Watched
+pub mod Asked
+pub mod Success

@@ -1,0 +1,82 @@
+//! Worked examples of the definitions, as theorems: each sentence of a definition has one that a slip in it breaks.
+#![tactic(auto, unfolding(crate::proofs::Computing::on_examples))]
+
+ghost use Rattle.std.specs.Prelude.{◌≡◌, ◌^◌, ◌-◌, codes, [], ◌∷◌, map, true, false, Some, None};
+ghost use Rattle.connections.specs.declared.mode.Mode.TheVariants as modes;
+ghost use Rattle.load_bench.specs.declared.phone.Heard.TheVariants as heard;
+ghost use Rattle.mg_packages.specs.declared.signal.Signal.TheVariants as signals;
+ghost use Rattle.load_bench.specs.Heard.{heard_of, signal_heard, goes_both_ways, without_signal, heard_by};
+ghost use Rattle.load_bench.specs.Watched.{missing_before, next_behind, better_of, here_at, place_of};
+ghost use Rattle.load_bench.specs.declared.said.Order.TheVariants as orders;
+ghost use Rattle.load_bench.specs.Asked.{is_due, is_to_be_asked, order_text};
+ghost use Rattle.load_bench.specs.Success.{success_of, is_success};
+
+/// A signal is heard as what it is, a lamp isn't heard, and the first that is heard counts.
+pub fn signals_are_heard()
+    ensures tones { map heard_of (signals.DialTone ∷ signals.Busy ∷ signals.Reorder ∷ signals.Ringing ∷ [])
+        ≡ Some heard.DialTone ∷ Some heard.BusyTone ∷ Some heard.ReorderTone ∷ Some heard.Ringing ∷ [] }
+    ensures others { map heard_of (signals.RingSplash ∷ signals.MessageWaiting ∷ signals.Ringback ∷ signals.Congestion ∷ signals.Confirm ∷ [])
+        ≡ Some heard.Other ∷ None ∷ Some heard.Other ∷ Some heard.ReorderTone ∷ Some heard.Other ∷ [] }
+    ensures first { signal_heard (signals.MessageWaiting ∷ signals.Ringback ∷ signals.Busy ∷ []) ≡ Some heard.Other }
+    ensures lamp { signal_heard (signals.MessageWaiting ∷ []) ≡ None }
+{}
+
+/// Without a signal the other end is heard where a connection goes both ways.
+pub fn the_other_end_is_heard()
+    ensures modes { map goes_both_ways (modes.SendOnly ∷ modes.ReceiveOnly ∷ modes.SendReceive ∷ modes.Conference ∷ modes.Inactive ∷ [])
+        ≡ false ∷ false ∷ true ∷ false ∷ false ∷ [] }
+    ensures nothing { without_signal [] ≡ heard.Nothing }
+    ensures one { without_signal (record { id = codes "A"; mode = modes.ReceiveOnly } ∷ []) ≡ heard.Other }
+    ensures talk { without_signal (record { id = codes "A"; mode = modes.ReceiveOnly } ∷ record { id = codes "B"; mode = modes.SendReceive } ∷ []) ≡ heard.Talk }
+    ensures signal { heard_by (Some heard.BusyTone) (record { id = codes "A"; mode = modes.SendReceive } ∷ []) ≡ heard.BusyTone }
+{}
+
+/// A number that leaves a gap tells how many changes weren't told, and numbers never go back.
+pub fn changes_are_numbered()
+    ensures first { missing_before None 17 ≡ 0 }
+    ensures next { missing_before (Some 17) 17 ≡ 0 }
+    ensures gap { missing_before (Some 17) 20 ≡ 3 }
+    ensures begins { next_behind None 17 ≡ Some 17 }
+    ensures goes_on { next_behind (Some 17) 18 ≡ Some 18 }
+    ensures stays { next_behind (Some 20) 18 ≡ Some 20 }
+{}
+
+/// Of a clock what has the lesser error is known, and lines have places behind one another.
+pub fn gateways_are_known()
+    ensures better { better_of (Some (record { here = 1; there = 2; error = 3 })) (record { here = 4; there = 5; error = 2 })
+        ≡ record { here = 4; there = 5; error = 2 } }
+    ensures no_better { better_of (Some (record { here = 1; there = 2; error = 3 })) (record { here = 4; there = 5; error = 3 })
+        ≡ record { here = 1; there = 2; error = 3 } }
+    ensures clock { here_at (Some (record { here = 1; there = 2; error = 3 })) 12 99 ≡ 11 }
+    ensures no_clock { here_at None 12 99 ≡ 99 }
+    ensures first { place_of 10 2 1 ≡ Some 10 }
+    ensures last { place_of 10 2 2 ≡ Some 11 }
+    ensures behind { place_of 10 2 3 ≡ None }
+    ensures none { place_of 10 2 0 ≡ None }
+{}
+
+/// A handset that isn't as is wanted is asked at once, and again a while later.
+pub fn handsets_are_asked()
+    ensures never { is_due None true 5 1000 ≡ true }
+    ensures before { is_due (Some (record { is_off = true; moment = 5 })) true 1004 1000 ≡ false }
+    ensures again { is_due (Some (record { is_off = true; moment = 5 })) true 1005 1000 ≡ true }
+    ensures other { is_due (Some (record { is_off = true; moment = 5 })) false 6 1000 ≡ true }
+    ensures as_wanted { is_to_be_asked true None true 5 1000 ≡ false }
+    ensures not_so { is_to_be_asked false None true 5 1000 ≡ true }
+    ensures watch { order_text orders.Watch ≡ codes "watch 60\n" }
+    ensures show { order_text orders.Show ≡ codes "show *\n" }
+    ensures leave { order_text orders.Leave ≡ codes "watch 0\n" }
+    ensures off { order_text (orders.Hook 12 true) ≡ codes "phone 12 off\n" }
+    ensures on { order_text (orders.Hook 1 false) ≡ codes "phone 1 on\n" }
+    ensures key { order_text (orders.Key 12 35) ≡ codes "phone 12 #\n" }
+{}
+
+/// Of all attempts it is told how many of 10,000 came to rest.
+pub fn success_is_told()
+    ensures none { success_of 0 0 ≡ None }
+    ensures all { success_of 7 7 ≡ Some 10000 }
+    ensures part { success_of 2 3 ≡ Some 6666 }
+    ensures enough { is_success 9900 99 100 ≡ true }
+    ensures too_few { is_success 9901 99 100 ≡ false }
+    ensures nothing { is_success 0 0 0 ≡ false }
+{}
