@@ -56,8 +56,8 @@ pub fn wire_over<S: Surroundings + Drop>(
     boxed(alloc, wire)
 }
 
-// The wire over the machine's sockets and clock. An error says how the program ends then.
-fn open_wire<'a, R: Net + Clock>(
+/// The wire over the machine's sockets and clock. An error says how the program ends then.
+pub(crate) fn open_wire<'a, R: Net + Clock>(
     rt: &'a R,
     alloc: Global,
     settings: WireSettings,

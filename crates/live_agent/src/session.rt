@@ -2,6 +2,7 @@
 ghost use Rattle.std.specs.Prelude.{◌≡◌};
 ghost use Rattle.live_agent.specs.Clock.{is_behind};
 
+use crate::loading::count_came;
 use crate::recorder::Recorder;
 use crate::wire::Wire;
 use agent_texts::count;
@@ -112,6 +113,7 @@ fn hear<S: Surroundings + Drop>(
     bytes: &[u8],
 ) {
     wire.journal.came(wire.now.time, source, bytes);
+    count_came(&mut wire.load, wire.now.time, source, bytes);
     let Some(place) = board.place_of(source) else {
         count(&mut wire.journal.tally.strange);
         return;
@@ -320,7 +322,7 @@ fn situation<S: Surroundings + Drop>(
     let due = if ready.commands || ready.datagrams {
         None
     } else {
-        earlier(board.next_due(), wire.network_due())
+        earlier(board.next_due(), wire.due(moment))
     };
     Ok(Situation {
         moment,
@@ -340,7 +342,7 @@ fn longest_wait<S: Surroundings + Drop>(
     until: u64,
     moment: u64,
 ) -> u64 {
-    let until = match earlier(board.next_due(), wire.network_due()) {
+    let until = match earlier(board.next_due(), wire.due(moment)) {
         Some(due) => until.min(due),
         None => until,
     };
@@ -356,10 +358,15 @@ fn do_turn<S: Surroundings + Drop>(
     moment: u64,
 ) {
     match turn {
-        Turn::Tick { moment: to } => tick(board, wire, to, moment),
+        Turn::Tick { moment: to } => {
+            tick(board, wire, to, moment);
+            wire.pass_load(alloc, moment);
+        }
         Turn::Command => {
-            wire.hear_lines();
-            answer_request(alloc, board, wire);
+            if !wire.hear_telephones(alloc, moment) {
+                wire.hear_lines();
+                answer_request(alloc, board, wire);
+            }
         }
         Turn::Datagram => take_datagram(board, wire),
         Turn::Look => wire.wait(0),

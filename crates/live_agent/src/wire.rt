@@ -8,6 +8,7 @@ ghost use Rattle.surroundings.specs.Sending.{Grows};
 ghost use Rattle.surroundings.specs.Typing.{left_of, behind};
 ghost use Rattle.surroundings.specs.declared.surroundings.Fault.{Fault};
 
+use crate::loading::{Load, count_sent};
 use agent_texts::{Journal, count};
 use bad_network::{BadNetwork, Fate, Packet, Way};
 use exchange_log::{Note, Stamp, put_pause};
@@ -38,6 +39,8 @@ pub struct Wire<S> {
     pub(crate) end: Option<u64>,
     // Whether something that was recorded waits to be taken.
     is_offering: bool,
+    // Calls at a rate, where they are made over it.
+    pub(crate) load: Option<Box<Load>>,
 }
 
 // Written out: a derived drop, and those of all its parts, are proved anew by each crate that lets one go.
@@ -54,11 +57,13 @@ impl<S: Drop> Drop for Wire<S> {
             read: _,
             end: _,
             is_offering: _,
+            load,
         } = self;
         drop(around);
         drop(lines);
         drop(network);
         drop(journal);
+        drop(load);
     }
 }
 
@@ -107,6 +112,7 @@ impl<S: Surroundings + Drop> Wire<S> {
             read: 0,
             end,
             is_offering: false,
+            load: None,
         })
     }
 
@@ -254,6 +260,7 @@ impl<S: Surroundings + Drop> Wire<S> {
         ensures offered { is_some self.old.network ≡ true → self.new.around ≡ self.old.around }
     {
         self.journal.sent(self.now.time, to, bytes, is_repeat);
+        count_sent(&mut self.load, self.now.time, to, bytes, is_repeat);
         if !self.offer(Way::Out, to, bytes) {
             self.transmit(to, bytes);
         }

@@ -1,0 +1,274 @@
+//! Makes a load: calls at a rate between the telephones of gateways, which another call agent serves, or this program's own exchange.
+use crate::recorder::Recorder;
+use crate::serving::{MICROSECONDS, WireSettings, open_wire, serve_config};
+use crate::wire::Wire;
+use agent_texts::AgentConfig;
+use exchange_log::peer_text;
+use live_ends::{AddressWord, CommonEnding, Outlets, SocketWanted, boxed};
+use load_bench::{Bench, LoadFault, LoadSettings};
+use mg_bytes::OutOfMemory;
+use std::alloc::Global;
+use std::io::Write;
+use std::net::{Ipv4Addr, Net, SocketAddr, SocketAddrV4};
+use std::rt::Clock;
+use surroundings::Surroundings;
+use turns::earlier;
+
+// The room for a datagram of telephones: none over UDP is longer.
+const ROOM: usize = 65_536;
+
+/// How a load ends.
+#[derive(Clone, Copy)]
+pub enum LoadEnding {
+    /// As any program may, before it is over.
+    Common(CommonEnding),
+    /// None is made, for this reason.
+    Unmade(LoadFault),
+    /// It is over, and so is its report: whether enough of its calls came to rest.
+    Made { is_enough: bool },
+}
+
+/// A load that is made over a wire: its telephones and calls, and the room for what telephones say.
+#[derive(Drop)]
+pub(crate) struct Load {
+    bench: Box<Bench>,
+    room: Vec<u8>,
+}
+
+/// A datagram is sent at this time, in microseconds, for the first time or again: that is counted, where a load is made.
+pub(crate) fn count_sent(
+    load: &mut Option<Box<Load>>,
+    time: u64,
+    to: SocketAddrV4,
+    bytes: &[u8],
+    is_repeat: bool,
+) {
+    if let Some(load) = load {
+        let load = &mut **load;
+        load.bench.sent(to, bytes, is_repeat, time / MICROSECONDS);
+    }
+}
+
+/// A datagram came at this time, in microseconds: that is counted, where a load is made.
+pub(crate) fn count_came(
+    load: &mut Option<Box<Load>>,
+    time: u64,
+    source: SocketAddrV4,
+    bytes: &[u8],
+) {
+    if let Some(load) = load {
+        let load = &mut **load;
+        load.bench.came(source, bytes, time / MICROSECONDS);
+    }
+}
+
+// What is to be said to telephones is said.
+fn say_all<S: Surroundings>(alloc: Global, around: &mut S, bench: &mut Bench) {
+    let mut is_refused = false;
+    for said in bench.said() {
+        match said.order.text(alloc) {
+            Ok(text) => around.answer(SocketAddr::V4(said.to), text.as_slice()),
+            Err(_) => is_refused = true,
+        }
+    }
+    bench.clear_said();
+    if is_refused {
+        bench.refuse();
+    }
+}
+
+// It is this moment, in ms: what is due of a load is done, and how far it is is put here: whether it is over.
+fn pass<S: Surroundings>(
+    alloc: Global,
+    around: &mut S,
+    load: &mut Load,
+    out: &mut Vec<u8>,
+    moment: u64,
+) -> bool {
+    load.bench.pass(moment);
+    load.bench.tell_progress(out, moment);
+    say_all(alloc, around, &mut load.bench);
+    load.bench.is_over(moment)
+}
+
+// Takes a datagram of telephones at this moment, in ms, if one has come: whether one had.
+fn hear<S: Surroundings>(alloc: Global, around: &mut S, load: &mut Load, moment: u64) -> bool {
+    let Some((source, length)) = around.hear(load.room.as_mut_slice()) else {
+        return false;
+    };
+    let text = load.room.get(..length).unwrap_or(&[]);
+    load.bench.hear(source, text, moment);
+    say_all(alloc, around, &mut load.bench);
+    true
+}
+
+// A load is over, at this moment of the clock by which commands are counted, in ms: telephones are to tell nothing more.
+fn end<S: Surroundings>(alloc: Global, around: &mut S, load: &mut Load, now: u64) {
+    load.bench.end(now);
+    say_all(alloc, around, &mut load.bench);
+}
+
+// What came of a load, whose report is put here: by a configuration in a file of this name, whose call agent is there.
+fn report(load: &mut Load, out: &mut Vec<u8>, file: &str, agent: &str) -> LoadEnding {
+    load.bench.put_report(out, file, agent);
+    match load.bench.fault() {
+        Some(fault) => LoadEnding::Unmade(fault),
+        None => LoadEnding::Made {
+            is_enough: load.bench.is_enough(),
+        },
+    }
+}
+
+impl<S: Surroundings + Drop> Wire<S> {
+    /// The moment at which something is to be done though nothing comes, in ms, where it is now this one.
+    pub(crate) fn due(&self, moment: u64) -> Option<u64> {
+        match &self.load {
+            Some(load) => earlier(self.network_due(), Some(load.bench.due(moment))),
+            None => self.network_due(),
+        }
+    }
+
+    /// It is this moment, in ms: what is due of a load is done, where one is made, and it is logged how far it is.
+    pub(crate) fn pass_load(&mut self, alloc: Global, moment: u64) {
+        let Some(load) = &mut self.load else {
+            return;
+        };
+        let load = &mut **load;
+        let out = &mut self.journal.log.out;
+        if pass(alloc, &mut self.around, load, out, moment) {
+            self.end = Some(0);
+        }
+    }
+
+    /// Takes a datagram of telephones at this moment, in ms, where a load is made: whether one is.
+    pub(crate) fn hear_telephones(&mut self, alloc: Global, moment: u64) -> bool {
+        let Some(load) = &mut self.load else {
+            return false;
+        };
+        let load = &mut **load;
+        if hear(alloc, &mut self.around, load, moment) {
+            self.read = self.read.saturating_add(1);
+        }
+        if load.bench.is_over(moment) {
+            self.end = Some(0);
+        }
+        true
+    }
+
+    // A load is over, if one was made: what came of it, by a configuration in a file of this name, whose call agent is there. Its report is
+    // told.
+    fn end_load(&mut self, alloc: Global, file: &str, agent: &str) -> LoadEnding {
+        let Some(load) = &mut self.load else {
+            return LoadEnding::Unmade(LoadFault::OutOfMemory);
+        };
+        let load = &mut **load;
+        end(alloc, &mut self.around, load, self.now.time / MICROSECONDS);
+        report(load, &mut self.journal.told.out, file, agent)
+    }
+}
+
+// The bench of a configuration's gateways that have telephones, which are asked at this moment, in ms.
+fn bench_of(
+    alloc: Global,
+    config: &AgentConfig,
+    settings: LoadSettings,
+    now: u64,
+) -> Result<Box<Bench>, OutOfMemory> {
+    let mut bench = Bench::new(alloc, settings, now)?;
+    for gateway in config.gateways.iter() {
+        if let Some(telephones) = gateway.phones {
+            bench.add_gateway(gateway.address, telephones, gateway.numbers.as_slice())?;
+        }
+    }
+    bench.ask(now);
+    Ok(bench)
+}
+
+// A load of this bench's.
+fn load_of(alloc: Global, bench: Box<Bench>) -> Result<Box<Load>, OutOfMemory> {
+    let room = vec![in alloc; 0u8; ROOM]?;
+    boxed(alloc, Load { bench, room })
+}
+
+// Begins a load over a wire, of which nothing else is told: how it ends, if it does at once.
+fn begin<S: Surroundings + Drop>(
+    alloc: Global,
+    config: &AgentConfig,
+    settings: LoadSettings,
+    wire: &mut Wire<S>,
+) -> Option<CommonEnding> {
+    let Ok(now) = wire.around.moment() else {
+        return Some(CommonEnding::Clock);
+    };
+    let Ok(mut bench) = bench_of(alloc, config, settings, now) else {
+        return Some(CommonEnding::OutOfMemory);
+    };
+    say_all(alloc, &mut wire.around, &mut bench);
+    let Ok(load) = load_of(alloc, bench) else {
+        return Some(CommonEnding::OutOfMemory);
+    };
+    wire.load = Some(load);
+    wire.end = None;
+    wire.journal.told.end();
+    None
+}
+
+/// Makes a load over a wire, by the gateways of a configuration, whose file has this name: calls between their telephones, who are at the
+/// wire's commands. An exchange of this program's, whose clock begins now, serves them where that is asked for, and what becomes of its
+/// commands is counted. How far it is is logged, and the report is told.
+pub fn load_over<S: Surroundings + Drop, W: Recorder>(
+    alloc: Global,
+    config: &AgentConfig,
+    file: &str,
+    settings: LoadSettings,
+    wire: &mut Wire<S>,
+    recorder: &mut W,
+) -> LoadEnding {
+    let Ok(agent) = peer_text(alloc, config.own) else {
+        return LoadEnding::Common(CommonEnding::OutOfMemory);
+    };
+    if let Some(ending) = begin(alloc, config, settings, wire) {
+        return LoadEnding::Common(ending);
+    }
+    let served = serve_config(alloc, config, settings.is_routed, wire, recorder);
+    if !matches!(served, CommonEnding::Served) {
+        return LoadEnding::Common(served);
+    }
+    let ending = wire.end_load(alloc, file, agent.as_str());
+    recorder.write(&mut wire.journal, wire.now.time);
+    ending
+}
+
+/// Makes a load as the settings ask, by the gateways of a configuration, whose file has this name, all of which have telephones.
+/// Where the exchange is here it is at the configuration's own address; else another call agent is there.
+pub fn load_agent<R: Net + Clock, F: Write + Drop>(
+    rt: &R,
+    alloc: Global,
+    config: &AgentConfig,
+    file: &str,
+    settings: LoadSettings,
+    outlets: &mut Outlets<F>,
+) -> LoadEnding {
+    let any = SocketAddrV4::new(Ipv4Addr::UNSPECIFIED, 0);
+    let listen = SocketWanted {
+        word: AddressWord::OwnKey,
+        address: if settings.is_routed { config.own } else { any },
+    };
+    let control = SocketWanted {
+        word: AddressWord::Phones,
+        address: any,
+    };
+    let asked = WireSettings {
+        listen,
+        control,
+        network: None,
+        has_log: false,
+        has_capture: false,
+        end: None,
+    };
+    let mut wire = match open_wire(rt, alloc, asked) {
+        Ok(wire) => wire,
+        Err(ending) => return LoadEnding::Common(ending),
+    };
+    load_over(alloc, config, file, settings, &mut *wire, outlets)
+}
