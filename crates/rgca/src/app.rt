@@ -1,10 +1,12 @@
-//! The program: reads its words and its configuration, and serves, checks or plays.
+//! The program: reads its words and its configuration, and serves, checks, plays or makes a load.
 use crate::checks::checked;
+use crate::configs::config_of;
 use crate::ending::{Ending, Named, config_ending, word_ending};
 use crate::help::of_all;
+use crate::loads::loaded;
 use crate::phones::played;
 use crate::words::{Settings, read_words};
-use agent_texts::{AgentConfig, ConfigRefusal, Place, missing, read_config, too_long};
+use agent_texts::AgentConfig;
 use live_agent::{WireSettings, serve_agent};
 use live_ends::{AddressWord, CommonEnding, Outlets, SocketWanted, begin, end, read_file};
 use rgw_scripts::LIMIT;
@@ -13,26 +15,6 @@ use std::io::Write;
 use std::net::Net;
 use std::os::fd::AsRawFd;
 use std::rt::{Clock, Env, Files};
-
-// The configuration that a text writes; where calls are to be routed it has a digit map.
-fn config_of(
-    alloc: Global,
-    settings: &Settings<'_>,
-    text: &[u8],
-) -> Result<AgentConfig, ConfigRefusal> {
-    if text.len() > LIMIT {
-        return Err(too_long(alloc, LIMIT));
-    }
-    let config = read_config(alloc, text)?;
-    if settings.route && config.map.is_none() {
-        let place = Place {
-            gateway: None,
-            key: "digit_map",
-        };
-        return Err(missing(alloc, place));
-    }
-    Ok(config)
-}
 
 // How the wire is opened.
 fn wire_settings(settings: &Settings<'_>, config: &AgentConfig) -> WireSettings {
@@ -67,7 +49,7 @@ fn serve_with<R: Files + Net + Clock>(
     text: &[u8],
     outlets: &mut Outlets<R::File>,
 ) -> Ending {
-    let config = match config_of(alloc, settings, text) {
+    let config = match config_of(alloc, settings.route, text) {
         Ok(config) => config,
         Err(refusal) => return config_ending(refusal),
     };
@@ -115,6 +97,7 @@ enum Part {
     Serving,
     Check,
     Phones,
+    Load,
 }
 
 // What these words ask for, which stand behind the program's name.
@@ -125,6 +108,7 @@ fn part_in(asked: &[String]) -> Part {
     match word.as_str() {
         "check" => Part::Check,
         "phones" => Part::Phones,
+        "load" => Part::Load,
         _ => Part::Serving,
     }
 }
@@ -140,6 +124,7 @@ fn ending_by<'w, R: AllocGlobal + Files + Net + Clock>(
     match part_in(asked) {
         Part::Check => checked(rt, asked, named, outlets),
         Part::Phones => played(rt, rt.alloc(), asked, named),
+        Part::Load => loaded(rt, rt.alloc(), asked, named, outlets),
         Part::Serving => served(rt, words, named, outlets),
     }
 }

@@ -2,16 +2,18 @@
 ghost use Rattle.std.specs.Prelude.{◌≡◌, ◌++◌, ◌∷◌, [], codes, OnOk};
 ghost use Rattle.std.specs.Net.Text.{socket_v4_text};
 ghost use Rattle.live_ends.specs.Wording.{joined};
-ghost use Rattle.rgca.specs.Statuses.{status_of, is_asked};
-ghost use Rattle.rgca.specs.Endings.{word_ending, check_ending, phone_ending, config_by};
-ghost use Rattle.rgca.specs.Texts.{line_word, ending_text};
+ghost use Rattle.rgca.specs.Statuses.{load_status, status_of, is_asked};
+ghost use Rattle.rgca.specs.Endings.{word_ending, check_ending, phone_ending, load_word_ending, load_by, config_by};
+ghost use Rattle.rgca.specs.Texts.{line_word, number_text, ending_text};
 
+use crate::load_words::LoadWordFault;
 use crate::phone_words::PhoneWordFault;
 use crate::words::WordFault;
 use agent_texts::ConfigRefusal;
 use exchange_log::peer_text;
-use live_agent::CheckFault;
+use live_agent::{CheckFault, LoadEnding};
 use live_ends::{About, AddressWord, CommonEnding, FileNames, put_pieces};
+use load_bench::{LoadFault, LoadNumber};
 use mg_bytes::{OutOfMemory, Text};
 use std::alloc::Global;
 use std::net::SocketAddrV4;
@@ -36,12 +38,18 @@ const NO_ANSWER: &str = ": no answer\n";
 
 const NOT_SERVING: &str = ": 405, it waits for its call agent (--own answers for that)\n";
 
-/// What is said of the program, of its checks, and of its scripts of telephones.
+// What is said of telephones that don't tell what changes, and where too few lines are at rest.
+const UNTOLD: &str = ": doesn't tell what changes at its telephones\n";
+
+const NO_LINES: &str = "fewer than two lines are at rest\n";
+
+/// What is said of the program, of its checks, of its scripts of telephones, and of its loads.
 #[derive(Clone, Copy)]
 pub struct Abouts {
     pub program: About,
     pub checks: About,
     pub phones: About,
+    pub loads: About,
 }
 
 /// What an ending names: the program's files, and a word that should say a gateway.
@@ -78,6 +86,8 @@ pub enum Ending {
     OfCheck(CommonEnding),
     /// So by words behind `phones`, likewise.
     OfPhones(CommonEnding),
+    /// So by words behind `load`, likewise.
+    OfLoads(CommonEnding),
     /// A gateway was checked, which has this exit status.
     Checked { status: u8 },
     /// A script of telephones was played, and all was as expected.
@@ -90,6 +100,14 @@ pub enum Ending {
     BadScript { text: Text },
     /// A word behind a script isn't NAME=ADDRESS, or has what another one has.
     BadGateway,
+    /// What stands behind the word of this number of a load isn't such a number.
+    BadNumber { number: LoadNumber },
+    /// A load was made: whether enough of its calls came to rest.
+    Loaded { is_enough: bool },
+    /// Telephones at this address don't tell what changes there.
+    Untold { address: SocketAddrV4 },
+    /// Fewer than two lines are at rest, so none can call another.
+    NoLines,
     /// What stands behind `--line`, or `--more-lines`, isn't the name of one line.
     BadLine { is_other: bool },
     /// The other line to be checked is the line itself.
@@ -98,7 +116,7 @@ pub enum Ending {
     NoCheck,
     /// The configuration has a fault, which a line tells, without its end.
     Config { line: Vec<u8> },
-    /// The gateway at this address can't be checked: it doesn't answer.
+    /// The gateway, or the telephones, at this address don't answer.
     NoAnswer { address: SocketAddrV4 },
     /// The gateway at this address can't be checked: no call agent has answered its announcement yet.
     NotServing { address: SocketAddrV4 },
@@ -110,27 +128,39 @@ pub enum Ending {
     System,
 }
 
+// The exit status of a load, by whether enough of its calls came to rest.
+fn load_status(is_enough: bool) -> u8
+    ensures { result ≡ load_status is_enough }
+{
+    if is_enough { 0 } else { 1 }
+}
+
 impl Ending {
-    /// The exit status: 0 it did what was asked, 1 a telephone that wasn't as a script expects, 2 words, a configuration or a script
-    /// that are refused, 3 memory, a file, a socket or a stream, or a gateway that can't be checked or whose telephones can't be worked;
-    /// else that of a check.
+    /// The exit status: 0 it did what was asked, 1 a telephone that wasn't as a script expects, or too few calls of a load that came to
+    /// rest, 2 words, a configuration or a script that are refused, 3 memory, a file, a socket or a stream, or a gateway that can't be
+    /// checked or whose telephones can't be worked; else that of a check.
     pub fn status(&self) -> u8
         ensures { result ≡ status_of self.now }
     {
         match self {
-            Ending::Common(ending) | Ending::OfCheck(ending) | Ending::OfPhones(ending) => {
-                ending.status()
-            }
+            Ending::Common(ending)
+            | Ending::OfCheck(ending)
+            | Ending::OfPhones(ending)
+            | Ending::OfLoads(ending) => ending.status(),
             Ending::Checked { status } => *status,
+            Ending::Loaded { is_enough } => load_status(*is_enough),
             Ending::Played => 0,
             Ending::Unexpected { .. } => 1,
             Ending::BadScript { .. }
             | Ending::BadGateway
+            | Ending::BadNumber { .. }
             | Ending::BadLine { .. }
             | Ending::SameLine
             | Ending::NoCheck
             | Ending::Config { .. } => 2,
             Ending::Unplayed { .. }
+            | Ending::Untold { .. }
+            | Ending::NoLines
             | Ending::NoAnswer { .. }
             | Ending::NotServing { .. }
             | Ending::NoSuchLine { .. }
@@ -144,9 +174,10 @@ impl Ending {
         ensures { result ≡ is_asked self.now }
     {
         match self {
-            Ending::Common(ending) | Ending::OfCheck(ending) | Ending::OfPhones(ending) => {
-                ending.is_asked()
-            }
+            Ending::Common(ending)
+            | Ending::OfCheck(ending)
+            | Ending::OfPhones(ending)
+            | Ending::OfLoads(ending) => ending.is_asked(),
             _ => false,
         }
     }
@@ -167,10 +198,14 @@ impl Ending {
             Ending::Common(ending) => ending.put_text(alloc, out, about.program, named.files),
             Ending::OfCheck(ending) => ending.put_text(alloc, out, about.checks, named.files),
             Ending::OfPhones(ending) => ending.put_text(alloc, out, about.phones, named.files),
-            Ending::Checked { .. } | Ending::Played => Ok(()),
+            Ending::OfLoads(ending) => ending.put_text(alloc, out, about.loads, named.files),
+            Ending::Checked { .. } | Ending::Played | Ending::Loaded { .. } => Ok(()),
             Ending::Unexpected { text } | Ending::Unplayed { text } | Ending::BadScript { text } =>
                 { out.extend_from_slice(text.as_bytes()) }
             Ending::BadGateway => put_pieces(out, &[named.gateway, NO_GATEWAY]),
+            Ending::BadNumber { number } => put_number(out, *number),
+            Ending::Untold { address } => put_of(alloc, out, *address, UNTOLD),
+            Ending::NoLines => put_pieces(out, &[NO_LINES]),
             Ending::BadLine { is_other } => put_of_line(out, *is_other, NO_LINE),
             Ending::SameLine => put_pieces(out, &["--more-lines: the same line as --line\n"]),
             Ending::NoCheck => put_pieces(out, &[NO_CHECK]),
@@ -215,6 +250,45 @@ pub fn phone_words_ending(fault: PhoneWordFault<'_>) -> Ending
     match fault {
         PhoneWordFault::Common(ending) => Ending::OfPhones(ending),
         PhoneWordFault::BadGateway { .. } => Ending::BadGateway,
+    }
+}
+
+/// How the program ends by words behind `load`.
+pub fn load_words_ending(fault: LoadWordFault) -> Ending
+    ensures { result ≡ load_word_ending fault }
+{
+    match fault {
+        LoadWordFault::Common(ending) => Ending::OfLoads(ending),
+        LoadWordFault::BadNumber { number } => Ending::BadNumber { number },
+    }
+}
+
+/// How the program ends by a load.
+pub fn load_ending(ending: LoadEnding) -> Ending
+    ensures { result ≡ load_by ending }
+{
+    match ending {
+        LoadEnding::Common(ending) => Ending::Common(ending),
+        LoadEnding::Made { is_enough } => Ending::Loaded { is_enough },
+        LoadEnding::Unmade(fault) => match fault {
+            LoadFault::OutOfMemory => Ending::Common(CommonEnding::OutOfMemory),
+            LoadFault::NoAnswer { address } => Ending::NoAnswer { address },
+            LoadFault::Unwatched { address } => Ending::Untold { address },
+            LoadFault::NoLines => Ending::NoLines,
+        },
+    }
+}
+
+// What should stand behind the word of a number, in a line.
+fn number_text(number: LoadNumber) -> &'static str
+    ensures { result.now ≡ number_text number }
+{
+    match number {
+        LoadNumber::Rate => "--rate: wanted calls a second, 0.001 to 10000\n",
+        LoadNumber::Length => "--for: wanted seconds, 1 to 86400\n",
+        LoadNumber::Hold => "--hold: wanted ms, 0 to 3600000\n",
+        LoadNumber::Seed => "--seed: wanted a number, 0 to 999999999999999999\n",
+        LoadNumber::Success => "--success: wanted a percentage, 0 to 100\n",
     }
 }
 
@@ -264,6 +338,13 @@ fn put_config(out: &mut Vec<u8>, file: &str, line: &[u8]) -> Result<(), OutOfMem
     out.extend_from_slice(b"\n")
 }
 
+// Says what should stand behind the word of a number.
+fn put_number(out: &mut Vec<u8>, number: LoadNumber) -> Result<(), OutOfMemory>
+    ensures { OnOk result (out.new.items ≡ out.old.items ++ joined (number_text number ∷ [])) }
+{
+    put_pieces(out, &[number_text(number)])
+}
+
 // Says this of the line to be checked, or of the other one.
 fn put_of_line(out: &mut Vec<u8>, is_other: bool, what: &'static str) -> Result<(), OutOfMemory>
     ensures { OnOk result (out.new.items ≡ out.old.items ++ joined (line_word is_other ∷ what.now ∷ [])) }
@@ -271,7 +352,7 @@ fn put_of_line(out: &mut Vec<u8>, is_other: bool, what: &'static str) -> Result<
     put_pieces(out, &[line_word(is_other), what])
 }
 
-// Says this of the gateway at this address.
+// Says this of who is at this address.
 fn put_of(
     alloc: Global,
     out: &mut Vec<u8>,

@@ -8,11 +8,15 @@ ghost use Rattle.live_ends.specs.declared.ending.CommonEnding.{CommonEnding};
 ghost use Rattle.live_ends.specs.Ending.{status_of as common_status, is_asked as is_commonly_asked, ending_text as common_text};
 ghost use Rattle.rgca.specs.declared.words.WordFault.TheVariants as faults;
 ghost use Rattle.rgca.specs.declared.phone_words.PhoneWordFault.TheVariants as phone_faults;
+ghost use Rattle.rgca.specs.declared.load_words.LoadWordFault.TheVariants as number_faults;
+ghost use Rattle.live_agent.specs.declared.loading.LoadEnding.TheVariants as loads;
+ghost use Rattle.load_bench.specs.declared.settings.LoadFault.TheVariants as load_faults;
+ghost use Rattle.load_bench.specs.declared.settings.LoadNumber.TheVariants as numbers;
 ghost use Rattle.rgca.specs.declared.ending.Abouts.{Abouts};
 ghost use Rattle.rgca.specs.declared.ending.Named.{Named};
-ghost use Rattle.rgca.specs.declared.ending.Ending.TheVariants.{Common, OfCheck, OfPhones, Checked, Played, Unexpected, Unplayed, BadScript, BadGateway, BadLine, SameLine, NoCheck, Config, NoAnswer, NotServing, NoSuchLine, InUse, System};
+ghost use Rattle.rgca.specs.declared.ending.Ending.TheVariants.{Common, OfCheck, OfPhones, OfLoads, Checked, Played, Loaded, Unexpected, Unplayed, BadScript, BadGateway, BadNumber, Untold, NoLines, BadLine, SameLine, NoCheck, Config, NoAnswer, NotServing, NoSuchLine, InUse, System};
 ghost use Rattle.rgca.specs.Statuses.{status_of, is_asked};
-ghost use Rattle.rgca.specs.Endings.{word_ending, check_ending, phone_ending};
+ghost use Rattle.rgca.specs.Endings.{word_ending, check_ending, phone_ending, load_word_ending, load_by};
 ghost use Rattle.rgca.specs.Texts.{ending_text};
 
 /// Each sentence at an example.
@@ -23,6 +27,11 @@ pub fn each_sentence_has_an_example()
     ensures statuses_tell_what_came_of_it_of_check { (ending : CommonEnding) → status_of (OfCheck ending) ≡ common_status ending }
     ensures statuses_tell_what_came_of_it_of_phones { (ending : CommonEnding) → status_of (OfPhones ending) ≡ common_status ending }
     ensures statuses_tell_what_came_of_it_checked { map status_of (Checked 0 ∷ Checked 1 ∷ []) ≡ 0 ∷ 1 ∷ [] }
+    ensures statuses_tell_what_came_of_it_of_loads { (ending : CommonEnding) → status_of (OfLoads ending) ≡ common_status ending }
+    ensures statuses_tell_what_came_of_it_loaded { map status_of (Loaded true ∷ Loaded false ∷ []) ≡ 0 ∷ 1 ∷ [] }
+    ensures statuses_tell_what_came_of_it_number { status_of (BadNumber numbers.Rate) ≡ 2 }
+    ensures statuses_tell_what_came_of_it_untold { (address : _) → status_of (Untold address) ≡ 3 }
+    ensures statuses_tell_what_came_of_it_no_lines { status_of NoLines ≡ 3 }
     ensures statuses_tell_what_came_of_it_played { status_of Played ≡ 0 }
     ensures statuses_tell_what_came_of_it_unexpected { (text : List ℕ) → status_of (Unexpected text) ≡ 1 }
     ensures statuses_tell_what_came_of_it_unplayed { (text : List ℕ) → status_of (Unplayed text) ≡ 3 }
@@ -40,6 +49,7 @@ pub fn each_sentence_has_an_example()
     ensures asked { (ending : CommonEnding) → is_asked (Common ending) ≡ is_commonly_asked ending }
     ensures asked_of_check { (ending : CommonEnding) → is_asked (OfCheck ending) ≡ is_commonly_asked ending }
     ensures asked_of_phones { (ending : CommonEnding) → is_asked (OfPhones ending) ≡ is_commonly_asked ending }
+    ensures asked_of_loads { (ending : CommonEnding) → is_asked (OfLoads ending) ≡ is_commonly_asked ending }
     ensures own { map is_asked (Checked 0 ∷ Played ∷ SameLine ∷ NoCheck ∷ System ∷ []) ≡ false ∷ false ∷ false ∷ false ∷ false ∷ [] }
     ensures told { map is_asked (Unexpected [] ∷ Unplayed [] ∷ BadScript [] ∷ []) ≡ false ∷ false ∷ false ∷ [] }
 {}
@@ -91,4 +101,34 @@ pub fn further_sentences_have_examples()
         ≡ codes "--more-lines: in use, off hook or with a connection\n" }
     ensures an_ending_says_why_system { (about : Abouts) (named : Named) → ending_text about named System
         ≡ codes "clock or socket fault\n" }
+{}
+
+/// Each sentence at an example.
+pub fn sentences_of_loads_have_examples()
+    // A load has a usage and a help of its own, and says which number isn't as is wanted.
+    ensures of_loads { (ending : CommonEnding) → load_word_ending (number_faults.Common ending) ≡ OfLoads ending }
+    ensures usage { (about : Abouts) (named : Named) (ending : CommonEnding) → ending_text about named (OfLoads ending)
+        ≡ common_text about.loads named.files ending }
+    ensures number { load_word_ending (number_faults.BadNumber numbers.Hold) ≡ BadNumber numbers.Hold }
+    ensures rate { (about : Abouts) (named : Named) → ending_text about named (BadNumber numbers.Rate)
+        ≡ codes "--rate: wanted calls a second, 0.001 to 10000\n" }
+    ensures length { (about : Abouts) (named : Named) → ending_text about named (BadNumber numbers.Length)
+        ≡ codes "--for: wanted seconds, 1 to 86400\n" }
+    ensures hold { (about : Abouts) (named : Named) → ending_text about named (BadNumber numbers.Hold)
+        ≡ codes "--hold: wanted ms, 0 to 3600000\n" }
+    ensures seed { (about : Abouts) (named : Named) → ending_text about named (BadNumber numbers.Seed)
+        ≡ codes "--seed: wanted a number, 0 to 999999999999999999\n" }
+    ensures success { (about : Abouts) (named : Named) → ending_text about named (BadNumber numbers.Success)
+        ≡ codes "--success: wanted a percentage, 0 to 100\n" }
+    // Where none is made it says why, and else nothing: its report is told.
+    ensures loaded { (about : Abouts) (named : Named) → ending_text about named (Loaded true) ≡ [] }
+    ensures untold { (about : Abouts) (named : Named) (address : SocketAddrV4) → ending_text about named (Untold address)
+        ≡ socket_v4_text address ++ codes ": doesn't tell what changes at its telephones\n" }
+    ensures no_lines { (about : Abouts) (named : Named) → ending_text about named NoLines ≡ codes "fewer than two lines are at rest\n" }
+    ensures common { (ending : CommonEnding) → load_by (loads.Common ending) ≡ Common ending }
+    ensures made { map load_by (loads.Made true ∷ loads.Made false ∷ []) ≡ Loaded true ∷ Loaded false ∷ [] }
+    ensures memory { load_by (loads.Unmade load_faults.OutOfMemory) ≡ Common CommonEnding.OutOfMemory }
+    ensures unanswered { (address : SocketAddrV4) → load_by (loads.Unmade (load_faults.NoAnswer address)) ≡ NoAnswer address }
+    ensures unwatched { (address : SocketAddrV4) → load_by (loads.Unmade (load_faults.Unwatched address)) ≡ Untold address }
+    ensures few_lines { load_by (loads.Unmade load_faults.NoLines) ≡ NoLines }
 {}

@@ -48,8 +48,8 @@ that is given up, and with --route for each change of a call or of a line:
   call 7: 201 -> 202 ringing          and so answered, connected, over
   line 201: dialling                  and so busy tone, reorder tone, at rest
 
-A gateway is checked by rgca check ADDRESS, and telephones are worked by rgca phones SCRIPT; each
-says how by --help.
+A gateway is checked by rgca check ADDRESS, telephones are worked by rgca phones SCRIPT, and make
+calls at a rate by rgca load CONFIG; each says how by --help.
 More: the manual page rgca(1).
 ";
 
@@ -131,7 +131,35 @@ The status is 0 where all was as expected, 1 where something wasn't, 2 for a fau
 // How a script of telephones is played, in pieces.
 static PHONES_HELP: [&str; 3] = ["usage: ", PHONES_USAGE, PHONES_BELOW];
 
-/// What the program says of itself, of its checks, and of its scripts of telephones.
+// The words behind `load`, in a line.
+const LOADS_USAGE: &str =
+    "rgca load CONFIG --rate CALLS --for SECONDS [--hold MS] [--seed N] [--success PERCENT] [--route]";
+
+// What they say, from the end of the first line on.
+const LOADS_BELOW: &str = "
+
+Lines call one another at a rate, through the call agent that serves their gateways. Telephones of rgwd are worked, and what
+they tell is all that counts.
+
+  CONFIG              the configuration of the call agent, in TOML; each gateway has `phones`, the address of its telephones
+  --rate CALLS        so many calls are attempted a second, 0.001 to 10000
+  --for SECONDS       for so long
+  --hold MS           so long both ends of a call talk; else 3000
+  --seed N            draws who calls whom; else 1
+  --success PERCENT   of all attempts are to come to rest; else 99
+  --route             the exchange is here, at the configuration's own; else another call agent is there
+  --help              this
+
+Each second standard error has a line with how far it is. At the end standard output has the report, as JSON; tools/report
+makes a page of it. A call fails where a step takes ten seconds. Attempts that begin more than 100 ms late are counted: then
+this program is slow, and not the call agent.
+The status is 0 where enough calls came to rest, 1 where too few did, 2 for other words, 3 where no load can be made.
+";
+
+// How a load is made, in pieces.
+static LOADS_HELP: [&str; 3] = ["usage: ", LOADS_USAGE, LOADS_BELOW];
+
+/// What the program says of itself, of its checks, of its scripts of telephones, and of its loads.
 pub(crate) fn of_all() -> Abouts {
     let version = VERSIONS.as_slice();
     Abouts {
@@ -148,6 +176,11 @@ pub(crate) fn of_all() -> Abouts {
         phones: About {
             usage: PHONES_USAGE,
             help: PHONES_HELP.as_slice(),
+            version,
+        },
+        loads: About {
+            usage: LOADS_USAGE,
+            help: LOADS_HELP.as_slice(),
             version,
         },
     }

@@ -1,0 +1,39 @@
+//! Reads a configuration, and what is missing there for what is asked.
+use agent_texts::{AgentConfig, ConfigRefusal, Place, missing, read_config, too_long};
+use rgw_scripts::LIMIT;
+use std::alloc::Global;
+
+/// The configuration that a text writes; where calls are to be routed it has a digit map.
+pub fn config_of(
+    alloc: Global,
+    is_routed: bool,
+    text: &[u8],
+) -> Result<AgentConfig, ConfigRefusal> {
+    if text.len() > LIMIT {
+        return Err(too_long(alloc, LIMIT));
+    }
+    let config = read_config(alloc, text)?;
+    if is_routed && config.map.is_none() {
+        let place = Place {
+            gateway: None,
+            key: "digit_map",
+        };
+        return Err(missing(alloc, place));
+    }
+    Ok(config)
+}
+
+/// Why a configuration has no load, if it hasn't: a gateway doesn't say where its telephones are.
+pub fn bench_refusal(alloc: Global, config: &AgentConfig) -> Option<ConfigRefusal> {
+    for gateway in config.gateways.iter() {
+        if gateway.phones.is_none() {
+            let domain = str::from_utf8(gateway.domain.as_bytes()).unwrap_or("");
+            let place = Place {
+                gateway: Some(domain),
+                key: "phones",
+            };
+            return Some(missing(alloc, place));
+        }
+    }
+    None
+}

@@ -1,0 +1,71 @@
+//! Reads the words behind `load`.
+use live_ends::CommonEnding;
+use load_bench::{LoadNumber, LoadSettings, SettingFault};
+
+/// Why the words ask for no load.
+#[derive(Clone, Copy)]
+pub enum LoadWordFault {
+    /// As the words of any program may be refused, or ask for something else.
+    Common(CommonEnding),
+    /// What stands behind the word of this number isn't such a number.
+    BadNumber { number: LoadNumber },
+}
+
+const USAGE: LoadWordFault = LoadWordFault::Common(CommonEnding::Usage);
+
+// Whether a word is this one. Asked by a call: two texts that are compared in place are some twenty steps of each function that does.
+fn is_word(word: &str, name: &str) -> bool {
+    word == name
+}
+
+// Why a word isn't taken.
+fn fault_of(fault: SettingFault) -> LoadWordFault {
+    match fault {
+        SettingFault::NoWord => USAGE,
+        SettingFault::BadNumber { number } => LoadWordFault::BadNumber { number },
+    }
+}
+
+// What these words ask of a load, which stand behind its configuration.
+fn settings_in(words: &[String]) -> Result<LoadSettings, LoadWordFault> {
+    let mut settings = LoadSettings::USUAL;
+    let mut name = "";
+    for word in words {
+        let word = word.as_str();
+        if is_word(name, "") {
+            if is_word(word, "--route") {
+                settings.is_routed = true;
+            } else {
+                name = word;
+            }
+        } else {
+            match settings.take(name, word) {
+                Ok(()) => name = "",
+                Err(fault) => return Err(fault_of(fault)),
+            }
+        }
+    }
+    if is_word(name, "") && settings.is_whole() {
+        Ok(settings)
+    } else {
+        Err(USAGE)
+    }
+}
+
+/// Reads the words of a load, of which the first is `load`: the file of the configuration, and what is asked.
+pub fn read_load_words(words: &[String]) -> Result<(&str, LoadSettings), LoadWordFault> {
+    let [_, config, behind @ ..] = words else {
+        return Err(USAGE);
+    };
+    let config = config.as_str();
+    if is_word(config, "--help") || is_word(config, "-h") {
+        return Err(LoadWordFault::Common(CommonEnding::Help));
+    }
+    if config.starts_with('-') {
+        return Err(USAGE);
+    }
+    match settings_in(behind) {
+        Ok(settings) => Ok((config, settings)),
+        Err(fault) => Err(fault),
+    }
+}
