@@ -6,6 +6,7 @@
 //! - `<`, `>` a datagram comes from the first gateway, 127.0.0.1:2427, or goes there, or from and to the address behind them.
 //! - `type AUEP ..` this is typed at the socket for commands.
 //! - `print ..` a line of standard output.
+use crate::loads::{asked_in, play_load};
 use crate::stories::{
     Place, Program, Records, Story, Transcript, Words, put_given, told, words_in,
 };
@@ -46,8 +47,8 @@ impl Recorder for Records {
     }
 }
 
-// A configuration; nothing where it has a fault.
-fn config_in(alloc: Global, settings: &str) -> Result<Option<AgentConfig>, OutOfMemory> {
+/// A configuration; nothing where it has a fault.
+pub(crate) fn config_in(alloc: Global, settings: &str) -> Result<Option<AgentConfig>, OutOfMemory> {
     let text = if settings.is_empty() { USUAL } else { settings };
     match read_config(alloc, text.as_bytes()) {
         Ok(config) => Ok(Some(config)),
@@ -74,8 +75,8 @@ fn settings_of(words: &Words, story: &Story) -> WireSettings {
     }
 }
 
-// What a call agent stands on, over what a story has of sockets and a clock.
-fn wire_of(
+/// What a call agent stands on, over what a story has of sockets and a clock.
+pub(crate) fn wire_of(
     alloc: Global,
     words: &Words,
     story: &mut Story,
@@ -155,6 +156,9 @@ impl Program for CallAgent {
     }
 
     fn play(alloc: Global, story: &mut Story, given: &mut Transcript) -> Result<bool, OutOfMemory> {
+        if let Some(settings) = asked_in(story.words.as_slice()) {
+            return play_load(alloc, settings, story, given);
+        }
         match words_in(alloc, story.words.as_slice(), CallAgent::place().own)? {
             Some(words) => play_asked(alloc, &words, story, given),
             None => Ok(false),

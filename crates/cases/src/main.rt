@@ -12,6 +12,7 @@
 mod calls;
 mod desk;
 mod live;
+mod loads;
 mod phones;
 mod played;
 mod scripts;
