@@ -12,4 +12,5 @@ pub mod TrackLaws
 pub mod ServesLaws
 pub mod YoungLemmas
 pub mod Computing
+pub mod SentExamples
 pub mod FairFromExamples

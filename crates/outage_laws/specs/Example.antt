@@ -1,8 +1,8 @@
 -- The worlds of the worked examples: line 1 of rgw.example.net is lifted, and its notification is lost at first.
-use Rattle.std.specs.Prelude.{ℕ, codes, List, [], ◌∷◌, ◌++◌, map}
+use Rattle.std.specs.Prelude.{ℕ, codes, List, [], ◌∷◌, ◌++◌, map, Option, option_map}
 use Rattle.plain_machine.specs.Event.{GatewayEvent, tick}
 use Rattle.plain_machine.specs.Example.{two_lines, response}
-use Rattle.plain_machine.specs.Lists.{sent_of}
+use Rattle.plain_machine.specs.Lists.{plain, sent_of}
 use Rattle.machine_laws.specs.Belonging.{of_line}
 use Rattle.machine_laws.specs.Saying.{Begun}
 use Rattle.agent_core.specs.World.{WorldStep, delivering, ticking}
@@ -18,6 +18,10 @@ announcement = record { id = 1; moment = 1; text = codes "RSIP 1 *@rgw.example.n
 -- when a line sends something, or as line 0 the gateway itself
 abbrev pub moments_of : ℕ → List GatewayEvent → List ℕ
 moments_of line events = map (λ one. one.moment) (of_line line (sent_of two_lines events))
+
+-- when what the gateway itself has in flight is due
+abbrev pub own_due : List GatewayEvent → Option ℕ
+own_due events = option_map (λ flight. flight.due) (plain two_lines events).endpoints.own.pending
 
 -- a provisional response to it comes, and one more two seconds later
 abbrev pub put_off : List GatewayEvent

@@ -19,9 +19,9 @@ ghost use Rattle.delivery_laws.specs.Example.{flying_after, lifted, notification
 ghost use Rattle.delivery_laws.specs.Fairness.{GoesToAgent, IsFair};
 ghost use Rattle.delivery_laws.specs.OwnChances.{IsOfLine};
 ghost use Rattle.outage_laws.specs.AfterOutage.{AgentHasRoomFrom, IsFairFrom, gap_of, longest_pause};
-ghost use Rattle.outage_laws.specs.Alone.{HasBegun, HasResponse, IsSentAt};
+ghost use Rattle.outage_laws.specs.Alone.{HasBegun, HasResponse, HasResponseSince, IsSentAt, IsSentSince};
 ghost use Rattle.outage_laws.specs.Carrying.{IsCarriedBack};
-ghost use Rattle.outage_laws.specs.Example.{all_lost, announcement, answered_late, found_again, last_copy, lost_at_first, moments_of, put_off, put_off_twice, saved, sent_elsewhere, serving_late, unserved};
+ghost use Rattle.outage_laws.specs.Example.{all_lost, announcement, answered_late, found_again, last_copy, lost_at_first, moments_of, own_due, put_off, put_off_twice, saved, sent_elsewhere, serving_late, unserved};
 
 /// An announcement goes out again after 500 ms, unless a response to it came. A provisional one puts that off to 5,000 ms after the last of
 /// them, and 521 that names another agent is announced at once.
@@ -34,12 +34,28 @@ pub fn an_announcement_goes_out_again()
     ensures of_another { ¬ IsSentAt two_lines (tick 1 ∷ tick 501 ∷ []) 1 announcement.text 501 }
     ensures none_came { ¬ HasResponse (tick 1 ∷ tick 501 ∷ []) 1 }
     ensures came { HasResponse put_off 1 }
+    ensures another_came { ¬ HasResponse (tick 1 ∷ response 100 2 ∷ []) 1 }
     ensures eight { moments_of 0 (tick 1 ∷ tick 24000 ∷ []) ≡ 1 ∷ 501 ∷ 1501 ∷ 3501 ∷ 7501 ∷ 11501 ∷ 15501 ∷ 19501 ∷ 23502 ∷ [] }
     ensures provisional { moments_of 0 (put_off ++ tick 5001 ∷ []) ≡ 1 ∷ 5001 ∷ [] }
     ensures put_off_more { moments_of 0 (put_off_twice ++ tick 7001 ∷ []) ≡ 1 ∷ 7001 ∷ [] }
     ensures of_an_other_id { moments_of 0 (tick 1 ∷ response 100 2 ∷ tick 501 ∷ []) ≡ 1 ∷ 501 ∷ [] }
     ensures answered { moments_of 0 (tick 1 ∷ response 200 1 ∷ tick 501 ∷ []) ≡ 1 ∷ [] }
     ensures redirected { moments_of 0 (tick 1 ∷ tick 2 ∷ naming_other 521 1 ∷ []) ≡ 1 ∷ 2 ∷ [] }
+{}
+
+/// Behind a provisional response at 1 it is sent at 5,001, and none has come since; behind one more it isn't. What is given up isn't sent
+/// as it falls due.
+pub fn an_announcement_that_is_put_off_goes_out_later()
+    ensures sent { IsSentSince two_lines put_off (tick 5001 ∷ []) 0 announcement.text 5001 }
+    ensures not_yet { ¬ IsSentSince two_lines put_off (tick 5000 ∷ []) 0 announcement.text 5001 }
+    ensures of_another { ¬ IsSentSince two_lines put_off (tick 5001 ∷ []) 1 announcement.text 5001 }
+    ensures not_before { ¬ IsSentSince two_lines put_off (tick 5001 ∷ []) 0 announcement.text 1 }
+    ensures none_came { ¬ HasResponseSince two_lines put_off (tick 5001 ∷ []) 1 }
+    ensures came { HasResponseSince two_lines put_off (tick 2001 ∷ response 100 1 ∷ []) 1 }
+    ensures another_came { ¬ HasResponseSince two_lines put_off (response 100 2 ∷ []) 1 }
+    ensures put_off_more { ¬ IsSentSince two_lines put_off (tick 2001 ∷ response 100 1 ∷ tick 6000 ∷ []) 0 announcement.text 5001 }
+    ensures due { own_due (tick 1 ∷ tick 19501 ∷ []) ≡ Some 23501 }
+    ensures given_up { ¬ IsSentSince two_lines (tick 1 ∷ tick 19501 ∷ []) (tick 23501 ∷ []) 0 announcement.text 23501 }
 {}
 
 /// Of eight copies the last is enough, where it is handed over, and its answer is. Where none is the line gives its notification up.

@@ -1,7 +1,9 @@
-use Rattle.std.proofs.Common.{◌≡◌, ℕ, [], ◌∷◌, inl, inr, refl, arith}
+use Rattle.std.proofs.Common.{◌≡◌, ℕ, [], ◌∷◌, inl, inr, refl, ap, arith}
+use Rattle.std.specs.Option.{unwrap_or}
+use Rattle.mgcp_text.specs.Reading.{Outcome, id_in}
 use Rattle.plain_machine.specs.Arriving.{TextArrival, arrivals_of}
 use Rattle.plain_machine.specs.Event.{tick}
-use Rattle.plain_machine.specs.Example.{two_lines}
+use Rattle.plain_machine.specs.Example.{response, two_lines}
 use Rattle.plain_machine.specs.Lists.{sent_of}
 use Rattle.machine_laws.specs.Belonging.{of_line}
 use Rattle.machine_laws.specs.Saying.{Begun, OneOf, begun_in}
@@ -17,6 +19,11 @@ unfolding on_examples
 sooner (inl is) = absurd (let late : ◌≡◌ {A = ℕ} 1 501 = is.1 in omega (arith, late))
 sooner (inr none) = absurd none
 
+other_id : OneOf (λ (a : TextArrival). IsResponse 1 a.outcome) (arrivals_of (tick 1 ∷ response 100 2 ∷ [])) → ⊥
+unfolding on_examples
+other_id (inl is) = absurd (let same : ◌≡◌ {A = ℕ} 2 1 = ap (λ (o : Outcome). unwrap_or (id_in o) 0) is.3 in omega (arith, same))
+other_id (inr none) = absurd none
+
 pub returns : goal.returns
 unfolding on_examples
 returns c = record {
@@ -28,6 +35,7 @@ returns c = record {
   of_another = λ is. absurd (one_from_any (SaysAt announcement.text 501) (of_line 1 (sent_of two_lines (tick 1 ∷ tick 501 ∷ []))) is);
   none_came = λ come. absurd (one_from_any (λ (a : TextArrival). IsResponse 1 a.outcome) (arrivals_of (tick 1 ∷ tick 501 ∷ [])) come);
   came = any_from_one (λ (a : TextArrival). IsResponse 1 a.outcome) (arrivals_of put_off) (inl (100, [], [], refl));
+  another_came = λ come. other_id (one_from_any (λ (a : TextArrival). IsResponse 1 a.outcome) (arrivals_of (tick 1 ∷ response 100 2 ∷ [])) come);
   eight = refl;
   provisional = refl;
   put_off_more = refl;
