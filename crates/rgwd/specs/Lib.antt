@@ -1,3 +1,4 @@
 pub mod Statuses
 pub mod Parting
 pub mod Texts
+pub mod Names

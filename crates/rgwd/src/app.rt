@@ -1,7 +1,9 @@
 //! The program: reads its words and its configuration, opens its sockets, and serves.
+ghost use Rattle.std.specs.Prelude.{◌≡◌, ℕ, List, ◌++◌, codes, IfOk, IfSome};
+ghost use Rattle.rgwd.specs.Names.{name_of, Says};
+
 use crate::behind::put_behind;
-use crate::ending::Ending;
-use crate::help::of_program;
+use crate::ending::{Ending, Said};
 use crate::opening::{admission_of, desk_settings, open_site, open_sockets};
 use crate::reception::PageReception;
 use crate::recording::Recording;
@@ -12,13 +14,13 @@ use crate::words::{Settings, read_words};
 use exchange_log::put_peer;
 use gateway_core::Gateway;
 use live_ends::{
-    CaptureFiles, CommonEnding, FileNames, Live, LiveClock, Outlets, Parting, begin, end,
-    open_capture, read_file,
+    CaptureFiles, CommonEnding, Live, LiveClock, Outlets, Parting, begin, end, open_capture,
+    read_file,
 };
 use live_gateway::{Desk, agents_line, boxed, open_desk};
 use live_journal::{Journal, Trace};
 use live_page::{PageProgram, Reception, run_with_site};
-use mg_bytes::{Draft, OutOfMemory};
+use mg_bytes::Draft;
 use rgw_scenes::{flaw_of, read_config, told, told_setup};
 use rgw_scripts::LIMIT;
 use std::alloc::{AllocError, Global};
@@ -300,8 +302,11 @@ fn serve_config<R: Files + Net + Clock + RandomSource + Alloc + Clone + Drop, P:
     serve_with::<R, P>(rt, alloc, settings, begun, text, gateway, recording)
 }
 
-// What is said of the flaw that the configuration in this text has, if it has one.
-fn flaw_text(alloc: Global, file: &str, text: &[u8]) -> Result<Option<Vec<u8>>, AllocError> {
+// What is said of the flaw that the configuration in this file with this text has, if it has one: a line that names the file.
+fn flaw_text(alloc: Global, file: &str, text: &[u8]) -> Result<Option<Vec<u8>>, AllocError>
+    ensures { IfOk result (λ said. IfSome said (λ line.
+        (flaw : List ℕ) × (line.items ≡ file.now ++ codes ": " ++ flaw ++ codes "\n"))) }
+{
     let Some(flaw) = flaw_of(alloc, text)? else {
         return Ok(None);
     };
@@ -332,18 +337,20 @@ fn serve_text<R: Files + Net + Clock + RandomSource + Alloc + Clone + Drop, P: R
     Ending::Common(CommonEnding::Told)
 }
 
-// Does what the settings ask.
+// Does what the settings ask: how the program ends then, and what it says, which names the files of the settings.
 fn perform<R: Files + Net + Clock + RandomSource + Alloc + Clone + Drop, P: Reception>(
     rt: &R,
     alloc: Global,
     settings: &Settings<'_>,
     recording: &mut Recording<R>,
-) -> Ending {
-    let text = match read_file(rt, alloc, settings.config, LIMIT as u64) {
-        Ok(text) => text,
-        Err(kind) => return Ending::unreadable(kind),
+) -> Said
+    ensures { IfOk result.text (λ text. Says settings.now.config.now (name_of settings.now.capture) result.ending text.items) }
+{
+    let ending = match read_file(rt, alloc, settings.config, LIMIT as u64) {
+        Ok(text) => serve_text::<R, P>(rt, alloc, settings, text.as_slice(), recording),
+        Err(kind) => Ending::unreadable(kind),
     };
-    serve_text::<R, P>(rt, alloc, settings, text.as_slice(), recording)
+    ending.said(alloc, settings.files())
 }
 
 // The words behind this one, where that is the first.
@@ -354,47 +361,23 @@ fn words_behind<'w>(first: &str, words: &'w [String]) -> Option<&'w [String]> {
     }
 }
 
-// How the program with these words ends, and which files it was to read and write.
-fn ending_by<'w, R: AllocGlobal + Files + Net + Clock + RandomSource + Clone + Drop, P: Reception>(
+// How the program with these words ends, and what it says then.
+fn said_by<R: AllocGlobal + Files + Net + Clock + RandomSource + Clone + Drop, P: Reception>(
     rt: &R,
-    words: &'w [String],
-    files: &mut FileNames<'w>,
+    words: &[String],
     recording: &mut Recording<R>,
-) -> Ending {
+) -> Said {
     if let Some(asked) = words_behind(TELL, words) {
-        return tell_line(rt, asked, recording);
+        return tell_line(rt, asked, recording).said_of_no_file(rt.alloc());
     }
     if let Some(asked) = words_behind(REPLAY, words) {
-        return replay_trace(rt, asked, files, recording);
+        return replay_trace(rt, asked, recording);
     }
     let settings = match read_words(rt.alloc(), words, recording) {
         Ok(settings) => settings,
-        Err(ending) => return ending,
+        Err(ending) => return ending.said_of_no_file(rt.alloc()),
     };
-    *files = settings.files();
     perform::<R, P>(rt, rt.alloc(), &settings, recording)
-}
-
-// What the program says at its end.
-fn ending_text(
-    alloc: Global,
-    ending: Ending,
-    files: FileNames<'_>,
-) -> Result<Vec<u8>, OutOfMemory> {
-    let mut text = Vec::new(alloc);
-    ending.put_text(alloc, &mut text, of_program(), files)?;
-    Ok(text)
-}
-
-// Says how the program ends, and gives its status.
-fn tell<R: AllocGlobal + Files + Clock>(
-    rt: &R,
-    outlets: &mut Outlets<R::File>,
-    ending: Ending,
-    files: FileNames<'_>,
-) -> u8 {
-    let text = ending_text(rt.alloc(), ending, files);
-    end(rt, outlets, text, ending.status(), ending.is_asked())
 }
 
 // Runs the program with these words, or without them, and gives its exit status.
@@ -403,15 +386,12 @@ fn run_with<R: AllocGlobal + Files + Net + Clock + RandomSource + Clone + Drop, 
     words: &Result<Vec<String>, CommonEnding>,
     recording: &mut Recording<R>,
 ) -> u8 {
-    let mut files = FileNames {
-        read_from: "",
-        written_to: "",
+    let Said { ending, text } = match words {
+        Ok(words) => said_by::<R, P>(rt, words.as_slice(), recording),
+        Err(ending) => Ending::Common(*ending).said_of_no_file(rt.alloc()),
     };
-    let ending = match words {
-        Ok(words) => ending_by::<R, P>(rt, words.as_slice(), &mut files, recording),
-        Err(ending) => Ending::Common(*ending),
-    };
-    tell(rt, &mut recording.outlets, ending, files)
+    let (status, is_asked) = (ending.status(), ending.is_asked());
+    end(rt, &mut recording.outlets, text, status, is_asked)
 }
 
 /// Runs the program, whose page's visitors are received so, and gives its exit status.

@@ -1,8 +1,10 @@
 //! How the program ends: its status, and what it says then.
-ghost use Rattle.std.specs.Prelude.{◌≡◌, ◌≢◌, ◌++◌, OnOk};
+ghost use Rattle.std.specs.Prelude.{◌≡◌, ◌≢◌, ℕ, List, [], ◌++◌, OnOk, IfOk};
 ghost use Rattle.rgwd.specs.Statuses.{status_of, is_asked};
 ghost use Rattle.rgwd.specs.Texts.{unanswered_text, ending_text};
+ghost use Rattle.rgwd.specs.Names.{HasNames, Says};
 
+use crate::help::of_program;
 use crate::parted::{MOST_FILES, MOST_MEGABYTES};
 use exchange_log::put_peer;
 use gateway_core::FIRSTS;
@@ -68,6 +70,12 @@ pub enum Ending {
     Answered,
     /// Nobody answered a line at this address.
     NoAnswer { address: SocketAddrV4 },
+}
+
+/// How the program ends, and what it says then; an error is for want of memory.
+pub struct Said {
+    pub ending: Ending,
+    pub text: Result<Vec<u8>, OutOfMemory>,
 }
 
 impl Ending {
@@ -171,6 +179,42 @@ impl Ending {
             Ending::NoTimeOfDay => put_pieces(out, &[NO_TIME_OF_DAY]),
             Ending::NoAnswer { address } => put_unanswered(alloc, out, address),
         }
+    }
+
+    // What is said, where the program's files have these names.
+    fn text(self, alloc: Global, files: FileNames<'_>) -> Result<Vec<u8>, OutOfMemory>
+        ensures { (read written : List ℕ) → HasNames read written files.entry
+            → IfOk result (λ text. Says read written self text.items) }
+    {
+        let mut text = Vec::new(alloc);
+        match self.put_text(alloc, &mut text, of_program(), files) {
+            Ok(()) => Ok(text),
+            Err(refused) => Err(refused),
+        }
+    }
+
+    /// The program ends so, and says what is said where its files have these names.
+    pub(crate) fn said(self, alloc: Global, files: FileNames<'_>) -> Said
+        ensures ending { result.ending ≡ self }
+        ensures text { (read written : List ℕ) → HasNames read written files.entry
+            → IfOk result.text (λ text. Says read written result.ending text.items) }
+    {
+        Said {
+            ending: self,
+            text: self.text(alloc, files),
+        }
+    }
+
+    /// The program ends so before it has a file to read or to write.
+    pub(crate) fn said_of_no_file(self, alloc: Global) -> Said
+        ensures ending { result.ending ≡ self }
+        ensures text { IfOk result.text (λ text. Says [] [] result.ending text.items) }
+    {
+        let files = FileNames {
+            read_from: "",
+            written_to: "",
+        };
+        self.said(alloc, files)
     }
 }
 

@@ -1,14 +1,19 @@
 //! Worked examples of the definitions, as theorems.
 #![tactic(auto, unfolding(crate::proofs::Computing::on_examples))]
 
-ghost use Rattle.std.specs.Prelude.{◌≡◌, codes, true, false, [], ◌∷◌, ◌++◌, map, Ok, Err, Some, None};
+ghost use Rattle.std.specs.Prelude.{◌≡◌, ℕ, List, codes, true, false, [], ◌∷◌, ◌++◌, map, Ok, Err, Some, None};
+ghost use Rattle.std.specs.Borrow.{Bor};
 ghost use Rattle.std.specs.Net.Text.{socket_v4_text};
+ghost use Rattle.std.specs.declared.io.ErrorKind.{ErrorKind};
 ghost use Rattle.std.specs.declared.net.socket_addr.SocketAddrV4.{SocketAddrV4};
 ghost use Rattle.live_ends.specs.declared.ending.About.{About};
 ghost use Rattle.live_ends.specs.declared.ending.FileNames.{FileNames};
 ghost use Rattle.live_ends.specs.declared.ending.CommonEnding.{CommonEnding};
+ghost use Rattle.live_ends.specs.declared.ending.CommonEnding.TheVariants.{Unreadable, Unwritable};
 ghost use Rattle.live_ends.specs.Ending.{status_of as common_status, is_asked as is_commonly_asked, ending_text as common_text};
+ghost use Rattle.live_ends.specs.Reasons.{reason_of};
 ghost use Rattle.rgwd.specs.declared.ending.Ending.TheVariants.{Common, Checked, BadAgents, BadHosts, BadSize, BadFiles, AnyAddress, BadFirst, BadSpread, NoTimeOfDay, Replayed, Differs, NoTrace, Answered, NoAnswer};
+ghost use Rattle.rgwd.specs.Names.{name_of, Says};
 ghost use Rattle.rgwd.specs.Parting.{parting_of};
 ghost use Rattle.rgwd.specs.Statuses.{status_of, is_asked};
 ghost use Rattle.rgwd.specs.Texts.{ending_text};
@@ -52,4 +57,16 @@ pub fn each_sentence_has_an_example()
     ensures no_files { parting_of true (Some (codes "1")) (Some (codes "0")) ≡ Err BadFiles }
     ensures too_many { parting_of true (Some (codes "1")) (Some (codes "10001")) ≡ Err BadFiles }
     ensures no_size { parting_of true None (Some (codes "3")) ≡ Err BadFiles }
+{}
+
+/// Each sentence at an example.
+pub fn an_ending_names_the_file_that_fails()
+    // Of the file that is read it says that it can't be read, and of the one that is written that it can't be written.
+    ensures read { (read written text : List ℕ) (kind : ErrorKind) → Says read written (Common (Unreadable kind)) text
+        → text ≡ read ++ (codes ": read fault" ++ (reason_of kind ++ codes "\n")) }
+    ensures written { (read written text : List ℕ) (kind : ErrorKind) → Says read written (Common (Unwritable kind)) text
+        → text ≡ written ++ (codes ": write fault" ++ (reason_of kind ++ codes "\n")) }
+    // A file that isn't asked for has no name.
+    ensures no_file { name_of None ≡ [] }
+    ensures file { (name : Bor (List ℕ)) → name_of (Some name) ≡ name.now }
 {}

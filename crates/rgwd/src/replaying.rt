@@ -1,5 +1,8 @@
 //! Replays a trace, and says whether each line that went out is what the gateway sends for the lines before it.
-use crate::ending::Ending;
+ghost use Rattle.std.specs.Prelude.{◌≡◌, [], ◌∷◌, ◌++◌, codes, IfOk, string_bytes};
+ghost use Rattle.rgwd.specs.Names.{Says};
+
+use crate::ending::{Ending, Said};
 use crate::recording::Recording;
 use crate::words::unless_help;
 use live_ends::{CommonEnding, FileNames};
@@ -32,6 +35,17 @@ fn verdict_of<R: Files>(rt: &R, alloc: Global, file: &str) -> Result<Verdict, En
     }
 }
 
+// What is said of this file, which is no trace: it names it.
+fn broken_text(alloc: Global, file: &str, why: &[u8]) -> Result<Vec<u8>, AllocError>
+    ensures { IfOk result (λ said. said.items ≡ file.now ++ codes ": " ++ why.now) }
+{
+    let mut said = Draft::new(alloc);
+    said.put(file.as_bytes());
+    said.put(b": ");
+    said.put(why);
+    said.end()
+}
+
 // Says on standard output what is found; of what is no trace on standard error.
 fn tell_verdict<R: Files>(
     alloc: Global,
@@ -42,11 +56,7 @@ fn tell_verdict<R: Files>(
     let mut text = Vec::new(alloc);
     put_verdict(alloc, &mut text, verdict)?;
     if matches!(verdict, Verdict::Broken { .. }) {
-        let mut said = Draft::new(alloc);
-        said.put(file.as_bytes());
-        said.put(b": ");
-        said.put(text.as_slice());
-        let said = said.end()?;
+        let said = broken_text(alloc, file, text.as_slice())?;
         recording.say(said.as_slice());
     } else {
         recording.print(text.as_slice());
@@ -75,21 +85,33 @@ fn replayed<R: AllocGlobal + Files>(rt: &R, file: &str, recording: &mut Recordin
     ending_by(&verdict)
 }
 
-/// Replays the trace in the file that the words behind `--replay` name, and says what is found: how the program ends by that. The file is
-/// the one that the program reads.
-pub fn replay_trace<'w, R: AllocGlobal + Files>(
+// Replays the trace in the file that this word names, unless that asks how the program is used: how it ends by that. The file is the one
+// that it reads.
+fn replay_file<R: AllocGlobal + Files>(rt: &R, word: &str, recording: &mut Recording<R>) -> Said
+    ensures { IfOk result.text (λ text. Says word.now [] result.ending text.items) }
+{
+    let ending = match unless_help(word) {
+        Ok(file) => replayed(rt, file, recording),
+        Err(ending) => ending,
+    };
+    let files = FileNames {
+        read_from: word,
+        written_to: "",
+    };
+    ending.said(rt.alloc(), files)
+}
+
+/// Replays the trace in the file that the words behind `--replay` name, and says what is found: how the program ends by that.
+pub fn replay_trace<R: AllocGlobal + Files>(
     rt: &R,
-    words: &'w [String],
-    files: &mut FileNames<'w>,
+    words: &[String],
     recording: &mut Recording<R>,
-) -> Ending {
-    let [file] = words else {
-        return Ending::Common(CommonEnding::Usage);
-    };
-    let file = match unless_help(file.as_str()) {
-        Ok(file) => file,
-        Err(ending) => return ending,
-    };
-    files.read_from = file;
-    replayed(rt, file, recording)
+) -> Said
+    ensures { (file : _) → words.now ≡ file ∷ []
+        → IfOk result.text (λ text. Says (string_bytes file) [] result.ending text.items) }
+{
+    match words {
+        [file] => replay_file(rt, file.as_str(), recording),
+        _ => Ending::Common(CommonEnding::Usage).said_of_no_file(rt.alloc()),
+    }
 }

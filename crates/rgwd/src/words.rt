@@ -1,7 +1,9 @@
 //! Reads the words of the command line.
-ghost use Rattle.std.specs.Prelude.{◌≡◌, ◌≢◌, ◌⊎◌, Some, IfOk, IfErr, codes};
+ghost use Rattle.std.specs.Prelude.{◌≡◌, ◌≢◌, ◌⊎◌, Some, IfOk, IfErr, codes, option_map};
+ghost use Rattle.clap.specs.Matches.{found_of, first_value};
 ghost use Rattle.live_page.specs.Naming.{names_in, names_of};
 ghost use Rattle.surroundings.specs.Speaking.{admitted_by, admitted_in};
+ghost use Rattle.rgwd.specs.Names.{name_of, HasNames};
 
 use crate::ending::Ending;
 use crate::help::{LISTEN, PHONES, USAGE};
@@ -97,7 +99,9 @@ pub struct Settings<'a> {
 
 impl<'a> Settings<'a> {
     /// The names of the program's files: what it reads is its configuration, and what it writes a capture.
-    pub(crate) fn files(&self) -> FileNames<'a> {
+    pub(crate) fn files(&self) -> FileNames<'a>
+        ensures { HasNames self.now.config.now (name_of self.now.capture) result }
+    {
         FileNames {
             read_from: self.config,
             written_to: self.capture.unwrap_or(""),
@@ -255,7 +259,11 @@ fn settings_with<'a>(
     matches: &ArgMatches<'a>,
     config: &'a str,
     sockets: Sockets<'a>,
-) -> Result<Box<Settings<'a>>, Ending> {
+) -> Result<Box<Settings<'a>>, Ending>
+    ensures config { IfOk result (λ settings. settings.value.config.now ≡ config.now) }
+    ensures capture { IfOk result (λ settings.
+        first_value (found_of matches.now) (codes "capture") ≡ option_map (λ name. name.now) settings.value.capture) }
+{
     let capture = matches.get_str("capture");
     let size = bytes_in(matches, "capture-size");
     let parting = match parting_of(capture.is_some(), size, bytes_in(matches, "capture-files")) {
@@ -289,7 +297,13 @@ fn settings_with<'a>(
     }
 }
 
-fn settings_in<'a>(alloc: Global, matches: &ArgMatches<'a>) -> Result<Box<Settings<'a>>, Ending> {
+// What the program is asked to do by what stands behind its words. Its configuration is the word that stands by itself.
+fn settings_in<'a>(alloc: Global, matches: &ArgMatches<'a>) -> Result<Box<Settings<'a>>, Ending>
+    ensures config { IfOk result (λ settings.
+        first_value (found_of matches.now) (codes "config") ≡ Some settings.value.config.now) }
+    ensures capture { IfOk result (λ settings.
+        first_value (found_of matches.now) (codes "capture") ≡ option_map (λ name. name.now) settings.value.capture) }
+{
     let Some(config) = matches.get_str("config") else {
         return Err(Ending::Common(CommonEnding::Usage));
     };

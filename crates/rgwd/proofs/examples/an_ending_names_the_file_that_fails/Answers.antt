@@ -1,0 +1,17 @@
+use Rattle.std.proofs.Common.{◌≡◌, ℕ, List, ◌++◌, codes, subst}
+use Rattle.live_ends.specs.Ending.{ending_text as common_text}
+use Rattle.live_ends.specs.Reasons.{reason_of}
+use Rattle.rgwd.specs.Texts.{ending_text}
+use Rattle.rgwd.proofs.examples.an_ending_names_the_file_that_fails.Goals as goal
+
+-- it is what is said of an ending with these names
+
+pub returns-clause-read : goal.returns-clause-read
+unfolding ending_text common_text
+returns-clause-read c = λ read written text kind says.
+    subst (λ (name : List ℕ). text ≡ name ++ (codes ": read fault" ++ (reason_of kind ++ codes "\n"))) says.2.0 says.3
+
+pub returns-clause-written : goal.returns-clause-written
+unfolding ending_text common_text
+returns-clause-written c = λ read written text kind says.
+    subst (λ (name : List ℕ). text ≡ name ++ (codes ": write fault" ++ (reason_of kind ++ codes "\n"))) says.2.1 says.3
