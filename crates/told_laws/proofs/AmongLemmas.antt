@@ -1,5 +1,5 @@
 -- What a line tells is some of what was done at its telephone, in its order.
-use Rattle.std.proofs.Common.{◌≡◌, ℕ, suc, ◌+◌, Bool, true, false, List, [], ◌∷◌, ◌++◌, Option, Some, None, refl, sym, ap, subst, ◌∙◌, append_assoc, append-nil}
+use Rattle.std.proofs.Common.{◌≡◌, ℕ, suc, Bool, true, false, List, [], ◌∷◌, ◌++◌, Option, Some, None, refl, sym, ap, subst, ◌∙◌, append_assoc, append-nil}
 use Rattle.std.specs.Prelude.{IfSome, ◌||◌, nat_lt, nat_le, length, if◌then◌else◌}
 use Rattle.std.proofs.lemmas.List.Elements.{filter-append}
 use Rattle.mg_bytes.specs.declared.letter.Letter.{Letter}
@@ -310,7 +310,7 @@ detected_by Notification line event moment is drained =
 detected_by Lockstep line event moment is drained =
     quarantined_moves line event (λ normal. let clash : Lockstep ≡ Normal = sym is ∙ normal in cc)
 
-detected_moves : (line : LineState) (event : Observed) (moment : ℕ) → IsDrained line → Moves (kept_by line) (event ∷ []) (detected line event moment)
+pub detected_moves : (line : LineState) (event : Observed) (moment : ℕ) → IsDrained line → Moves (kept_by line) (event ∷ []) (detected line event moment)
 unfolding detected
 detected_moves line event moment drained = detected_by line.state line event moment refl drained
 

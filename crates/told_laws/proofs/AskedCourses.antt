@@ -14,7 +14,7 @@ use Rattle.told_laws.proofs.AskedLemmas.{told_where_asked}
 use Rattle.told_laws.proofs.ExampleLemmas.{none_among}
 use Rattle.told_laws.proofs.ToldCourses.{course_walks}
 
-course_on : (setup : Setup) (m : Machine) (line : ℕ) (es fs : List GatewayEvent)
+pub course_on : (setup : Setup) (m : Machine) (line : ℕ) (es fs : List GatewayEvent)
     → course_from setup m line (es ++ fs) ≡ course_from setup m line es ++ course_from setup (machine_after setup m es) line fs
 unfolding course_from machine_after
 course_on setup m line [] fs = refl

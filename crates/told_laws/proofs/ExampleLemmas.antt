@@ -1,6 +1,6 @@
 -- What the worked examples are compared by.
-use Rattle.std.proofs.Common.{◌≡◌, ℕ, suc, ◌+◌, ◌<◌, Bool, true, false, Some, List, [], ◌∷◌, ◌++◌, length, refl, sym, ap, subst, ◌∙◌, arith}
-use Rattle.std.specs.Prelude.{find, nat_lt, filter, if◌then◌else◌}
+use Rattle.std.proofs.Common.{◌≡◌, ℕ, suc, ◌+◌, ◌<◌, Bool, true, false, inl, inr, Some, List, [], ◌∷◌, ◌++◌, length, refl, sym, ap, subst, ◌∙◌, append-nil, arith}
+use Rattle.std.specs.Prelude.{◌⊎◌, find, nat_lt, filter, if◌then◌else◌}
 use Rattle.std.proofs.lemmas.Bool.{ltb-true, and_parts}
 use Rattle.std.specs.List.{list_all}
 use Rattle.event_syntax.specs.declared.request.RequestedEvent.{RequestedEvent}
@@ -23,7 +23,7 @@ use Rattle.mg_line.specs.Line.{LineState}
 use Rattle.delivery_laws.specs.Rounds.{of_telephone}
 use Rattle.told_laws.specs.Among.{AreAmong}
 use Rattle.delivery_laws.specs.Course.{CourseStep, acts, accepts, notifies}
-use Rattle.told_laws.specs.Walking.{collects, are_quiet, left_by, Place, nothing_asked, behind_request, behind_notification, End, with_act, told_of_front, Then, Walks, Stays}
+use Rattle.told_laws.specs.Walking.{collects, are_quiet, left_by, Place, nothing_asked, behind_request, behind_notification, End, with_act, told_of_front, Then, Walks, Stays, AreActs, AllButLost, no_step, a_step, a_lost_act}
 
 -- Some among others
 
@@ -184,3 +184,37 @@ stays_told line place waiting none (occurred, held, order, told, quiet, kept) =
     ∙ ap (λ (xs : List Observed). xs ++ filter (collects place.requests) held)
     (sym (told ∙ ap (λ (xs : List Observed). xs ++ filter (collects place.requests) occurred) none))
     ∙ ap (λ (xs : List Observed). of_telephone line.accumulated ++ filter (collects place.requests) xs) (sym kept)
+
+-- But for the lost acts.
+
+-- each is counted once
+pub all_counted : (n : ℕ) (left course : List CourseStep) → AllButLost n left course → length left + n ≡ length course
+all_counted n left course no_step = refl
+all_counted n left course (a_step m step some all so) =
+    let rest : length some + m ≡ length all = all_counted m some all so in omega (arith, rest)
+all_counted n left course (a_lost_act m act some all so) =
+    let rest : length some + m ≡ length all = all_counted m some all so in omega (arith, rest)
+
+-- where none is left all were acts
+pub none_but_acts : (n : ℕ) (left course : List CourseStep) → AllButLost n left course → left ≡ [] → AreActs course
+none_but_acts n left course no_step none = tt
+none_but_acts n left course (a_step m step some all so) none = absurd cc
+none_but_acts n left course (a_lost_act m act some all so) none = none_but_acts m some all so none
+
+-- Of a stretch: what was told was taken, and nothing is on its way.
+pub same_taken : (told taken some : List Observed) → told ≡ some → taken ≡ some → [] ++ told ≡ taken ++ []
+same_taken told taken some one other = one ∙ sym (ap (λ (xs : List Observed). xs ++ []) other ∙ append-nil some)
+
+-- Of a stretch that isn't whole: two were taken where one was on its way; one was told where none is on its way; one was taken where none was.
+
+pub two_taken : (one other : Observed) (late left : List Observed) → (late ≡ []) ⊎ (late ≡ one ∷ []) → late ++ [] ≡ one ∷ other ∷ left → ⊥
+two_taken one other late left (inl none) whole = (let clash : [] ≡ one ∷ other ∷ left = sym (ap (λ (xs : List Observed). xs ++ []) none) ∙ whole in cc)
+two_taken one other late left (inr is) whole =
+    (let clash : one ∷ [] ≡ one ∷ other ∷ left = sym (ap (λ (xs : List Observed). xs ++ []) is) ∙ whole in cc)
+
+pub never_taken : (one : Observed) (late left : List Observed) → left ≡ [] → late ++ one ∷ [] ≡ left → ⊥
+never_taken one [] left none whole = (let clash : one ∷ [] ≡ [] = whole ∙ none in cc)
+never_taken one (other ∷ late) left none whole = (let clash : other ∷ (late ++ one ∷ []) ≡ [] = whole ∙ none in cc)
+
+pub never_told : (one : Observed) (late left : List Observed) → late ≡ [] → late ++ [] ≡ one ∷ left → ⊥
+never_told one late left none whole = (let clash : [] ≡ one ∷ left = sym (ap (λ (xs : List Observed). xs ++ []) none) ∙ whole in cc)

@@ -1,7 +1,6 @@
 -- What the steps of a notice are, and that keys are of a telephone.
 use Rattle.std.proofs.Common.{◌≡◌, true, [], refl, append-nil}
 use Rattle.std.specs.Prelude.{Option, Some, None}
-use Rattle.mg_bytes.specs.declared.letter.Letter.{Letter}
 use Rattle.mg_packages.specs.declared.event.LineEvent.TheVariants as events
 use Rattle.mg_line.specs.declared.phone.Key.{Key as OneKey}
 use Rattle.mg_line.specs.declared.phone.Key.TheVariants as keys

@@ -1,7 +1,8 @@
 -- What lines tell, for whole courses from the opening on.
-use Rattle.std.proofs.Common.{◌≡◌, ℕ, ◌≤◌, false, List, [], ◌∷◌, ◌++◌, Some, None, subst}
+use Rattle.std.proofs.Common.{◌≡◌, ℕ, ◌≤◌, min, false, List, [], ◌∷◌, ◌++◌, Some, None, subst, arith}
 use Rattle.event_values.specs.declared.observed.Observed.{Observed}
 use Rattle.event_requests.specs.declared.request.Request.{Request}
+use Rattle.quarantine.specs.Held.{most_lost}
 use Rattle.mg_line.specs.Answering.{is_loop}
 use Rattle.plain_machine.specs.declared.setup.Setup.{Setup}
 use Rattle.plain_machine.specs.declared.endpoint.Endpoint.{Endpoint}
@@ -13,9 +14,10 @@ use Rattle.delivery_laws.specs.Course.{CourseStep, accepts, notifies, course_of}
 use Rattle.delivery_laws.specs.Dialled.{done_in, told_along, latest_from}
 use Rattle.delivery_laws.specs.Rounds.{of_telephone}
 use Rattle.told_laws.specs.Among.{AreAmong, IsToldInOrder}
-use Rattle.told_laws.specs.Walking.{nothing_asked, EmbedsNone, Walks, Stays, AreActs, TellsAFront, TellsWhatWasKept}
+use Rattle.told_laws.specs.Walking.{nothing_asked, EmbedsNone, Walks, Stays, WalksButLost, AreActs, TellsAFront, TellsWhatWasKept}
 use Rattle.told_laws.proofs.AmongLemmas.{ToldInOrder, calls_in_order, opening_in_order, told_alone}
-use Rattle.told_laws.proofs.WalkLemmas.{At, Walked, calls_walk, opening_walks, stays, walks_map}
+use Rattle.told_laws.proofs.WalkLemmas.{At, walks_map}
+use Rattle.told_laws.proofs.WalkCourses.{Walked, calls_walk, none_lost, opening_walks, stays}
 use Rattle.told_laws.proofs.WalkFrontLemmas.{tells_a_front, tells_what_was_kept}
 use Rattle.delivery_laws.proofs.OverLists.{always}
 
@@ -37,12 +39,28 @@ told_in_order setup line events endpoint at = told_alone (course_of setup line e
 
 -- How that walks through what was done
 
+pub course_walks_but_lost : (setup : Setup) (line : ℕ) (events : List GatewayEvent) (endpoint : Endpoint) → endpoint_at (plain setup events).endpoints line ≡ Some endpoint
+    → WalksButLost (course_of setup line events) endpoint.line
+course_walks_but_lost setup line events endpoint at =
+    let all = always setup Walked calls_walk line (numbered setup line events endpoint at) opening_walks events in
+    let f = (all.holds endpoint at).holds in
+    record {
+      lost = f.lost;
+      left = f.left;
+      others = f.others;
+      counted = f.counted;
+      walk = walks_map f.left (At endpoint.line) (Stays endpoint.line) nothing_asked [] (stays endpoint.line) f.walk;
+    }
+
+pub none_of_them : (n lost : ℕ) → min most_lost n ≤ lost → lost ≡ 0 → n ≡ 0
+none_of_them n lost counted none = omega (arith, counted, none)
+
 pub course_walks : (setup : Setup) (line : ℕ) (events : List GatewayEvent) (endpoint : Endpoint) → endpoint_at (plain setup events).endpoints line ≡ Some endpoint
     → endpoint.line.quarantined.lost ≡ 0 → Walks nothing_asked [] (course_of setup line events) (Stays endpoint.line)
 course_walks setup line events endpoint at none =
-    let all = always setup Walked calls_walk line (numbered setup line events endpoint at) opening_walks events in
-    walks_map (course_of setup line events) (At endpoint.line) (Stays endpoint.line) nothing_asked [] (stays endpoint.line)
-    ((all.holds endpoint at).holds.walk none)
+    let w = course_walks_but_lost setup line events endpoint at in
+    subst (λ (c : List CourseStep). Walks nothing_asked [] c (Stays endpoint.line))
+    (none_lost w.lost w.left (course_of setup line events) w.others (none_of_them w.lost endpoint.line.quarantined.lost w.counted none)) w.walk
 
 pub first_tells : (setup : Setup) (line : ℕ) (events : List GatewayEvent) (endpoint : Endpoint) (before between after : List CourseStep) (request : Request)
     (identifier : List ℕ) (observed : List Observed) → endpoint_at (plain setup events).endpoints line ≡ Some endpoint

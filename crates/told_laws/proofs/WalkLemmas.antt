@@ -1,5 +1,5 @@
 -- How what a line tells walks through what was done at its telephone.
-use Rattle.std.proofs.Common.{◌≡◌, ◌≢◌, ℕ, ◌+◌, ◌≤◌, Bool, true, false, List, [], ◌∷◌, ◌++◌, Option, Some, None, refl, sym, ap, subst, ◌∙◌, inl, inr, ◌⊎◌, append_assoc, append-nil, arith}
+use Rattle.std.proofs.Common.{◌≡◌, ◌≢◌, ℕ, ◌+◌, min, Bool, true, false, List, [], ◌∷◌, ◌++◌, Option, Some, None, refl, sym, ap, subst, ◌∙◌, inl, inr, ◌⊎◌, append_assoc, append-nil}
 use Rattle.std.specs.Prelude.{filter, not, ◌||◌, nat_lt, length, if◌then◌else◌}
 use Rattle.std.proofs.lemmas.Bool.{true≢false, not-true}
 use Rattle.mg_bytes.specs.declared.letter.Letter.TheVariants as letters
@@ -27,7 +27,7 @@ use Rattle.mg_line.specs.declared.phone.Act.{Act}
 use Rattle.mg_line.specs.declared.phone.Act.TheVariants.{OffHook, OnHook, Flash, Key}
 use Rattle.mg_line.specs.State.{State}
 use Rattle.mg_line.specs.State.TheVariants.{Normal, Notification, Lockstep}
-use Rattle.mg_line.specs.Line.{LineState, Notice, LineDone, still, opening_line}
+use Rattle.mg_line.specs.Line.{LineState, Notice, LineDone, still}
 use Rattle.mg_line.specs.Occurring.{occurred}
 use Rattle.mg_line.specs.Detecting.{quarantining, detected_in, detected, with_quarantined, unless_notified, drained_of, drained, resumed}
 use Rattle.mg_line.specs.Acting.{hooked, observed_at, phoned}
@@ -36,18 +36,17 @@ use Rattle.mg_line.specs.Answering.{is_loop, answered}
 use Rattle.mg_line.specs.Opening.{opened}
 use Rattle.mg_line.specs.Falling.{ended_by, fired}
 use Rattle.mg_line.proofs.DrainLemmas.{occurred_keeps}
-use Rattle.mg_line.proofs.LoseLemmas.{lost_only_grows, unasked_events_do_nothing}
+use Rattle.mg_line.proofs.LoseLemmas.{unasked_events_do_nothing}
 use Rattle.delivery_laws.specs.Rounds.{is_of_telephone, of_telephone}
 use Rattle.delivery_laws.specs.Course.{CourseStep, acts, accepts, notifies}
-use Rattle.told_laws.specs.Walking.{is_collected, is_quiet, reaction_to, collects, are_quiet, left_by, Place, nothing_asked, behind_request, behind_notification, End, with_act, told_of_front, Brings, behind_embedded, Embeds, no_more, by_event, Then, Walks, Stays}
-use Rattle.told_laws.proofs.AmongLemmas.{IsDrained, act_of_phone, phoned_moves, asked_moves, answered_moves, opened_moves, fired_moves}
+use Rattle.told_laws.specs.Walking.{is_collected, is_quiet, reaction_to, collects, are_quiet, left_by, Place, behind_request, behind_notification, End, with_act, told_of_front, Brings, behind_embedded, Embeds, no_more, by_event, Then, Walks}
+use Rattle.told_laws.proofs.AmongLemmas.{IsDrained, act_of_phone}
 use Rattle.told_laws.proofs.OccursLemmas.{GathersAll, TellsAll, Collects, Same, Ignores, Turns, OccursBy, occurred_occurs, with_one, one_if, phone_more, collected_by, ignored_by, quiet_by, next_in, one_more, split_one}
-use Rattle.delivery_laws.proofs.OnceCountLemmas.{acts_count, fires_count}
-use Rattle.delivery_laws.proofs.EndpointLemmas.{steps_of, Calls}
+use Rattle.delivery_laws.proofs.EndpointLemmas.{steps_of}
 
 -- Embedded requests
 
-here : (end : End) (place : Place) (waiting : List Observed) → end place waiting → Then place waiting end
+pub here : (end : End) (place : Place) (waiting : List Observed) → end place waiting → Then place waiting end
 here end place waiting stands = (place, waiting, no_more place waiting, stands)
 
 embeds_both : (place middle next : Place) (waiting left last : List Observed) → Embeds place waiting middle left → Embeds middle left next last
@@ -150,7 +149,7 @@ has_at line place past has = record {
 }
 
 -- a call, and what it tells
-abbrev WalksOn : Place → List Observed → LineDone → Type 0
+abbrev pub WalksOn : Place → List Observed → LineDone → Type 0
 WalksOn place waiting done = Walks place waiting (steps_of done.notice) (At done.line)
 
 silent_walks : (place : Place) (waiting : List Observed) (done : LineDone) → done.notice ≡ None → At done.line place waiting
@@ -474,24 +473,29 @@ occurs_alone line event moment place waiting at normal empty =
     subst (λ (w : List Observed). WalksOn place (with_one w event) done) (sym same)
     (alone line event place at.past done (at_has line place waiting at (at_normal line place waiting at normal)) left occurs)
 
--- while no event occurs it is quarantined, where it is kept, and there is room
-holds_by : (held : Held) (event : Observed) (b : Bool) → (if b then one_kept held event else one_lost held).lost ≡ 0
-    → (if b then one_kept held event else one_lost held).events ≡ held.events ++ event ∷ []
-holds_by held event true none = refl
-holds_by held event false none = absurd (omega (arith, none))
-
-holds_all : (held : Held) (event : Observed) → (holding held event).lost ≡ 0 → (holding held event).events ≡ held.events ++ event ∷ []
+-- while no event occurs it is quarantined, where it is kept and there is room, and else lost
+held_or_lost : (held : Held) (event : Observed)
+    → ((holding held event).events ≡ held.events ++ event ∷ []) ⊎ (holding held event ≡ one_lost held)
 unfolding holding
-holds_all held event none = holds_by held event (nat_lt (length held.events) held.room) none
+held_or_lost held event = by_room (nat_lt (length held.events) held.room) where
+  by_room : (b : Bool) → ((if b then one_kept held event else one_lost held).events ≡ held.events ++ event ∷ [])
+      ⊎ ((if b then one_kept held event else one_lost held) ≡ one_lost held)
+  by_room true = inl refl
+  by_room false = inr refl
 
-kept_held : (line : LineState) (event : Observed) → is_kept line.requests event ≡ true → (quarantining line event).quarantined.lost ≡ 0
-    → (quarantining line event).quarantined.events ≡ line.quarantined.events ++ event ∷ []
+-- it has grown, or the count has
+abbrev HeldOrLost : LineState → Observed → Type 0
+HeldOrLost line event =
+    ((quarantining line event).quarantined.events ≡ line.quarantined.events ++ event ∷ [])
+    ⊎ ((quarantining line event).quarantined ≡ one_lost line.quarantined)
+
+kept_or_lost : (line : LineState) (event : Observed) → is_kept line.requests event ≡ true → HeldOrLost line event
 unfolding quarantining
-kept_held line event kept = by_kept (is_kept line.requests event) kept where
-  by_kept : (b : Bool) → b ≡ true → (if b then holding line.quarantined event else line.quarantined).lost ≡ 0
-      → (if b then holding line.quarantined event else line.quarantined).events ≡ line.quarantined.events ++ event ∷ []
-  by_kept true is none = holds_all line.quarantined event none
-  by_kept false is none = absurd (true≢false (sym is))
+kept_or_lost line event kept = by_kept (is_kept line.requests event) kept where
+  by_kept : (b : Bool) → b ≡ true → ((if b then holding line.quarantined event else line.quarantined).events ≡ line.quarantined.events ++ event ∷ [])
+      ⊎ ((if b then holding line.quarantined event else line.quarantined) ≡ one_lost line.quarantined)
+  by_kept true is = held_or_lost line.quarantined event
+  by_kept false is = absurd (true≢false (sym is))
 
 -- a telephone's event, which is kept
 waits_at : (line : LineState) (event : Observed) (place : Place) (waiting : List Observed) → At line place waiting
@@ -535,14 +539,14 @@ other_held line event other = by_kept (is_kept line.requests event) where
   by_kept false = refl
 
 -- what a line keeps for the walk
-record Keeps (line other : LineState) : Type 0 where
+pub record Keeps (line other : LineState) : Type 0 where
   asks : Same other line
   accumulated : other.accumulated ≡ line.accumulated
   quarantined : of_telephone other.quarantined.events ≡ of_telephone line.quarantined.events
   awaits : line.state ≢ Normal → other.state ≢ Normal
   renewed : other.renewed ≡ line.renewed
 
-other_at : (line other : LineState) (place : Place) (waiting : List Observed) → At line place waiting → Keeps line other → At other place waiting
+pub other_at : (line other : LineState) (place : Place) (waiting : List Observed) → At line place waiting → Keeps line other → At other place waiting
 other_at line other place waiting at keeps = record {
   past = at.past;
   held = at.held;
@@ -578,38 +582,97 @@ quarantining_keeps line event other = record {
   renewed = refl;
 }
 
--- an act: kept or dropped
+-- an act: kept, dropped or lost
 
-kept_in : (state : State) (line : LineState) (event : Observed) (moment : ℕ) (place : Place) (waiting : List Observed) → line.state ≡ state
-    → IsDrained line → is_of_telephone event ≡ true → is_kept line.requests event ≡ true → At line place waiting
-    → (detected_in state line event moment).line.quarantined.lost ≡ 0 → WalksOn place (waiting ++ event ∷ []) (detected_in state line event moment)
-kept_in Normal line event moment place waiting is drained phone kept at none =
-    subst (λ (w : List Observed). WalksOn place w (occurred line event moment)) (ap (λ (b : Bool). if b then waiting ++ event ∷ [] else waiting) phone)
-    (occurs_alone line event moment place waiting at is (drained is))
-kept_in Notification line event moment place waiting is drained phone kept at none =
-    here (At (quarantining line event)) place (waiting ++ event ∷ []) (waits_at line event place waiting at phone (kept_held line event kept none))
-kept_in Lockstep line event moment place waiting is drained phone kept at none =
-    here (At (quarantining line event)) place (waiting ++ event ∷ []) (waits_at line event place waiting at phone (kept_held line event kept none))
+abbrev pub ActWalks : LineState → Observed → LineDone → Type 0
+ActWalks line event done =
+    (place : Place) (waiting : List Observed) → At line place waiting → WalksOn place (with_act place.requests waiting event) done
 
-kept_walks : (line : LineState) (event : Observed) (moment : ℕ) (place : Place) (waiting : List Observed) → IsDrained line
-    → is_of_telephone event ≡ true → is_kept line.requests event ≡ true → At line place waiting
-    → (detected line event moment).line.quarantined.lost ≡ 0 → WalksOn place (waiting ++ event ∷ []) (detected line event moment)
+-- it is lost, and counted, and nothing else comes of it
+pub record Loses (line : LineState) (done : LineDone) : Type 0 where
+  pub silent : done.notice ≡ None
+  pub keeps : Keeps line done.line
+  pub counted : done.line.quarantined.lost ≡ min most_lost (line.quarantined.lost + 1)
+
+act_is : (line : LineState) (event : Observed) (place : Place) (waiting : List Observed) (b : Bool) → At line place waiting
+    → is_kept line.requests event ≡ b → (if b then waiting ++ event ∷ [] else waiting) ≡ with_act place.requests waiting event
+act_is line event place waiting b at kept =
+    ap (λ (c : Bool). if c then waiting ++ event ∷ [] else waiting) (sym kept ∙ ap (λ (r : EventRequests). is_kept r event) at.asks)
+
+lost_loses : (line : LineState) (event : Observed) → (quarantining line event).quarantined ≡ one_lost line.quarantined
+    → Loses line (still (quarantining line event))
+unfolding quarantining
+lost_loses line event lost = record {
+  silent = refl;
+  keeps = record {
+    asks = (refl, refl);
+    accumulated = refl;
+    quarantined = ap (λ (held : Held). of_telephone held.events) lost;
+    awaits = λ (awaits : line.state ≢ Normal). awaits;
+    renewed = refl;
+  };
+  counted = ap (λ (held : Held). held.lost) lost;
+}
+
+held_walks : (line : LineState) (event : Observed) → is_of_telephone event ≡ true → is_kept line.requests event ≡ true → HeldOrLost line event
+    → ActWalks line event (still (quarantining line event)) ⊎ Loses line (still (quarantining line event))
+held_walks line event phone kept (inl grew) =
+    inl
+    (λ (place : Place) (waiting : List Observed) (at : At line place waiting).
+    subst (λ (w : List Observed). WalksOn place w (still (quarantining line event))) (act_is line event place waiting true at kept)
+    (here (At (quarantining line event)) place (waiting ++ event ∷ []) (waits_at line event place waiting at phone grew)))
+held_walks line event phone kept (inr lost) = inr (lost_loses line event lost)
+
+kept_in : (state : State) (line : LineState) (event : Observed) (moment : ℕ) → line.state ≡ state → IsDrained line
+    → is_of_telephone event ≡ true → is_kept line.requests event ≡ true
+    → ActWalks line event (detected_in state line event moment) ⊎ Loses line (detected_in state line event moment)
+kept_in Normal line event moment is drained phone kept =
+    inl
+    (λ (place : Place) (waiting : List Observed) (at : At line place waiting).
+    subst (λ (w : List Observed). WalksOn place w (occurred line event moment))
+    (ap (λ (b : Bool). if b then waiting ++ event ∷ [] else waiting) phone ∙ act_is line event place waiting true at kept)
+    (occurs_alone line event moment place waiting at is (drained is)))
+kept_in Notification line event moment is drained phone kept = held_walks line event phone kept (kept_or_lost line event kept)
+kept_in Lockstep line event moment is drained phone kept = held_walks line event phone kept (kept_or_lost line event kept)
+
+kept_walks : (line : LineState) (event : Observed) (moment : ℕ) → IsDrained line → is_of_telephone event ≡ true
+    → is_kept line.requests event ≡ true → ActWalks line event (detected line event moment) ⊎ Loses line (detected line event moment)
 unfolding detected
-kept_walks line event moment place waiting drained phone kept at none =
-    kept_in line.state line event moment place waiting refl drained phone kept at none
+kept_walks line event moment drained phone kept = kept_in line.state line event moment refl drained phone kept
 
-act_by : (line : LineState) (event : Observed) (moment : ℕ) (place : Place) (waiting : List Observed) (b : Bool) → is_kept line.requests event ≡ b
-    → IsDrained line → is_of_telephone event ≡ true → At line place waiting → (detected line event moment).line.quarantined.lost ≡ 0
-    → WalksOn place (if b then waiting ++ event ∷ [] else waiting) (detected line event moment)
-act_by line event moment place waiting true kept drained phone at none = kept_walks line event moment place waiting drained phone kept at none
-act_by line event moment place waiting false kept drained phone at none =
-    subst (WalksOn place waiting) (sym (unasked_events_do_nothing.detecting line event moment kept)) (here (At line) place waiting at)
+act_by : (line : LineState) (event : Observed) (moment : ℕ) (b : Bool) → is_kept line.requests event ≡ b → IsDrained line
+    → is_of_telephone event ≡ true → ActWalks line event (detected line event moment) ⊎ Loses line (detected line event moment)
+act_by line event moment true kept drained phone = kept_walks line event moment drained phone kept
+act_by line event moment false kept drained phone =
+    inl
+    (λ (place : Place) (waiting : List Observed) (at : At line place waiting).
+    subst (λ (w : List Observed). WalksOn place w (detected line event moment)) (act_is line event place waiting false at kept)
+    (subst (WalksOn place waiting) (sym (unasked_events_do_nothing.detecting line event moment kept)) (here (At line) place waiting at)))
 
-act_walks : (line : LineState) (event : Observed) (moment : ℕ) (place : Place) (waiting : List Observed) → IsDrained line
-    → is_of_telephone event ≡ true → At line place waiting → (detected line event moment).line.quarantined.lost ≡ 0
-    → WalksOn place (with_act place.requests waiting event) (detected line event moment)
-act_walks line event moment place waiting drained phone at none =
-    act_by line event moment place waiting (is_kept place.requests event) (ap (λ (r : EventRequests). is_kept r event) at.asks) drained phone at none
+act_walks : (line : LineState) (event : Observed) (moment : ℕ) → IsDrained line → is_of_telephone event ≡ true
+    → ActWalks line event (detected line event moment) ⊎ Loses line (detected line event moment)
+act_walks line event moment drained phone = act_by line event moment (is_kept line.requests event) refl drained phone
+
+-- the hook state is none of the walk's
+from_hooked : (line other : LineState) (event : Observed) (done : LineDone) → Keeps line other → other.quarantined.lost ≡ line.quarantined.lost
+    → ActWalks other event done ⊎ Loses other done → ActWalks line event done ⊎ Loses line done
+from_hooked line other event done keeps same (inl walks) =
+    inl
+    (λ (place : Place) (waiting : List Observed) (at : At line place waiting).
+    walks place waiting (other_at line other place waiting at keeps))
+from_hooked line other event done keeps same (inr loses) =
+    inr
+    (record {
+      silent = loses.silent;
+      keeps = record {
+        asks = (loses.keeps.asks.0 ∙ keeps.asks.0, loses.keeps.asks.1 ∙ keeps.asks.1);
+        accumulated = loses.keeps.accumulated ∙ keeps.accumulated;
+        quarantined = loses.keeps.quarantined ∙ keeps.quarantined;
+        awaits = λ (awaits : line.state ≢ Normal). loses.keeps.awaits (keeps.awaits awaits);
+        renewed = loses.keeps.renewed ∙ keeps.renewed;
+      };
+      counted = loses.counted ∙ ap (λ (n : ℕ). min most_lost (n + 1)) same;
+    })
 
 -- what is no act: an end
 
@@ -631,20 +694,19 @@ end_walks line event moment place waiting drained other at = end_in line.state l
 
 -- Each call
 
-phoned_walks : (line : LineState) (act : Act) (moment : ℕ) (place : Place) (waiting : List Observed) → IsDrained line
-    → At line place waiting → (phoned line act moment).line.quarantined.lost ≡ 0
-    → WalksOn place (with_act place.requests waiting (observed_at act)) (phoned line act moment)
+pub phoned_walks : (line : LineState) (act : Act) (moment : ℕ) → IsDrained line
+    → ActWalks line (observed_at act) (phoned line act moment) ⊎ Loses line (phoned line act moment)
 unfolding phoned
-phoned_walks line OffHook moment place waiting drained at none =
-    act_walks (hooked line OffHook) (observed_at OffHook) moment place waiting drained (act_of_phone OffHook)
-    (other_at line (hooked line OffHook) place waiting at (keeps_same line (hooked line OffHook) (refl, refl) refl refl refl refl)) none
-phoned_walks line OnHook moment place waiting drained at none =
-    act_walks (hooked line OnHook) (observed_at OnHook) moment place waiting drained (act_of_phone OnHook)
-    (other_at line (hooked line OnHook) place waiting at (keeps_same line (hooked line OnHook) (refl, refl) refl refl refl refl)) none
-phoned_walks line Flash moment place waiting drained at none =
-    act_walks line (observed_at Flash) moment place waiting drained (act_of_phone Flash) at none
-phoned_walks line (Key key) moment place waiting drained at none =
-    act_walks line (observed_at (Key key)) moment place waiting drained (act_of_phone (Key key)) at none
+phoned_walks line OffHook moment drained =
+    let to : LineState = hooked line OffHook in
+    from_hooked line to (observed_at OffHook) (detected to (observed_at OffHook) moment) (keeps_same line to (refl, refl) refl refl refl refl) refl
+    (act_walks to (observed_at OffHook) moment drained (act_of_phone OffHook))
+phoned_walks line OnHook moment drained =
+    let to : LineState = hooked line OnHook in
+    from_hooked line to (observed_at OnHook) (detected to (observed_at OnHook) moment) (keeps_same line to (refl, refl) refl refl refl refl) refl
+    (act_walks to (observed_at OnHook) moment drained (act_of_phone OnHook))
+phoned_walks line Flash moment drained = act_walks line (observed_at Flash) moment drained (act_of_phone Flash)
+phoned_walks line (Key key) moment drained = act_walks line (observed_at (Key key)) moment drained (act_of_phone (Key key))
 
 -- a request
 left_held : (handling : Quarantined) (line : LineState) (held : List Observed) → of_telephone line.quarantined.events ≡ held
@@ -672,7 +734,7 @@ request_by Notification line moment place has =
     (has_at to place []
     (record { asks = has.asks; accumulated = has.accumulated; quiet = has.quiet; steps = has.steps; unshut = has.unshut }))
 
-asked_walks : (line : LineState) (request : Request) (moment : ℕ) (place : Place) (waiting : List Observed) → At line place waiting
+pub asked_walks : (line : LineState) (request : Request) (moment : ℕ) (place : Place) (waiting : List Observed) → At line place waiting
     → Walks place waiting (accepts request ∷ steps_of (asked line request moment).notice) (At (asked line request moment).line)
 unfolding asked replaced
 asked_walks line request moment place waiting at =
@@ -705,14 +767,14 @@ answered_by line moment place waiting false at shut =
       renewed = refl;
     }))
 
-answered_walks : (line : LineState) (moment : ℕ) (place : Place) (waiting : List Observed) → At line place waiting
+pub answered_walks : (line : LineState) (moment : ℕ) (place : Place) (waiting : List Observed) → At line place waiting
     → WalksOn place waiting (answered line moment)
 unfolding answered
 answered_walks line moment place waiting at =
     answered_by line moment place waiting (is_loop line.handling.notifying || line.renewed) at
     (λ (is : place.is_shut ≡ true). neither (is_loop line.handling.notifying) line.renewed (at.steps (at.shuts is)) (at.shut is).fresh)
 
-opened_walks : (line : LineState) (moment : ℕ) (place : Place) (waiting : List Observed) → At line place waiting → place.is_shut ≡ false
+pub opened_walks : (line : LineState) (moment : ℕ) (place : Place) (waiting : List Observed) → At line place waiting → place.is_shut ≡ false
     → WalksOn place waiting (opened line moment)
 unfolding opened
 opened_walks line moment place waiting at unshut = at_resumes line moment place waiting at unshut
@@ -723,7 +785,7 @@ ended_walks TimeOut signal line moment place waiting drained at = end_walks line
 ended_walks Brief signal line moment place waiting drained at = here (At line) place waiting at
 ended_walks OnOff signal line moment place waiting drained at = here (At line) place waiting at
 
-fired_walks : (line : LineState) (due : LineDue) (moment : ℕ) (place : Place) (waiting : List Observed) → IsDrained line
+pub fired_walks : (line : LineState) (due : LineDue) (moment : ℕ) (place : Place) (waiting : List Observed) → IsDrained line
     → At line place waiting → WalksOn place waiting (fired line due moment)
 unfolding fired
 fired_walks line DigitTimer moment place waiting drained at =
@@ -733,140 +795,3 @@ fired_walks line (SignalEnd signal) moment place waiting drained at =
     let to : LineState = record line { signals = without signal line.signals } in
     ended_walks (kind_of signal) signal to moment place waiting drained
     (other_at line to place waiting at (keeps_same line to (refl, refl) refl refl refl refl))
-
--- The course
-
--- no request was accepted
-
-abbrev NoneAsked : List CourseStep → Type 0
-NoneAsked [] = Unit {0}
-NoneAsked (acts act ∷ course) = NoneAsked course
-NoneAsked (accepts request ∷ course) = ⊥
-NoneAsked (notifies identifier observed ∷ course) = NoneAsked course
-
-none_both : (some more : List CourseStep) → NoneAsked some → NoneAsked more → NoneAsked (some ++ more)
-none_both [] more none nor = nor
-none_both (acts act ∷ some) more none nor = none_both some more none nor
-none_both (accepts request ∷ some) more none nor = absurd none
-none_both (notifies identifier observed ∷ some) more none nor = none_both some more none nor
-
-none_told : (notice : Option Notice) → NoneAsked (steps_of notice)
-none_told None = tt
-none_told (Some notice) = tt
-
--- so long no request is waited for
-open_walks : (course : List CourseStep) (end : End) (place : Place) (waiting : List Observed) → NoneAsked course → place.in_step ≡ false
-    → place.is_shut ≡ false → Walks place waiting course end
-    → Walks place waiting course (λ (p : Place) (w : List Observed). end p w × (p.is_shut ≡ false))
-open_walks [] end place waiting none loops unshut (next, left, moves, walk) =
-    (next, left, moves, (walk, (embeds_keeps place next waiting left moves).1 ∙ unshut))
-open_walks (acts act ∷ course) end place waiting none loops unshut (next, left, moves, walk) =
-    let keeps = embeds_keeps place next waiting left moves in
-    (next, left, moves, open_walks course end next (with_act next.requests left (observed_at act)) none (keeps.0 ∙ loops) (keeps.1 ∙ unshut) walk)
-open_walks (accepts request ∷ course) end place waiting none loops unshut walk = absurd none
-open_walks (notifies identifier observed ∷ course) end place waiting none loops unshut (next, left, moves, (front, held, order, told, walk)) =
-    let still_loops = (embeds_keeps place next waiting left moves).0 ∙ loops in
-    let then_walks = open_walks course end (behind_notification next) held none still_loops still_loops walk in
-    (next, left, moves, (front, held, order, told, then_walks))
-
-pub record Walked (serving : Bool) (course : List CourseStep) (line : LineState) : Type 0 where
-  pub drained : IsDrained line
-  pub counted : line.quarantined.lost ≤ most_lost
-  pub unasked : serving ≡ false → NoneAsked course
-  pub walk : line.quarantined.lost ≡ 0 → Walks nothing_asked [] course (At line)
-
--- a call goes on where the course stands
-goes_on : (course step : List CourseStep) (line : LineState) (done : LineDone) → Walks nothing_asked [] course (At line)
-    → ((p : Place) (w : List Observed) → At line p w → Walks p w (step ++ steps_of done.notice) (At done.line))
-    → Walks nothing_asked [] ((course ++ step) ++ steps_of done.notice) (At done.line)
-goes_on course step line done walk call =
-    subst (λ (c : List CourseStep). Walks nothing_asked [] c (At done.line)) (sym (append_assoc course step (steps_of done.notice)))
-    (walks_both course (step ++ steps_of done.notice) (At done.line) nothing_asked []
-    (walks_map course (At line) (λ (p : Place) (w : List Observed). Walks p w (step ++ steps_of done.notice) (At done.line)) nothing_asked [] call walk))
-
-goes_plain : (course : List CourseStep) (line : LineState) (done : LineDone) → Walks nothing_asked [] course (At line)
-    → ((p : Place) (w : List Observed) → At line p w → WalksOn p w done) → Walks nothing_asked [] (course ++ steps_of done.notice) (At done.line)
-goes_plain course line done walk call =
-    walks_both course (steps_of done.notice) (At done.line) nothing_asked []
-    (walks_map course (At line) (λ (p : Place) (w : List Observed). Walks p w (steps_of done.notice) (At done.line)) nothing_asked [] call walk)
-
-pub calls_walk : Calls Walked
-calls_walk = record {
-  act = λ serving course line act moment f. record {
-    drained = (phoned_moves line act moment f.drained).drained;
-    counted = acts_count line act moment f.counted;
-    unasked = λ nor.
-        none_both (course ++ acts act ∷ []) (steps_of (phoned line act moment).notice) (none_both course (acts act ∷ []) (f.unasked nor) tt)
-        (none_told (phoned line act moment).notice);
-    walk = λ none.
-        let grows = (lost_only_grows.act line act moment).grows f.counted in
-        let before : line.quarantined.lost ≡ 0 = omega (arith, grows, none) in
-        let done : LineDone = phoned line act moment in
-        goes_on course (acts act ∷ []) line done (f.walk before)
-        (λ p w at. here
-        (λ (next : Place) (left : List Observed). Walks next (with_act next.requests left (observed_at act)) (steps_of done.notice) (At done.line))
-        p w (phoned_walks line act moment p w f.drained at none));
-  };
-  request = λ course line request moment f. record {
-    drained = (asked_moves line request moment).drained;
-    counted = subst (λ (n : ℕ). n ≤ most_lost) (sym (lost_only_grows.request line request moment)) f.counted;
-    unasked = λ nor. absurd (true≢false nor);
-    walk = λ none.
-        goes_on course (accepts request ∷ []) line (asked line request moment) (f.walk (sym (lost_only_grows.request line request moment) ∙ none))
-        (λ p w at. asked_walks line request moment p w at);
-  };
-  answering = λ serving course line moment f. record {
-    drained = (answered_moves line moment).drained;
-    counted = subst (λ (n : ℕ). n ≤ most_lost) (sym (lost_only_grows.answering line moment)) f.counted;
-    unasked = λ nor. none_both course (steps_of (answered line moment).notice) (f.unasked nor) (none_told (answered line moment).notice);
-    walk = λ none.
-        goes_plain course line (answered line moment) (f.walk (sym (lost_only_grows.answering line moment) ∙ none))
-        (λ p w at. answered_walks line moment p w at);
-  };
-  serving = λ course line moment f. record {
-    drained = (opened_moves line moment).drained;
-    counted = subst (λ (n : ℕ). n ≤ most_lost) (sym (lost_only_grows.serving line moment)) f.counted;
-    unasked = λ nor. absurd (true≢false nor);
-    walk = λ none.
-        let done : LineDone = opened line moment in
-        let walk =
-        open_walks course (At line) nothing_asked [] (f.unasked refl) refl refl (f.walk (sym (lost_only_grows.serving line moment) ∙ none)) in
-        walks_both course (steps_of done.notice) (At done.line) nothing_asked []
-        (walks_map course (λ (p : Place) (w : List Observed). At line p w × (p.is_shut ≡ false))
-        (λ (p : Place) (w : List Observed). Walks p w (steps_of done.notice) (At done.line)) nothing_asked []
-        (λ p w at. opened_walks line moment p w at.0 at.1) walk);
-  };
-  firing = λ serving course line at due moment is f. record {
-    drained = (fired_moves line due moment f.drained).drained;
-    counted = fires_count line due moment f.counted;
-    unasked = λ nor. none_both course (steps_of (fired line due moment).notice) (f.unasked nor) (none_told (fired line due moment).notice);
-    walk = λ none.
-        let grows = (lost_only_grows.firing line due moment).grows f.counted in
-        let before : line.quarantined.lost ≡ 0 = omega (arith, grows, none) in
-        goes_plain course line (fired line due moment) (f.walk before) (λ p w here. fired_walks line due moment p w f.drained here);
-  };
-}
-
-pub opening_walks : Walked false [] opening_line
-opening_walks = record {
-  drained = λ normal. absurd cc;
-  counted = omega arith;
-  unasked = λ nor. tt;
-  walk = λ none. here (At opening_line) nothing_asked []
-      (record {
-        past = [];
-        held = [];
-        order = refl;
-        asks = refl;
-        accumulated = refl;
-        quiet = refl;
-        quarantined = refl;
-        steps = λ (is : false ≡ true). absurd (true≢false (sym is));
-        shuts = λ (is : false ≡ true). absurd (true≢false (sym is));
-        shut = λ (is : false ≡ true). absurd (true≢false (sym is));
-      });
-}
-
--- where it stands, in the words of the law
-pub stays : (line : LineState) (place : Place) (waiting : List Observed) → At line place waiting → Stays line place waiting
-stays line place waiting at = (at.past, at.held, at.order, at.accumulated, at.quiet, at.quarantined)

@@ -1,16 +1,19 @@
 -- What comes to the gateway of the worked examples, which has two lines; and requests of which walks begin.
-use Rattle.std.specs.Prelude.{◌≡◌, List, [], ◌∷◌, codes}
+use Rattle.std.specs.Prelude.{◌≡◌, ℕ, List, [], ◌∷◌, ◌++◌, codes}
 use Rattle.event_values.specs.declared.observed.Observed.{Observed}
 use Rattle.event_values.specs.declared.observed.Observed.TheVariants.{Happened}
 use Rattle.mg_packages.specs.declared.event.LineEvent.TheVariants as events
 use Rattle.event_requests.specs.declared.request.Request.{Request}
 use Rattle.mg_line.specs.declared.phone.Act.TheVariants.{OffHook, OnHook, Flash, Key}
 use Rattle.mg_line.specs.declared.phone.Key.TheVariants.{Five, Six}
+use Rattle.mg_line.specs.Line.{LineState, opening_line}
 use Rattle.mg_line.specs.Scenario.{requests, with_handling}
 use Rattle.plain_machine.specs.Event.{GatewayEvent, phone}
 use Rattle.plain_machine.specs.Example.{rqnt, response}
 use Rattle.delivery_laws.specs.Course.{requests_in}
+use Rattle.delivery_laws.specs.Dialled.{done_in, told_along}
 use Rattle.delivery_laws.specs.OnceExample.{flash_embeds, course_then, line_then}
+use Rattle.delivery_laws.specs.Rounds.{of_telephone}
 use Rattle.told_laws.specs.Walking.{nothing_asked, End, Walks, Stays}
 
 -- line 1 is lifted, which is answered, and keys 5 and 6 are pressed
@@ -58,6 +61,10 @@ flashes_and_hangs_up =
     ∷ rqnt 8 (codes "aaln/1") (codes "X: 2\r\nR: L/hd(N),L/hu(N),L/hf(E(R(L/hu(N)))),D/[0-9*#ABCD](N)\r\nQ: loop\r\n") ∷ phone 1 Flash
     ∷ phone 1 (Key Five) ∷ phone 1 OnHook ∷ []
 
+-- a line at its opening, but for what it counts as lost
+abbrev pub counts : ℕ → LineState
+counts lost = record opening_line { quarantined = record opening_line.quarantined { lost = lost } }
+
 -- what waits at the end of a walk
 abbrev pub waits : List Observed → End
 waits events place waiting = waiting ≡ events
@@ -73,3 +80,28 @@ request_then events = first_of (requests_in (course_then events))
 -- what is told of line 1 then walks through what was done at it
 abbrev pub WalksThen : List GatewayEvent → Type 0
 WalksThen events = Walks nothing_asked [] (course_then events) (Stays (line_then events))
+
+-- the one behind it
+abbrev second_of : List Request → Request
+second_of [] = has_lifting_told
+second_of (request ∷ more) = first_of more
+
+abbrev pub next_request_then : List GatewayEvent → Request
+next_request_then events = second_of (requests_in (course_then events))
+
+-- line 1 is lifted, which is answered, and key 5 is pressed, and each is told, in loop
+abbrev pub told_twice : List GatewayEvent
+told_twice =
+    rqnt 7 (codes "aaln/1") (codes "X: A1\r\nR: L/hd(N),D/[0-9](N)\r\nQ: loop\r\n") ∷ phone 1 OffHook ∷ response 200 10000000
+    ∷ phone 1 (Key Five) ∷ []
+
+-- key 5 is collected there, in loop; a request drops it, and has key 6 told
+abbrev pub dropped_in_loop : List GatewayEvent
+dropped_in_loop =
+    rqnt 7 (codes "aaln/1") (codes "X: A1\r\nR: L/hd(N),D/[0-9](D)\r\nD: (xx)\r\nQ: loop\r\n") ∷ phone 1 OffHook ∷ response 200 10000000
+    ∷ phone 1 (Key Five) ∷ rqnt 8 (codes "aaln/1") (codes "X: A2\r\nR: D/[0-9](D)\r\nD: (x)\r\n") ∷ phone 1 (Key Six) ∷ []
+
+-- what was done is what was told, and then what is quarantined
+abbrev pub AllToldThen : List GatewayEvent → Type 0
+AllToldThen events =
+    done_in (course_then events) ≡ of_telephone (told_along (course_then events)) ++ of_telephone (line_then events).quarantined.events

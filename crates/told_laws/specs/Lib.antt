@@ -1,4 +1,5 @@
 pub mod Among
 pub mod Walking
+pub mod Stretch
 pub mod Example
 pub mod WorldExample

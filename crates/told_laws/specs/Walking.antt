@@ -1,7 +1,7 @@
 -- How what a line tells walks through what was done at its telephone (RFC 3435, 2.3.3 and 4.4.1): each act is told, or is kept to be told,
--- or was dropped where the walk says so: neither R nor T named it, and it isn't persistent; R gave it nothing, or I; E without A took it, or
--- emptied the list in which it was; or a request emptied that list.
-use Rattle.std.specs.Prelude.{◌≡◌, Bool, true, false, not, if◌then◌else◌, List, [], ◌∷◌, ◌++◌, filter}
+-- or was lost, and counted, or was dropped where the walk says so: neither R nor T named it, and it isn't persistent; R gave it nothing, or I;
+-- E without A took it, or emptied the list in which it was; or a request emptied that list.
+use Rattle.std.specs.Prelude.{◌≡◌, ℕ, zero, suc, ◌≤◌, min, Bool, true, false, not, if◌then◌else◌, List, [], ◌∷◌, ◌++◌, filter}
 use Rattle.std.specs.List.{list_all}
 use Rattle.mg_packages.specs.declared.event.LineEvent.{LineEvent}
 use Rattle.event_values.specs.declared.handling.Quarantined.{Quarantined}
@@ -15,6 +15,8 @@ use Rattle.event_requests.specs.Choice.{chosen, is_kept}
 use Rattle.event_requests.specs.Naming.{event_of}
 use Rattle.event_requests.specs.Requests.{EventRequests, no_requests, with_embedded}
 use Rattle.event_requests.specs.declared.request.Request.{Request}
+use Rattle.quarantine.specs.Held.{most_lost}
+use Rattle.mg_line.specs.declared.phone.Act.{Act}
 use Rattle.mg_line.specs.Acting.{observed_at}
 use Rattle.mg_line.specs.Answering.{is_loop}
 use Rattle.mg_line.specs.Line.{LineState}
@@ -140,6 +142,22 @@ Stays line place waiting =
     (occurred : List Observed) × (held : List Observed) × (waiting ≡ occurred ++ held)
     × (of_telephone line.accumulated ≡ told_of_front place occurred) × (are_quiet place.requests occurred ≡ true)
     × (of_telephone line.quarantined.events ≡ held)
+
+-- Where acts are lost for want of room
+
+-- these steps are left of a course: all, but for so many acts
+pub data AllButLost : ℕ → List CourseStep → List CourseStep → Type 0 where
+  no_step : AllButLost zero [] []
+  a_step : (n : ℕ) (step : CourseStep) (left course : List CourseStep) → AllButLost n left course → AllButLost n (step ∷ left) (step ∷ course)
+  a_lost_act : (n : ℕ) (act : Act) (left course : List CourseStep) → AllButLost n left course → AllButLost (suc n) left (acts act ∷ course)
+
+-- An act that is lost might as well not have been done; the line counts each, up to the greatest count; and all others are walked through.
+pub record WalksButLost (course : List CourseStep) (line : LineState) : Type 0 where
+  pub lost : ℕ
+  pub left : List CourseStep
+  pub others : AllButLost lost left course
+  pub counted : min most_lost lost ≤ line.quarantined.lost
+  pub walk : Walks nothing_asked [] left (Stays line)
 
 -- The first notification behind a request
 

@@ -10,14 +10,14 @@ ghost use Rattle.mg_packages.specs.declared.event.LineEvent.TheVariants as event
 ghost use Rattle.mg_packages.specs.declared.signal.Signal.TheVariants as tones;
 ghost use Rattle.mg_bytes.specs.declared.letter.Letter.TheVariants as letters;
 ghost use Rattle.plain_machine.specs.Event.{phone};
-ghost use Rattle.plain_machine.specs.Example.{response};
+ghost use Rattle.plain_machine.specs.Example.{rqnt, response};
 ghost use Rattle.delivery_laws.specs.Course.{acts as does, accepts, notifies};
 ghost use Rattle.delivery_laws.specs.Rounds.{of_telephone};
 ghost use Rattle.told_laws.specs.Among.{AreAmong, kept_by};
 ghost use Rattle.delivery_laws.specs.Dialled.{told_along};
-ghost use Rattle.told_laws.specs.Walking.{nothing_asked, EmbedsNone, reaction_to, Brings, TellsAFront, TellsWhatWasKept, Walks};
-ghost use Rattle.told_laws.specs.Example.{dials_two, flashes_and_dials, has_keys_collected, has_lifting_told, has_lifting_kept, has_all_told, has_all_told_in_loop, discards_then, flashed, flash_drops, flash_carries, flashes_and_hangs_up, waits, WalksThen};
-ghost use Rattle.delivery_laws.specs.OnceExample.{lifted, hung_up, five, six, keys_are_collected, asked_and_full};
+ghost use Rattle.told_laws.specs.Walking.{nothing_asked, EmbedsNone, reaction_to, Brings, TellsAFront, TellsWhatWasKept, Walks, AllButLost, WalksButLost};
+ghost use Rattle.told_laws.specs.Example.{dials_two, flashes_and_dials, has_keys_collected, has_lifting_told, has_lifting_kept, has_all_told, has_all_told_in_loop, discards_then, flashed, flash_drops, flash_carries, flashes_and_hangs_up, counts, waits, WalksThen, request_then, next_request_then, told_twice, dropped_in_loop, AllToldThen};
+ghost use Rattle.delivery_laws.specs.OnceExample.{lifted, hung_up, five, six, asks_for_all, dials, dials_before, discards, keys_are_collected, asked_and_full};
 ghost use Rattle.delivery_laws.specs.OnceExample.{course_then, line_then, told_then};
 
 /// Some events are among others where they stand there in that order, each once.
@@ -86,7 +86,18 @@ pub fn a_walk_goes_on_behind_an_embedded_request()
     ensures on_a_line { WalksThen flashes_and_dials }
 {}
 
-/// Where more comes than there is room for, the last is lost, and the walk says so of none.
+/// What is lost isn't done for the walk, as often as the line counts it, and no request or notification is left out.
+pub fn what_is_lost_is_counted()
+    ensures lost { AllButLost 1 (does acts.OffHook ∷ []) (does acts.OffHook ∷ does acts.Flash ∷ []) }
+    ensures none { ¬ AllButLost 0 (does acts.OffHook ∷ []) (does acts.OffHook ∷ does acts.Flash ∷ []) }
+    ensures order { ¬ AllButLost 0 (does acts.Flash ∷ does acts.OffHook ∷ []) (does acts.OffHook ∷ does acts.Flash ∷ []) }
+    ensures request { ¬ AllButLost 1 [] (accepts has_lifting_told ∷ []) }
+    ensures notification { ¬ AllButLost 1 [] (notifies (codes "A1") (five ∷ []) ∷ []) }
+    ensures counted { WalksButLost (accepts has_lifting_told ∷ does acts.OffHook ∷ []) (counts 1) }
+    ensures not_counted { ¬ WalksButLost (accepts has_lifting_told ∷ does acts.OffHook ∷ []) (counts 0) }
+{}
+
+/// Where more comes than there is room for, the last is lost, and the walk says so of none but what is counted.
 pub fn else_an_act_may_leave_the_walk()
     ensures lost { ¬ WalksThen asked_and_full }
     ensures is_lost { (line_then asked_and_full).quarantined.lost ≡ 1 }
@@ -97,4 +108,27 @@ pub fn else_the_first_notification_may_skip()
     ensures embeds { ¬ EmbedsNone flash_drops.events }
     ensures told { told_then flashes_and_hangs_up ≡ lifted ∷ hung_up ∷ [] }
     ensures skipped { ¬ TellsAFront flash_drops (lifted ∷ []) (lifted ∷ []) (flashed ∷ five ∷ hung_up ∷ []) (hung_up ∷ []) }
+{}
+
+/// The second notification behind a request may tell later events alone; and in loop a request may drop what was done since a notification.
+pub fn else_a_notification_may_skip()
+    ensures twice { course_then told_twice ≡ accepts (request_then told_twice) ∷ does acts.OffHook ∷ notifies (codes "A1") (lifted ∷ [])
+        ∷ does (acts.Key keys.Five) ∷ notifies (codes "A1") (five ∷ []) ∷ [] }
+    ensures second { ¬ TellsAFront (request_then told_twice) [] [] (lifted ∷ five ∷ []) (five ∷ []) }
+    ensures in_loop { course_then dropped_in_loop ≡ accepts (request_then dropped_in_loop) ∷ does acts.OffHook
+        ∷ notifies (codes "A1") (lifted ∷ []) ∷ does (acts.Key keys.Five) ∷ accepts (next_request_then dropped_in_loop)
+        ∷ does (acts.Key keys.Six) ∷ notifies (codes "A2") (six ∷ []) ∷ [] }
+    ensures dropped { ¬ TellsWhatWasKept (request_then dropped_in_loop) (next_request_then dropped_in_loop) (lifted ∷ []) (lifted ∷ [])
+        (five ∷ []) (six ∷ []) (six ∷ []) }
+{}
+
+/// Not all is told where something was done before all was asked for, where all isn't, where a request since discards, and where something
+/// is lost; where all that the law asks for holds, all is.
+pub fn else_something_is_not_told()
+    ensures all { AllToldThen (asks_for_all 7 (codes "aaln/1") ∷ dials) }
+    ensures before { ¬ AllToldThen (rqnt 6 (codes "aaln/1") (codes "X: 1\r\nR: L/hd(A)\r\n") ∷ phone 1 acts.OffHook
+        ∷ asks_for_all 7 (codes "aaln/1") ∷ []) }
+    ensures unnamed { ¬ AllToldThen (rqnt 7 (codes "aaln/1") (codes "X: 1\r\nR: L/hd(N)\r\n") ∷ dials) }
+    ensures since { ¬ AllToldThen (asks_for_all 7 (codes "aaln/1") ∷ dials_before (discards 8)) }
+    ensures lost { ¬ AllToldThen asked_and_full }
 {}

@@ -1,5 +1,5 @@
 //! Laws of what a line tells, whatever is asked of it, over every list of events.
-ghost use Rattle.std.specs.Prelude.{◌≡◌, ◌++◌, ◌∷◌, [], ℕ, true, false, List, Some, None};
+ghost use Rattle.std.specs.Prelude.{◌≡◌, ◌++◌, ◌∷◌, [], ℕ, ◌+◌, ◌≤◌, true, false, List, Some, None};
 ghost use Rattle.event_values.specs.declared.observed.Observed.{Observed};
 ghost use Rattle.event_requests.specs.declared.request.Request.{Request};
 ghost use Rattle.mg_line.specs.Answering.{is_loop};
@@ -10,14 +10,17 @@ ghost use Rattle.plain_machine.specs.Lists.{plain, sent_of};
 ghost use Rattle.plain_machine.specs.Machine.{endpoint_at};
 ghost use Rattle.plain_machine.specs.Setup.{IsSetUp};
 ghost use Rattle.machine_laws.specs.Belonging.{of_line};
+ghost use Rattle.machine_laws.specs.Saying.{HasNumbersLeft};
 ghost use Rattle.call_agent.specs.Agent.{observed_on};
-ghost use Rattle.agent_core.specs.World.{WorldStep, agent_in, gateway_in, plain_world, steps_are_taken, world_opening};
+ghost use Rattle.agent_core.specs.World.{WorldStep, agent_in, gateway_in, now_in, plain_world, steps_are_taken, world_opening};
+ghost use Rattle.world_laws.specs.Reached.{own_in};
 ghost use Rattle.delivery_laws.specs.GivenUp.{has_given_up};
 ghost use Rattle.delivery_laws.specs.Course.{CourseStep, accepts, notifies, course_from, course_of};
 ghost use Rattle.delivery_laws.specs.Rounds.{of_telephone};
 ghost use Rattle.told_laws.specs.Among.{AreAmong, IsToldInOrder};
-ghost use Rattle.delivery_laws.specs.Dialled.{done_in, told_along, latest_from, IsAskedForAll};
-ghost use Rattle.told_laws.specs.Walking.{nothing_asked, EmbedsNone, Walks, Stays, AreActs, TellsAFront, TellsWhatWasKept};
+ghost use Rattle.delivery_laws.specs.Dialled.{done_in, told_along, latest_from, IsAskedForAll, IsToldOnce};
+ghost use Rattle.told_laws.specs.Stretch.{GivesNothingUp, IsWhole, course_meanwhile, outliving, taken_meanwhile};
+ghost use Rattle.told_laws.specs.Walking.{nothing_asked, EmbedsNone, Walks, Stays, WalksButLost, AreActs, TellsAFront, TellsWhatWasKept};
 
 /// Whatever is asked of a line, and by whatever requests: what its notifications told, each at its first send, joined, and then what it
 /// keeps to tell it, was done at its telephone, in that order, and nothing of it twice, but for the ends of signals and of timer T.
@@ -30,13 +33,15 @@ pub fn what_is_told_was_done_in_that_order()
         IsToldInOrder (course_of setup line events) endpoint.line }
 {}
 
-/// Where nothing is lost for want of room, each act is walked through by what the line tells: it is told, in its order, by a notification
-/// that tells all that R has told of a front of what waits; or it waits, accumulated or quarantined; or it was dropped: neither R nor T
-/// named it, and it isn't persistent; R gave it nothing, or I; E without A took it, or emptied the list in which it was; or a request emptied
-/// that list, in which R had none told at once, and which was empty where the line waited for that request, in step; or it discards what is
-/// quarantined.
+/// Each act is walked through by what the line tells: it is told, in its order, by a notification that tells all that R has told of a front
+/// of what waits; or it waits, accumulated or quarantined; or it was lost for want of room, and the line counts each, so none where it counts
+/// none; or it was dropped: neither R nor T named it, and it isn't persistent; R gave it nothing, or I; E without A took it, or emptied the
+/// list in which it was; or a request emptied that list, in which R had none told at once, and which was empty where the line waited for that
+/// request, in step; or it discards what is quarantined.
 pub fn each_act_is_walked_through()
-    ensures { (setup : Setup) (line : ℕ) (events : List GatewayEvent) (endpoint : Endpoint) →
+    ensures but_lost { (setup : Setup) (line : ℕ) (events : List GatewayEvent) (endpoint : Endpoint) →
+        endpoint_at (plain setup events).endpoints line ≡ Some endpoint → WalksButLost (course_of setup line events) endpoint.line }
+    ensures none_lost { (setup : Setup) (line : ℕ) (events : List GatewayEvent) (endpoint : Endpoint) →
         endpoint_at (plain setup events).endpoints line ≡ Some endpoint → endpoint.line.quarantined.lost ≡ 0 →
         Walks nothing_asked [] (course_of setup line events) (Stays endpoint.line) }
 {}
@@ -70,13 +75,17 @@ pub fn what_is_done_meanwhile_is_told_behind_the_next_request()
 
 /// And where a line is asked for all that its telephone does before that does anything, and so at each request since, and nothing is lost
 /// for want of room, the walk drops nothing: all that was done is what was told, and then what is quarantined, but for the ends of signals
-/// and of timer T.
+/// and of timer T. Nor is any end of timer T told then, or quarantined: so nothing dialled is doubled or skipped.
 pub fn where_all_is_asked_for_all_is_told()
-    ensures { (setup : Setup) (line : ℕ) (before after : List GatewayEvent) (endpoint : Endpoint) →
+    ensures walked { (setup : Setup) (line : ℕ) (before after : List GatewayEvent) (endpoint : Endpoint) →
         endpoint_at (plain setup (before ++ after)).endpoints line ≡ Some endpoint →
         IsAskedForAll (course_of setup line before) (course_from setup (plain setup before) line after) endpoint.line →
         done_in (course_of setup line (before ++ after))
         ≡ of_telephone (told_along (course_of setup line (before ++ after))) ++ of_telephone endpoint.line.quarantined.events }
+    ensures once { (setup : Setup) (line : ℕ) (before after : List GatewayEvent) (endpoint : Endpoint) →
+        endpoint_at (plain setup (before ++ after)).endpoints line ≡ Some endpoint →
+        IsAskedForAll (course_of setup line before) (course_from setup (plain setup before) line after) endpoint.line →
+        IsToldOnce (course_of setup line (before ++ after)) endpoint.line }
 {}
 
 /// In a world, whatever the network does, and whatever is asked of a line that gave no command up: what the agent took of it, joined, was
@@ -88,4 +97,22 @@ pub fn what_the_agent_took_was_done_in_that_order()
         has_given_up (of_line line (sent_of setup (plain_world setup steps).gateway_took)) endpoint.post ≡ false →
         AreAmong (of_telephone (observed_on line (agent_in setup (plain_world setup steps))))
         (done_in (course_of setup line (plain_world setup steps).gateway_took)) }
+{}
+
+/// So over a stretch, whatever was before it: where the line gives nothing up in it, nor in the 10,500 ms before it, and it served already at
+/// their beginning, what the agent took of it in the stretch is what the line told in it, each once and in that order: but first what was on
+/// its way at its beginning, if it came, and without what is on its way at its end. For that the line's numbers aren't used up.
+pub fn what_the_agent_took_over_a_stretch_is_whole()
+    ensures { (setup : Setup) (line : ℕ) (first pause stretch : List WorldStep) (before was is : Endpoint) → IsSetUp setup →
+        steps_are_taken setup world_opening ((first ++ pause) ++ stretch) ≡ true →
+        HasNumbersLeft (own_in setup (plain_world setup ((first ++ pause) ++ stretch))) →
+        endpoint_at (gateway_in setup (plain_world setup first)).endpoints line ≡ Some before →
+        endpoint_at (gateway_in setup (plain_world setup (first ++ pause))).endpoints line ≡ Some was →
+        endpoint_at (gateway_in setup (plain_world setup ((first ++ pause) ++ stretch))).endpoints line ≡ Some is →
+        GivesNothingUp setup line (plain_world setup first) (plain_world setup (first ++ pause)) before was →
+        GivesNothingUp setup line (plain_world setup (first ++ pause)) (plain_world setup ((first ++ pause) ++ stretch)) was is →
+        now_in setup (plain_world setup first) + outliving ≤ now_in setup (plain_world setup (first ++ pause)) →
+        IsWhole was.post.pending is.post.pending
+        (told_along (course_meanwhile setup line (plain_world setup (first ++ pause)) (plain_world setup ((first ++ pause) ++ stretch))))
+        (taken_meanwhile setup line (plain_world setup (first ++ pause)) (plain_world setup ((first ++ pause) ++ stretch))) }
 {}

@@ -1,5 +1,8 @@
-use Rattle.told_laws.proofs.ToldCourses.{course_walks}
+use Rattle.told_laws.proofs.ToldCourses.{course_walks, course_walks_but_lost}
 use Rattle.told_laws.proofs.laws.each_act_is_walked_through.Goals as goal
 
-pub returns : goal.returns
-returns c = course_walks
+pub returns-clause-but_lost : goal.returns-clause-but_lost
+returns-clause-but_lost c = course_walks_but_lost
+
+pub returns-clause-none_lost : goal.returns-clause-none_lost
+returns-clause-none_lost c = course_walks

@@ -1,0 +1,202 @@
+-- What a line that serves begins, and gives nothing up of, was answered, but for what is in flight.
+use Rattle.std.proofs.Common.{◌≡◌, ℕ, ◌≤◌, Bool, true, false, ◌||◌, List, [], ◌∷◌, ◌++◌, Option, Some, None, inl, inr, refl, sym, ap, ◌∙◌, subst, append-nil, append_assoc}
+use Rattle.std.specs.Prelude.{◌⊎◌, Any, not}
+use Rattle.mgcp_text.specs.declared.message.Message.TheVariants as messages
+use Rattle.mgcp_text.specs.declared.message.Param.{Param}
+use Rattle.mgcp_text.specs.Reading.{message}
+use Rattle.outbound.specs.Flight.{InFlight}
+use Rattle.restart.specs.declared.restart.Restart.{Restart}
+use Rattle.restart.specs.declared.restart.Restart.TheVariants.{Waiting, Announced, Serving}
+use Rattle.restart.specs.Restarting.{is_serving}
+use Rattle.plain_machine.specs.declared.post.Post.{Post}
+use Rattle.plain_machine.specs.declared.setup.Setup.{Setup}
+use Rattle.plain_machine.specs.declared.endpoint.Endpoint.{Endpoint}
+use Rattle.plain_machine.specs.Arriving.{TextArrival, arrivals_at, arrivals_from, arrivals_of, clock_after}
+use Rattle.plain_machine.specs.Event.{GatewayEvent}
+use Rattle.plain_machine.specs.Lists.{plain, sent_from, sent_of}
+use Rattle.plain_machine.specs.Machine.{Machine, endpoint_at, opening}
+use Rattle.plain_machine.specs.Message.{Sent}
+use Rattle.plain_machine.specs.Setup.{IsSetUp}
+use Rattle.plain_machine.proofs.EffectLaws.{effect_now}
+use Rattle.plain_machine.proofs.ListLaws.{arrivals_on, machine_on}
+use Rattle.machine_laws.specs.Belonging.{of_line}
+use Rattle.machine_laws.specs.Saying.{Begun, begun_in}
+use Rattle.machine_laws.proofs.EachLemmas.{Each, each_back, each_from_all, each_weaker, one_from_any}
+use Rattle.machine_laws.proofs.OwningLemmas.{of_both}
+use Rattle.machine_laws.proofs.WaitLaws.{events_wait}
+use Rattle.agent_core.specs.World.{WorldStep, plain_world, steps_are_taken, world_opening}
+use Rattle.world_laws.specs.Reached.{Reached, taken_in}
+use Rattle.world_laws.proofs.TakenLaws.{heard_was_taken}
+use Rattle.world_laws.proofs.WorldLaws.{gateway_alone}
+use Rattle.delivery_laws.specs.GivenUp.{announces, has_given_up}
+use Rattle.delivery_laws.proofs.CourseLemmas.{AllHear, Hears, events_stand, hear_all}
+use Rattle.delivery_laws.proofs.DialledFlightLemmas.{Fine, Flies, FliesBeside, Gone, flight_turns, flying, has_announced, stays_gone}
+use Rattle.delivery_laws.proofs.RestLemmas.{Rests, begun_both}
+use Rattle.delivery_laws.proofs.WorldLemmas.{IsFinal, WasTaken, hear_finals, line_begun, sent_on}
+use Rattle.told_laws.proofs.LastTurns.{LastOf, line_last}
+
+pub serving_is : (restart : Restart) → is_serving restart ≡ true → restart ≡ Serving
+serving_is (Waiting until) is = absurd cc
+serving_is Announced is = absurd cc
+serving_is Serving is = refl
+
+given_both : (some more : List Sent) (post : Post) → has_announced some ≡ false → has_given_up more post ≡ false → has_given_up (some ++ more) post ≡ false
+given_both [] more post none nor = nor
+given_both (one ∷ some) more post none nor = by_test (announces one.said) none (λ (rest : has_announced some ≡ false). given_both some more post rest nor) where
+  by_test : (b : Bool) → (b || has_announced some) ≡ false → (has_announced some ≡ false → has_given_up (some ++ more) post ≡ false)
+      → ((b || has_announced (some ++ more)) || not (is_serving post.restart)) ≡ false
+  by_test true none rest = none
+  by_test false none rest = rest none
+
+abbrev AnyId : ℕ → Type 0
+AnyId id = Unit {0}
+
+-- what was in flight, and what began, is what was answered, and what is in flight
+pub record Settles (A : ℕ → Type 0) (was : Option InFlight) (new : List Begun) (is : Option InFlight) : Type 0 where
+  pub settled : List Begun
+  pub split : flying was ++ new ≡ settled ++ flying is
+  pub answered : Each (λ (b : Begun). A b.id) settled
+
+-- Final responses
+
+-- they answer what was taken
+finals : (setup : Setup) (steps : List WorldStep) → IsSetUp setup → steps_are_taken setup world_opening steps ≡ true
+    → AllHear setup (IsFinal (WasTaken (taken_in (plain_world setup steps)))) (arrivals_of (plain_world setup steps).gateway_took)
+finals setup steps set_up taken =
+    let w = plain_world setup steps in
+    let A : ℕ → Type 0 = WasTaken (taken_in w) in
+    let P : TextArrival → Type 0 = λ a. (code id : ℕ) (params : List Param) (body : List ℕ) → a.outcome ≡ message (messages.Response code id params body) → 200 ≤ code → Any (λ (one : Reached). one.asked.id ≡ id) (taken_in w) in
+    hear_finals setup A (arrivals_of w.gateway_took)
+    (each_weaker P (λ (a : TextArrival). (code id : ℕ) (params : List Param) (body : List ℕ) → a.outcome ≡ message (messages.Response code id params body) → 200 ≤ code → A id)
+    (λ a all. λ code id params body is high. one_from_any (λ (one : Reached). one.asked.id ≡ id) (taken_in w) (all code id params body is high)) (arrivals_of w.gateway_took)
+    (each_from_all P (arrivals_of w.gateway_took) (heard_was_taken setup steps set_up taken)))
+
+clock_on : (setup : Setup) (took : List GatewayEvent) (event : GatewayEvent) → (plain setup (took ++ event ∷ [])).now ≡ clock_after (plain setup took).now event
+clock_on setup took event =
+    ap (λ (m : Machine). m.now) (machine_on setup (opening setup) took (event ∷ []) ∙ gateway_alone setup (plain setup took) event)
+    ∙ effect_now setup (plain setup took) event
+
+arrivals_all : (setup : Setup) (took more : List GatewayEvent) → arrivals_of (took ++ more) ≡ arrivals_of took ++ arrivals_from (plain setup took).now more
+unfolding arrivals_from
+arrivals_all setup took [] = ap arrivals_of (append-nil took) ∙ sym (append-nil (arrivals_of took))
+arrivals_all setup took (event ∷ more) =
+    let now = (plain setup took).now in
+    ap arrivals_of (sym (append_assoc took (event ∷ []) more))
+    ∙ arrivals_all setup (took ++ event ∷ []) more
+    ∙ ap (λ (x : List TextArrival). x ++ arrivals_from (plain setup (took ++ event ∷ [])).now more) (arrivals_on setup (opening setup) took event)
+    ∙ append_assoc (arrivals_of took) (arrivals_at now event) (arrivals_from (plain setup (took ++ event ∷ [])).now more)
+    ∙ ap (λ (n : ℕ). arrivals_of took ++ (arrivals_at now event ++ arrivals_from n more)) (clock_on setup took event)
+
+-- behind some events
+pub finals_since : (setup : Setup) (steps : List WorldStep) (took events : List GatewayEvent) → IsSetUp setup → steps_are_taken setup world_opening steps ≡ true
+    → (plain_world setup steps).gateway_took ≡ took ++ events
+    → AllHear setup (IsFinal (WasTaken (taken_in (plain_world setup steps)))) (arrivals_from (plain setup took).now events)
+finals_since setup steps took events set_up taken is =
+    let Q : TextArrival → Type 0 = λ a. Hears setup (IsFinal (WasTaken (taken_in (plain_world setup steps)))) a.outcome in
+    each_back Q (arrivals_of took) (arrivals_from (plain setup took).now events)
+    (subst (Each Q) (ap arrivals_of is ∙ arrivals_all setup took events) (finals setup steps set_up taken))
+
+-- From a moment at which it serves
+
+module _ (setup : Setup) (line : ℕ) where
+  abbrev pub IsThere : List GatewayEvent → Endpoint → Type 0
+  IsThere events s = endpoint_at (plain setup events).endpoints line ≡ Some s
+
+  -- what it sends and begins at events behind others
+  abbrev pub sent_at : List GatewayEvent → List GatewayEvent → List Sent
+  sent_at took events = of_line line (sent_from setup (plain setup took) events)
+
+  abbrev pub began_at : List GatewayEvent → List GatewayEvent → List Begun
+  began_at took events = begun_in (sent_at took events)
+
+  pub sent_both : (took events later : List GatewayEvent) → sent_at took (events ++ later) ≡ sent_at took events ++ sent_at (took ++ events) later
+  sent_both took events later =
+      ap (of_line line)
+      (sent_on setup (plain setup took) events later
+      ∙ ap (λ (m : Machine). sent_from setup (plain setup took) events ++ sent_from setup m later) (sym (machine_on setup (opening setup) took events)))
+      ∙ of_both line (sent_from setup (plain setup took) events) (sent_from setup (plain setup (took ++ events)) later)
+
+  pub began_both : (took events later : List GatewayEvent) → began_at took (events ++ later) ≡ began_at took events ++ began_at (took ++ events) later
+  began_both took events later = ap begun_in (sent_both took events later) ∙ begun_both (sent_at took events) (sent_at (took ++ events) later)
+
+  pub begun_on : (took events : List GatewayEvent) → line_begun setup line (took ++ events) ≡ line_begun setup line took ++ began_at took events
+  begun_on took events =
+      ap begun_in (ap (of_line line) (sent_on setup (opening setup) took events) ∙ of_both line (sent_of setup took) (sent_from setup (plain setup took) events))
+      ∙ begun_both (of_line line (sent_of setup took)) (sent_at took events)
+
+  -- all that it sent of what is in flight stands at the end, and nothing else begins there
+  pub record Start (took : List GatewayEvent) (s : Endpoint) : Type 0 where
+    pub front : List Sent
+    pub back : List Sent
+    pub order : of_line line (sent_of setup took) ≡ front ++ back
+    pub begins : begun_in back ≡ flying s.post.pending
+    pub calm : has_announced back ≡ false
+
+  pub begun_then : (took : List GatewayEvent) (s : Endpoint) → (st : Start took s) → line_begun setup line took ≡ begun_in st.front ++ flying s.post.pending
+  begun_then took s st =
+      ap begun_in st.order ∙ begun_both st.front st.back ∙ ap (λ (x : List Begun). begun_in st.front ++ x) st.begins
+
+module _ (setup : Setup) (line : ℕ) (some : 1 ≤ line) where
+  pub start : (took : List GatewayEvent) (s : Endpoint) → IsThere setup line took s → s.post.restart ≡ Serving → Start setup line took s
+  start took s at serving =
+      by_pending s.post.pending refl (subst (λ (r : Restart). LastOf (of_line line (sent_of setup took)) r s.post.pending) serving (line_last setup line some took s at)) where
+        by_pending : (pending : Option InFlight) → s.post.pending ≡ pending → LastOf (of_line line (sent_of setup took)) Serving pending → Start setup line took s
+        by_pending None none l = record {
+          front = of_line line (sent_of setup took);
+          back = [];
+          order = sym (append-nil (of_line line (sent_of setup took)));
+          begins = sym (ap flying none);
+          calm = refl;
+        }
+        by_pending (Some flight) flies l =
+            record { front = l.front; back = l.back; order = l.is; begins = l.begins ∙ sym (ap flying flies); calm = l.calm }
+
+  -- as long as nothing is given up
+  pub settles : (A : ℕ → Type 0) (took events later : List GatewayEvent) (s next last : Endpoint) → IsThere setup line took s → IsThere setup line (took ++ events) next
+      → IsThere setup line ((took ++ events) ++ later) last → s.post.restart ≡ Serving → Rests s.post.restart s.post.pending s.line.state → Start setup line took s
+      → AllHear setup (IsFinal A) (arrivals_from (plain setup took).now events) → has_given_up (sent_at setup line took (events ++ later)) last.post ≡ false
+      → Settles A s.post.pending (began_at setup line took events) next.post.pending
+  settles A took events later s next last here there at_last serving rests st hears none = by_either flies.either where
+    new : List Sent
+    new = sent_at setup line took events
+
+    after : List Sent
+    after = sent_at setup line (took ++ events) later
+
+    begin : Flies A (Unit {0}) st.back s
+    begin = record { rests = rests; either = inl (record { still = tt; serving = serving; settled = []; split = st.begins; answered = tt }) }
+
+    flies : Flies A (Unit {0}) (st.back ++ new) next
+    flies =
+        (events_stand setup (IsFinal A) (FliesBeside A (Unit {0})) (flight_turns A (Unit {0}) setup) line some (plain setup took) [] st.back (plain setup took).now events hears
+        (record {
+          order = events_wait setup took;
+          holds = λ x at. subst (Flies A (Unit {0}) st.back) (let both : Some s ≡ Some x = sym here ∙ at in (let same : s ≡ x = cc in same)) begin;
+        })).holds next (ap (λ (m : Machine). endpoint_at m.endpoints line) (sym (machine_on setup (opening setup) took events)) ∙ there)
+
+    gone_then : Gone (st.back ++ new) next.post.restart → has_given_up ((st.back ++ new) ++ after) last.post ≡ true
+    gone_then gone =
+        stays_gone ((st.back ++ new) ++ after) last
+        ((events_stand setup (IsFinal AnyId) (FliesBeside AnyId ⊥) (flight_turns AnyId ⊥ setup) line some (plain setup (took ++ events)) [] (st.back ++ new) 0 later
+        (hear_all setup (IsFinal AnyId) (λ response high. tt) (arrivals_from 0 later))
+        (record {
+          order = events_wait setup (took ++ events);
+          holds = λ x at.
+              subst (Flies AnyId ⊥ (st.back ++ new)) (let both : Some next ≡ Some x = sym there ∙ at in (let same : next ≡ x = cc in same))
+              (record { rests = flies.rests; either = inr gone });
+        })).holds last (ap (λ (m : Machine). endpoint_at m.endpoints line) (sym (machine_on setup (opening setup) (took ++ events) later)) ∙ at_last))
+
+    nothing : has_given_up ((st.back ++ new) ++ after) last.post ≡ false
+    nothing =
+        ap (λ (x : List Sent). has_given_up x last.post)
+        (append_assoc st.back new after ∙ ap (λ (x : List Sent). st.back ++ x) (sym (sent_both setup line took events later)))
+        ∙ given_both st.back (sent_at setup line took (events ++ later)) last.post st.calm none
+
+    by_either : Fine A (Unit {0}) (st.back ++ new) next.post.restart next.post.pending ⊎ Gone (st.back ++ new) next.post.restart
+        → Settles A s.post.pending (began_at setup line took events) next.post.pending
+    by_either (inl fine) = record {
+      settled = fine.settled;
+      split = sym (begun_both st.back new ∙ ap (λ (x : List Begun). x ++ begun_in new) st.begins) ∙ fine.split;
+      answered = fine.answered;
+    }
+    by_either (inr gone) = absurd (let clash : true ≡ false = sym (gone_then gone) ∙ nothing in cc)
