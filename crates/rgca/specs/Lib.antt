@@ -1,3 +1,4 @@
 pub mod Statuses
 pub mod Endings
 pub mod Texts
+pub mod Names

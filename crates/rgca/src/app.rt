@@ -1,8 +1,10 @@
 //! The program: reads its words and its configuration, and serves, checks, plays or makes a load.
+ghost use Rattle.std.specs.Prelude.{[], IfOk};
+ghost use Rattle.rgca.specs.Names.{name_of, Says};
+
 use crate::checks::checked;
 use crate::configs::config_of;
-use crate::ending::{Ending, Named, config_ending, word_ending};
-use crate::help::of_all;
+use crate::ending::{Ending, Named, Said, config_ending, word_ending};
 use crate::loads::loaded;
 use crate::phones::played;
 use crate::words::{Settings, read_words};
@@ -11,7 +13,6 @@ use live_agent::{WireSettings, serve_agent};
 use live_ends::{AddressWord, CommonEnding, Outlets, SocketWanted, begin, end, read_file};
 use rgw_scripts::LIMIT;
 use std::alloc::Global;
-use std::io::Write;
 use std::net::Net;
 use std::os::fd::AsRawFd;
 use std::rt::{Clock, Env, Files};
@@ -58,37 +59,33 @@ fn serve_with<R: Files + Net + Clock>(
     Ending::Common(serve_agent(rt, alloc, &config, is_routed, wire, capture, outlets))
 }
 
-// Serves as these words ask: how the program ends then, and what that names.
-fn served<'w, R: AllocGlobal + Files + Net + Clock>(
+// Serves as these settings ask: how the program ends then, and what it says, which names the files of the settings.
+fn serve<R: Files + Net + Clock>(
     rt: &R,
-    words: &'w [String],
-    named: &mut Named<'w>,
+    alloc: Global,
+    settings: &Settings<'_>,
     outlets: &mut Outlets<R::File>,
-) -> Ending {
-    let settings = match read_words(rt.alloc(), words, &mut outlets.error) {
-        Ok(settings) => settings,
-        Err(fault) => return word_ending(fault),
-    };
-    *named = settings.named();
-    match read_file(rt, rt.alloc(), settings.config, LIMIT as u64) {
-        Ok(text) => serve_with(rt, rt.alloc(), &settings, text.as_slice(), outlets),
+) -> Said
+    ensures { IfOk result.text (λ text. Says settings.now.config.now (name_of settings.now.capture) [] result.ending text.items) }
+{
+    let ending = match read_file(rt, alloc, settings.config, LIMIT as u64) {
+        Ok(text) => serve_with(rt, alloc, settings, text.as_slice(), outlets),
         Err(kind) => Ending::Common(CommonEnding::unreadable(kind)),
-    }
+    };
+    ending.said(alloc, settings.named())
 }
 
-// Says how the program ends, and gives its status.
-fn tell<R: AllocGlobal + Clock, F: Write + Drop>(
+// Serves as these words ask: how the program ends then, and what it says.
+fn served<R: AllocGlobal + Files + Net + Clock>(
     rt: &R,
-    outlets: &mut Outlets<F>,
-    ending: &Ending,
-    named: Named<'_>,
-) -> u8 {
-    let mut text = Vec::new(rt.alloc());
-    let text = match ending.put_text(rt.alloc(), &mut text, of_all(), named) {
-        Ok(()) => Ok(text),
-        Err(refused) => Err(refused),
+    words: &[String],
+    outlets: &mut Outlets<R::File>,
+) -> Said {
+    let settings = match read_words(rt.alloc(), words, &mut outlets.error) {
+        Ok(settings) => settings,
+        Err(fault) => return word_ending(fault).said(rt.alloc(), Named::nothing()),
     };
-    end(rt, outlets, text, ending.status(), ending.is_asked())
+    serve(rt, rt.alloc(), &settings, outlets)
 }
 
 // What the program is asked for.
@@ -113,19 +110,18 @@ fn part_in(asked: &[String]) -> Part {
     }
 }
 
-// How the program with these words ends, of which the first is its name, and what that names.
-fn ending_by<'w, R: AllocGlobal + Files + Net + Clock>(
+// How the program with these words ends, of which the first is its name, and what it says then.
+fn said_by<R: AllocGlobal + Files + Net + Clock>(
     rt: &R,
-    words: &'w [String],
-    named: &mut Named<'w>,
+    words: &[String],
     outlets: &mut Outlets<R::File>,
-) -> Ending {
+) -> Said {
     let asked = words.get(1..).unwrap_or(&[]);
     match part_in(asked) {
-        Part::Check => checked(rt, asked, named, outlets),
-        Part::Phones => played(rt, rt.alloc(), asked, named),
-        Part::Load => loaded(rt, rt.alloc(), asked, named, outlets),
-        Part::Serving => served(rt, words, named, outlets),
+        Part::Check => checked(rt, asked, outlets),
+        Part::Phones => played(rt, rt.alloc(), asked),
+        Part::Load => loaded(rt, rt.alloc(), asked, outlets),
+        Part::Serving => served(rt, words, outlets),
     }
 }
 
@@ -135,12 +131,12 @@ fn run_with<R: AllocGlobal + Files + Net + Clock>(
     words: &Result<Vec<String>, CommonEnding>,
     outlets: &mut Outlets<R::File>,
 ) -> u8 {
-    let mut named = Named::nothing();
-    let ending = match words {
-        Ok(words) => ending_by(rt, words.as_slice(), &mut named, outlets),
-        Err(ending) => Ending::Common(*ending),
+    let Said { ending, text } = match words {
+        Ok(words) => said_by(rt, words.as_slice(), outlets),
+        Err(ending) => Ending::Common(*ending).said(rt.alloc(), Named::nothing()),
     };
-    tell(rt, outlets, &ending, named)
+    let (status, is_asked) = (ending.status(), ending.is_asked());
+    end(rt, outlets, text, status, is_asked)
 }
 
 /// Runs the program, and gives its exit status.

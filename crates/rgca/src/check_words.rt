@@ -1,4 +1,8 @@
 //! Reads the words behind `check`.
+ghost use Rattle.std.specs.Prelude.{◌≡◌, [], IfOk, codes, option_map};
+ghost use Rattle.clap.specs.Matches.{found_of, first_value};
+ghost use Rattle.rgca.specs.Names.{name_of, HasNames};
+
 use crate::ending::Named;
 use crate::help::CHECK_USAGE;
 use crate::words::{WordFault, address_behind};
@@ -133,7 +137,9 @@ pub struct CheckWords<'a> {
 
 impl<'a> CheckWords<'a> {
     /// What an ending names: the program writes the report.
-    pub(crate) fn named(&self) -> Named<'a> {
+    pub(crate) fn named(&self) -> Named<'a>
+        ensures { HasNames [] (name_of self.now.junit) [] result }
+    {
         Named::of_files("", self.junit.unwrap_or(""))
     }
 }
@@ -145,7 +151,10 @@ fn settings_of<'a>(
     matches: &ArgMatches<'a>,
     domain: &'a str,
     line: &'a str,
-) -> Result<Box<CheckWords<'a>>, WordFault> {
+) -> Result<Box<CheckWords<'a>>, WordFault>
+    ensures { IfOk result (λ words.
+        first_value (found_of matches.now) (codes "junit") ≡ option_map (λ name. name.now) words.value.junit) }
+{
     let gateway = match address_in(matches, "address", AddressWord::Gateway) {
         Ok(gateway) => gateway,
         Err(fault) => return Err(fault),
@@ -188,7 +197,10 @@ fn settings_of<'a>(
 fn settings_in<'a>(
     alloc: Global,
     matches: &ArgMatches<'a>,
-) -> Result<Box<CheckWords<'a>>, WordFault> {
+) -> Result<Box<CheckWords<'a>>, WordFault>
+    ensures { IfOk result (λ words.
+        first_value (found_of matches.now) (codes "junit") ≡ option_map (λ name. name.now) words.value.junit) }
+{
     let (Some(domain), Some(line)) = (matches.get_str("domain"), matches.get_str("line")) else {
         return Err(WordFault::Common(CommonEnding::Usage));
     };

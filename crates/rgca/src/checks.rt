@@ -1,7 +1,9 @@
 //! Checks a gateway as words ask, or tells which checks there are.
+ghost use Rattle.std.specs.Prelude.{[], IfOk};
+ghost use Rattle.rgca.specs.Names.{name_of, Says};
+
 use crate::check_words::{CheckWords, read_check_words};
-use crate::ending::{Ending, Named, check_words_ending, unchecked_ending};
-use crate::help::of_all;
+use crate::ending::{Ending, Named, Said, check_words_ending, unchecked_ending};
 use live_agent::{Checked, check_gateway, check_list, fault_text};
 use live_ends::{CommonEnding, Outlet, Outlets};
 use mg_bytes::OutOfMemory;
@@ -19,8 +21,7 @@ fn make_file<R: Files>(rt: &R, file: &str, text: &str) -> io::Result<()> {
 
 // An object that says why it fails, as a line.
 fn fault_line(alloc: Global, ending: &Ending, named: Named<'_>) -> Result<String, OutOfMemory> {
-    let mut why = Vec::new(alloc);
-    ending.put_text(alloc, &mut why, of_all(), named)?;
+    let why = ending.text(alloc, named)?;
     let why = str::from_utf8(why.as_slice()).unwrap_or("");
     let mut line = fault_text(alloc, why.trim_end())?;
     line.push('\n')?;
@@ -80,6 +81,17 @@ fn check_by<R: AllocGlobal + Files + Net + Clock, F: Write + Drop>(
     reported(rt, words, &checked, out)
 }
 
+// Checks a gateway as these words ask: how the program ends then, and what it says, which names the file of the report.
+fn check_said<R: AllocGlobal + Files + Net + Clock, F: Write + Drop>(
+    rt: &R,
+    words: &CheckWords<'_>,
+    out: &mut Outlet<F>,
+) -> Said
+    ensures { IfOk result.text (λ text. Says [] (name_of words.now.junit) [] result.ending text.items) }
+{
+    check_by(rt, words, out).said(rt.alloc(), words.named())
+}
+
 // Tells which checks there are.
 fn listed<F: Write + Drop>(alloc: Global, out: &mut Outlet<F>) -> Ending {
     let Ok(list) = check_list(alloc) else {
@@ -102,20 +114,18 @@ fn asks_for_list(words: &[String]) -> bool {
     }
 }
 
-/// How the program ends by a check with these words, of which the first is `check`, and what that names.
-pub fn checked<'w, R: AllocGlobal + Files + Net + Clock, F: Write + Drop>(
+/// How the program ends by a check with these words, of which the first is `check`, and what it says then.
+pub fn checked<R: AllocGlobal + Files + Net + Clock, F: Write + Drop>(
     rt: &R,
-    words: &'w [String],
-    named: &mut Named<'w>,
+    words: &[String],
     outlets: &mut Outlets<F>,
-) -> Ending {
+) -> Said {
     if asks_for_list(words) {
-        return listed(rt.alloc(), &mut outlets.output);
+        return listed(rt.alloc(), &mut outlets.output).said(rt.alloc(), Named::nothing());
     }
     let asked = match read_check_words(rt.alloc(), words, &mut outlets.error) {
         Ok(asked) => asked,
-        Err(fault) => return check_words_ending(fault),
+        Err(fault) => return check_words_ending(fault).said(rt.alloc(), Named::nothing()),
     };
-    *named = asked.named();
-    check_by(rt, &asked, &mut outlets.output)
+    check_said(rt, &asked, &mut outlets.output)
 }

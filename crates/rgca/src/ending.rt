@@ -1,11 +1,13 @@
 //! How the program ends: its status, and what it says then.
-ghost use Rattle.std.specs.Prelude.{◌≡◌, ◌++◌, ◌∷◌, [], codes, OnOk};
+ghost use Rattle.std.specs.Prelude.{◌≡◌, ℕ, List, ◌++◌, ◌∷◌, [], codes, OnOk, IfOk};
 ghost use Rattle.std.specs.Net.Text.{socket_v4_text};
 ghost use Rattle.live_ends.specs.Wording.{joined};
 ghost use Rattle.rgca.specs.Statuses.{load_status, status_of, is_asked};
 ghost use Rattle.rgca.specs.Endings.{word_ending, check_ending, phone_ending, load_word_ending, load_by, config_by};
 ghost use Rattle.rgca.specs.Texts.{line_word, number_text, ending_text};
+ghost use Rattle.rgca.specs.Names.{gateway_of, HasNames, Says};
 
+use crate::help::of_all;
 use crate::load_words::LoadWordFault;
 use crate::phone_words::PhoneWordFault;
 use crate::words::WordFault;
@@ -61,18 +63,35 @@ pub struct Named<'a> {
 
 impl<'a> Named<'a> {
     /// Nothing is named.
-    pub(crate) fn nothing() -> Named<'a> {
+    pub(crate) fn nothing() -> Named<'a>
+        ensures { HasNames [] [] [] result }
+    {
         Named::of_files("", "")
     }
 
     /// The program reads this file, and writes that one.
-    pub(crate) fn of_files(read_from: &'a str, written_to: &'a str) -> Named<'a> {
+    pub(crate) fn of_files(read_from: &'a str, written_to: &'a str) -> Named<'a>
+        ensures { HasNames read_from.now written_to.now [] result }
+    {
         Named {
             files: FileNames {
                 read_from,
                 written_to,
             },
             gateway: "",
+        }
+    }
+
+    /// This word should say a gateway.
+    fn of_gateway(gateway: &'a str) -> Named<'a>
+        ensures { HasNames [] [] gateway.now result }
+    {
+        Named {
+            files: FileNames {
+                read_from: "",
+                written_to: "",
+            },
+            gateway,
         }
     }
 }
@@ -133,6 +152,12 @@ fn load_status(is_enough: bool) -> u8
     ensures { result ≡ load_status is_enough }
 {
     if is_enough { 0 } else { 1 }
+}
+
+/// How the program ends, and what it says then; an error is for want of memory.
+pub struct Said {
+    pub ending: Ending,
+    pub text: Result<Vec<u8>, OutOfMemory>,
 }
 
 impl Ending {
@@ -217,6 +242,28 @@ impl Ending {
             Ending::System => put_pieces(out, &["clock or socket fault\n"]),
         }
     }
+
+    /// What is said, where this is what it names.
+    pub(crate) fn text(&self, alloc: Global, named: Named<'_>) -> Result<Vec<u8>, OutOfMemory>
+        ensures { (read written gateway : List ℕ) → HasNames read written gateway named.entry
+            → IfOk result (λ text. Says read written gateway self.now text.items) }
+    {
+        let mut text = Vec::new(alloc);
+        match self.put_text(alloc, &mut text, of_all(), named) {
+            Ok(()) => Ok(text),
+            Err(refused) => Err(refused),
+        }
+    }
+
+    /// The program ends so, and says what is said where this is what it names.
+    pub(crate) fn said(self, alloc: Global, named: Named<'_>) -> Said
+        ensures ending { result.ending ≡ self }
+        ensures text { (read written gateway : List ℕ) → HasNames read written gateway named.entry
+            → IfOk result.text (λ text. Says read written gateway result.ending text.items) }
+    {
+        let text = self.text(alloc, named);
+        Said { ending: self, text }
+    }
 }
 
 /// How the program ends by its words.
@@ -241,6 +288,24 @@ pub fn check_words_ending(fault: WordFault) -> Ending
         WordFault::SameLine => Ending::SameLine,
         WordFault::NoCheck => Ending::NoCheck,
     }
+}
+
+// What an ending by words behind `phones` names.
+fn named_by<'a>(fault: PhoneWordFault<'a>) -> Named<'a>
+    ensures { HasNames [] [] (gateway_of fault.entry) result }
+{
+    match fault {
+        PhoneWordFault::Common(_) => Named::nothing(),
+        PhoneWordFault::BadGateway { word } => Named::of_gateway(word),
+    }
+}
+
+/// How the program ends by words behind `phones`, and what it says then, which names the word that should say a gateway.
+pub(crate) fn phone_words_said(alloc: Global, fault: PhoneWordFault<'_>) -> Said
+    ensures ending { result.ending ≡ phone_ending fault.entry }
+    ensures text { IfOk result.text (λ text. Says [] [] (gateway_of fault.entry) result.ending text.items) }
+{
+    phone_words_ending(fault).said(alloc, named_by(fault))
 }
 
 /// How the program ends by words behind `phones`.

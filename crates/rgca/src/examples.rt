@@ -1,11 +1,15 @@
 //! Worked examples of the definitions, as theorems.
 #![tactic(auto, unfolding(crate::specs::Texts::ending_text))]
 
-ghost use Rattle.std.specs.Prelude.{◌≡◌, ℕ, Bool, codes, true, false, List, [], ◌∷◌, ◌++◌, map};
+ghost use Rattle.std.specs.Prelude.{◌≡◌, ℕ, Bool, codes, true, false, List, [], ◌∷◌, ◌++◌, map, Some, None};
+ghost use Rattle.std.specs.Borrow.{Bor};
 ghost use Rattle.std.specs.Net.Text.{socket_v4_text};
+ghost use Rattle.std.specs.declared.io.ErrorKind.{ErrorKind};
 ghost use Rattle.std.specs.declared.net.socket_addr.SocketAddrV4.{SocketAddrV4};
 ghost use Rattle.live_ends.specs.declared.ending.CommonEnding.{CommonEnding};
+ghost use Rattle.live_ends.specs.declared.ending.CommonEnding.TheVariants.{Unreadable, Unwritable};
 ghost use Rattle.live_ends.specs.Ending.{status_of as common_status, is_asked as is_commonly_asked, ending_text as common_text};
+ghost use Rattle.live_ends.specs.Reasons.{reason_of};
 ghost use Rattle.rgca.specs.declared.words.WordFault.TheVariants as faults;
 ghost use Rattle.rgca.specs.declared.phone_words.PhoneWordFault.TheVariants as phone_faults;
 ghost use Rattle.rgca.specs.declared.load_words.LoadWordFault.TheVariants as number_faults;
@@ -18,6 +22,7 @@ ghost use Rattle.rgca.specs.declared.ending.Ending.TheVariants.{Common, OfCheck,
 ghost use Rattle.rgca.specs.Statuses.{status_of, is_asked};
 ghost use Rattle.rgca.specs.Endings.{word_ending, check_ending, phone_ending, load_word_ending, load_by};
 ghost use Rattle.rgca.specs.Texts.{ending_text};
+ghost use Rattle.rgca.specs.Names.{name_of, gateway_of, Says};
 
 /// Each sentence at an example.
 pub fn each_sentence_has_an_example()
@@ -131,4 +136,25 @@ pub fn sentences_of_loads_have_examples()
     ensures unanswered { (address : SocketAddrV4) → load_by (loads.Unmade (load_faults.NoAnswer address)) ≡ NoAnswer address }
     ensures unwatched { (address : SocketAddrV4) → load_by (loads.Unmade (load_faults.Unwatched address)) ≡ Untold address }
     ensures few_lines { load_by (loads.Unmade load_faults.NoLines) ≡ NoLines }
+{}
+
+/// Each sentence at an example.
+pub fn an_ending_names_what_fails()
+    // Of the file that is read it says that it can't be read, or which fault it has; of the one that is written that it can't be written;
+    // and of a word that should say a gateway what is wanted.
+    ensures read { (read written gateway text : List ℕ) (kind : ErrorKind) →
+        Says read written gateway (Common (Unreadable kind)) text
+        → text ≡ read ++ (codes ": read fault" ++ (reason_of kind ++ codes "\n")) }
+    ensures written { (read written gateway text : List ℕ) (kind : ErrorKind) →
+        Says read written gateway (Common (Unwritable kind)) text
+        → text ≡ written ++ (codes ": write fault" ++ (reason_of kind ++ codes "\n")) }
+    ensures config { (read written gateway text : List ℕ) (line : _) → Says read written gateway (Config line) text
+        → text ≡ read ++ (codes ": " ++ (line.items ++ codes "\n")) }
+    ensures gateway { (read written gateway text : List ℕ) → Says read written gateway BadGateway text
+        → text ≡ gateway ++ codes ": wanted NAME=ADDRESS, each name and each address once\n" }
+    // A file that isn't asked for has no name, and only a word that should say a gateway is told.
+    ensures no_file { name_of None ≡ [] }
+    ensures file { (name : Bor (List ℕ)) → name_of (Some name) ≡ name.now }
+    ensures word { (word : Bor (List ℕ)) → gateway_of (phone_faults.BadGateway word) ≡ word.now }
+    ensures other_word { (ending : CommonEnding) → gateway_of (phone_faults.Common ending) ≡ [] }
 {}

@@ -1,4 +1,6 @@
 //! Reads the words behind `load`.
+ghost use Rattle.std.specs.Prelude.{◌≡◌, ◌∷◌, IfOk, string_bytes};
+
 use live_ends::CommonEnding;
 use load_bench::{LoadNumber, LoadSettings, SettingFault};
 
@@ -53,7 +55,10 @@ fn settings_in(words: &[String]) -> Result<LoadSettings, LoadWordFault> {
 }
 
 /// Reads the words of a load, of which the first is `load`: the file of the configuration, and what is asked.
-pub fn read_load_words(words: &[String]) -> Result<(&str, LoadSettings), LoadWordFault> {
+pub fn read_load_words(words: &[String]) -> Result<(&str, LoadSettings), LoadWordFault>
+    ensures { (first config : _) (behind : _) → words.now ≡ first ∷ config ∷ behind
+        → IfOk result (λ asked. asked.0.now ≡ string_bytes config) }
+{
     let [_, config, behind @ ..] = words else {
         return Err(USAGE);
     };

@@ -1,6 +1,9 @@
 //! Makes a load of calls as words ask.
+ghost use Rattle.std.specs.Prelude.{[], IfOk};
+ghost use Rattle.rgca.specs.Names.{Says};
+
 use crate::configs::{bench_refusal, config_of};
-use crate::ending::{Ending, Named, config_ending, load_ending, load_words_ending};
+use crate::ending::{Ending, Named, Said, config_ending, load_ending, load_words_ending};
 use crate::load_words::read_load_words;
 use live_agent::load_agent;
 use live_ends::{CommonEnding, Outlets, read_file};
@@ -29,21 +32,33 @@ fn load_by<R: Files + Net + Clock>(
     load_ending(load_agent(rt, alloc, &config, file, settings, outlets))
 }
 
-/// How the program ends by a load with these words, of which the first is `load`, and what that names.
-pub fn loaded<'w, R: Files + Net + Clock>(
+// Makes a load by the configuration in this file: how the program ends then, and what it says, which names the file.
+fn make_load<R: Files + Net + Clock>(
     rt: &R,
     alloc: Global,
-    words: &'w [String],
-    named: &mut Named<'w>,
+    file: &str,
+    settings: LoadSettings,
     outlets: &mut Outlets<R::File>,
-) -> Ending {
-    let (file, settings) = match read_load_words(words) {
-        Ok(asked) => asked,
-        Err(fault) => return load_words_ending(fault),
-    };
-    *named = Named::of_files(file, "");
-    match read_file(rt, alloc, file, LIMIT as u64) {
+) -> Said
+    ensures { IfOk result.text (λ text. Says file.now [] [] result.ending text.items) }
+{
+    let ending = match read_file(rt, alloc, file, LIMIT as u64) {
         Ok(text) => load_by(rt, alloc, file, settings, text.as_slice(), outlets),
         Err(kind) => Ending::Common(CommonEnding::unreadable(kind)),
-    }
+    };
+    ending.said(alloc, Named::of_files(file, ""))
+}
+
+/// How the program ends by a load with these words, of which the first is `load`, and what it says then.
+pub fn loaded<R: Files + Net + Clock>(
+    rt: &R,
+    alloc: Global,
+    words: &[String],
+    outlets: &mut Outlets<R::File>,
+) -> Said {
+    let (file, settings) = match read_load_words(words) {
+        Ok(asked) => asked,
+        Err(fault) => return load_words_ending(fault).said(alloc, Named::nothing()),
+    };
+    make_load(rt, alloc, file, settings, outlets)
 }

@@ -1,4 +1,8 @@
 //! Reads a script of telephones, with all files that it brings.
+ghost use Rattle.std.specs.Prelude.{◌≡◌, ◌≢◌, ℕ, List, [], ◌++◌, IfOk};
+ghost use Rattle.phone_scripts.specs.Wording.{place_text};
+ghost use Rattle.rgca.specs.Names.{Says};
+
 use crate::ending::{Ending, Named};
 use crate::help::of_all;
 use crate::phone_words::PhoneSettings;
@@ -39,7 +43,10 @@ enum FileFault {
 }
 
 // How the program ends where this is why the script in this file can't be had.
-fn file_ending(alloc: Global, path: &str, fault: FileFault) -> Ending {
+fn file_ending(alloc: Global, path: &str, fault: FileFault) -> Ending
+    ensures { (kind : _) → fault ≡ FileFault.Refused kind → kind ≢ ErrorKind.OutOfMemory
+        → result ≡ Ending.Common (CommonEnding.Unreadable kind) }
+{
     match fault {
         FileFault::Refused { kind } => Ending::Common(CommonEnding::unreadable(kind)),
         FileFault::TooLong => too_long(alloc, path),
@@ -67,14 +74,17 @@ fn script_text(alloc: Global, files: &[Text], fault: ScriptFault) -> Result<Text
 }
 
 // What is said where a script can't have the file with this path that it brings there: the program would end so if it were the script
-// itself.
+// itself. It names the file.
 fn include_text(
     alloc: Global,
     files: &[Text],
     place: Place,
     path: &str,
     fault: FileFault,
-) -> Result<Text, OutOfMemory> {
+) -> Result<Text, OutOfMemory>
+    ensures { IfOk result (λ said. (ending : _) × (line : List ℕ) × Says path.now [] [] ending line
+        × (said ≡ place_text files.now place ++ line)) }
+{
     let ending = file_ending(alloc, path, fault);
     if let Ending::Common(CommonEnding::OutOfMemory) = &ending {
         return Err(AllocError);

@@ -1,4 +1,6 @@
 //! Reads the words behind `phones`.
+ghost use Rattle.std.specs.Prelude.{◌≡◌, ◌∷◌, IfOk, string_bytes};
+
 use agent_texts::copied;
 use live_ends::CommonEnding;
 use mg_bytes::Text;
@@ -85,7 +87,14 @@ fn has_address(addresses: &[SocketAddrV4], address: SocketAddrV4) -> bool {
     false
 }
 
-impl PhoneSettings<'_> {
+// The gateways that words say: how a script names each, and the address of its telephones.
+#[derive(Drop)]
+struct Gateways {
+    names: Vec<Text>,
+    addresses: Vec<SocketAddrV4>,
+}
+
+impl Gateways {
     // Whether a gateway has this name already, or its telephones this address.
     fn has(&self, name: &str, address: SocketAddrV4) -> bool {
         has_name(self.names.as_slice(), name) || has_address(self.addresses.as_slice(), address)
@@ -100,19 +109,19 @@ impl PhoneSettings<'_> {
 }
 
 // Reads the words that say gateways; without any the telephones are where they usually are.
-fn take_gateways<'a>(
-    alloc: Global,
-    settings: &mut PhoneSettings<'a>,
-    words: &'a [String],
-) -> Result<(), PhoneWordFault<'a>> {
+fn gateways_in<'a>(alloc: Global, words: &'a [String]) -> Result<Gateways, PhoneWordFault<'a>> {
+    let mut gateways = Gateways {
+        names: Vec::new(alloc),
+        addresses: Vec::new(alloc),
+    };
     if words.len() > MOST_GATEWAYS {
         return Err(PhoneWordFault::Common(CommonEnding::Usage));
     }
     for word in words {
         let word = word.as_str();
         match gateway_of(word) {
-            Some((name, address)) if !settings.has(name, address) => {
-                if settings.add(alloc, name, address).is_err() {
+            Some((name, address)) if !gateways.has(name, address) => {
+                if gateways.add(alloc, name, address).is_err() {
                     return Err(PhoneWordFault::Common(CommonEnding::OutOfMemory));
                 }
             }
@@ -121,18 +130,21 @@ fn take_gateways<'a>(
     }
     if words.is_empty() {
         let usual = SocketAddrV4::new(Ipv4Addr::LOCALHOST, USUAL_PORT);
-        if settings.add(alloc, "", usual).is_err() {
+        if gateways.add(alloc, "", usual).is_err() {
             return Err(PhoneWordFault::Common(CommonEnding::OutOfMemory));
         }
     }
-    Ok(())
+    Ok(gateways)
 }
 
-/// Reads the words of a play, of which the first is `phones`.
+/// Reads the words of a play, of which the first is `phones`, and the second names the script.
 pub fn read_phone_words<'a>(
     alloc: Global,
     words: &'a [String],
-) -> Result<PhoneSettings<'a>, PhoneWordFault<'a>> {
+) -> Result<PhoneSettings<'a>, PhoneWordFault<'a>>
+    ensures { (first script : _) (gateways : _) → words.now ≡ first ∷ script ∷ gateways
+        → IfOk result (λ settings. settings.script.now ≡ string_bytes script) }
+{
     let [_, script, gateways @ ..] = words else {
         return Err(PhoneWordFault::Common(CommonEnding::Usage));
     };
@@ -143,13 +155,13 @@ pub fn read_phone_words<'a>(
         }
         _ => {}
     }
-    let mut settings = PhoneSettings {
-        script: script.as_str(),
-        names: Vec::new(alloc),
-        addresses: Vec::new(alloc),
+    let Gateways { names, addresses } = match gateways_in(alloc, gateways) {
+        Ok(gateways) => gateways,
+        Err(fault) => return Err(fault),
     };
-    if let Err(fault) = take_gateways(alloc, &mut settings, gateways) {
-        return Err(fault);
-    }
-    Ok(settings)
+    Ok(PhoneSettings {
+        script: script.as_str(),
+        names,
+        addresses,
+    })
 }

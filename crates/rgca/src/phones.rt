@@ -1,7 +1,10 @@
 //! Plays a script of telephones.
-use crate::ending::{Ending, Named, phone_words_ending};
+ghost use Rattle.std.specs.Prelude.{[], IfOk};
+ghost use Rattle.rgca.specs.Names.{Says};
+
+use crate::ending::{Ending, Named, Said, phone_words_said};
 use crate::phone_files::read_script;
-use crate::phone_words::{PhoneSettings, PhoneWordFault, read_phone_words};
+use crate::phone_words::{PhoneSettings, read_phone_words};
 use live_agent::{Played, play_phones};
 use live_ends::{AddressWord, CommonEnding, Live, SocketWanted};
 use mg_bytes::Text;
@@ -76,31 +79,21 @@ fn play<R: Net + Clock>(
     play_over(alloc, &mut live, settings, script)
 }
 
-// Reads a script, and plays it.
-fn play_by<R: Files + Net + Clock>(rt: &R, alloc: Global, settings: &PhoneSettings<'_>) -> Ending {
-    match read_script(rt, alloc, settings) {
+// Reads a script, and plays it: how the program ends then, and what it says, which names the file of the script.
+fn play_by<R: Files + Net + Clock>(rt: &R, alloc: Global, settings: &PhoneSettings<'_>) -> Said
+    ensures { IfOk result.text (λ text. Says settings.now.script.now [] [] result.ending text.items) }
+{
+    let ending = match read_script(rt, alloc, settings) {
         Ok(script) => play(rt, alloc, settings, script),
         Err(ending) => ending,
-    }
+    };
+    ending.said(alloc, Named::of_files(settings.script, ""))
 }
 
-/// How the program ends by a play with these words, of which the first is `phones`, and what that names.
-pub fn played<'w, R: Files + Net + Clock>(
-    rt: &R,
-    alloc: Global,
-    words: &'w [String],
-    named: &mut Named<'w>,
-) -> Ending {
+/// How the program ends by a play with these words, of which the first is `phones`, and what it says then.
+pub fn played<R: Files + Net + Clock>(rt: &R, alloc: Global, words: &[String]) -> Said {
     match read_phone_words(alloc, words) {
-        Ok(settings) => {
-            named.files.read_from = settings.script;
-            play_by(rt, alloc, &settings)
-        }
-        Err(fault) => {
-            if let PhoneWordFault::BadGateway { word } = fault {
-                named.gateway = word;
-            }
-            phone_words_ending(fault)
-        }
+        Ok(settings) => play_by(rt, alloc, &settings),
+        Err(fault) => phone_words_said(alloc, fault),
     }
 }

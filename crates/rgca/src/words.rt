@@ -1,7 +1,8 @@
 //! Reads the words of the command line.
-ghost use Rattle.std.specs.Prelude.{◌≡◌, None, IfOk, IfErr, IfSome};
+ghost use Rattle.std.specs.Prelude.{◌≡◌, [], Some, None, IfOk, IfErr, IfSome, codes, option_map};
 ghost use Rattle.std.specs.Net.Grammar.{IsSocketV4Text};
 ghost use Rattle.clap.specs.Matches.{found_of, first_value};
+ghost use Rattle.rgca.specs.Names.{name_of, HasNames};
 
 use crate::ending::Named;
 use crate::help::{CONTROL, USAGE};
@@ -36,7 +37,9 @@ pub struct Settings<'a> {
 
 impl<'a> Settings<'a> {
     /// What an ending names: the program reads its configuration, and writes a capture.
-    pub(crate) fn named(&self) -> Named<'a> {
+    pub(crate) fn named(&self) -> Named<'a>
+        ensures { HasNames self.now.config.now (name_of self.now.capture) [] result }
+    {
         Named::of_files(self.config, self.capture.unwrap_or(""))
     }
 }
@@ -86,11 +89,14 @@ pub fn address_behind(
     }
 }
 
-// What the program is asked to do. It stands in a box: whoever holds it, or may have a fault in its place, holds little.
-fn settings_in<'a>(
-    alloc: Global,
-    matches: &ArgMatches<'a>,
-) -> Result<Box<Settings<'a>>, WordFault> {
+// What the program is asked to do by what stands behind its words. Its configuration is the word that stands by itself. It stands in a
+// box: whoever holds it, or may have a fault in its place, holds little.
+fn settings_in<'a>(alloc: Global, matches: &ArgMatches<'a>) -> Result<Box<Settings<'a>>, WordFault>
+    ensures config { IfOk result (λ settings.
+        first_value (found_of matches.now) (codes "config") ≡ Some settings.value.config.now) }
+    ensures capture { IfOk result (λ settings.
+        first_value (found_of matches.now) (codes "capture") ≡ option_map (λ name. name.now) settings.value.capture) }
+{
     let Some(config) = matches.get_str("config") else {
         return Err(WordFault::Common(CommonEnding::Usage));
     };
