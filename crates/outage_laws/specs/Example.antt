@@ -1,13 +1,16 @@
 -- The worlds of the worked examples: line 1 of rgw.example.net is lifted, and its notification is lost at first.
 use Rattle.std.specs.Prelude.{ℕ, codes, List, [], ◌∷◌, ◌++◌, map, Option, option_map}
+use Rattle.event_values.specs.declared.observed.Observed.{Observed}
+use Rattle.history.specs.Arrival.{Arrival}
 use Rattle.plain_machine.specs.Event.{GatewayEvent, tick}
-use Rattle.plain_machine.specs.Example.{two_lines, response}
+use Rattle.plain_machine.specs.Example.{ready, response, two_lines}
 use Rattle.plain_machine.specs.Lists.{plain, sent_of}
 use Rattle.machine_laws.specs.Belonging.{of_line}
 use Rattle.machine_laws.specs.Saying.{Begun}
 use Rattle.agent_core.specs.World.{WorldStep, delivering, ticking}
 use Rattle.world_laws.specs.Example.{seconds}
-use Rattle.delivery_laws.specs.Example.{notified, redirected, up_to}
+use Rattle.delivery_laws.specs.Rounds.{of_telephone}
+use Rattle.delivery_laws.specs.Example.{arrived, held, in_step, line_with, notified, redirected, up_to}
 
 -- A gateway alone
 
@@ -29,6 +32,23 @@ put_off = tick 1 ∷ response 100 1 ∷ []
 
 abbrev pub put_off_twice : List GatewayEvent
 put_off_twice = put_off ++ tick 2001 ∷ response 100 1 ∷ []
+
+-- Rounds of a line in step, over a network that takes 300 ms for each packet, and with a request 100 ms behind each answer
+
+-- line 1 is lifted at 1,000, and dials 5 and 6 before that is answered; its gateway serves
+abbrev pub dialled : List GatewayEvent
+dialled = ready ++ held
+
+-- 600 ms behind each notification it is answered, and 100 ms later asked for the next
+abbrev pub first_round : List GatewayEvent
+first_round = tick 1600 ∷ response 200 10000000 ∷ tick 1700 ∷ in_step 8 ∷ tick 2300 ∷ response 200 10000001 ∷ tick 2400 ∷ []
+
+abbrev pub two_rounds : List GatewayEvent
+two_rounds = first_round ++ in_step 9 ∷ tick 2401 ∷ []
+
+-- what the telephone of line 1 did that is quarantined then
+abbrev pub held_then : List GatewayEvent → List Observed
+held_then events = of_telephone (line_with two_lines (dialled ++ events)).line.quarantined.events
 
 -- One copy of eight
 
@@ -69,3 +89,10 @@ unserved = seconds 24 ++ ticking 23501 ∷ ticking 23502 ∷ ticking 23802 ∷ d
 
 abbrev pub serving_late : List WorldStep
 serving_late = unserved ++ delivering 9 ∷ []
+
+-- a first that came at this moment
+abbrev pub came_at : ℕ → Arrival
+came_at moment = record (arrived 1 []) { moment = moment }
+
+abbrev pub came_at_1_and_2 : List Arrival
+came_at_1_and_2 = came_at 1 ∷ came_at 2 ∷ []

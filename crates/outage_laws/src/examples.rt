@@ -3,25 +3,33 @@
 //! one: the scenarios of `full_history.txt` play one.
 #![tactic(auto, unfolding(crate::proofs::Computing::on_examples))]
 
-ghost use Rattle.std.specs.Prelude.{◌≡◌, ◌≤◌, ◌+◌, ◌*◌, ◌++◌, [], ◌∷◌, map, true, false, None, Some};
+ghost use Rattle.std.specs.Prelude.{◌≡◌, ◌≤◌, ◌+◌, ◌*◌, ◌++◌, [], ◌∷◌, length, map, true, false, None, Some};
 ghost use Rattle.restart.specs.declared.restart.Restart.TheVariants.{Waiting};
+ghost use Rattle.history.specs.Firsts.{young_of};
 ghost use Rattle.plain_machine.specs.Event.{tick};
+ghost use Rattle.plain_machine.specs.Lists.{plain, sent_from};
 ghost use Rattle.plain_machine.specs.Example.{naming_other, response, two_lines};
 ghost use Rattle.plain_machine.specs.Machine.{serves};
+ghost use Rattle.machine_laws.specs.Belonging.{of_line};
 ghost use Rattle.machine_laws.specs.Saying.{Begun};
 ghost use Rattle.agent_core.specs.World.{delivering, gateway_in, now_in, steps_are_taken, ticking, world_opening};
 ghost use Rattle.world_laws.specs.Reached.{key_reached, taken_in};
 ghost use Rattle.world_laws.specs.Example.{moments_in, world};
 ghost use Rattle.delivery_laws.specs.Chances.{last_chance};
 ghost use Rattle.delivery_laws.specs.Copies.{IsRun};
+ghost use Rattle.delivery_laws.specs.Course.{course_from};
+ghost use Rattle.delivery_laws.specs.Dialled.{done_in};
 ghost use Rattle.delivery_laws.specs.DialledExample.{endpoint_then};
-ghost use Rattle.delivery_laws.specs.Example.{flying_after, lifted, notification, notified};
+ghost use Rattle.delivery_laws.specs.GivenUp.{has_given_up};
+ghost use Rattle.delivery_laws.specs.OnceExample.{five, six};
+ghost use Rattle.delivery_laws.specs.Rounds.{IsAnsweredWithin, IsAskedWithin, rounds_take};
+ghost use Rattle.delivery_laws.specs.Example.{flying_after, lifted, line_with, notification, notified};
 ghost use Rattle.delivery_laws.specs.Fairness.{GoesToAgent, IsFair};
 ghost use Rattle.delivery_laws.specs.OwnChances.{IsOfLine};
 ghost use Rattle.outage_laws.specs.AfterOutage.{AgentHasRoomFrom, IsFairFrom, gap_of, longest_pause};
 ghost use Rattle.outage_laws.specs.Alone.{HasBegun, HasResponse, HasResponseSince, IsSentAt, IsSentSince};
 ghost use Rattle.outage_laws.specs.Carrying.{IsCarriedBack};
-ghost use Rattle.outage_laws.specs.Example.{all_lost, announcement, answered_late, found_again, last_copy, lost_at_first, moments_of, own_due, put_off, put_off_twice, saved, sent_elsewhere, serving_late, unserved};
+ghost use Rattle.outage_laws.specs.Example.{all_lost, announcement, answered_late, came_at, came_at_1_and_2, dialled, first_round, found_again, held_then, last_copy, lost_at_first, moments_of, own_due, put_off, put_off_twice, saved, sent_elsewhere, serving_late, two_rounds, unserved};
 
 /// An announcement goes out again after 500 ms, unless a response to it came. A provisional one puts that off to 5,000 ms after the last of
 /// them, and 521 that names another agent is announced at once.
@@ -104,6 +112,27 @@ pub fn a_gateway_that_gave_up_serves_at_last()
     ensures late { 19502 + gap_of 300 + two_lines.restart_wait + 2 * 300 ≡ now_in two_lines (world serving_late) + 1 }
     ensures not_yet { serves (gateway_in two_lines (world unserved)).endpoints ≡ false }
     ensures serving { serves (gateway_in two_lines (world serving_late)).endpoints ≡ true }
+{}
+
+/// Two events are quarantined, a packet takes 300 ms, and each request comes 100 ms behind an answer: all that the law of the quarantine
+/// asks for holds at once, and after twice 700 ms nothing is quarantined; just before one event is.
+pub fn what_was_dialled_meanwhile_goes_out_in_two_rounds()
+    ensures held { held_then [] ≡ five ∷ six ∷ [] }
+    ensures given_nothing_up { has_given_up (of_line 1 (sent_from two_lines (plain two_lines dialled) two_rounds))
+        (line_with two_lines (dialled ++ two_rounds)).post ≡ false }
+    ensures answered { IsAnsweredWithin two_lines 1 dialled two_rounds (2 * 300) }
+    ensures asked { IsAskedWithin two_lines 1 dialled two_rounds 100 }
+    ensures late { (plain two_lines dialled).now + rounds_take 2 (2 * 300) 100 + 1 ≡ (plain two_lines (dialled ++ two_rounds)).now }
+    ensures rests { done_in (course_from two_lines (plain two_lines dialled) 1 two_rounds) ≡ [] }
+    ensures one_left { held_then first_round ≡ six ∷ [] }
+    ensures none_left { held_then two_rounds ≡ [] }
+{}
+
+/// A first is old 30,000 ms behind the moment at which it came, and no sooner.
+pub fn a_first_grows_old()
+    ensures young { length (young_of 30000 came_at_1_and_2) ≡ 2 }
+    ensures one_old { young_of 30001 came_at_1_and_2 ≡ came_at 2 ∷ [] }
+    ensures both_old { young_of 30002 came_at_1_and_2 ≡ [] }
 {}
 
 /// The slower the network, the earlier the last send whose answer comes in time.
