@@ -2,6 +2,7 @@ pub mod OwnSendLaws
 pub mod ResponseLaws
 pub mod NextTurns
 pub mod NextOwnLaws
+pub mod AnsweredServes
 pub mod PlainArrivals
 pub mod OwnCopyLemmas
 pub mod CarriedBackLaws

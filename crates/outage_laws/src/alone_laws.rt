@@ -1,5 +1,5 @@
 //! Laws of a gateway alone, whoever its agent is and whatever the network does.
-ghost use Rattle.std.specs.Prelude.{◌≡◌, ◌⊎◌, ◌≤◌, ◌<◌, ◌+◌, ◌++◌, ℕ, List, All, None, Some};
+ghost use Rattle.std.specs.Prelude.{◌≡◌, ◌⊎◌, ◌≤◌, ◌<◌, ◌+◌, ◌++◌, ℕ, List, All, None, Some, true};
 ghost use Rattle.endpoint_names.specs.declared.entity.Entity.{Entity};
 ghost use Rattle.outbound.specs.Sends.{provisional_wait};
 ghost use Rattle.outbound.specs.Flight.{InFlight, repeat_of, reply_of};
@@ -16,11 +16,12 @@ ghost use Rattle.plain_machine.specs.Effect.{silently};
 ghost use Rattle.plain_machine.specs.Event.{GatewayEvent};
 ghost use Rattle.plain_machine.specs.Falling.{command_item, post_due};
 ghost use Rattle.plain_machine.specs.Lists.{plain};
-ghost use Rattle.plain_machine.specs.Machine.{endpoint_at};
+ghost use Rattle.plain_machine.specs.Machine.{endpoint_at, serves};
 ghost use Rattle.plain_machine.specs.Posting.{id_on, with_command};
 ghost use Rattle.machine_laws.specs.Saying.{Begun};
 ghost use Rattle.delivery_laws.specs.Chances.{chances};
 ghost use Rattle.delivery_laws.specs.Copies.{answer_wait};
+ghost use Rattle.delivery_laws.specs.Rounds.{IsAnsweredWithin};
 ghost use Rattle.outage_laws.specs.Alone.{HasBegun, HasResponse, HasResponseSince, IsSentAt, IsSentSince};
 
 /// Until a response to it comes, a command of a line's own, a notification or its announcement, and an announcement of the gateway itself,
@@ -80,4 +81,12 @@ pub fn a_redirected_announcement_goes_out_anew()
     ensures named_nobody { (setup : Setup) (line moment : ℕ) (response : Response) (post : Post) (message : InFlight) →
         post.restart ≡ Announced → post.pending ≡ Some message →
         reply_of message response.id response.code ≡ Answered → response.entity ≡ None → replied_on setup line moment response post ≡ silently (record post { pending = None; restart = Serving }) }
+{}
+
+/// A line that waits for no answer longer than so many ms is of a gateway that serves: one that doesn't serve yet has lines that wait with
+/// nothing in flight (RFC 3435, 4.4.6).
+pub fn who_is_answered_in_time_is_of_a_gateway_that_serves()
+    ensures { (setup : Setup) (line : ℕ) (before events : List GatewayEvent) (wait : ℕ) (endpoint : Endpoint) →
+        endpoint_at (plain setup before).endpoints line ≡ Some endpoint → IsAnsweredWithin setup line before events wait →
+        serves (plain setup before).endpoints ≡ true }
 {}
