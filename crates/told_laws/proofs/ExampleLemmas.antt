@@ -66,6 +66,26 @@ tells_second test first second other (x ∷ front) held rest more none is order 
     let skips : filter test (x ∷ front) ≡ filter test front = ap (λ (b : Bool). if b then x ∷ filter test front else filter test front) not in
     tells_first test second other front held rest more is behind (told ∙ skips)
 
+-- none of these, and the others
+pub unkept : (test : Observed → Bool) (x : Observed) (some : List Observed) → filter test (x ∷ some) ≡ [] → (test x ≡ false) × (filter test some ≡ [])
+unkept test x some none = by_test (test x) refl none where
+  by_test : (b : Bool) → test x ≡ b → (if b then x ∷ filter test some else filter test some) ≡ [] → (test x ≡ false) × (filter test some ≡ [])
+  by_test true is none = absurd cc
+  by_test false is none = (is, none)
+
+-- or behind some of which none is
+pub tells_behind : (test : Observed → Bool) (some : List Observed) (first other : Observed) (front held rest more : List Observed) → filter test some ≡ []
+    → test first ≡ true → some ++ first ∷ rest ≡ front ++ held → other ∷ more ≡ filter test front → other ≡ first
+tells_behind test [] first other front held rest more none is order told = tells_first test first other front held rest more is order told
+tells_behind test (x ∷ some) first other [] held rest more none is order told = absurd cc
+tells_behind test (x ∷ some) first other (y ∷ front) held rest more none is order told =
+    let same : y ≡ x = cc in
+    let behind : some ++ first ∷ rest ≡ front ++ held = cc in
+    let off = unkept test x some none in
+    let not : test y ≡ false = (ap test same ∙ off.0) in
+    let skips : filter test (y ∷ front) ≡ filter test front = ap (λ (b : Bool). if b then y ∷ filter test front else filter test front) not in
+    tells_behind test some first other front held rest more off.1 is behind (told ∙ skips)
+
 pub none_left_among : (first : Observed) (left : List Observed) → AreAmong (first ∷ left) (first ∷ []) → left ≡ []
 none_left_among first [] so = refl
 none_left_among first (x ∷ left) (n, so) =

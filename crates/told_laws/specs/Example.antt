@@ -1,18 +1,18 @@
 -- What comes to the gateway of the worked examples, which has two lines; and requests of which walks begin.
-use Rattle.std.specs.Prelude.{◌≡◌, ℕ, List, [], ◌∷◌, ◌++◌, codes}
+use Rattle.std.specs.Prelude.{◌≡◌, ℕ, List, [], ◌∷◌, ◌++◌, codes, replicate}
 use Rattle.event_values.specs.declared.observed.Observed.{Observed}
 use Rattle.event_values.specs.declared.observed.Observed.TheVariants.{Happened}
 use Rattle.mg_packages.specs.declared.event.LineEvent.TheVariants as events
 use Rattle.event_requests.specs.declared.request.Request.{Request}
 use Rattle.mg_line.specs.declared.phone.Act.TheVariants.{OffHook, OnHook, Flash, Key}
 use Rattle.mg_line.specs.declared.phone.Key.TheVariants.{Five, Six}
-use Rattle.mg_line.specs.Line.{LineState, opening_line}
+use Rattle.mg_line.specs.Line.{LineState, most_quarantined, opening_line}
 use Rattle.mg_line.specs.Scenario.{requests, with_handling}
 use Rattle.plain_machine.specs.Event.{GatewayEvent, phone}
 use Rattle.plain_machine.specs.Example.{rqnt, response}
 use Rattle.delivery_laws.specs.Course.{requests_in}
 use Rattle.delivery_laws.specs.Dialled.{done_in, told_along}
-use Rattle.delivery_laws.specs.OnceExample.{flash_embeds, course_then, line_then}
+use Rattle.delivery_laws.specs.OnceExample.{asks_for_all, flash_embeds, course_then, line_then}
 use Rattle.delivery_laws.specs.Rounds.{of_telephone}
 use Rattle.told_laws.specs.Walking.{nothing_asked, End, Walks, Stays}
 
@@ -100,6 +100,18 @@ abbrev pub dropped_in_loop : List GatewayEvent
 dropped_in_loop =
     rqnt 7 (codes "aaln/1") (codes "X: A1\r\nR: L/hd(N),D/[0-9](D)\r\nD: (xx)\r\nQ: loop\r\n") ∷ phone 1 OffHook ∷ response 200 10000000
     ∷ phone 1 (Key Five) ∷ rqnt 8 (codes "aaln/1") (codes "X: A2\r\nR: D/[0-9](D)\r\nD: (x)\r\n") ∷ phone 1 (Key Six) ∷ []
+
+-- a request that has the handset's return told, and key 6 collected, and ignores key 5
+abbrev pub has_return_told : Request
+has_return_told = requests (codes "A2") (codes "L/hd(I),D/5(I),D/6(A),L/hu(N)")
+
+-- Line 1 is lifted, and key 5 is pressed until its quarantine is full, and behind that request key 6. Then the first notification is answered,
+-- and the handset put back.
+abbrev pub full_then_asked : List GatewayEvent
+full_then_asked =
+    asks_for_all 7 (codes "aaln/1") ∷ phone 1 OffHook ∷ replicate most_quarantined (phone 1 (Key Five))
+    ++ rqnt 8 (codes "aaln/1") (codes "X: A2\r\nR: L/hd(I),D/5(I),D/6(A),L/hu(N)\r\n") ∷ phone 1 (Key Six) ∷ response 200 10000000
+    ∷ phone 1 OnHook ∷ []
 
 -- what was done is what was told, and then what is quarantined
 abbrev pub AllToldThen : List GatewayEvent → Type 0

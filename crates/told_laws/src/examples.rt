@@ -1,11 +1,12 @@
 //! Worked examples of the definitions, as theorems: each sentence of a definition has one that a slip in it breaks.
 #![tactic(auto, unfolding(crate::proofs::Computing::on_examples))]
 
-ghost use Rattle.std.specs.Prelude.{◌≡◌, codes, [], ◌∷◌, Some};
+ghost use Rattle.std.specs.Prelude.{◌≡◌, codes, [], ◌∷◌, ◌++◌, Some, replicate};
 ghost use Rattle.event_values.specs.declared.observed.Observed.TheVariants.{Happened, Ended};
 ghost use Rattle.event_syntax.specs.declared.request.EmbeddedRequest.{EmbeddedRequest};
 ghost use Rattle.mg_line.specs.declared.phone.Act.TheVariants as acts;
 ghost use Rattle.mg_line.specs.declared.phone.Key.TheVariants as keys;
+ghost use Rattle.mg_line.specs.Line.{most_quarantined};
 ghost use Rattle.mg_packages.specs.declared.event.LineEvent.TheVariants as events;
 ghost use Rattle.mg_packages.specs.declared.signal.Signal.TheVariants as tones;
 ghost use Rattle.mg_bytes.specs.declared.letter.Letter.TheVariants as letters;
@@ -16,7 +17,7 @@ ghost use Rattle.delivery_laws.specs.Rounds.{of_telephone};
 ghost use Rattle.told_laws.specs.Among.{AreAmong, kept_by};
 ghost use Rattle.delivery_laws.specs.Dialled.{told_along};
 ghost use Rattle.told_laws.specs.Walking.{nothing_asked, EmbedsNone, reaction_to, Brings, TellsAFront, TellsWhatWasKept, Walks, AllButLost, WalksButLost};
-ghost use Rattle.told_laws.specs.Example.{dials_two, flashes_and_dials, has_keys_collected, has_lifting_told, has_lifting_kept, has_all_told, has_all_told_in_loop, discards_then, flashed, flash_drops, flash_carries, flashes_and_hangs_up, counts, waits, WalksThen, request_then, next_request_then, told_twice, dropped_in_loop, AllToldThen};
+ghost use Rattle.told_laws.specs.Example.{dials_two, flashes_and_dials, has_keys_collected, has_lifting_told, has_lifting_kept, has_all_told, has_all_told_in_loop, discards_then, flashed, flash_drops, flash_carries, flashes_and_hangs_up, counts, waits, WalksThen, request_then, next_request_then, told_twice, dropped_in_loop, AllToldThen, full_then_asked, has_return_told};
 ghost use Rattle.delivery_laws.specs.OnceExample.{lifted, hung_up, five, six, asks_for_all, dials, dials_before, discards, keys_are_collected, asked_and_full};
 ghost use Rattle.delivery_laws.specs.OnceExample.{course_then, line_then, told_then};
 
@@ -108,6 +109,15 @@ pub fn else_the_first_notification_may_skip()
     ensures embeds { ¬ EmbedsNone flash_drops.events }
     ensures told { told_then flashes_and_hangs_up ≡ lifted ∷ hung_up ∷ [] }
     ensures skipped { ¬ TellsAFront flash_drops (lifted ∷ []) (lifted ∷ []) (flashed ∷ five ∷ hung_up ∷ []) (hung_up ∷ []) }
+{}
+
+/// Where an act is lost, the first notification behind a request skips it.
+pub fn else_what_is_lost_is_skipped()
+    ensures course { course_then full_then_asked ≡ accepts (request_then full_then_asked) ∷ does acts.OffHook ∷ notifies (codes "C2") (lifted ∷ [])
+        ∷ (replicate most_quarantined (does (acts.Key keys.Five)) ++ accepts has_return_told ∷ does (acts.Key keys.Six) ∷ does acts.OnHook
+        ∷ notifies (codes "A2") (hung_up ∷ []) ∷ []) }
+    ensures lost { (line_then full_then_asked).quarantined.lost ≡ 1 }
+    ensures skipped { ¬ TellsAFront has_return_told (lifted ∷ []) (lifted ∷ replicate most_quarantined five) (six ∷ hung_up ∷ []) (hung_up ∷ []) }
 {}
 
 /// The second notification behind a request may tell later events alone; and in loop a request may drop what was done since a notification.

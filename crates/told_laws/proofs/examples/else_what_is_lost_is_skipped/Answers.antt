@@ -1,0 +1,30 @@
+use Rattle.std.proofs.Common.{◌≡◌, ℕ, Bool, List, [], ◌∷◌, refl, ap, ◌∙◌}
+use Rattle.std.specs.Prelude.{filter, if◌then◌else◌, replicate}
+use Rattle.event_values.specs.declared.observed.Observed.{Observed}
+use Rattle.quarantine.specs.Given.{InOrderBut, none, kept, left_out}
+use Rattle.mg_line.specs.Line.{most_quarantined}
+use Rattle.delivery_laws.specs.OnceExample.{five, hung_up, lifted, six}
+use Rattle.told_laws.specs.Example.{has_return_told}
+use Rattle.told_laws.specs.Walking.{collects}
+use Rattle.told_laws.proofs.Computing.{on_examples}
+use Rattle.told_laws.proofs.ExampleLemmas.{tells_behind, unkept}
+use Rattle.told_laws.proofs.examples.else_what_is_lost_is_skipped.Goals as goal
+
+-- where R has none of all told, it has none of some
+none_of_some : (test : Observed → Bool) (n : ℕ) (some all : List Observed) → InOrderBut n some all → filter test all ≡ [] → filter test some ≡ []
+none_of_some test n some all none quiet = refl
+none_of_some test n some all (kept m event few more so) quiet =
+    let off = unkept test event more quiet in
+    ap (λ (b : Bool). if b then event ∷ filter test few else filter test few) off.0 ∙ none_of_some test m few more so off.1
+none_of_some test n some all (left_out m event few more so) quiet = none_of_some test m few more so (unkept test event more quiet).1
+
+pub returns-clause-skipped : goal.returns-clause-skipped
+unfolding on_examples
+returns-clause-skipped c =
+    λ h.
+    (let test = collects has_return_told.events in
+    let quiet : filter test (lifted ∷ h.held) ≡ [] =
+    none_of_some test h.before.0 (lifted ∷ h.held) (lifted ∷ replicate most_quarantined five) h.before.1 refl in
+    let same : hung_up ≡ six =
+    tells_behind test h.held six hung_up h.front h.rest (hung_up ∷ []) [] (unkept test lifted h.held quiet).1 refl h.order h.told_so in
+    cc)
