@@ -1,5 +1,6 @@
 """All scenarios of kind `scripts` through the library."""
 
+from collections.abc import Callable
 from pathlib import Path
 
 from scenarios import play_folder
@@ -13,7 +14,10 @@ def titles() -> int:
     return sum(line.startswith("= ") and not line.startswith("= piece ") for text in lines if text[0] == "scripts" for line in text)
 
 
-def test_all_are_as_told() -> None:
+def test_all_are_as_told(record_testsuite_property: Callable[[str, object], None]) -> None:
     played, left, failures = play_folder(DATA)
+    record_testsuite_property("scenarios", f"{played} played, {len(failures)} not as told")
+    for why, number in left.items():
+        record_testsuite_property("scenarios", f"{number} not played: {why}")
     assert failures == []
     assert played + sum(left.values()) == titles() and sum(left.values()) < 10

@@ -1,9 +1,13 @@
 """The plugin: what a test of an agent looks like, and what one that fails prints."""
 
+import os
 import re
+import shlex
 import socket
+import subprocess
 import threading
 from collections.abc import Callable
+from pathlib import Path
 
 import pytest
 from agents import CarefulAgent
@@ -59,6 +63,25 @@ def test_a_trace_replays_a_world() -> None:
             assert again.now == world.now and again.line(1).signals == world.line(1).signals
             sent = [re.sub(r"^> \d+ ", "> ", line) for line in player.printed]
             assert sent == [line[2:] for line in lines if line.startswith("| ")] and len(sent) > 10
+
+
+@pytest.mark.skipif("RGWD" not in os.environ, reason="tools/python says which rgwd replays")
+@pytest.mark.parametrize("first", [0, 7])
+def test_rgwd_replays_the_trace_of_a_world(tmp_path: Path, first: int) -> None:
+    trace = tmp_path / "trace"
+    with World(Gateway(CONFIG, first), CarefulAgent(), BadNetwork(0.2, 0.2, (0, 900), 5)) as world:
+        for act in ("off", "2", "0", "3", "on"):
+            world.run(5000)
+            world.phone(1, act)
+        world.say(b"")
+        world.run(5000)
+        trace.write_text(world.trace())
+    ended = subprocess.run([*shlex.split(os.environ["RGWD"]), "--replay", trace], capture_output=True, text=True)
+    assert (ended.returncode, ended.stderr) == (0, "") and re.fullmatch(r"\d+ lines, all as told\n", ended.stdout), ended
+    changed = trace.read_text().replace("| RM: restart", "| RM: restarx", 1)
+    trace.write_text(changed)
+    ended = subprocess.run([*shlex.split(os.environ["RGWD"]), "--replay", trace], capture_output=True, text=True)
+    assert ended.returncode == 1 and " differs\n" in ended.stdout
 
 
 def test_the_conversation_is_as_the_log() -> None:
