@@ -23,6 +23,8 @@ Gst.init(None)
 CLOCK = Gst.SystemClock.obtain()
 # What is said is handed over so long before it goes out, in nanoseconds. What is later by more isn't said any more.
 AHEAD, TOO_LATE = 60 * MILLISECOND, 200 * MILLISECOND
+# What came over a connection in conference is said over the others so much later: a piece that comes a little late leaves no hole.
+BEHIND = AHEAD + 60 * MILLISECOND
 # How long is waited for a packet that others overtook, in ms.
 OVERTAKEN = 60
 # The header of a packet, in bytes.
@@ -249,20 +251,28 @@ class Sender:
         return self.sent
 
 
-class Queue:
-    """Samples that wait until they are said: never more than a few packets."""
-
-    LONGEST = RATE // 5
+class Guests:
+    """What the other connections of a conference say here: pieces by the moments at which they came, said together so much later."""
 
     def __init__(self) -> None:
-        self.samples = np.zeros(0, np.float32)
+        self.pieces: list[tuple[int, Samples]] = []
 
-    def put(self, samples: Samples) -> None:
-        self.samples = np.concatenate([self.samples, samples])[-self.LONGEST:]
+    def put(self, moment: int, samples: Samples) -> None:
+        self.pieces = [piece for piece in self.pieces if moment - piece[0] < TOO_LATE]
+        self.pieces.append((moment, samples))
 
-    def take(self, count: int) -> Samples:
-        taken, self.samples = self.samples[:count], self.samples[count:]
-        return np.concatenate([taken, np.zeros(count - len(taken), np.float32)])
+    def take(self, moment: int, count: int) -> Samples:
+        """What is said from this moment on, which is asked for but once."""
+        said, left = np.zeros(count, np.float32), []
+        for came, samples in self.pieces:
+            first = (came + BEHIND - moment) // SAMPLE
+            end = first + len(samples)
+            if first < count and end > 0:
+                said[max(0, first):end] += samples[max(0, -first):max(0, count - first)]
+            if end > count:
+                left.append((came, samples))
+        self.pieces = left
+        return said
 
 
 class Stream:
@@ -274,8 +284,7 @@ class Stream:
         self.numbering = Numbering()
         self.sender: Sender | None = None
         self.sent_before = 0
-        # What other connections of a conference say here.
-        self.guests = Queue()
+        self.guests = Guests()
         self.socket = socket_at(connection.local)
         self.receiver = Receiver(self.socket)
         self.settle()

@@ -270,12 +270,12 @@ class Telephone:
             if self.call is not None:
                 self.call.recording.add(moment, samples)
             if is_conference:
-                self.hand_on(held, samples)
+                self.hand_on(held, moment, samples)
 
-    def hand_on(self, held: Held, samples: Samples) -> None:
+    def hand_on(self, held: Held, moment: int, samples: Samples) -> None:
         for other in self.held.values():
             if other is not held and other.stream is not None and other.connection.mode == "confrnce":
-                other.stream.guests.put(samples)
+                other.stream.guests.put(moment, samples)
 
     def play(self, name: str, signal: Signal, until: int) -> None:
         """A signal is heard until this moment."""
@@ -294,7 +294,7 @@ class Telephone:
         for moment, count in stream.due(now):
             samples = self.said(moment, count)
             if is_conference:
-                samples = np.clip(samples + stream.guests.take(count), -32768, 32767)
+                samples = np.clip(samples + stream.guests.take(moment, count), -32768, 32767)
             stream.sender.push(moment, samples)
 
     def said(self, moment: int, count: int) -> Samples:
