@@ -183,6 +183,8 @@ class Numbering:
     def __init__(self) -> None:
         self.source, self.offset = random.getrandbits(31), random.getrandbits(31)
         self.number = random.getrandbits(15)
+        # The moment of what its last sender would have sent next.
+        self.next: int | None = None
 
 
 class Sender:
@@ -199,8 +201,10 @@ class Sender:
         self.mouth, self.gate = self.pipeline.get_by_name("mouth"), self.pipeline.get_by_name("gate")
         self.out = self.pipeline.get_by_name("out")
         self.out.set_property("socket", at)
-        self.next: int | None = None
+        self.next, numbering.next = numbering.next, None
         self.is_new = True
+        # How many packets were handed over and had been sent, since that goes on without a break.
+        self.handed = self.sent_before = 0
         play(self.pipeline)
 
     @property
@@ -228,6 +232,7 @@ class Sender:
         """The moment and the length of each packet that is to be handed over by now."""
         if self.next is None or now - self.next > TOO_LATE:
             self.next, self.is_new = now, True
+            self.handed, self.sent_before = 0, self.sent
         while self.next < now + AHEAD:
             yield self.next, self.length
             self.next += self.length * SAMPLE
@@ -238,6 +243,7 @@ class Sender:
         if self.is_new:
             buffer.set_flags(Gst.BufferFlags.DISCONT)
             self.is_new = False
+        self.handed += 1
         self.mouth.emit("push-buffer", buffer)
 
     @property
@@ -247,8 +253,12 @@ class Sender:
     def end(self) -> int:
         """How many packets it sent."""
         self.pipeline.set_state(Gst.State.NULL)
-        self.numbering.number = (self.numbering.number + self.sent) % 65536
-        return self.sent
+        sent = self.sent
+        self.numbering.number = (self.numbering.number + sent) % 65536
+        if self.next is not None:
+            left = max(0, self.handed - (sent - self.sent_before))
+            self.numbering.next = self.next - left * self.length * SAMPLE
+        return sent
 
 
 class Guests:
