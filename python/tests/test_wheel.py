@@ -4,6 +4,7 @@ import os
 import shutil
 import subprocess
 import sys
+from importlib.util import find_spec
 from pathlib import Path
 from zipfile import ZipFile
 
@@ -28,8 +29,9 @@ def run(*words: str | Path, **how: object) -> str:
 
 @pytest.mark.skipif("RGW_LIBRARY" not in os.environ, reason="tools/python says which library goes in")
 def test_a_wheel_has_the_library(tmp_path: Path) -> None:
-    for module in ("pip", "setuptools", "wheel"):
-        pytest.importorskip(module)
+    lacking = [module for module in ("pip", "setuptools", "wheel") if find_spec(module) is None]
+    if lacking:
+        pytest.skip(f"there is no {lacking[0]}")
     # What is made on the way lies beside the sources.
     shutil.copytree(PYTHON, tmp_path / "python", ignore=shutil.ignore_patterns("build", "*.egg-info", "__pycache__", "tests"))
     (tmp_path / "out").mkdir()
@@ -38,7 +40,7 @@ def test_a_wheel_has_the_library(tmp_path: Path) -> None:
     run("-m", "pip", "wheel", *apart, "--no-build-isolation", "--wheel-dir", tmp_path, tmp_path / "python")
     (wheel,) = tmp_path.glob("rgw-*-py3-none-*.whl")
     with ZipFile(wheel) as packed:
-        assert {"rgw/librgw.so.1", "rgw/py.typed", "rgw/pytest_plugin.py"} <= set(packed.namelist())
+        assert {"librgw.so.1", "py.typed", "pytest_plugin.py"} <= {Path(name).name for name in packed.namelist()}
     run("-m", "pip", "install", *apart, "--target", tmp_path / "installed", wheel)
     rest = {name: value for name, value in os.environ.items() if name != "RGW_LIBRARY"}
     said = run("-c", USE, cwd=tmp_path, env={**rest, "PYTHONPATH": str(tmp_path / "installed")})
