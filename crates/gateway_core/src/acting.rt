@@ -29,7 +29,7 @@ pub(crate) fn act_on(
     let Some(endpoint) = state.store.endpoint(line) else {
         return Err(Refusal::NoSuchLine);
     };
-    if let Some(refusal) = act_refusal(endpoint, act) {
+    if let Some(refusal) = act_refusal(endpoint.line.takes(act)) {
         return Err(refusal);
     }
     let mut out = Vec::new(context.alloc);

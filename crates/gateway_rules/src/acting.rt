@@ -1,15 +1,14 @@
 //! Why an act at a telephone is refused.
-ghost use Rattle.std.specs.Prelude.{◌≡◌, Some};
-ghost use Rattle.plain_machine.specs.Refusing.{act_refusal};
+ghost use Rattle.std.specs.Prelude.{◌≡◌, if◌then◌else◌, Some, None};
+ghost use Rattle.plain_machine.specs.declared.refusal.Refusal.TheVariants.{PhoneState};
 
-use mg_line::Act;
-use plain_machine::{Endpoint, Refusal};
+use plain_machine::Refusal;
 
-/// Why an act on the line of this endpoint is refused, but for want of memory: its hook state rules the act out.
-pub fn act_refusal(endpoint: &Endpoint, act: Act) -> Option<Refusal>
-    ensures { result ≡ act_refusal (Some endpoint.now) act }
+/// Why an act is refused, but for want of memory: the hook state of its line rules it out.
+pub fn act_refusal(is_possible: bool) -> Option<Refusal>
+    ensures { result ≡ (if is_possible then None else Some PhoneState) }
 {
-    if endpoint.line.takes(act) {
+    if is_possible {
         None
     } else {
         Some(Refusal::PhoneState)
