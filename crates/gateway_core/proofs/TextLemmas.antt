@@ -279,7 +279,7 @@ told_as setup source was history were (bad_body id) = faulty_told (look_of most_
 told_as setup source was history were (message (messages.Command verb id name params body)) =
     read_told (look_of most_firsts was.history.kept id was.clock) setup was history source was.clock verb id name params body _
 told_as setup source was history were (message (messages.Response code id params body)) =
-    ap (λ (b : Bool). outcomes.Response b) (one_more were (asks_for_acknowledgement code params) (message_to source was.clock (acknowledgement_text id)))
+    ap (λ (b : Bool). outcomes.Response id b) (one_more were (asks_for_acknowledgement code params) (message_to source was.clock (acknowledgement_text id)))
 
 pub told_then : (setup : Setup) (source : SocketAddrV4) (text : List ℕ) (was : State) (history : HistoryState) (were out : List OutDatagram) (outcome : Outcome) (left : Option Message) (passed given : TextOutcome) (asked : Bool)
     → outcome ≡ read_text text → (heard_at was.history source was.clock outcome).left ≡ left → out ≡ were ++ (heard_at was.history source was.clock outcome).sent

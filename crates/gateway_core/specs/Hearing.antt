@@ -40,7 +40,7 @@ left_outcome setup (Some (messages.Command verb id name params body)) m passed i
     Command (Some verb) id
     (First (command_with setup m id (record { verb = verb; name = name; params = params; body = body }) (k_of params)).done.answer.code
     (command_fault setup m (record { verb = verb; name = name; params = params; body = body }) (k_of params)))
-left_outcome setup (Some (messages.Response code id params body)) m passed is_acknowledged = Response is_acknowledged
+left_outcome setup (Some (messages.Response code id params body)) m passed is_acknowledged = Response id is_acknowledged
 
 -- what a text was of which nothing is left, so that a command that can be read isn't new
 abbrev pub passed_over : List Entry → ℕ → Outcome → TextOutcome
@@ -73,7 +73,7 @@ reply_label NoRoom id text = again_label None id text
 abbrev pub faulty_label : TextOutcome → ℕ → List ℕ → Label
 faulty_label NoMessage id text = again_label None id text
 faulty_label (Command verb of reply) id text = reply_label reply id text
-faulty_label (Response is_acknowledged) id text = again_label None id text
+faulty_label (Response of is_acknowledged) id text = again_label None id text
 
 -- the label of this text, which is sent where such a text is heard that is passed over as this: at what has no header nothing is
 abbrev pub heard_label : Setup → Outcome → TextOutcome → List ℕ → Option Label

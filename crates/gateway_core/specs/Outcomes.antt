@@ -57,7 +57,7 @@ verb_read (message (messages.Response code id params body)) = None
 
 -- what is no command is a response, which is acknowledged where it asks for that, or no message
 abbrev pub uncommanded : Outcome → TextOutcome
-uncommanded outcome = response_as NoMessage (λ code id params body. Response (asks_for_acknowledgement code params)) outcome
+uncommanded outcome = response_as NoMessage (λ code id params body. Response id (asks_for_acknowledgement code params)) outcome
 
 -- a command is answered as it would be now, if it is new
 abbrev pub outcome_as : Option Transaction → Option FaultyPart → Machine → Outcome → TextOutcome

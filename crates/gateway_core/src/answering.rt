@@ -152,7 +152,10 @@ fn handle(
                 said,
                 out,
             )?;
-            Ok(TextOutcome::Response { is_acknowledged })
+            Ok(TextOutcome::Response {
+                id: *id,
+                is_acknowledged,
+            })
         }
     }
 }

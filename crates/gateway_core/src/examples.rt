@@ -49,14 +49,14 @@ pub fn each_sentence_has_an_example()
     ensures repeat { remembered (plain example (from_agent (audit 1206) ∷ datagram other_agent (audit 1206) ∷ [])) ≡ 1 }
     ensures executed_commands_are_remembered_young { remembered (plain example (from_agent (audit 1206) ∷ tick 29999 ∷ [])) ≡ 1 }
     ensures executed_commands_are_remembered_old { remembered (plain example (from_agent (audit 1206) ∷ tick 30000 ∷ [])) ≡ 0 }
-    // A command that can't be read past its id is told of without a verb, a response with whether it was acknowledged; what has no
-    // header is no message.
+    // A command that can't be read past its id is told of without a verb, a response with its id and whether it was acknowledged; what
+    // has no header is no message.
     ensures other_texts_are_told_of_version { told (from_agent (codes "AUEP 8 x MGCP 2.0\r\n") ∷ [])
         ≡ Command None 8 (First 528 None) ∷ [] }
     ensures other_texts_are_told_of_body { told (from_agent (codes "AUEP 7\r\n") ∷ []) ≡ Command None 7 (First 510 None) ∷ [] }
     ensures faulty_again { told (from_agent (audit 7) ∷ from_agent (codes "AUEP 7\r\n") ∷ []) ≡ Command None 7 (Again 200) ∷ [] }
-    ensures response { told (response 200 9 ∷ []) ≡ Response false ∷ [] }
-    ensures other_texts_are_told_of_acknowledged { told (from_agent (codes "200 9 OK\r\nK:\r\n") ∷ []) ≡ Response true ∷ [] }
+    ensures response { told (response 200 9 ∷ []) ≡ Response 9 false ∷ [] }
+    ensures other_texts_are_told_of_acknowledged { told (from_agent (codes "200 9 OK\r\nK:\r\n") ∷ []) ≡ Response 9 true ∷ [] }
     ensures no_header { told (from_agent (codes "hello\r\n") ∷ []) ≡ NoMessage ∷ [] }
     // The texts of a datagram are told of in order, each to the gateway after those before it.
     ensures copies { told (from_agent (audit 1206 ++ codes ".\r\n" ++ audit 1206) ∷ [])
@@ -66,12 +66,12 @@ pub fn each_sentence_has_an_example()
     ensures answered { last_outcomes example (tick 1 ∷ from_agent
         (codes "RQNT 7 aaln/1@rgw.example.net MGCP 1.0\r\nX: A5\r\n.\r\n200 1 OK\r\n.\r\n"
         ++ codes "RQNT 8 aaln/1@rgw.example.net MGCP 1.0\r\nX: A5\r\n") ∷ [])
-        ≡ Command (Some Rqnt) 7 (First 405 (Some parts.Verb)) ∷ Response false ∷ Command (Some Rqnt) 8 (First 200 None) ∷ [] }
+        ≡ Command (Some Rqnt) 7 (First 405 (Some parts.Verb)) ∷ Response 1 false ∷ Command (Some Rqnt) 8 (First 200 None) ∷ [] }
     // Only the last event is told of; an act, a tick and a datagram that is too long have no text.
     ensures act { told (from_agent (audit 1206) ∷ phone 1 OffHook ∷ []) ≡ [] }
     ensures tick { told (from_agent (audit 1206) ∷ tick 1001 ∷ []) ≡ [] }
     ensures long { told (from_agent (audit 1206) ∷ from_agent (replicate 4001 65) ∷ []) ≡ [] }
-    ensures the_last_event_alone_is_told_of_last { told (from_agent (audit 1206) ∷ response 200 9 ∷ []) ≡ Response false ∷ [] }
+    ensures the_last_event_alone_is_told_of_last { told (from_agent (audit 1206) ∷ response 200 9 ∷ []) ≡ Response 9 false ∷ [] }
 {}
 
 /// Each sentence at an example.

@@ -33,8 +33,9 @@ pub enum TextOutcome {
         id: TransactionId,
         reply: Reply,
     },
-    /// A response, and whether it was acknowledged by 000 (RFC 3435, 3.5.6).
+    /// A response to the command with this transaction id, and whether it was acknowledged by 000 (RFC 3435, 3.5.6).
     Response {
+        id: TransactionId,
         is_acknowledged: bool,
     },
 }

@@ -74,7 +74,7 @@ keeps_lost c (Some verb) = refl
 
 command_size : (c : Counts) (o : TextOutcome) → length (with_text c o).commands ≡ length c.commands
 command_size c NoMessage = refl
-command_size c (Response is_acknowledged) = refl
+command_size c (Response id is_acknowledged) = refl
 command_size c (Command None id reply) = ap (λ (l : List ℕ). length l) (keeps_commands (with_command c None) reply)
 command_size c (Command (Some verb) id reply) =
     ap (λ (l : List ℕ). length l) (keeps_commands (with_command c (Some verb)) reply) ∙ length-set c.commands (place_of verb) _
@@ -82,7 +82,7 @@ command_size c (Command (Some verb) id reply) =
 command_more : (place : ℕ) (c : Counts) (o : TextOutcome) → place < length c.commands
     → get_or (with_text c o).commands place 0 ≡ counted (get_or c.commands place 0) (cond (is_command_at place o) 1 0)
 command_more place c NoMessage inside = counted_none _
-command_more place c (Response is_acknowledged) inside = counted_none _
+command_more place c (Response id is_acknowledged) inside = counted_none _
 command_more place c (Command None id reply) inside =
     ap (λ (l : List ℕ). get_or l place 0) (keeps_commands (with_command c None) reply) ∙ counted_none _
 command_more place c (Command (Some verb) id reply) inside =
@@ -90,19 +90,19 @@ command_more place c (Command (Some verb) id reply) inside =
 
 response_more : (c : Counts) (o : TextOutcome) → (with_text c o).responses ≡ counted c.responses (cond (is_response o) 1 0)
 response_more c NoMessage = counted_none _
-response_more c (Response is_acknowledged) = refl
+response_more c (Response id is_acknowledged) = refl
 response_more c (Command None id reply) = keeps_responses (with_command c None) reply ∙ counted_none _
 response_more c (Command (Some verb) id reply) = keeps_responses (with_command c (Some verb)) reply ∙ counted_none _
 
 other_more : (c : Counts) (o : TextOutcome) → (with_text c o).others ≡ counted c.others (cond (is_other o) 1 0)
 other_more c NoMessage = refl
-other_more c (Response is_acknowledged) = counted_none _
+other_more c (Response id is_acknowledged) = counted_none _
 other_more c (Command None id reply) = keeps_others (with_command c None) reply
 other_more c (Command (Some verb) id reply) = keeps_others (with_command c (Some verb)) reply ∙ counted_none _
 
 lost_more : (c : Counts) (o : TextOutcome) → (with_text c o).lost ≡ counted c.lost (cond (is_lost o) 1 0)
 lost_more c NoMessage = counted_none _
-lost_more c (Response is_acknowledged) = counted_none _
+lost_more c (Response id is_acknowledged) = counted_none _
 lost_more c (Command verb id (First code fault)) = keeps_lost c verb ∙ counted_none _
 lost_more c (Command verb id (Again code)) = keeps_lost c verb ∙ counted_none _
 lost_more c (Command verb id Silence) = keeps_lost c verb ∙ counted_none _

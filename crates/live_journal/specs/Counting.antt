@@ -44,7 +44,7 @@ with_reply counts NoRoom = record counts { lost = counted counts.lost 1 }
 abbrev pub with_text : Counts → TextOutcome → Counts
 with_text counts NoMessage = record counts { others = counted counts.others 1 }
 with_text counts (Command verb id reply) = with_reply (with_command counts verb) reply
-with_text counts (Response is_acknowledged) = record counts { responses = counted counts.responses 1 }
+with_text counts (Response id is_acknowledged) = record counts { responses = counted counts.responses 1 }
 
 -- texts came that were these
 abbrev pub with_texts : Counts → List TextOutcome → Counts
@@ -71,12 +71,12 @@ is_verb_at place (Some verb) = place_of verb == place
 abbrev pub is_command_at : ℕ → TextOutcome → Bool
 is_command_at place NoMessage = false
 is_command_at place (Command verb id reply) = is_verb_at place verb
-is_command_at place (Response is_acknowledged) = false
+is_command_at place (Response id is_acknowledged) = false
 
 abbrev pub is_response : TextOutcome → Bool
 is_response NoMessage = false
 is_response (Command verb id reply) = false
-is_response (Response is_acknowledged) = true
+is_response (Response id is_acknowledged) = true
 
 abbrev pub is_unread : Option Verb → Bool
 is_unread None = true
@@ -86,7 +86,7 @@ is_unread (Some verb) = false
 abbrev pub is_other : TextOutcome → Bool
 is_other NoMessage = true
 is_other (Command verb id reply) = is_unread verb
-is_other (Response is_acknowledged) = false
+is_other (Response id is_acknowledged) = false
 
 abbrev pub is_loss : Reply → Bool
 is_loss (First code fault) = false
@@ -98,4 +98,4 @@ is_loss NoRoom = true
 abbrev pub is_lost : TextOutcome → Bool
 is_lost NoMessage = false
 is_lost (Command verb id reply) = is_loss reply
-is_lost (Response is_acknowledged) = false
+is_lost (Response id is_acknowledged) = false

@@ -37,4 +37,4 @@ reply_text stamp id NoRoom = note_line stamp (notes.NoRoom most_firsts)
 unfoldable pub reason_text : Stamp → TextOutcome → List ℕ
 reason_text stamp NoMessage = []
 reason_text stamp (Command verb id reply) = reply_text stamp id reply
-reason_text stamp (Response is_acknowledged) = []
+reason_text stamp (Response id is_acknowledged) = []

@@ -68,7 +68,7 @@ pub fn each_sentence_has_an_example()
     ensures silence { (stamp : Stamp) → reason_text stamp (Command (Some Rqnt) 1207 Silence) ≡ note_line stamp (Unanswered 1207) }
     ensures full { (stamp : Stamp) → reason_text stamp (Command (Some Rqnt) 1207 NoRoom) ≡ note_line stamp (notes.NoRoom 4096) }
     ensures what_was_refused_is_told_other { (stamp : Stamp) → reason_text stamp NoMessage ≡ [] }
-    ensures response { (stamp : Stamp) (asked : _) → reason_text stamp (Response asked) ≡ [] }
+    ensures response { (stamp : Stamp) (id : _) (asked : _) → reason_text stamp (Response id asked) ≡ [] }
     // A trace begins with the configuration, whose last line has its end, and with the number with which ids begin.
     ensures whole { trace_head (codes "lines = 2\n") 0 ≡ codes "lines = 2\n%%\n" }
     ensures ended { trace_head (codes "lines = 2") 0 ≡ codes "lines = 2\n%%\n" }
@@ -113,7 +113,7 @@ pub fn an_agent_owes_an_answer_until_it_gives_one()
         ∷ record (said (host 7) (whats.Command Ntfy)) { moment = 1001 } ∷ []) ≡ Some 1000 }
     ensures no_command { unanswered_after None [] (said (host 7) (whats.Answer 200) ∷ []) ≡ None }
     ensures still_owed { unanswered_after (Some 500) [] (said (host 7) (whats.Resent Ntfy 2) ∷ []) ≡ Some 500 }
-    ensures answered { unanswered_after (Some 500) (NoMessage ∷ Response false ∷ []) [] ≡ None }
+    ensures answered { unanswered_after (Some 500) (NoMessage ∷ Response 9 false ∷ []) [] ≡ None }
     ensures command_came { unanswered_after (Some 500) (NoMessage ∷ Command (Some Rqnt) 1207 Silence ∷ []) [] ≡ Some 500 }
-    ensures asked_behind { unanswered_after (Some 500) (Response true ∷ []) (said (host 7) (whats.Command Ntfy) ∷ []) ≡ Some 1000 }
+    ensures asked_behind { unanswered_after (Some 500) (Response 9 true ∷ []) (said (host 7) (whats.Command Ntfy) ∷ []) ≡ Some 1000 }
 {}

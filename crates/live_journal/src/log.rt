@@ -9,7 +9,7 @@ use exchange_log::{Note, Stamp, Way, put_given_up, put_message, put_note};
 use gateway_core::{GivenUpCommand, Label, SentMessage, TextOutcome, What, Whose};
 use live_ends::{Now, Record};
 use mg_bytes::{OutOfMemory, Text};
-use mgcp_text::{Message, TransactionId, read_message};
+use mgcp_text::TransactionId;
 use piggyback::parts;
 use plain_machine::line_of_id;
 use std::alloc::Global;
@@ -77,17 +77,6 @@ impl Drop for Log {
     }
 }
 
-// The id of a response.
-fn id_of_response(alloc: Global, text: &[u8]) -> Option<TransactionId> {
-    let Ok(said) = read_message(alloc, text) else {
-        return None;
-    };
-    let Message::Response { id, .. } = &said else {
-        return None;
-    };
-    Some(*id)
-}
-
 impl Log {
     /// The log of a gateway with this domain, of which nothing is told yet.
     pub fn new(alloc: Global, is_on: bool, domain: &[u8]) -> Result<Log, OutOfMemory> {
@@ -149,9 +138,8 @@ impl Log {
         }
     }
 
-    // A response came: how long the command waited that it answers, in ms, where that is what its line sent last.
-    fn waited(&self, text: &[u8]) -> Option<u64> {
-        let id = id_of_response(self.alloc, text)?;
+    // A response came to the command with this id: how long that waited, in ms, where it is what its line sent last.
+    fn waited(&self, id: TransactionId) -> Option<u64> {
         let own = self.own.get(&line_of_id(id))?;
         if own.id.number() != id.number() {
             return None;
@@ -164,7 +152,7 @@ impl Log {
         let waited = match outcome {
             TextOutcome::NoMessage => return self.put_note(self.came, Note::Unreadable),
             TextOutcome::Command { .. } => None,
-            TextOutcome::Response { .. } => self.waited(text),
+            TextOutcome::Response { id, .. } => self.waited(*id),
         };
         self.put_text(self.came, Way::Came, text, waited);
     }

@@ -70,8 +70,8 @@ command_told verb id NoRoom = command_with verb id 4 0 None
 abbrev pub outcome_of : TextOutcome → OutcomeTold
 outcome_of NoMessage = no_command 1 0
 outcome_of (Command verb id reply) = command_told verb id reply
-outcome_of (Response false) = no_command 3 0
-outcome_of (Response true) = no_command 3 5
+outcome_of (Response id false) = no_command 3 0
+outcome_of (Response id true) = no_command 3 5
 
 -- an index of what an open handle holds
 abbrev pub outcome_at : Option Instance → ℕ → Option TextOutcome

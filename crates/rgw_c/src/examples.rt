@@ -139,8 +139,8 @@ pub fn a_text_is_read_last()
 /// A text that came is told by what it was and got, with what of it is at fault; and a command that was given up by whose it was.
 pub fn what_came_and_what_was_given_up_is_told_in_numbers()
     ensures no_message { outcome_of NoMessage ≡ record { place = 0; id = 0; came = 1; verb = 0; got = 0; code = 0; fault = 0 } }
-    ensures response { outcome_of (Response false) ≡ record { place = 0; id = 0; came = 3; verb = 0; got = 0; code = 0; fault = 0 } }
-    ensures acknowledged { (outcome_of (Response true)).got ≡ 5 }
+    ensures response { outcome_of (Response 9 false) ≡ record { place = 0; id = 0; came = 3; verb = 0; got = 0; code = 0; fault = 0 } }
+    ensures acknowledged { (outcome_of (Response 9 true)).got ≡ 5 }
     ensures refused { outcome_of (Command (Some verbs.Rqnt) 1207 (First 518 (Some (parts.Value 82))))
         ≡ record { place = 82; id = 1207; came = 2; verb = 2; got = 1; code = 518; fault = 5 } }
     ensures again { outcome_of (Command None 1207 (Again 200))

@@ -97,9 +97,11 @@ fn outcome_of(outcome: TextOutcome) -> OutcomeTold
         TextOutcome::Command { verb, id, reply } => command_told(verb, id, reply),
         TextOutcome::Response {
             is_acknowledged: false,
+            ..
         } => no_command(3, 0),
         TextOutcome::Response {
             is_acknowledged: true,
+            ..
         } => no_command(3, 5),
     }
 }
