@@ -7,7 +7,7 @@ ghost use Rattle.endpoint_rules.specs.Ids.{HasId};
 
 use connections::{Connections, Encoding};
 use endpoint_names::{Entity, Names, Table, is_domain, read_entity};
-use gateway_rules::{are_lines, first_number, first_own_number};
+use gateway_rules::are_lines;
 use mg_bytes::OutOfMemory;
 use mg_line::Line;
 use plain_machine::{
@@ -162,7 +162,7 @@ fn opening_endpoint(alloc: Global, setup: &Setup, line: u16) -> Result<Endpoint,
 {
     Ok(Endpoint {
         line: Line::new(alloc)?,
-        post: opening_post(setup, first_number(setup), Restart::Serving),
+        post: opening_post(setup, CommandNumber::first(setup.first), Restart::Serving),
         encoding: Encoding::Mu,
         connections: Connections::new(setup.media_address, port_of(setup, line)),
     })
@@ -188,5 +188,5 @@ pub fn opening_own(setup: &Setup) -> Post
     ensures id { HasId 0 result.number }
 {
     let restart = Restart::begin(0, setup.restart_wait);
-    opening_post(setup, first_own_number(setup), restart)
+    opening_post(setup, CommandNumber::first_own(setup.first), restart)
 }

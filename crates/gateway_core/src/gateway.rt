@@ -1,7 +1,8 @@
 //! The gateway.
 ghost use Rattle.std.specs.Prelude.{◌≡◌, ◌∷◌, [], List, map, option_map, ◌<◌, ◌≤◌, ◌^◌, Some, IfOk, IfErr, OnOk, OnErr};
 ghost use Rattle.history.specs.Memory.{most_firsts};
-ghost use Rattle.plain_machine.specs.Setup.{IsSetUp, firsts, setup_from, setup_of};
+ghost use Rattle.plain_machine.specs.Setup.{IsSetUp, setup_from, setup_of};
+ghost use Rattle.transmission_rules.specs.Numbering.{firsts};
 ghost use Rattle.plain_machine.specs.Machine.{opening, serves};
 ghost use Rattle.plain_machine.specs.Event.{GatewayEvent, event_of};
 ghost use Rattle.gateway_core.specs.State.{machine_in};

@@ -8,6 +8,8 @@ use Rattle.outbound.specs.declared.repeat.Repeat.TheVariants.{Sent as SentAgain,
 use Rattle.endpoint_names.specs.Route.{at}
 use Rattle.outbound.specs.Flight.{InFlight, sent_to, sent_first, repeat_of, repeated}
 use Rattle.restart.specs.Restarting.{begun}
+use Rattle.transmission_rules.specs.Numbering.{next_number}
+pub use Rattle.transmission_rules.specs.Numbering.{numbers}
 use Rattle.plain_machine.specs.declared.post.Post.{Post}
 use Rattle.plain_machine.specs.declared.post_owner.PostOwner.{PostOwner}
 use Rattle.plain_machine.specs.declared.post_owner.PostOwner.TheVariants.{Gateway, Line}
@@ -20,10 +22,7 @@ abbrev pub HasNumber : ℕ → PostOwner → Type 0
 HasNumber number Gateway = (number == 0) ≡ true
 HasNumber number (Line line) = ((number == 0) ≡ false) × (line ≡ number)
 
--- Ids: so many numbers there are for the commands of one line, and it takes them in turn (this gateway's profile)
-
-abbrev pub numbers : ℕ
-numbers = 10000000
+-- Ids: a line takes its numbers in turn
 
 -- the least of a line is 0, that of the gateway itself 1: 0 is no transaction id
 abbrev pub first_number : ℕ → ℕ
@@ -31,7 +30,7 @@ first_number line = if line == 0 then 1 else 0
 
 -- after the greatest number comes the least
 abbrev pub number_after : ℕ → ℕ → ℕ
-number_after line number = if number + 1 == numbers then first_number line else number + 1
+number_after line number = next_number (first_number line) number
 
 -- the transaction id of a line's command with this number
 abbrev pub id_on : ℕ → ℕ → ℕ

@@ -89,7 +89,7 @@ pub fn begin(
     let pending = Pending::begin(context.alloc, id, route, text.as_bytes(), occasion.moment)?;
     let label = begun_label(occasion.line, said);
     send(out, route.at(0), occasion.moment, text, label)?;
-    post.number = post.number.after_on(occasion.line);
+    post.number = post.number.after_on(occasion.line, context.setup.first);
     post.pending = Some(pending);
     Ok(())
 }

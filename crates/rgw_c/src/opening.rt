@@ -1,6 +1,6 @@
 //! How a gateway is opened from the text of a configuration, what is wrong with one, and how it is closed.
 ghost use Rattle.std.specs.Prelude.{◌≡◌, ◌≢◌, ◌<◌, ◌≤◌, ℕ, List, [], length, take, true, Result, IfOk, IfErr, IfSome, IsSome, IsSomeAnd, MatchOption, None};
-ghost use Rattle.plain_machine.specs.Setup.{firsts};
+ghost use Rattle.transmission_rules.specs.Numbering.{firsts};
 ghost use Rattle.gateway_core.specs.Stands.{Stands};
 ghost use Rattle.rgw_scripts.specs.declared.step.ScriptStep.{ScriptStep};
 ghost use Rattle.rgw_scripts.specs.Configuration.{config_in};
