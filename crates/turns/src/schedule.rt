@@ -5,6 +5,7 @@ ghost use Rattle.turns.specs.Schedule.{opening, met, asked, slept, aim_of, tried
 use crate::circle::{Ready, Source, first_ready};
 use crate::situation::{Situation, is_over, tick_to, ticks_behind, wait_until};
 use crate::turn::{Pause, Turn, turn_of};
+use transmission_rules::is_too_far_behind;
 
 // Who wakes so late and no later, in ms, wasn't stopped.
 const LONGEST_OVERSLEEP: u64 = 500;
@@ -206,7 +207,7 @@ fn noted(schedule: Schedule, at: Situation, lateness: u64, read: Option<u64>) ->
 fn is_far_behind(at: Situation) -> bool
     ensures { result ≡ is_far_behind at }
 {
-    LONGEST_READ_PAUSE < at.moment.saturating_sub(at.ticked)
+    is_too_far_behind(at.moment.saturating_sub(at.ticked), LONGEST_READ_PAUSE)
 }
 
 // After a pause it is asked what has come; where the clock is too far behind for that it catches up.
