@@ -1,2 +1,3 @@
+pub mod ResentLemmas
 pub mod TellLemmas
 pub mod ResponseLemmas

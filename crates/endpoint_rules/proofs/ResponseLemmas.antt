@@ -13,7 +13,7 @@ use Rattle.plain_machine.specs.declared.endpoint.Endpoint.{Endpoint}
 use Rattle.plain_machine.specs.Announcing.{heard_on, replied}
 use Rattle.plain_machine.specs.Notifying.{noted}
 use Rattle.plain_machine.specs.Responding.{responded_as, responded_on}
-use Rattle.posts.specs.Effects.{HasEffect}
+use Rattle.endpoint_rules.specs.Effects.{HasEffect}
 
 heard_so : (setup : Setup) (line moment : ℕ) (response : Response) (endpoint becomes : Endpoint) (heard : Heard) (were are : List OutMessage) → heard ≡ heard_on endpoint.post response
     → HasEffect (responded_as heard setup line moment response endpoint) becomes were are → HasEffect (responded_on setup line moment response endpoint) becomes were are

@@ -1,5 +1,5 @@
+pub mod Effects
+pub mod Undoing
+pub mod Ids
 pub mod Telling
 pub mod News
-pub use Rattle.posts.specs.Ids
-pub use Rattle.posts.specs.Effects
-pub use Rattle.posts.specs.Undoing

@@ -3,14 +3,15 @@ ghost use Rattle.std.specs.Prelude.{IsTrue, OnOk, OnErr};
 ghost use Rattle.mg_line.specs.Acting.{is_possible};
 ghost use Rattle.plain_machine.specs.Acting.{acted_on};
 ghost use Rattle.endpoint_rules.specs.Telling.{MayTell, IsLine};
-ghost use Rattle.posts.specs.Effects.{HasEffect};
-ghost use Rattle.posts.specs.Undoing.{IsUndoneByItsOwner};
+ghost use Rattle.endpoint_rules.specs.Effects.{HasEffect};
+ghost use Rattle.endpoint_rules.specs.Undoing.{IsUndoneByItsOwner};
 
+use crate::context::Context;
 use crate::notifying::tell;
+use crate::posting::Occasion;
 use mg_bytes::OutOfMemory;
 use mg_line::Act;
 use plain_machine::{Endpoint, OutMessage};
-use posts::{Context, Occasion};
 
 /// An act at the telephone of an endpoint, which its hook state allows. An error is for want of memory only.
 #[tactic(auto, unfolding(plain_machine::specs::Notifying::noted))]

@@ -9,15 +9,16 @@ ghost use Rattle.plain_machine.specs.Announcing.{announced_lines, method_of, ann
 ghost use Rattle.plain_machine.specs.Announcing.{heard_on, put_off, replied, replied_on};
 ghost use Rattle.restart.specs.declared.restart.Restart.TheVariants.{Serving};
 ghost use Rattle.endpoint_rules.specs.Telling.{MayTell};
-ghost use Rattle.posts.specs.Ids.{HasId};
-ghost use Rattle.posts.specs.Effects.{HasEffect};
-ghost use Rattle.posts.specs.Undoing.{IsUndoneByItsOwner};
+ghost use Rattle.endpoint_rules.specs.Ids.{HasId};
+ghost use Rattle.endpoint_rules.specs.Effects.{HasEffect};
+ghost use Rattle.endpoint_rules.specs.Undoing.{IsUndoneByItsOwner};
 
+use crate::context::Context;
+use crate::posting::{Occasion, begin, redirect};
 use endpoint_names::{Entity, Pattern, write_name};
 use mg_bytes::OutOfMemory;
 use mgcp_text::{Bytes, Message, Param, Params, TransactionId, Verb};
 use plain_machine::{OutMessage, Post, PostOwner, Response, owner_of};
-use posts::{Context, Occasion, begin, redirect};
 use restart::{Heard, Restart};
 
 // Which lines are announced: the gateway itself announces all of its lines.

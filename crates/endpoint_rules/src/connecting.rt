@@ -11,6 +11,7 @@ ghost use Rattle.plain_machine.specs.Connecting.{showing, showing_what, connecte
 ghost use Rattle.plain_machine.specs.Requesting.{encoding_with, connected_on, with_connections, shown_by, answer_with};
 ghost use Rattle.endpoint_rules.specs.News.{shown_as};
 
+use crate::context::Context;
 use command_forms::{ConnectionDeed, Deed};
 use connections::{
     Change, Connections, Created, Creation, Deletion, Encoding, Plan, Planned, write_number,
@@ -18,7 +19,6 @@ use connections::{
 use mg_bytes::{Identifier, OutOfMemory, ReturnCode, Text};
 use mgcp_text::{AnswerContent, Bytes, Param, Params};
 use plain_machine::Endpoint;
-use posts::Context;
 use sdp_subset::{Session, write_sdp};
 
 /// What there is to be told of the connections of a line.

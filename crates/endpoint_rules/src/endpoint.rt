@@ -1,9 +1,9 @@
 //! Equal endpoints.
 ghost use Rattle.std.specs.Prelude.{◌≡◌, IfOk, OnOk, OnErr};
 
+use crate::posting::{copy_post, pending_of, same_post};
 use mg_bytes::OutOfMemory;
 use plain_machine::Endpoint;
-use posts::{copy_post, pending_of, same_post};
 
 /// An equal endpoint. An error is for want of memory only.
 pub fn same_endpoint(endpoint: &Endpoint) -> Result<Endpoint, OutOfMemory>

@@ -7,15 +7,16 @@ ghost use Rattle.restart.specs.Restarting.{announced_at};
 ghost use Rattle.plain_machine.specs.Falling.{line_item, command_item, announcement_item, post_due, due_on};
 ghost use Rattle.plain_machine.specs.Falling.{happened_on, happened_under};
 ghost use Rattle.endpoint_rules.specs.Telling.{MayTell, IsLine};
-ghost use Rattle.posts.specs.Ids.{HasId};
-ghost use Rattle.posts.specs.Effects.{HasEffect};
-ghost use Rattle.posts.specs.Undoing.{IsUndoneByItsOwner};
+ghost use Rattle.endpoint_rules.specs.Ids.{HasId};
+ghost use Rattle.endpoint_rules.specs.Effects.{HasEffect};
+ghost use Rattle.endpoint_rules.specs.Undoing.{IsUndoneByItsOwner};
 
 use crate::announcing::announced_on;
+use crate::context::Context;
 use crate::notifying::tell;
+use crate::posting::{Occasion, resent_on};
 use mg_bytes::OutOfMemory;
 use plain_machine::{Endpoint, OutMessage, Post};
-use posts::{Context, Occasion, resent_on};
 use timers::{DueItem, DueKind, earlier};
 
 // What falls due first of a line.

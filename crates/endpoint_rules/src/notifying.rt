@@ -10,16 +10,17 @@ ghost use Rattle.event_values.specs.Observed.{observed_text};
 ghost use Rattle.plain_machine.specs.Posting.{id_on, with_command};
 ghost use Rattle.plain_machine.specs.Notifying.{notification, with_notice};
 ghost use Rattle.endpoint_rules.specs.Telling.{MayTell, IsLine};
-ghost use Rattle.posts.specs.Effects.{HasEffect};
-ghost use Rattle.posts.specs.Undoing.{IsUndoneByItsOwner};
+ghost use Rattle.endpoint_rules.specs.Effects.{HasEffect};
+ghost use Rattle.endpoint_rules.specs.Undoing.{IsUndoneByItsOwner};
 
+use crate::context::Context;
+use crate::posting::{Occasion, begin};
 use endpoint_names::{Pattern, write_name};
 use event_values::write_observed;
 use mg_bytes::OutOfMemory;
 use mg_line::Notice;
 use mgcp_text::{Bytes, Message, Param, Params, TransactionId, Verb};
 use plain_machine::{Endpoint, OutMessage, Post};
-use posts::{Context, Occasion, begin};
 
 // A parameter whose value is one word.
 fn word_param<'v>(code: &'static [u8], value: Bytes<'v>) -> Param<'v>

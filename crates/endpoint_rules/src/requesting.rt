@@ -5,16 +5,17 @@ ghost use Rattle.plain_machine.specs.Requesting.{refusal_by, connected_on, deed_
 ghost use Rattle.connections.specs.Places.{is_free};
 ghost use Rattle.endpoint_rules.specs.News.{shown_as};
 ghost use Rattle.endpoint_rules.specs.Telling.{MayTell, IsLine};
-ghost use Rattle.posts.specs.Effects.{HasEffect};
-ghost use Rattle.posts.specs.Undoing.{IsUndoneByItsOwner};
+ghost use Rattle.endpoint_rules.specs.Effects.{HasEffect};
+ghost use Rattle.endpoint_rules.specs.Undoing.{IsUndoneByItsOwner};
 
 use crate::connecting::{News, connect, connections_refuse};
+use crate::context::Context;
 use crate::notifying::tell;
+use crate::posting::{Occasion, redirect};
 use command_forms::Deed;
 use connections::Connection;
 use mg_bytes::OutOfMemory;
 use plain_machine::{Endpoint, OutMessage};
-use posts::{Context, Occasion, redirect};
 
 /// The code with which a line refuses a deed, by its connections first.
 pub fn refusal_by(deed: &Deed, endpoint: &Endpoint) -> Option<u16>

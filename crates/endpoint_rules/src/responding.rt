@@ -5,15 +5,16 @@ ghost use Rattle.plain_machine.specs.Effect.{silently};
 ghost use Rattle.plain_machine.specs.Notifying.{noted};
 ghost use Rattle.plain_machine.specs.Responding.{responded_on, redirected_on, opened_on};
 ghost use Rattle.endpoint_rules.specs.Telling.{MayTell, IsLine};
-ghost use Rattle.posts.specs.Effects.{HasEffect};
-ghost use Rattle.posts.specs.Undoing.{IsUndoneByItsOwner};
+ghost use Rattle.endpoint_rules.specs.Effects.{HasEffect};
+ghost use Rattle.endpoint_rules.specs.Undoing.{IsUndoneByItsOwner};
 
 use crate::announcing::{heard_on, replied};
+use crate::context::Context;
 use crate::notifying::tell;
+use crate::posting::{Occasion, redirect};
 use endpoint_names::Entity;
 use mg_bytes::OutOfMemory;
 use plain_machine::{Endpoint, OutMessage, Response};
-use posts::{Context, Occasion, redirect};
 use restart::Heard;
 
 /// What a response does to an endpoint. An error is for want of memory only.

@@ -12,7 +12,7 @@ use Rattle.plain_machine.specs.Labelling.{own_verb}
 use Rattle.plain_machine.specs.declared.post.Post.{Post}
 use Rattle.plain_machine.specs.declared.setup.Setup.{Setup}
 use Rattle.plain_machine.specs.Posting.{resent_on}
-use Rattle.posts.specs.Effects.{HasEffect}
+use Rattle.endpoint_rules.specs.Effects.{HasEffect}
 
 kept_text : (message : InFlight) (moment : ℕ) → (repeated message moment).text ≡ message.text
 unfolding repeated

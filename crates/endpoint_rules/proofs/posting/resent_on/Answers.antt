@@ -1,6 +1,6 @@
 use Rattle.std.proofs.Common.{rules, refl, ◌≡◌, Some}
-use Rattle.posts.proofs.ResentLemmas.{sent_again}
-use Rattle.posts.proofs.posting.resent_on.Goals as goal
+use Rattle.endpoint_rules.proofs.ResentLemmas.{sent_again}
+use Rattle.endpoint_rules.proofs.posting.resent_on.Goals as goal
 
 pub returns-in_ok-send-in-Sent-clause-turn : goal.returns-in_ok-send-in-Sent-clause-turn
 returns-in_ok-send-in-Sent-clause-turn c =

@@ -4,9 +4,9 @@ ghost use Rattle.std.specs.Prelude.{◌≡◌, ◌<◌, ◌^◌, IsTrue, IfOk, O
 ghost use Rattle.std.specs.Option.{unwrap_or};
 ghost use Rattle.mgcp_text.specs.Writing.{is_writable};
 ghost use Rattle.plain_machine.specs.Posting.{wait_of, given_up, with_command, resent_on};
-ghost use Rattle.posts.specs.Ids.{HasId};
-ghost use Rattle.posts.specs.Effects.{HasEffect};
-ghost use Rattle.posts.specs.Undoing.{IsUndoneByItsOwner};
+ghost use Rattle.endpoint_rules.specs.Ids.{HasId};
+ghost use Rattle.endpoint_rules.specs.Effects.{HasEffect};
+ghost use Rattle.endpoint_rules.specs.Undoing.{IsUndoneByItsOwner};
 
 use crate::context::Context;
 use crate::sending::{again_label, begun_label, send};
@@ -25,7 +25,7 @@ pub struct Occasion {
 }
 
 /// An equal command in flight, if there is one. An error is for want of memory only.
-pub fn pending_of(pending: &Option<Pending>) -> Result<Option<Pending>, OutOfMemory>
+pub(crate) fn pending_of(pending: &Option<Pending>) -> Result<Option<Pending>, OutOfMemory>
     ensures { IfOk result (λ copy. copy ≡ pending.now) }
 {
     match pending {
@@ -47,7 +47,7 @@ pub fn same_post(post: &Post) -> Result<Post, OutOfMemory>
 }
 
 /// A post becomes equal to another, of whose command in flight there is a copy.
-pub fn copy_post(from: &Post, pending: Option<Pending>, into: &mut Post)
+pub(crate) fn copy_post(from: &Post, pending: Option<Pending>, into: &mut Post)
     requires { pending ≡ from.now.pending }
     ensures { into.new ≡ from.now }
 {
@@ -58,7 +58,7 @@ pub fn copy_post(from: &Post, pending: Option<Pending>, into: &mut Post)
 }
 
 /// What is sent under a post goes to this entity from now on, where one is given.
-pub fn redirect(post: &mut Post, entity: Option<Entity>)
+pub(crate) fn redirect(post: &mut Post, entity: Option<Entity>)
     ensures { post.new ≡ record post.old { entity = unwrap_or entity post.old.entity } }
 {
     if let Some(entity) = entity {
@@ -68,7 +68,7 @@ pub fn redirect(post: &mut Post, entity: Option<Entity>)
 
 /// A command that can be written begins under a post: it goes out under the next id, and is in flight. An error is for
 /// want of memory only.
-pub fn begin(
+pub(crate) fn begin(
     context: Context<'_>,
     occasion: Occasion,
     post: &mut Post,
@@ -114,7 +114,7 @@ fn give_up(context: Context<'_>, occasion: Occasion, post: &mut Post)
 }
 
 /// The command in flight under a post is sent again or given up. An error is for want of memory only.
-pub fn resent_on(
+pub(crate) fn resent_on(
     context: Context<'_>,
     occasion: Occasion,
     post: &mut Post,

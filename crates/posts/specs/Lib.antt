@@ -1,3 +1,0 @@
-pub mod Effects
-pub mod Undoing
-pub mod Ids
