@@ -9,7 +9,7 @@ use Rattle.plain_machine.specs.declared.post.Post.{Post}
 use Rattle.plain_machine.specs.declared.endpoint.Endpoint.{Endpoint}
 use Rattle.plain_machine.specs.Effect.{Effect, silently}
 use Rattle.plain_machine.specs.Machine.{Endpoints, with_endpoint, with_own, on_line, on_own}
-use Rattle.endpoint_rules.specs.Effects.{HasEffect}
+use Rattle.endpoints.specs.Effects.{HasEffect}
 use Rattle.endpoints.specs.declared.saves.Saved.{Saved}
 use Rattle.endpoints.specs.StoreState.{StoreState, committed}
 use Rattle.endpoints.specs.Saving.{endpoints_of, restored, found_in, IsSavedToo}

@@ -1,3 +1,6 @@
+pub mod ResentLemmas
+pub mod TellLemmas
+pub mod ResponseLemmas
 pub mod StoreLemmas
 pub mod SetupLemmas
 pub mod DueLemmas

@@ -11,7 +11,7 @@ use Rattle.plain_machine.specs.Effect.{Effect, silently}
 use Rattle.plain_machine.specs.Acting.{acted_on, acted}
 use Rattle.plain_machine.specs.Machine.{Endpoints, with_endpoint, with_turn, on_line}
 use Rattle.plain_machine.proofs.EffectLaws.{on_this}
-use Rattle.endpoint_rules.specs.Telling.{IsLine}
+use Rattle.endpoints.specs.Telling.{IsLine}
 use Rattle.endpoints.specs.declared.saves.Saved.{Saved}
 use Rattle.endpoints.specs.Saving.{endpoints_of, restored, found_in, is_saved}
 use Rattle.endpoints.specs.Changing.{ComesToo}

@@ -30,11 +30,11 @@ use Rattle.plain_machine.specs.declared.given_up.GivenUpCommand.{GivenUpCommand}
 use Rattle.plain_machine.specs.GivingUp.{given_up_at, given_up_until}
 use Rattle.plain_machine.proofs.GivingLaws.{given_up_none, given_up_some}
 use Rattle.std.specs.List.{cons_option}
-use Rattle.endpoint_rules.specs.Telling.{MayTell, IsLine}
+use Rattle.endpoints.specs.Telling.{MayTell, IsLine}
 use Rattle.endpoints.specs.StoreState.{StoreState}
 use Rattle.endpoints.specs.Saving.{endpoints_of}
 use Rattle.endpoints.specs.Tells.{Goes}
-use Rattle.endpoint_rules.specs.Effects.{HasEffect}
+use Rattle.endpoints.specs.Effects.{HasEffect}
 
 -- ---- what comes to the store
 

@@ -6,7 +6,7 @@ use Rattle.plain_machine.specs.declared.post.Post.{Post}
 use Rattle.plain_machine.specs.declared.endpoint.Endpoint.{Endpoint}
 use Rattle.plain_machine.specs.Effect.{Effect, silently}
 use Rattle.plain_machine.specs.Machine.{Endpoints, endpoint_at, with_endpoint, with_own}
-use Rattle.endpoint_rules.specs.Ids.{HasId}
+use Rattle.endpoints.specs.Ids.{HasId}
 use Rattle.endpoints.specs.StoreState.{StoreState}
 
 -- what is lent to a call, and what it gives back with its result: something that changes, and what else the change sees

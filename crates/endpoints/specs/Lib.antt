@@ -1,6 +1,10 @@
+pub mod Effects
+pub mod Undoing
+pub mod Ids
+pub mod Telling
+pub mod News
 pub mod StoreState
 pub mod DueTable
 pub mod Saving
 pub mod Changing
 pub mod Tells
-pub use Rattle.endpoint_rules.specs.Telling

@@ -3,13 +3,13 @@ ghost use Rattle.std.specs.Prelude.{◌≡◌, ◌++◌, OnOk, OnErr};
 ghost use Rattle.plain_machine.specs.Machine.{on_line, on_own};
 ghost use Rattle.plain_machine.specs.Falling.{is_due, happened_on, happened_under, happened, pass};
 ghost use Rattle.plain_machine.specs.GivingUp.{given_up_until};
-ghost use Rattle.endpoint_rules.specs.Telling.{MayTell};
-ghost use Rattle.endpoint_rules.specs.Undoing.{IsUndoneByItsOwner};
+ghost use Rattle.endpoints.specs.Telling.{MayTell};
+ghost use Rattle.endpoints.specs.Undoing.{IsUndoneByItsOwner};
 ghost use Rattle.endpoints.specs.Tells.{Tells};
 
 use crate::giving_up::{given_up_at, note};
+use crate::rules::{Context, Occasion, happened_on, happened_under};
 use crate::store::Store;
-use endpoint_rules::{Context, Occasion, happened_on, happened_under};
 use mg_bytes::OutOfMemory;
 use plain_machine::{GivenUpCommand, OutMessage, PostOwner, owner_of};
 use timers::{DueItem, DueKind};

@@ -3,7 +3,7 @@ ghost use Rattle.std.specs.Prelude.{◌≡◌, ◌≤◌, ◌<◌, ◌+◌, ◌^
 ghost use Rattle.std.specs.List.{AllByRecursion, range_with_len};
 ghost use Rattle.plain_machine.specs.Setup.{table_from, is_wait, is_media_base, is_address, parts_of, setup_from, key_at_fault, IsSetUp, most_lines, highest_media_base};
 ghost use Rattle.plain_machine.specs.Machine.{port_of, opening_post, opening_endpoint, opening_own};
-ghost use Rattle.endpoint_rules.specs.Ids.{HasId};
+ghost use Rattle.endpoints.specs.Ids.{HasId};
 
 use connections::{Connections, Encoding};
 use endpoint_names::{Entity, Names, Table, is_domain, read_entity};

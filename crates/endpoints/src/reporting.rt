@@ -9,11 +9,11 @@ ghost use Rattle.plain_machine.specs.Machine.{endpoint_at};
 ghost use Rattle.plain_machine.specs.Reporting.{line_report, name_of_line, names_of};
 ghost use Rattle.plain_machine.specs.Commanding.{reported, audited, answer_by};
 
+use crate::rules::Context;
 use crate::store::Store;
 use audits::{AuditedEndpoint, connection_report, endpoint_report, fitting};
 use command_forms::{Audit, AuditTarget};
 use endpoint_names::{Pattern, write_name};
-use endpoint_rules::Context;
 use mg_bytes::{CodeFault, OutOfMemory, ReturnCode};
 use mgcp_text::{AnswerContent, Bytes, Param, Params, TransactionId};
 use std::alloc::AllocError;

@@ -3,14 +3,14 @@ ghost use Rattle.std.specs.Prelude.{◌≡◌, IfOk, OnErr};
 ghost use Rattle.plain_machine.specs.Machine.{endpoint_at, on_line};
 ghost use Rattle.plain_machine.specs.Requesting.{refusal_on, refused_by, deed_on};
 ghost use Rattle.plain_machine.specs.Requesting.{deed_on_all, shown_on, shown_of, line_with_place};
-ghost use Rattle.endpoint_rules.specs.News.{shown_as};
-ghost use Rattle.endpoint_rules.specs.Telling.{MayTell};
-ghost use Rattle.endpoint_rules.specs.Undoing.{IsUndoneByItsOwner};
+ghost use Rattle.endpoints.specs.News.{shown_as};
+ghost use Rattle.endpoints.specs.Telling.{MayTell};
+ghost use Rattle.endpoints.specs.Undoing.{IsUndoneByItsOwner};
 ghost use Rattle.endpoints.specs.Tells.{Tells};
 
+use crate::rules::{Context, News, Occasion, deed_on, has_place, refusal_by};
 use crate::store::Store;
 use command_forms::{Deed, Target};
-use endpoint_rules::{Context, News, Occasion, deed_on, has_place, refusal_by};
 use mg_bytes::OutOfMemory;
 use plain_machine::{Endpoint, OutMessage};
 

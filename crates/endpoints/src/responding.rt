@@ -6,15 +6,15 @@ ghost use Rattle.plain_machine.specs.Machine.{on_line, on_own};
 ghost use Rattle.plain_machine.specs.Responding.{responded_on, redirected_on, opened_on};
 ghost use Rattle.plain_machine.specs.Announcing.{replied_on};
 ghost use Rattle.plain_machine.specs.Responding.{on_all, lines_told, own_heard, responded, entity_in, response_with};
-ghost use Rattle.endpoint_rules.specs.Telling.{MayTell};
-ghost use Rattle.endpoint_rules.specs.Undoing.{IsUndoneByItsOwner};
+ghost use Rattle.endpoints.specs.Telling.{MayTell};
+ghost use Rattle.endpoints.specs.Undoing.{IsUndoneByItsOwner};
 ghost use Rattle.endpoints.specs.Tells.{Tells};
 
-use crate::store::Store;
-use endpoint_names::{Entity, read_entity};
-use endpoint_rules::{
+use crate::rules::{
     Context, Occasion, heard_on, opened_on, redirected_on, replied_on, responded_on,
 };
+use crate::store::Store;
+use endpoint_names::{Entity, read_entity};
 use mg_bytes::OutOfMemory;
 use mgcp_text::{Message, TransactionId, param_at};
 use plain_machine::{OutMessage, PostOwner, Response, line_of_id, owner_of};

@@ -2,7 +2,7 @@
 ghost use Rattle.std.specs.Prelude.{◌≡◌, ◌<◌, ◌≤◌, ◌+◌, [], length, vec_capacity, IfOk, OnOk, OnErr};
 ghost use Rattle.endpoints.specs.Saving.{with_saved, Popped, Forgotten, Fills, LeavesFilled};
 
-use endpoint_rules::{copy_endpoint, same_endpoint};
+use crate::rules::{copy_endpoint, same_endpoint};
 use mg_bytes::OutOfMemory;
 use plain_machine::Endpoint;
 use std::alloc::Global;

@@ -7,13 +7,13 @@ ghost use Rattle.plain_machine.specs.declared.setup.Setup.{Setup};
 ghost use Rattle.plain_machine.specs.declared.endpoint.Endpoint.{Endpoint};
 ghost use Rattle.plain_machine.specs.Effect.{silently};
 ghost use Rattle.plain_machine.specs.Falling.{first_due, due_by};
-ghost use Rattle.endpoint_rules.specs.Ids.{HasId};
+ghost use Rattle.endpoints.specs.Ids.{HasId};
 ghost use Rattle.endpoints.specs.Saving.{endpoints_of, IsMarked, IsSavedToo, HasRoom};
 ghost use Rattle.plain_machine.specs.Setup.{most_lines};
 
+use crate::rules::same_post;
 use crate::saves::{Saved, Saves};
 use crate::timed::Timed;
-use endpoint_rules::same_post;
 use mg_bytes::OutOfMemory;
 use mg_line::Act;
 use plain_machine::{Endpoint, Post, PostOwner, owner_of};
@@ -53,7 +53,7 @@ impl Drop for Store {
 
 impl Model for Store {
     ghost use Rattle.std.specs.Prelude.{◌≡◌, length, IfSome};
-    ghost use Rattle.endpoint_rules.specs.Ids.{HasId};
+    ghost use Rattle.endpoints.specs.Ids.{HasId};
     ghost use Rattle.endpoints.specs.StoreState.{StoreState};
     ghost use Rattle.endpoints.specs.Saving.{found_in, IsMarked, HasRoom};
 
@@ -117,7 +117,7 @@ impl Store {
     ghost use Rattle.plain_machine.specs.Refusing.{is_unheeded};
     ghost use Rattle.endpoints.specs.StoreState.{committed};
     ghost use Rattle.endpoints.specs.Changing.{LineChanges, GatewayChanges, KeepsId, ComesToo};
-    ghost use Rattle.endpoint_rules.specs.Telling.{IsLine};
+    ghost use Rattle.endpoints.specs.Telling.{IsLine};
 
     /// A store with these endpoints, and with this post of the gateway itself. An error is for want of memory only.
     #[tactic(auto, unfolding(crate::specs::Saving::restored))]

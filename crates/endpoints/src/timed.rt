@@ -9,13 +9,13 @@ ghost use Rattle.plain_machine.specs.Effect.{silently};
 ghost use Rattle.plain_machine.specs.Acting.{acted_on};
 ghost use Rattle.plain_machine.specs.Falling.{first_due, due_by};
 ghost use Rattle.plain_machine.specs.Setup.{most_lines};
-ghost use Rattle.endpoint_rules.specs.Ids.{HasId};
+ghost use Rattle.endpoints.specs.Ids.{HasId};
 ghost use Rattle.endpoints.specs.Changing.{EndpointChanges, OwnChanges, KeepsId};
 ghost use Rattle.endpoints.specs.Saving.{endpoints_of};
 ghost use Rattle.endpoints.specs.DueTable.{InStep};
 
 use crate::due_table::{enter, renew};
-use endpoint_rules::{due_on, post_due};
+use crate::rules::{due_on, post_due};
 use gateway_rules::due_by;
 use mg_bytes::OutOfMemory;
 use mg_line::Act;
@@ -38,7 +38,7 @@ impl Model for Timed {
     ghost use Rattle.std.specs.Prelude.{◌≤◌, length};
     ghost use Rattle.plain_machine.specs.Machine.{Endpoints};
     ghost use Rattle.plain_machine.specs.Setup.{most_lines};
-    ghost use Rattle.endpoint_rules.specs.Ids.{HasId};
+    ghost use Rattle.endpoints.specs.Ids.{HasId};
     ghost use Rattle.endpoints.specs.Saving.{endpoints_of};
     ghost use Rattle.endpoints.specs.DueTable.{InStep};
 
@@ -58,7 +58,7 @@ impl Timed {
     ghost use Rattle.plain_machine.specs.Machine.{endpoint_at, with_own};
     ghost use Rattle.plain_machine.specs.Acting.{acted};
     ghost use Rattle.plain_machine.specs.Refusing.{is_unheeded};
-    ghost use Rattle.endpoint_rules.specs.Telling.{IsLine};
+    ghost use Rattle.endpoints.specs.Telling.{IsLine};
 
     /// These endpoints, and this post of the gateway itself. An error is for want of memory only.
     pub(crate) fn of(alloc: Global, list: Vec<Endpoint>, own: Post) -> Result<Self, OutOfMemory>

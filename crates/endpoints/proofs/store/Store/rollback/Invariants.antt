@@ -1,6 +1,6 @@
 use Rattle.std.proofs.Common.{◌≡◌, length}
 use Rattle.std.specs.Prelude.{IfSome}
-use Rattle.endpoint_rules.specs.Ids.{HasId}
+use Rattle.endpoints.specs.Ids.{HasId}
 use Rattle.endpoints.specs.Saving.{found_in, IsMarked, HasRoom}
 use Rattle.endpoints.proofs.store.Store.rollback.Given as goal
 

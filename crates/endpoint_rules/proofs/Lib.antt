@@ -1,3 +1,0 @@
-pub mod ResentLemmas
-pub mod TellLemmas
-pub mod ResponseLemmas

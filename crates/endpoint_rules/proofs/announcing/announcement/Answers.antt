@@ -1,7 +1,0 @@
-use Rattle.std.proofs.Common.{refl, ◌∙◌, arith}
-use Rattle.endpoint_rules.proofs.TellLemmas.{announcement_writable}
-use Rattle.endpoint_rules.proofs.announcing.announcement.Goals as goal
-
-pub returns-clause-writable : goal.returns-clause-writable
-returns-clause-writable c =
-    rw c.of.ensures (announcement_writable c.args.context.setup.now _ c.args.line _ _ (omega arith) (omega arith) c.requires.domain (omega (arith, c.ranges.line.fits)) (c.owned.ensures ∙ c.in_ok-name.ensures ∙ rw (c.as_bytes-domain.ensures, c.announced_lines.ensures) refl) c.in_ok-announcement_params.ensures.writable)
