@@ -46,6 +46,14 @@ pub if_none : {A : Type 0} (o : Option A) (P : A → Type 0) → o ≡ None → 
 if_none None P none = tt
 if_none (Some x) P none = absurd cc
 
+pub if_so : {A : Type 0} (o : Option A) (P : Type 0) → P → IfSome o (λ x. P)
+if_so None P so = tt
+if_so (Some x) P so = so
+
+-- what was told, as it is said
+pub told_so : (a b : Option (List ℕ)) (xs ys : List ℕ) → xs ≡ ys → Grows a xs b → Grows a ys b
+told_so a b xs ys same grows = subst (λ (l : List ℕ). Grows a l b) same grows
+
 -- what follows what was told, by a script that is known where there is a trace
 then_told : (a b c : Option (List ℕ)) (xs : List ℕ) (s t : Script) (entries : List Entry) → Grows a xs b → IfSome b (λ text. t ≡ s) → Grows b (written t entries) c
     → Grows a (xs ++ written s entries) c

@@ -16,7 +16,6 @@ use surroundings::Teller;
 #[tactic(auto, using(crate::proofs::RunLemmas::one_handed))]
 fn hand<O: Outlet, T: Teller>(
     alloc: Global,
-    text: &mut Vec<u8>,
     teller: &mut T,
     out: &mut O,
     datagram: &OutDatagram,
@@ -28,7 +27,7 @@ fn hand<O: Outlet, T: Teller>(
     ensures came { O.came out.new ≡ O.came out.old }
 {
     if let Some(mark) = out.hand(datagram.to, datagram.bytes.as_bytes()) {
-        tell_mark(alloc, text, teller, mark, place);
+        tell_mark(alloc, teller, mark, place);
     }
 }
 
@@ -36,7 +35,6 @@ fn hand<O: Outlet, T: Teller>(
 #[tactic(auto, using(crate::proofs::RunLemmas::none_handed, crate::proofs::RunLemmas::one_more))]
 pub(crate) fn hand_all<O: Outlet, T: Teller>(
     alloc: Global,
-    text: &mut Vec<u8>,
     teller: &mut T,
     out: &mut O,
     datagrams: &[OutDatagram],
@@ -50,6 +48,6 @@ pub(crate) fn hand_all<O: Outlet, T: Teller>(
     let mut place: u64 = 0;
     for datagram in datagrams {
         place = place.saturating_add(1);
-        hand(alloc, text, teller, out, datagram, place);
+        hand(alloc, teller, out, datagram, place);
     }
 }

@@ -1,8 +1,8 @@
 //! That a trace is told of an event before what the gateway sends at it is handed out.
-ghost use Rattle.std.specs.Prelude.{◌≡◌, None, OnOk, OnErr};
+ghost use Rattle.std.specs.Prelude.{◌≡◌, None};
 ghost use Rattle.surroundings.specs.Sending.{Grows};
 
-use mg_bytes::OutOfMemory;
+use mg_bytes::Draft;
 use surroundings::Teller;
 
 /// What a trace has to tell has its place in what is kept of it. It is made by telling alone, and whoever hands datagrams out uses one up:
@@ -14,17 +14,13 @@ pub struct Placed {
 }
 
 /// A trace is told this, if memory was there to put it; else it is broken off.
-pub(crate) fn tell_trace<T: Teller>(
-    teller: &mut T,
-    put: Result<(), OutOfMemory>,
-    text: &[u8],
-) -> Placed
-    ensures told { OnOk put (Grows (T.told teller.old) text.now (T.told teller.new)) }
-    ensures broken_off { OnErr put (T.told teller.new ≡ None) }
+#[tactic(auto, using(crate::proofs::RunLemmas::ends_all))]
+pub(crate) fn tell_trace<T: Teller>(teller: &mut T, text: Draft) -> Placed
+    ensures { Grows (T.told teller.old) text (T.told teller.new) }
 {
-    match put {
-        Ok(()) => {
-            teller.tell(text);
+    match text.end() {
+        Ok(text) => {
+            teller.tell(text.as_slice());
             Placed { is_told: true }
         }
         Err(_) => {

@@ -16,10 +16,10 @@ ghost use Rattle.live_gateway.specs.Running.{live, Ran, HeardFrom, HandsOut, Tak
 use crate::answering::put_shown;
 use crate::ends::Outlet;
 use crate::handing::hand_all;
-use crate::placed::Placed;
-use crate::telling::{refuse, tell, tell_act, tell_answered, tell_datagram, tell_tick};
+use crate::placed::{Placed, tell_trace};
+use crate::telling::{refuse, tell_act, tell_answered, tell_datagram, tell_tick};
 use gateway_core::{Event, Gateway, OutDatagram, Outputs, Refusal};
-use mg_bytes::OutOfMemory;
+use mg_bytes::{Draft, OutOfMemory};
 use mg_line::Act;
 use rgw_scripts::put_refusal;
 use std::alloc::Global;
@@ -32,8 +32,6 @@ pub struct LivePlay<T> {
     alloc: Global,
     pub gateway: Box<Gateway>,
     script: Script,
-    // What its trace is told next.
-    text: Vec<u8>,
     // What is answered to who asked last, or did something that was refused.
     printed: Vec<u8>,
     pub teller: T,
@@ -46,12 +44,10 @@ impl<T: Drop> Drop for LivePlay<T> {
             alloc: _,
             gateway,
             script: _,
-            text,
             printed,
             teller,
         } = self;
         drop(gateway);
-        drop(text);
         drop(printed);
         drop(teller);
     }
@@ -94,7 +90,6 @@ impl<T: Teller + Drop> LivePlay<T> {
             alloc,
             gateway,
             script: Script::starting(),
-            text: Vec::new(alloc),
             printed: Vec::new(alloc),
             teller,
         }
@@ -115,8 +110,7 @@ impl<T: Teller + Drop> LivePlay<T> {
         ensures came { O.came out.new ≡ O.came out.old }
     {
         out.turned(&self.gateway);
-        let text = &mut self.text;
-        hand_all(self.alloc, text, &mut self.teller, out, datagrams, told);
+        hand_all(self.alloc, &mut self.teller, out, datagrams, told);
     }
 
     /// The clock goes to this moment, in ms: what the gateway sends at it is handed out. A refused tick changes nothing.
@@ -138,14 +132,7 @@ impl<T: Teller + Drop> LivePlay<T> {
         match take(&mut self.gateway, Event::Tick { moment }) {
             Ok(outputs) => {
                 let sent = outputs.as_slice();
-                let told = tell_tick(
-                    self.alloc,
-                    &mut self.script,
-                    &mut self.text,
-                    &mut self.teller,
-                    moment,
-                    sent,
-                );
+                let told = tell_tick(self.alloc, &mut self.script, &mut self.teller, moment, sent);
                 self.hand_out(out, sent, told);
                 Ok(())
             }
@@ -180,7 +167,6 @@ impl<T: Teller + Drop> LivePlay<T> {
                 let told = tell_datagram(
                     self.alloc,
                     &mut self.script,
-                    &mut self.text,
                     &mut self.teller,
                     source,
                     bytes,
@@ -220,21 +206,13 @@ impl<T: Teller + Drop> LivePlay<T> {
         match take(&mut self.gateway, Event::Phone { line, act }) {
             Ok(outputs) => {
                 let sent = outputs.as_slice();
-                let told = tell_act(
-                    self.alloc,
-                    &mut self.script,
-                    &mut self.text,
-                    &mut self.teller,
-                    text,
-                    sent,
-                );
+                let told = tell_act(self.alloc, &mut self.script, &mut self.teller, text, sent);
                 self.hand_out(out, sent, told);
                 Ok(())
             }
             Err(refusal) => Err(refuse(
                 self.alloc,
                 &mut self.script,
-                &mut self.text,
                 &mut self.teller,
                 &mut self.printed,
                 text,
@@ -250,9 +228,9 @@ impl<T: Teller + Drop> LivePlay<T> {
         ensures gateway { self.new.gateway ≡ self.old.gateway }
     {
         if self.teller.is_telling() {
-            self.text.clear();
-            let put = self.script.put_clock(self.alloc, &mut self.text);
-            let _ = tell(&mut self.teller, put, self.text.as_slice());
+            let mut text = Draft::new(self.alloc);
+            self.script.put_clock(&mut text);
+            let _ = tell_trace(&mut self.teller, text);
         }
     }
 
@@ -271,7 +249,6 @@ impl<T: Teller + Drop> LivePlay<T> {
         tell_answered(
             self.alloc,
             &mut self.script,
-            &mut self.text,
             &mut self.teller,
             text,
             printed,

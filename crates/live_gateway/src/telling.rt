@@ -1,5 +1,5 @@
 //! What the trace of a gateway that runs is told.
-ghost use Rattle.std.specs.Prelude.{◌≡◌, ◌++◌, ℕ, List, None, IfSome, OnOk, OnErr};
+ghost use Rattle.std.specs.Prelude.{◌≡◌, ◌++◌, IfSome, OnOk, OnErr};
 ghost use Rattle.surroundings.specs.Sending.{Grows};
 ghost use Rattle.rgw_scripts.specs.Moves.{sends};
 ghost use Rattle.rgw_scripts.specs.Printing.{printed_line, refusal_line};
@@ -9,28 +9,18 @@ ghost use Rattle.live_gateway.specs.Running.{TellsRefusal};
 
 use crate::placed::{Placed, tell_trace, untold};
 use gateway_core::{OutDatagram, Refusal};
-use mg_bytes::OutOfMemory;
+use mg_bytes::{Draft, OutOfMemory};
 use rgw_scripts::put_refusal;
 use std::alloc::Global;
 use std::net::SocketAddrV4;
 use surroundings::Teller;
 use traces::{Mark, Script, put_mark};
 
-/// It is told what was put for it, if memory was there for that; else it is broken off.
-#[tactic(auto, using(crate::proofs::RunLemmas::ends_all, crate::proofs::RunLemmas::if_none))]
-pub(crate) fn tell<T: Teller>(teller: &mut T, put: Result<(), OutOfMemory>, text: &[u8]) -> Placed
-    ensures told { (said : List ℕ) → OnOk put (text.now ≡ said) → Grows (T.told teller.old) said (T.told teller.new) }
-    ensures broken_off { OnErr put (T.told teller.new ≡ None) }
-{
-    tell_trace(teller, put, text)
-}
-
 /// A tick, and what was sent at it.
 #[tactic(auto, using(crate::proofs::RunLemmas::ends_all, crate::proofs::RunLemmas::if_none))]
 pub(crate) fn tell_tick<T: Teller>(
     alloc: Global,
     script: &mut Script,
-    text: &mut Vec<u8>,
     teller: &mut T,
     moment: u64,
     sent: &[OutDatagram],
@@ -41,9 +31,9 @@ pub(crate) fn tell_tick<T: Teller>(
     if !teller.is_telling() {
         return untold(teller);
     }
-    text.clear();
-    let put = script.put_tick(alloc, text, moment, sent);
-    tell(teller, put, text.as_slice())
+    let mut text = Draft::new(alloc);
+    script.put_tick(&mut text, moment, sent);
+    tell_trace(teller, text)
 }
 
 /// A datagram that came, and what was sent at it.
@@ -51,7 +41,6 @@ pub(crate) fn tell_tick<T: Teller>(
 pub(crate) fn tell_datagram<T: Teller>(
     alloc: Global,
     script: &mut Script,
-    text: &mut Vec<u8>,
     teller: &mut T,
     source: SocketAddrV4,
     bytes: &[u8],
@@ -63,9 +52,9 @@ pub(crate) fn tell_datagram<T: Teller>(
     if !teller.is_telling() {
         return untold(teller);
     }
-    text.clear();
-    let put = script.put_datagram(alloc, text, source, bytes, sent);
-    tell(teller, put, text.as_slice())
+    let mut text = Draft::new(alloc);
+    script.put_datagram(&mut text, source, bytes, sent);
+    tell_trace(teller, text)
 }
 
 /// A line by which something was done, and what was sent at it.
@@ -73,7 +62,6 @@ pub(crate) fn tell_datagram<T: Teller>(
 pub(crate) fn tell_act<T: Teller>(
     alloc: Global,
     script: &mut Script,
-    text: &mut Vec<u8>,
     teller: &mut T,
     line: &[u8],
     sent: &[OutDatagram],
@@ -84,9 +72,9 @@ pub(crate) fn tell_act<T: Teller>(
     if !teller.is_telling() {
         return untold(teller);
     }
-    text.clear();
-    let put = script.put_act(alloc, text, line, sent);
-    tell(teller, put, text.as_slice())
+    let mut text = Draft::new(alloc);
+    script.put_act(&mut text, line, sent);
+    tell_trace(teller, text)
 }
 
 /// A line, and what is answered to it.
@@ -94,7 +82,6 @@ pub(crate) fn tell_act<T: Teller>(
 pub(crate) fn tell_answered<T: Teller>(
     alloc: Global,
     script: &mut Script,
-    text: &mut Vec<u8>,
     teller: &mut T,
     line: &[u8],
     printed: &[u8],
@@ -103,27 +90,21 @@ pub(crate) fn tell_answered<T: Teller>(
     ensures script { IfSome (T.told teller.new) (λ text. script.new ≡ at_clock script.old) }
 {
     if teller.is_telling() {
-        text.clear();
-        let put = script.put_answered(alloc, text, line, printed);
-        let _ = tell(teller, put, text.as_slice());
+        let mut text = Draft::new(alloc);
+        script.put_answered(&mut text, line, printed);
+        let _ = tell_trace(teller, text);
     }
 }
 
 /// What became of the datagram at this place among those of this turn.
-#[tactic(auto, using(crate::proofs::RunLemmas::ends_all, crate::proofs::RunLemmas::if_none))]
-pub(crate) fn tell_mark<T: Teller>(
-    alloc: Global,
-    text: &mut Vec<u8>,
-    teller: &mut T,
-    mark: Mark,
-    place: u64,
-)
+#[tactic(auto, using(crate::proofs::RunLemmas::ends_all))]
+pub(crate) fn tell_mark<T: Teller>(alloc: Global, teller: &mut T, mark: Mark, place: u64)
     ensures { Grows (T.told teller.old) (told_mark mark place) (T.told teller.new) }
 {
     if teller.is_telling() {
-        text.clear();
-        let put = put_mark(alloc, text, mark, place);
-        let _ = tell(teller, put, text.as_slice());
+        let mut text = Draft::new(alloc);
+        put_mark(&mut text, mark, place);
+        let _ = tell_trace(teller, text);
     }
 }
 
@@ -131,7 +112,6 @@ pub(crate) fn tell_mark<T: Teller>(
 fn tell_refusal<T: Teller>(
     alloc: Global,
     script: &mut Script,
-    text: &mut Vec<u8>,
     teller: &mut T,
     printed: &mut Vec<u8>,
     line: &[u8],
@@ -146,7 +126,7 @@ fn tell_refusal<T: Teller>(
 {
     printed.clear();
     put_refusal(alloc, printed, refusal)?;
-    tell_answered(alloc, script, text, teller, line, printed.as_slice());
+    tell_answered(alloc, script, teller, line, printed.as_slice());
     Ok(())
 }
 
@@ -154,7 +134,6 @@ fn tell_refusal<T: Teller>(
 pub(crate) fn refuse<T: Teller>(
     alloc: Global,
     script: &mut Script,
-    text: &mut Vec<u8>,
     teller: &mut T,
     printed: &mut Vec<u8>,
     line: &[u8],
@@ -165,7 +144,7 @@ pub(crate) fn refuse<T: Teller>(
     if refusal == Refusal::OutOfMemory {
         return refusal;
     }
-    match tell_refusal(alloc, script, text, teller, printed, line, refusal) {
+    match tell_refusal(alloc, script, teller, printed, line, refusal) {
         Ok(()) => refusal,
         Err(_) => Refusal::OutOfMemory,
     }

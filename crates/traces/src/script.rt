@@ -1,7 +1,7 @@
 //! A trace that is written while its gateway runs: what came in, as lines that can be played again, and behind it what that showed.
 //!
 //! Ticks at which nothing was sent are told together, with what follows them.
-ghost use Rattle.std.specs.Prelude.{◌≡◌, ◌<◌, ◌++◌, codes, decimal, OnOk};
+ghost use Rattle.std.specs.Prelude.{◌≡◌, ◌<◌, ◌++◌, codes, decimal};
 ghost use Rattle.std.specs.Char.{digit_char};
 ghost use Rattle.rgw_scripts.specs.Printing.{printed_line};
 ghost use Rattle.rgw_scripts.specs.Moves.{sends};
@@ -10,9 +10,8 @@ ghost use Rattle.traces.specs.Writing.{hex_text, datagram_text, clock_text, at_c
 
 use crate::telling::{put_outputs, put_shown};
 use exchange_log::put_peer;
-use mg_bytes::{Draft, OutOfMemory};
+use mg_bytes::Draft;
 use plain_machine::OutDatagram;
-use std::alloc::Global;
 use std::net::SocketAddrV4;
 
 // A tick goes on by no more than this, in ms.
@@ -64,8 +63,8 @@ fn put_moment(out: &mut Draft, moment: u64)
     out.put(b"\n");
 }
 
-/// The clock of a trace: the moment that its script has come to, and the one that its gateway has, in ms. After an error of any call
-/// the trace is broken off.
+/// The clock of a trace: the moment that its script has come to, and the one that its gateway has, in ms. Where memory is refused for what
+/// was put the trace is broken off.
 #[derive(Clone, Copy)]
 pub struct Script {
     told: u64,
@@ -80,8 +79,8 @@ impl Script {
         Script { told: 0, clock: 0 }
     }
 
-    // Puts the moment that the gateway has come to, where the script isn't there yet.
-    fn write_clock(&mut self, out: &mut Draft)
+    /// Puts the moment that the gateway has come to, where the script isn't there yet: so a trace ends.
+    pub fn put_clock(&mut self, out: &mut Draft)
         ensures text { out.new ≡ out.old ++ clock_text self.old }
         ensures script { self.new ≡ at_clock self.old }
     {
@@ -91,23 +90,13 @@ impl Script {
         self.told = self.clock;
     }
 
-    /// Puts the moment that the gateway has come to, where the script isn't there yet: so a trace ends.
-    pub fn put_clock(&mut self, alloc: Global, out: &mut Vec<u8>) -> Result<(), OutOfMemory>
-        ensures text { OnOk result (out.new.items ≡ out.old.items ++ clock_text self.old) }
-        ensures script { OnOk result (self.new ≡ at_clock self.old) }
-    {
-        let mut text = Draft::new(alloc);
-        self.write_clock(&mut text);
-        text.append_to(out)
-    }
-
     // Where a moment is too far for one tick of the script, its clock goes on before.
     fn catch_up(&mut self, out: &mut Draft, moment: u64)
         ensures text { out.new ≡ out.old ++ pass_text self.old moment }
         ensures script { self.new ≡ caught_up self.old moment }
     {
         if moment.saturating_sub(self.told) > LONGEST_STEP {
-            self.write_clock(out);
+            self.put_clock(out);
         }
     }
 
@@ -121,45 +110,33 @@ impl Script {
     }
 
     /// Puts a tick to a moment, in ms, and what the gateway sent at it. One at which it sent nothing is put later.
-    pub fn put_tick(
-        &mut self,
-        alloc: Global,
-        out: &mut Vec<u8>,
-        moment: u64,
-        sent: &[OutDatagram],
-    ) -> Result<(), OutOfMemory>
-        ensures text { OnOk result (out.new.items ≡ out.old.items ++ tick_text self.old moment sent.now) }
-        ensures script { OnOk result (self.new ≡ after_tick self.old moment sent.now) }
+    pub fn put_tick(&mut self, out: &mut Draft, moment: u64, sent: &[OutDatagram])
+        ensures text { out.new ≡ out.old ++ tick_text self.old moment sent.now }
+        ensures script { self.new ≡ after_tick self.old moment sent.now }
     {
-        let mut text = Draft::new(alloc);
-        self.pass(&mut text, moment);
+        self.pass(out, moment);
         if sent.is_empty() {
-            return text.append_to(out);
+            return;
         }
-        self.write_clock(&mut text);
-        put_outputs(&mut text, sent);
-        text.append_to(out)
+        self.put_clock(out);
+        put_outputs(out, sent);
     }
 
     /// Puts a datagram that came, and what the gateway sent at it.
     #[tactic(auto, unfolding(crate::specs::Telling::told))]
     pub fn put_datagram(
         &mut self,
-        alloc: Global,
-        out: &mut Vec<u8>,
+        out: &mut Draft,
         source: SocketAddrV4,
         bytes: &[u8],
         sent: &[OutDatagram],
-    ) -> Result<(), OutOfMemory>
-        ensures text { OnOk result (out.new.items
-            ≡ out.old.items ++ input_text self.old (arrived source bytes.now) (sends sent.now)) }
-        ensures script { OnOk result (self.new ≡ at_clock self.old) }
+    )
+        ensures text { out.new ≡ out.old ++ input_text self.old (arrived source bytes.now) (sends sent.now) }
+        ensures script { self.new ≡ at_clock self.old }
     {
-        let mut text = Draft::new(alloc);
-        self.write_clock(&mut text);
-        put_datagram(&mut text, source, bytes);
-        put_outputs(&mut text, sent);
-        text.append_to(out)
+        self.put_clock(out);
+        put_datagram(out, source, bytes);
+        put_outputs(out, sent);
     }
 
     // Puts a line for the telephones.
@@ -167,43 +144,27 @@ impl Script {
         ensures text { out.new ≡ out.old ++ (clock_text self.old ++ printed_line line.now) }
         ensures script { self.new ≡ at_clock self.old }
     {
-        self.write_clock(out);
+        self.put_clock(out);
         out.put(line);
         out.put_byte(b'\n');
     }
 
     /// Puts a line for the telephones by which something was done, and what the gateway sent at it.
     #[tactic(auto, unfolding(crate::specs::Telling::told))]
-    pub fn put_act(
-        &mut self,
-        alloc: Global,
-        out: &mut Vec<u8>,
-        line: &[u8],
-        sent: &[OutDatagram],
-    ) -> Result<(), OutOfMemory>
-        ensures text { OnOk result (out.new.items ≡ out.old.items ++ input_text self.old (typed line.now) (sends sent.now)) }
-        ensures script { OnOk result (self.new ≡ at_clock self.old) }
+    pub fn put_act(&mut self, out: &mut Draft, line: &[u8], sent: &[OutDatagram])
+        ensures text { out.new ≡ out.old ++ input_text self.old (typed line.now) (sends sent.now) }
+        ensures script { self.new ≡ at_clock self.old }
     {
-        let mut text = Draft::new(alloc);
-        self.put_typed(&mut text, line);
-        put_outputs(&mut text, sent);
-        text.append_to(out)
+        self.put_typed(out, line);
+        put_outputs(out, sent);
     }
 
     /// Puts a line for the telephones and what was answered, as it is printed: why an act was refused, or what a line is.
-    pub fn put_answered(
-        &mut self,
-        alloc: Global,
-        out: &mut Vec<u8>,
-        line: &[u8],
-        printed: &[u8],
-    ) -> Result<(), OutOfMemory>
-        ensures text { OnOk result (out.new.items ≡ out.old.items ++ (clock_text self.old ++ printed_line line.now ++ told_text printed.now)) }
-        ensures script { OnOk result (self.new ≡ at_clock self.old) }
+    pub fn put_answered(&mut self, out: &mut Draft, line: &[u8], printed: &[u8])
+        ensures text { out.new ≡ out.old ++ (clock_text self.old ++ printed_line line.now ++ told_text printed.now) }
+        ensures script { self.new ≡ at_clock self.old }
     {
-        let mut text = Draft::new(alloc);
-        self.put_typed(&mut text, line);
-        put_shown(&mut text, printed);
-        text.append_to(out)
+        self.put_typed(out, line);
+        put_shown(out, printed);
     }
 }

@@ -95,22 +95,14 @@ pub fn put_first(out: &mut Draft, first: u32)
     put_numbered(out, FIRST, u64::from(first));
 }
 
-fn write_mark(out: &mut Draft, mark: Mark, place: u64)
+/// Puts what became of the datagram at this place among those of the turn before, counted from 1.
+pub fn put_mark(out: &mut Draft, mark: Mark, place: u64)
     ensures { out.new ≡ out.old ++ told_mark mark place }
 {
     match mark {
         Mark::Unsent => put_numbered(out, UNSENT, place),
         Mark::Lost => put_numbered(out, LOST, place),
     }
-}
-
-/// Puts what became of the datagram at this place among those of the turn before, counted from 1.
-pub fn put_mark(alloc: Global, out: &mut Vec<u8>, mark: Mark, place: u64) -> Result<(), OutOfMemory>
-    ensures { OnOk result (out.new.items ≡ out.old.items ++ told_mark mark place) }
-{
-    let mut line = Draft::new(alloc);
-    write_mark(&mut line, mark, place);
-    line.append_to(out)
 }
 
 /// The last line of a trace that is broken off, since what stands before it wasn't taken.
