@@ -51,24 +51,20 @@ fn put_least(given: &mut Outcome, due: &Due) {
     }
 }
 
-// Whether it falls due behind the last one, if there was one.
-fn is_behind(item: DueItem, last: Option<DueItem>) -> bool {
-    match last {
-        None => true,
-        Some(last) => comes_before(last, item),
-    }
-}
-
 // How many fall due one behind the other, of so many at most; these are cleared.
 fn fallen(due: &mut Due, most: u32) -> u32 {
-    let mut last = None;
+    let mut last: Option<DueItem> = None;
     for count in 0..most {
-        let least = due.least();
-        match least {
-            Some(item) if is_behind(item, last) => due.clear(item.line, item.kind),
-            _ => return count,
+        let Some(item) = due.least() else {
+            return count;
+        };
+        if let Some(before) = last {
+            if !comes_before(before, item) {
+                return count;
+            }
         }
-        last = least;
+        due.clear(item.line, item.kind);
+        last = Some(item);
     }
     most
 }
