@@ -1,6 +1,6 @@
 -- A written trace is replayed: what its moves show is what the gateway showed.
 use Rattle.std.proofs.Common.{◌≡◌, ◌≢◌, ◌⊎◌, inl, inr, ℕ, ◌+◌, ◌-◌, ◌<◌, ◌≤◌, ◌^◌, Bool, true, false, eqb, List, [], ◌∷◌, ◌++◌, length, codes, Option, Some, None, refl, sym, ap, ◌∙◌, subst, arith, append_assoc, append-nil, true≢false}
-use Rattle.std.specs.Prelude.{◌==◌, ◌&&◌, ◌||◌, nat_lt, nat_le, is_some, if◌then◌else◌}
+use Rattle.std.specs.Prelude.{◌==◌, ◌&&◌, ◌||◌, nat_lt, nat_le, is_some, take, if◌then◌else◌}
 use Rattle.std.specs.Str.{bytes_eq}
 use Rattle.std.specs.List.{AllByRecursion, flat_map}
 use Rattle.std.specs.Fmt.{decimal}
@@ -8,8 +8,10 @@ use Rattle.std.specs.Net.Text.{socket_v4_text}
 use Rattle.std.specs.declared.net.socket_addr.SocketAddrV4.{SocketAddrV4}
 use Rattle.std.proofs.lemmas.Bool.{ltb-false, eqb-true, or_from}
 use Rattle.std.proofs.lemmas.Bool.Decides.{eqb_tells, nat_tests}
+use Rattle.std.proofs.lemmas.Slice.Eq.{bytes_eq-Decides}
 use Rattle.mg_bytes.specs.Lines.{is_line_feed, cut}
 use Rattle.mg_bytes.specs.Words.{words}
+use Rattle.mg_bytes.proofs.TextLaws.{words_more}
 use Rattle.plain_machine.specs.declared.setup.Setup.{Setup}
 use Rattle.plain_machine.specs.declared.refusal.Refusal.{Refusal}
 use Rattle.plain_machine.specs.declared.refusal.Refusal.TheVariants.{NoSuchLine}
@@ -30,7 +32,7 @@ use Rattle.rgw_scripts.specs.declared.step.ScriptLine.TheVariants.{Empty, From, 
 use Rattle.rgw_scripts.specs.declared.step.ScriptStep.{ScriptStep}
 use Rattle.rgw_scripts.specs.declared.step.ScriptStep.TheVariants.{Datagram, At}
 use Rattle.rgw_scripts.specs.Moves.{Move, Shown, Went, give, pass, ask, sends, refuses, move_went, event_went, told as answer_of}
-use Rattle.rgw_scripts.specs.Script.{line_in}
+use Rattle.rgw_scripts.specs.Script.{line_in, line_of_two, line_of_three}
 use Rattle.rgw_scripts.specs.Status.{status_of}
 use Rattle.traces.specs.declared.script.Script.{Script}
 use Rattle.traces.specs.declared.telling.Mark.{Mark}
@@ -469,11 +471,38 @@ whole_step (Some Empty) move e = absurd cc
 whole_step (Some (From source)) move e = absurd cc
 whole_step (Some (Whole step)) move e = (step, (refl, e))
 
-reads_line : (setup : Setup) (line : List ℕ) (move : Move) (shown : Shown) → Never is_line_feed line → begins mark line ≡ false
+-- the first word of a told line is no word of a step
+no_step : (more : List (List ℕ)) → step_move (line_in ((124 ∷ []) ∷ more)) ≡ None
+unfolding line_in line_of_two line_of_three
+no_step [] = refl
+no_step (first ∷ []) = refl
+no_step (first ∷ second ∷ []) = refl
+no_step (first ∷ second ∷ other ∷ more) = refl
+
+told_says_none : (rest : List ℕ) → step_move (line_in (words (124 ∷ 32 ∷ rest))) ≡ None
+told_says_none rest =
+    ap (λ (all : List (List ℕ)). step_move (line_in all)) (words_more (124 ∷ []) rest (λ e. absurd cc) (refl, tt)) ∙ no_step (words rest)
+
+no_told : (line : List ℕ) (move : Move) → step_move (line_in (words line)) ≡ Some move → take (length mark) line ≢ mark
+no_told [] move says is = absurd cc
+no_told (a ∷ []) move says is = absurd cc
+no_told (a ∷ b ∷ rest) move says is =
+    let same : (a ∷ b ∷ rest) ≡ 124 ∷ 32 ∷ rest = cc in
+    let none : step_move (line_in (words (a ∷ b ∷ rest))) ≡ None = ap (λ (l : List ℕ). step_move (line_in (words l))) same ∙ told_says_none rest in
+    absurd cc
+
+-- a line that says a step doesn't begin as a told one
+plain_line : (line : List ℕ) (move : Move) → step_move (line_in (words line)) ≡ Some move → begins mark line ≡ false
+plain_line line move says = by_test (begins mark line) refl where
+  by_test : (told : Bool) → begins mark line ≡ told → told ≡ false
+  by_test false is = refl
+  by_test true is = absurd (no_told line move says ((bytes_eq-Decides (take (length mark) line) mark).0 is))
+
+reads_line : (setup : Setup) (line : List ℕ) (move : Move) (shown : Shown) → Never is_line_feed line
     → step_move (line_in (words line)) ≡ Some move → ReadsMove setup (ended_line line) move shown
-reads_line setup line move shown free plain says taken told moves shows =
+reads_line setup line move shown free says taken told moves shows =
     let whole = whole_step (line_in (words line)) move says in
-    reads_step setup taken told moves line whole.0 move shown free whole.1.0 whole.1.1 plain shows
+    reads_step setup taken told moves line whole.0 move shown free whole.1.0 whole.1.1 (plain_line line move says) shows
 
 -- ---- ticks
 
@@ -664,7 +693,7 @@ entry_reads setup before taken script (showed (arrived source bytes) move shown)
     subst (λ (m : Move). (move_went setup before m).shown ≡ shown ∷ [] → EntryReads setup before taken script (showed (arrived source bytes) m shown) told moves) (sym play.0)
     (λ shows. came_in setup before taken script told moves (datagram_text source bytes) (give (datagram source bytes)) shown b tt shows (reads_datagram setup source bytes shown can.0 can.1)) play.1
 entry_reads setup before taken script (showed (typed line) move shown) entries told moves b play can =
-    came_in setup before taken script told moves (ended_line line) move shown b can.2 play.1 (reads_line setup line move shown can.0 can.1 play.0)
+    came_in setup before taken script told moves (ended_line line) move shown b can.1 play.1 (reads_line setup line move shown can.0 play.0)
 entry_reads setup before taken script (showed (passed moment) move shown) entries told moves b play can =
     subst (λ (m : Move). (move_went setup before m).shown ≡ shown ∷ [] → EntryReads setup before taken script (showed (passed moment) m shown) told moves) (sym play.0)
     (λ shows. passed_reads setup before taken script moment shown told moves b can.0 can.1 can.2 shows) play.1

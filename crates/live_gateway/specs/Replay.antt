@@ -1,5 +1,5 @@
 -- What a written trace says.
-use Rattle.std.specs.Prelude.{◌≡◌, ⊤, ℕ, ◌+◌, ◌<◌, ◌≤◌, ◌^◌, ◌==◌, true, false, if◌then◌else◌, List, [], ◌∷◌, ◌++◌, length, Some, None}
+use Rattle.std.specs.Prelude.{◌≡◌, ⊤, ℕ, ◌+◌, ◌<◌, ◌≤◌, ◌^◌, ◌==◌, true, if◌then◌else◌, List, [], ◌∷◌, ◌++◌, length, Some, None}
 use Rattle.std.specs.List.{AllByRecursion, flat_map}
 use Rattle.mg_bytes.specs.Lines.{is_line_feed, cut}
 use Rattle.plain_machine.specs.declared.setup.Setup.{Setup}
@@ -10,7 +10,7 @@ use Rattle.rgw_scripts.specs.Moves.{Move, Shown, give, pass, ask}
 use Rattle.traces.specs.declared.script.Script.{Script}
 use Rattle.traces.specs.Replaying.{may_end}
 use Rattle.traces.specs.Running.{Run, opening_run, run_from}
-use Rattle.traces.specs.Telling.{mark, begins, told as shown_text}
+use Rattle.traces.specs.Telling.{told as shown_text}
 use Rattle.traces.specs.Writing.{Input, Entry, showed, became, arrived, typed, passed, longest_step, is_far, passed_to, datagrams_in, after_entry, opening_script, script_after, whole_text, taken_after}
 use Rattle.live_gateway.specs.Readable.{Never, CanAnswer}
 
@@ -47,11 +47,11 @@ KeepsClock (give (tick moment)) = ⊥
 KeepsClock (pass by) = ⊥
 KeepsClock (ask line) = ⊤
 
--- What can be written so that it is read again: datagrams of bytes that come from where one can answer, lines that are one line and
--- no told one, and moments that go on by no more than one tick may, and have no more than 18 digits
+-- What can be written so that it is read again: datagrams of bytes that come from where one can answer, lines that are one line, and
+-- moments that go on by no more than one tick may, and have no more than 18 digits
 abbrev pub IsWritable : Script → Entry → Type 0
 IsWritable script (showed (arrived source bytes) move shown) = CanAnswer source × AllByRecursion (λ byte. byte < 256) bytes
-IsWritable script (showed (typed line) move shown) = Never is_line_feed line × (begins mark line ≡ false) × KeepsClock move
+IsWritable script (showed (typed line) move shown) = Never is_line_feed line × KeepsClock move
 IsWritable script (showed (passed moment) move shown) = (script.clock < moment) × (moment ≤ script.clock + longest_step) × (moment < 10 ^ 18)
 IsWritable script (became fate place) = place < 10 ^ 18
 
