@@ -77,19 +77,6 @@ fn span(text: &[u8]) -> Option<(u16, u16)>
     }
 }
 
-impl SpoilingFault {
-    /// What stands at this place in a text that is right.
-    pub fn text(self) -> &'static str {
-        match self {
-            SpoilingFault::Lose => "lose: 0% to 100%, once",
-            SpoilingFault::Copy => "copy: 0% to 100%, once",
-            SpoilingFault::Late => "late: LEAST-MOST in ms, 10000 at most, once",
-            SpoilingFault::Seed => "seed: a number, once",
-            SpoilingFault::Other => "lose N%, copy N%, late LEAST-MOST, seed N",
-        }
-    }
-}
-
 fn with_lose(parts: Parts, value: Option<u8>) -> Result<Parts, SpoilingFault>
     ensures { result ≡ with_lose parts value }
 {
