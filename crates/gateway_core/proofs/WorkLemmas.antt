@@ -1,7 +1,6 @@
 -- What is done at an event, piece by piece.
-use Rattle.std.proofs.Common.{◌≡◌, ℕ, ◌≤◌, ◌+◌, Bool, true, false, not, List, [], ◌∷◌, ◌++◌, length, map, Option, Some, None, refl, sym, ap, ◌∙◌, append-nil, arith}
+use Rattle.std.proofs.Common.{◌≡◌, ℕ, ◌+◌, Bool, true, false, not, List, [], ◌∷◌, ◌++◌, length, map, Option, Some, None, refl, sym, ap, ◌∙◌, append-nil, arith}
 use Rattle.std.specs.Prelude.{is_some, ◌==◌}
-use Rattle.std.specs.List.{range_with_len}
 use Rattle.std.proofs.lemmas.List.FromFn.{length-map-range_with_len}
 use Rattle.history.specs.Kept.{HistoryState, settled_at as history_at, from_young}
 use Rattle.mg_line.specs.declared.phone.Act.{Act}
@@ -14,7 +13,7 @@ use Rattle.transmission.specs.declared.output.OutDatagram.{OutDatagram}
 use Rattle.plain_machine.specs.declared.refusal.Refusal.{Refusal}
 use Rattle.plain_machine.specs.declared.refusal.Refusal.TheVariants.{OutOfMemory}
 use Rattle.plain_machine.specs.Effect.{Effect, silently}
-use Rattle.plain_machine.specs.Setup.{IsSetUp, most_lines}
+use Rattle.plain_machine.specs.Setup.{IsSetUp}
 use Rattle.plain_machine.specs.Event.{GatewayEvent, datagram, phone, tick}
 use Rattle.plain_machine.specs.Message.{Sent, datagram_of, datagrams_of}
 use Rattle.plain_machine.specs.declared.label.OutMessage.{OutMessage}
@@ -33,25 +32,14 @@ use Rattle.transmission.specs.Packing.{packed}
 use Rattle.plain_machine.specs.Happening.{ticked, effect}
 use Rattle.plain_machine.specs.Refusing.{refusal_of, is_unheeded, takes_none, ends, Ends}
 use Rattle.plain_machine.proofs.FallingLaws.{pass_none}
-use Rattle.gateway_core.specs.declared.state.State.{State}
+use Rattle.gateway_texts.specs.declared.state.State.{State}
 use Rattle.endpoints.specs.StoreState.{StoreState, committed}
 use Rattle.gateway_core.specs.Sound.{IsSound}
 use Rattle.endpoints.specs.Tells.{Goes}
-use Rattle.gateway_core.specs.State.{Found, machine_in, found_in, CanGoBack, Happened, purged_in, Went, PutsOut}
+use Rattle.gateway_texts.specs.State.{Found, machine_in, found_in, CanGoBack, Happened, purged_in, PutsOut}
+use Rattle.gateway_texts.proofs.StateLemmas.{back_still}
 
 -- What happened
-
-back_still : (sent : List OutMessage) (was is : State) → found_in is ≡ found_in was → CanGoBack sent was is
-back_still [] was is same = tt
-back_still (first ∷ more) was is same = same
-
--- texts were taken
-pub happened_went : (effect : Effect Machine) (was is : State) (none sent : List OutMessage) → none ≡ [] → Went effect was is none sent → Happened effect was is sent
-happened_went effect was is none sent empty went = record {
-  machine = went.machine;
-  found = back_still sent was is went.found;
-  sent = went.sent ∙ ap (λ (x : List OutMessage). x ++ messages_of effect.sent) empty;
-}
 
 -- this came to the store
 store_back : (change : Effect Endpoints) (was is : State) (sent : List OutMessage) → Goes change was.store is.store [] sent → is.history ≡ was.history → CanGoBack sent was is
@@ -185,9 +173,6 @@ opening_sound setup m set_up is = record {
   all = ap (λ (x : Machine). length x.endpoints.list) is ∙ length-map-range_with_len (opening_endpoint setup) 1 setup.names.lines;
   moment = rw is (omega arith);
 }
-
-pub opening_few : (setup : Setup) (list : List Endpoint) → IsSetUp setup → list ≡ map (opening_endpoint setup) (range_with_len 1 setup.names.lines) → length list ≤ most_lines
-opening_few setup list set_up same = rw (ap length same ∙ length-map-range_with_len (opening_endpoint setup) 1 setup.names.lines) set_up.lines
 
 -- what an event did, with nothing saved any more
 pub puts_settled : (effect : Effect Machine) (mid is : State) (were are : List OutDatagram) → is.clock ≡ mid.clock → is.history ≡ mid.history → is.store ≡ committed mid.store.endpoints

@@ -1,29 +1,26 @@
 //! The gateway.
 ghost use Rattle.std.specs.Prelude.{◌≡◌, ◌∷◌, [], List, map, option_map, ◌<◌, ◌≤◌, ◌^◌, Some, IfOk, IfErr, OnOk, OnErr};
 ghost use Rattle.history.specs.Memory.{most_firsts};
-ghost use Rattle.plain_machine.specs.Setup.{IsSetUp, setup_from, setup_of};
+ghost use Rattle.plain_machine.specs.Setup.{setup_from, setup_of};
 ghost use Rattle.transmission_rules.specs.Numbering.{firsts};
-ghost use Rattle.plain_machine.specs.Machine.{opening, serves};
+ghost use Rattle.plain_machine.specs.Machine.{serves};
 ghost use Rattle.plain_machine.specs.Event.{GatewayEvent, event_of};
-ghost use Rattle.gateway_core.specs.State.{machine_in};
+ghost use Rattle.gateway_texts.specs.State.{machine_in};
 
 use crate::account::{Account, give_way};
-use crate::outcome::TextOutcome;
-use crate::outcomes::Outcomes;
-use crate::state::State;
 use crate::stopped::Stopped;
 use crate::working::step_state;
 use arrayvec::ArrayVec;
 use connections::Connection;
-use endpoints::{Context, Store, judged, opening_list, opening_own};
-use history::{History, MOST_FIRSTS};
-use mg_bytes::OutOfMemory;
+use endpoints::{Context, judged};
+use gateway_texts::{Outcomes, State, TextOutcome, opening_state};
+use history::MOST_FIRSTS;
 use mg_line::Hook;
 use plain_machine::{
     Config, ConfigFault, Event, GivenUpCommand, Outputs, Refusal, SentMessage, Setup,
 };
 use signals::ActiveSignal;
-use std::alloc::{AllocError, Global};
+use std::alloc::Global;
 use std::marker::Model;
 use std::mem::swap;
 
@@ -32,7 +29,6 @@ use std::mem::swap;
 pub struct Gateway {
     alloc: Global,
     setup: Setup,
-    // In a box, so that a gateway is small where it is moved.
     state: Box<State>,
     // What the texts of the last event were that it took.
     outcomes: Outcomes,
@@ -67,7 +63,7 @@ impl Drop for Gateway {
 impl Model for Gateway {
     ghost use Rattle.gateway_core.specs.AccountState.{account_in};
     ghost use Rattle.gateway_core.specs.GatewayState.{GatewayState};
-    ghost use Rattle.gateway_core.specs.State.{machine_in};
+    ghost use Rattle.gateway_texts.specs.State.{machine_in};
     ghost use Rattle.gateway_core.specs.Sound.{IsSound};
 
     ghost Value = { GatewayState };
@@ -82,30 +78,12 @@ impl Model for Gateway {
     ghost invariant = { λ g. IsSound g.setup (machine_in g.state.value) };
 }
 
-// What a gateway with this setup keeps at moment 0.
-fn opening_state(alloc: Global, setup: &Setup) -> Result<Box<State>, OutOfMemory>
-    requires { IsSetUp setup.now }
-    ensures { IfOk result (λ state. machine_in state.value ≡ opening setup.now) }
-{
-    let list = opening_list(alloc, setup)?;
-    let store = Store::of(alloc, list, opening_own(setup))?;
-    let state = State {
-        clock: 0,
-        store,
-        history: History::new(alloc),
-    };
-    match Box::new(alloc, state) {
-        Ok(state) => Ok(state),
-        Err(_) => Err(AllocError),
-    }
-}
-
 impl Gateway {
     ghost use Rattle.std.specs.Result.{result_err};
     ghost use Rattle.plain_machine.specs.Refusing.{Ends};
     ghost use Rattle.plain_machine.specs.Falling.{first_due};
     ghost use Rattle.plain_machine.specs.Lists.{plain, hook_of, signals_of, connections_of, lost_of};
-    ghost use Rattle.gateway_core.specs.Outcomes.{last_outcomes};
+    ghost use Rattle.gateway_texts.specs.Outcomes.{last_outcomes};
     ghost use Rattle.gateway_core.specs.Accounts.{last_account};
     ghost use Rattle.gateway_core.specs.Remembering.{remembered};
     ghost use Rattle.gateway_core.specs.Stands.{Stands, Opens, Took, StoppedAt};

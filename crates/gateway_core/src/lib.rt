@@ -6,31 +6,23 @@
 
 mod account;
 mod acting;
-mod answering;
-mod commanding;
 pub mod examples;
 mod gateway;
-mod labelling;
 pub mod laws;
-mod outcome;
-mod outcomes;
 mod parting;
-mod sending;
 mod served;
 mod serving;
-mod state;
 mod stopped;
-mod telling;
 mod ticking;
 mod wire;
 mod working;
 
 pub use crate::gateway::Gateway;
-pub use crate::outcome::{Reply, TextOutcome};
 pub use crate::served::Served;
 pub use crate::stopped::Stopped;
 pub use crate::wire::{DATAGRAM_ROOM, Input, Wire, WireFault};
 pub use endpoints::key_at_fault;
+pub use gateway_texts::{Reply, TextOutcome};
 pub use plain_machine::{
     Config, ConfigFault, ConfigKey, Event, FIRSTS, GivenUpCommand, Label, NamedRoute, OutDatagram,
     Outputs, Refusal, SentMessage, What, Whose,

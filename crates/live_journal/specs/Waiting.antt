@@ -1,7 +1,7 @@
 -- Since when the agent owes an answer.
 use Rattle.std.specs.Prelude.{ℕ, Bool, if◌then◌else◌, List, find, Option, Some, None, option_map}
 use Rattle.std.specs.List.{list_any}
-use Rattle.gateway_core.specs.declared.outcome.TextOutcome.{TextOutcome}
+use Rattle.gateway_texts.specs.declared.outcome.TextOutcome.{TextOutcome}
 use Rattle.plain_machine.specs.declared.label.SentMessage.{SentMessage}
 use Rattle.live_journal.specs.Counting.{is_response}
 use Rattle.live_journal.specs.Strangers.{is_own}

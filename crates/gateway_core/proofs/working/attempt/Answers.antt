@@ -1,6 +1,6 @@
 use Rattle.std.proofs.Common.{refl, ◌∙◌}
 use Rattle.plain_machine.specs.Event.{event_of}
-use Rattle.gateway_core.specs.State.{machine_in}
+use Rattle.gateway_texts.specs.State.{machine_in}
 use Rattle.gateway_core.proofs.AlikeLemmas.{ends_purged}
 use Rattle.gateway_core.proofs.WorkLemmas.{as_found, puts_settled}
 use Rattle.gateway_core.proofs.working.attempt.Goals as goal
