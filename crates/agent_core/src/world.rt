@@ -2,7 +2,7 @@
 ghost use Rattle.std.specs.Prelude.{◌≡◌, ◌<◌, ◌++◌, length, List, map, ⊤, IfErr, OnOk, true, option_map, option_copied, slice_get, Some};
 ghost use Rattle.std.specs.Result.{result_err};
 ghost use Rattle.plain_machine.specs.Setup.{setup_from, setup_of};
-ghost use Rattle.transmission_rules.specs.Numbering.{firsts};
+ghost use Rattle.small_rules.specs.Numbering.{firsts};
 ghost use Rattle.agent_core.specs.declared.packet.End.TheVariants.{GatewayEnd, AgentEnd};
 ghost use Rattle.agent_core.specs.declared.step.StepRefusal.TheVariants.{OutOfMemory};
 ghost use Rattle.agent_core.specs.World.{posted_as, WorldStep, issuing, dialling, ticking, delivering, plain_world};

@@ -2,9 +2,9 @@
 ghost use Rattle.std.specs.Prelude.{◌≡◌, ◌<◌, ◌≤◌};
 ghost use Rattle.endpoint_names.specs.Route.{route_of, place_of, at, with_port};
 
+use small_rules::place_in_turn;
 use std::alloc::AllocError;
 use std::net::{Ipv4Addr, SocketAddrV4};
-use transmission_rules::place_in_turn;
 
 /// The most addresses of one receiver (this gateway's profile).
 pub const MOST_ADDRESSES: usize = 4;

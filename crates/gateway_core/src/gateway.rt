@@ -2,7 +2,7 @@
 ghost use Rattle.std.specs.Prelude.{◌≡◌, ◌∷◌, [], List, map, option_map, ◌<◌, ◌≤◌, ◌^◌, Some, IfOk, IfErr, OnOk, OnErr};
 ghost use Rattle.history.specs.Memory.{most_firsts};
 ghost use Rattle.plain_machine.specs.Setup.{setup_from, setup_of};
-ghost use Rattle.transmission_rules.specs.Numbering.{firsts};
+ghost use Rattle.small_rules.specs.Numbering.{firsts};
 ghost use Rattle.plain_machine.specs.Machine.{serves};
 ghost use Rattle.plain_machine.specs.Event.{GatewayEvent, event_of};
 ghost use Rattle.gateway_texts.specs.State.{machine_in};

@@ -22,7 +22,7 @@ ghost use Rattle.plain_machine.specs.declared.config.ConfigFault.{ConfigFault};
 ghost use Rattle.plain_machine.specs.declared.config.ConfigKey.{ConfigKey};
 ghost use Rattle.plain_machine.specs.ConfigFault.{fault_about};
 ghost use Rattle.plain_machine.specs.Setup.{setup_from, setup_of, key_at_fault, IsSetUp};
-ghost use Rattle.transmission_rules.specs.Numbering.{firsts};
+ghost use Rattle.small_rules.specs.Numbering.{firsts};
 ghost use Rattle.plain_machine.specs.Answering.{Transaction, reply, executed, transacted};
 ghost use Rattle.transmission.specs.Packing.{messages_in};
 ghost use Rattle.transmission.specs.Texts.{largest_datagram};

@@ -1,6 +1,6 @@
 //! With which number ids begin.
 ghost use Rattle.std.specs.Prelude.{◌≡◌, ◌<◌};
-ghost use Rattle.transmission_rules.specs.Numbering.{firsts};
+ghost use Rattle.small_rules.specs.Numbering.{firsts};
 ghost use Rattle.machine_laws.specs.Starting.{first_at};
 ghost use Rattle.new_start.specs.Words.{first_from, first_in};
 
@@ -20,7 +20,7 @@ pub struct FirstNumber {
 
 impl Model for FirstNumber {
     ghost use Rattle.std.specs.Prelude.{ℕ, ◌<◌};
-    ghost use Rattle.transmission_rules.specs.Numbering.{firsts};
+    ghost use Rattle.small_rules.specs.Numbering.{firsts};
 
     ghost Value = { ℕ };
 

@@ -5,7 +5,7 @@ ghost use Rattle.outbound.specs.Issued.{is_command_as, answered_with};
 
 use mg_bytes::Text;
 use mgcp_text::{Message, TransactionId};
-use transmission_rules::{is_answered, is_command_issued};
+use small_rules::{is_answered, is_command_issued};
 
 /// The answer to a command that was issued.
 #[derive(Drop)]

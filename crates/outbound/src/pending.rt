@@ -10,10 +10,10 @@ use crate::reply::Reply;
 use endpoint_names::Route;
 use mg_bytes::{OutOfMemory, Text};
 use mgcp_text::TransactionId;
+use small_rules::is_final;
 use std::alloc::Global;
 use std::marker::Model;
 use std::net::SocketAddrV4;
-use transmission_rules::is_final;
 
 // How long an answer is waited for after a provisional response, in ms (this gateway's profile).
 const PROVISIONAL_WAIT: u64 = 5_000;

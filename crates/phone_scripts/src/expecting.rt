@@ -7,8 +7,8 @@ ghost use Rattle.phone_scripts.specs.Expecting.{last_moment, hears, is_same_mode
 
 use crate::telephone::{Connected, Telephone};
 use connections::{Mode, mode_text};
-use in_time::is_in_time;
 use mg_packages::Signal;
+use small_rules::is_in_time;
 
 /// What is expected of a telephone.
 #[derive(Clone, Copy)]

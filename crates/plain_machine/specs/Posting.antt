@@ -8,8 +8,8 @@ use Rattle.outbound.specs.declared.repeat.Repeat.TheVariants.{Sent as SentAgain,
 use Rattle.endpoint_names.specs.Route.{at}
 use Rattle.outbound.specs.Flight.{InFlight, sent_to, sent_first, repeat_of, repeated}
 use Rattle.restart.specs.Restarting.{begun}
-use Rattle.transmission_rules.specs.Numbering.{next_number}
-pub use Rattle.transmission_rules.specs.Numbering.{numbers}
+use Rattle.small_rules.specs.Numbering.{next_number}
+pub use Rattle.small_rules.specs.Numbering.{numbers}
 use Rattle.plain_machine.specs.declared.post.Post.{Post}
 use Rattle.plain_machine.specs.declared.post_owner.PostOwner.{PostOwner}
 use Rattle.plain_machine.specs.declared.post_owner.PostOwner.TheVariants.{Gateway, Line}

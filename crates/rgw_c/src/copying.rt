@@ -2,7 +2,7 @@
 ghost use Rattle.std.specs.Prelude.{◌≡◌, ◌≢◌, ◌≤◌, length, take, nat_lt, if◌then◌else◌};
 
 use crate::numbers::{OK, SMALL_BUFFER};
-use c_buffers::lacks_room;
+use small_rules::lacks_room;
 
 /// Copies a text to the start of a buffer, if it fits, and says how long it is, also where it doesn't: then the buffer is as it was.
 pub fn copy_out(text: &[u8], buffer: &mut [u8], needed: &mut usize) -> u32

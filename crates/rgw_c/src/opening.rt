@@ -1,6 +1,6 @@
 //! How a gateway is opened from the text of a configuration, what is wrong with one, and how it is closed.
 ghost use Rattle.std.specs.Prelude.{◌≡◌, ◌≢◌, ◌<◌, ◌≤◌, ℕ, List, [], length, take, true, Result, IfOk, IfErr, IfSome, IsSome, IsSomeAnd, MatchOption, None};
-ghost use Rattle.transmission_rules.specs.Numbering.{firsts};
+ghost use Rattle.small_rules.specs.Numbering.{firsts};
 ghost use Rattle.gateway_core.specs.Stands.{Stands};
 ghost use Rattle.rgw_scripts.specs.declared.step.ScriptStep.{ScriptStep};
 ghost use Rattle.rgw_scripts.specs.Configuration.{config_in};
@@ -17,10 +17,10 @@ use crate::numbers::{
     BAD_FIRST, HAS_FLAW, IS_OPEN, NOT_OPEN, OK, OUT_OF_MEMORY, SMALL_BUFFER, TOO_LONG, VERSION,
     config_number,
 };
-use c_buffers::lacks_room;
 use gateway_core::{ConfigFault, FIRSTS, Gateway, Outputs};
 use rgw_scenes::{BAD_TOML, Flaw, flaw_of, read_config, told};
 use rgw_scripts::{PlayFault, is_too_long};
+use small_rules::lacks_room;
 use std::alloc::Global;
 
 // The gateway of a configuration's text, whose ids begin with this number, below `FIRSTS`, and its own one higher (RFC 3435, 3.2.1.2).

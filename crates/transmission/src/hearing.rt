@@ -14,9 +14,9 @@ use history::History;
 use mg_bytes::{OutOfMemory, ReturnCode, Sequence};
 use mgcp_text::{AnswerContent, Message, TextFault};
 use piggyback::{Parts, parts};
+use small_rules::is_too_long;
 use std::alloc::{AllocError, Global};
 use std::net::SocketAddrV4;
-use transmission_rules::is_too_long;
 
 /// The texts of a datagram in their order; none where it is too long (RFC 3435, 3.5.4 and 3.5.5). This takes no memory.
 #[tactic(auto, unfolding(crate::specs::Texts::texts_of), using(crate::proofs::TextLaws::few_within))]

@@ -7,10 +7,10 @@ ghost use Rattle.transmission.specs.Packing.{same_address, joins, joined, packed
 use crate::LARGEST_DATAGRAM;
 use crate::output::{OutDatagram, Outputs};
 use mg_bytes::{OutOfMemory, Sequence, Text};
+use small_rules::share_a_datagram;
 use std::alloc::Global;
 use std::mem;
 use std::net::SocketAddrV4;
-use transmission_rules::share_a_datagram;
 
 // The line that parts the messages of a datagram (RFC 3435, 3.5.5).
 const DOT_LINE: &[u8] = b".\r\n";

@@ -4,7 +4,7 @@ ghost use Rattle.history.specs.Memory.{most_firsts};
 ghost use Rattle.history.specs.Looking.{looked_in, look_of};
 ghost use Rattle.mgcp_text.specs.Answer.{response_of};
 ghost use Rattle.mgcp_text.specs.Writing.{written};
-ghost use Rattle.transmission_rules.specs.Rules.{is_executed};
+ghost use Rattle.small_rules.specs.Rules.{is_executed};
 ghost use Rattle.transmission.specs.Transacting.{message_to, is_new, answered_again, with_first};
 
 use crate::output::OutDatagram;
@@ -12,9 +12,9 @@ use crate::sending::send;
 use history::{History, IdSpan, Look};
 use mg_bytes::{OutOfMemory, Sequence, Text};
 use mgcp_text::{AnswerContent, TransactionId};
+use small_rules::{Standing, is_executed};
 use std::alloc::Global;
 use std::net::SocketAddrV4;
-use transmission_rules::{Standing, is_executed};
 
 /// Where a message came from, and its transaction id.
 #[derive(Clone, Copy)]

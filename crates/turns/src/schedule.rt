@@ -5,7 +5,7 @@ ghost use Rattle.turns.specs.Schedule.{opening, met, asked, slept, aim_of, tried
 use crate::circle::{Ready, Source, first_ready};
 use crate::situation::{Situation, is_over, tick_to, ticks_behind, wait_until};
 use crate::turn::{Pause, Turn, turn_of};
-use transmission_rules::is_too_far_behind;
+use small_rules::is_too_far_behind;
 
 // Who wakes so late and no later, in ms, wasn't stopped.
 const LONGEST_OVERSLEEP: u64 = 500;
