@@ -1,7 +1,8 @@
 -- What goes over a wire.
-use Rattle.std.specs.Prelude.{◌≡◌, ℕ, ◌+◌, ◌-◌, ◌^◌, ◌≤◌, min, ⊤, List, [], ◌∷◌, ◌++◌, length, take, Option, Some, None, Result, Ok, Err}
+use Rattle.std.specs.Prelude.{◌≡◌, ℕ, ◌≤◌, ⊤, List, [], ◌∷◌, ◌++◌, length, take, Option, Some, None, Result, Ok, Err}
 use Rattle.std.specs.declared.net.socket_addr.SocketAddrV4.{SocketAddrV4}
 use Rattle.plain_machine.specs.Event.{GatewayEvent, datagram, phone, tick}
+pub use Rattle.small_rules.specs.Counting.{counted}
 use Rattle.gateway_core.specs.declared.wire.Input.{Input}
 use Rattle.gateway_core.specs.declared.wire.Input.TheVariants.{Datagram, Phone, Tick, End}
 
@@ -35,10 +36,6 @@ abbrev pub Grows : {A : Type 0} → Option (List A) → List A → Option (List 
 Grows None more are = are ≡ None
 Grows (Some were) more None = ⊤
 Grows (Some were) more (Some are) = are ≡ were ++ more
-
--- so many more; a count stays at its greatest value
-abbrev pub counted : ℕ → ℕ → ℕ
-counted were more = were + min more (2 ^ 64 - 1 - were)
 
 -- this went over it
 pub record Carries (was : WireLog) (traffic : Traffic) (is : WireLog) : Type 0 where

@@ -7,7 +7,7 @@ ghost use Rattle.bad_network.specs.declared.packet.Packet.{Packet};
 ghost use Rattle.bad_network.specs.declared.packet.Way.TheVariants.{In, Out};
 ghost use Rattle.endpoint_names.specs.declared.route.Route.TheVariants.{One, Two};
 ghost use Rattle.mg_line.specs.declared.phone.Act.TheVariants.{OffHook};
-ghost use Rattle.gateway_core.specs.Wire.{counted};
+ghost use Rattle.small_rules.specs.Counting.{counted};
 ghost use Rattle.live_journal.specs.Recording.{Records, unsent_text};
 ghost use Rattle.live_journal.specs.Strangers.{stranger_text};
 ghost use Rattle.live_journal.specs.declared.journal.Journal.{Journal};

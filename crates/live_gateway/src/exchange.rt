@@ -1,6 +1,6 @@
 //! What goes between the gateway and others: over sockets, behind a bad network where one is asked for; and its journal.
 ghost use Rattle.std.specs.Prelude.{◌≡◌, ◌≤◌, ◌∷◌, ◌⊎◌, ⊤, [], true, false, length, Bool, List, Option, Result, IfSome, is_some};
-ghost use Rattle.gateway_core.specs.Wire.{counted};
+ghost use Rattle.small_rules.specs.Counting.{counted};
 ghost use Rattle.surroundings.specs.declared.surroundings.Fault.{Fault};
 ghost use Rattle.surroundings.specs.Hearing.{Hears};
 ghost use Rattle.surroundings.specs.Sending.{Sent, Grows, found_by};
@@ -17,7 +17,8 @@ use bad_network::{Fate, Packet, Way};
 use exchange_log::Note;
 use gateway_core::Gateway;
 use live_ends::{NEXT_OFFER, Now};
-use live_journal::{Faults, Journal, Taken, count};
+use live_journal::{Faults, Journal, Taken};
+use small_rules::count;
 use std::net::SocketAddrV4;
 use surroundings::{Fault, Lines, Surroundings};
 use traces::Mark;

@@ -1,6 +1,6 @@
 //! What is kept of what goes between a gateway and others: its counts and its records.
 ghost use Rattle.std.specs.Prelude.{◌≡◌};
-ghost use Rattle.gateway_core.specs.Wire.{counted};
+ghost use Rattle.small_rules.specs.Counting.{counted};
 ghost use Rattle.live_journal.specs.Recording.{Records, unsent_text};
 ghost use Rattle.live_journal.specs.Strangers.{quiet_after, stranger_text};
 

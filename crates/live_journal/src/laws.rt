@@ -4,7 +4,7 @@ ghost use Rattle.plain_machine.specs.declared.setup.Setup.{Setup};
 ghost use Rattle.plain_machine.specs.Event.{GatewayEvent};
 ghost use Rattle.plain_machine.specs.Machine.{Machine};
 ghost use Rattle.gateway_texts.specs.declared.outcome.TextOutcome.{TextOutcome};
-ghost use Rattle.gateway_core.specs.Wire.{counted};
+ghost use Rattle.small_rules.specs.Counting.{counted};
 ghost use Rattle.live_journal.specs.Counting.{Counts, with_texts, counts_after, outcomes_from, is_command_at, is_response, is_other, is_lost};
 
 /// Each count is the sum of what it was and of the texts that it is the count of, up to 18,446,744,073,709,551,615.

@@ -28,5 +28,5 @@ pub use crate::place_counts::PlaceCounts;
 pub use crate::reporting::{Faults, report_with};
 pub use crate::strangers::Quiet;
 pub use crate::taken::Taken;
-pub use crate::text_counts::{TextCounts, count};
+pub use crate::text_counts::TextCounts;
 pub use crate::trace::Trace;

@@ -1,6 +1,6 @@
 //! Counts what goes over the wire, as the gateway tells it. A count stays at its greatest value.
 ghost use Rattle.std.specs.Prelude.{◌≡◌, IfOk, None};
-ghost use Rattle.gateway_core.specs.Wire.{counted};
+ghost use Rattle.small_rules.specs.Counting.{counted};
 ghost use Rattle.live_journal.specs.Counting.{counts_in, no_counts, with_texts};
 ghost use Rattle.live_journal.specs.Places.{with_sends};
 ghost use Rattle.live_journal.specs.Waiting.{unanswered_after};
@@ -8,9 +8,10 @@ ghost use Rattle.sent_counts.specs.Counting.{tally_in, no_tally, with_sent, with
 
 use crate::place_counts::PlaceCounts;
 use crate::taken::Taken;
-use crate::text_counts::{TextCounts, count};
+use crate::text_counts::TextCounts;
 use crate::waiting::unanswered_after;
 use sent_counts::SentCounts;
+use small_rules::count;
 use std::alloc::{AllocError, Global};
 
 /// What was counted.

@@ -5,10 +5,10 @@ ghost use Rattle.page_answers.specs.declared.counts.TheConstants.{PLACES};
 ghost use Rattle.live_journal.specs.Places.{is_same, place_in, place_among, with_send, with_sends};
 
 use crate::strangers::is_own;
-use crate::text_counts::count;
 use endpoint_names::Route;
 use gateway_core::SentMessage;
 use page_answers::PLACES;
+use small_rules::count;
 use std::net::SocketAddrV4;
 
 // The place of all other addresses.

@@ -6,11 +6,11 @@ ghost use Rattle.live_journal.specs.Recording.{Records};
 ghost use Rattle.live_journal.specs.Strangers.{told_at, quiet_after, is_own, unheard_text, text_of_stranger, stranger_text};
 
 use crate::log::Log;
-use crate::text_counts::count;
 use exchange_log::{Note, Stamp, put_note};
 use gateway_core::{SentMessage, What};
 use live_ends::Now;
 use mg_bytes::OutOfMemory;
+use small_rules::count;
 use std::alloc::Global;
 use std::net::SocketAddrV4;
 use surroundings::Speakers;

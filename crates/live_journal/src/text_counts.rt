@@ -1,11 +1,11 @@
 //! Counts the texts that come, by what they were. A count stays at its greatest value.
 ghost use Rattle.std.specs.Prelude.{◌≡◌};
-ghost use Rattle.gateway_core.specs.Wire.{counted};
 ghost use Rattle.live_journal.specs.Counting.{counts_in, no_counts, with_command, with_reply, with_text, with_texts};
 
 use gateway_core::{Reply, TextOutcome};
 use mgcp_text::Verb;
 use sent_counts::place_of;
+use small_rules::count;
 
 /// What was counted of the texts that came.
 #[derive(Clone, Copy)]
@@ -18,13 +18,6 @@ pub struct TextCounts {
     pub others: u64,
     /// Commands that found no room among those that are remembered.
     pub lost: u64,
-}
-
-/// One more. A count stays at its greatest value.
-pub fn count(number: &mut u64)
-    ensures { number.new ≡ counted number.old 1 }
-{
-    *number = number.saturating_add(1);
 }
 
 impl TextCounts {

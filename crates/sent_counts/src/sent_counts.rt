@@ -1,10 +1,10 @@
 //! Counts what is sent and given up. A count stays at its greatest value, 18,446,744,073,709,551,615.
 ghost use Rattle.std.specs.Prelude.{◌≡◌, ◌<◌, IfOk};
-ghost use Rattle.gateway_core.specs.Wire.{counted};
 ghost use Rattle.sent_counts.specs.Counting.{tally_in, no_tally, place_of, with_answer, with_what, with_sent, with_one_given_up, with_given_up, all_given_up};
 
 use gateway_core::{GivenUpCommand, SentMessage, What};
 use mgcp_text::Verb;
+use small_rules::count;
 use std::alloc::{AllocError, Global};
 
 // So many return codes there are: each has three digits (RFC 3435, 2.4).
@@ -24,13 +24,6 @@ pub struct SentCounts {
     /// Commands of its own that were given up: those of the gateway itself, and those of its lines.
     pub given_up_by_gateway: u64,
     pub given_up_by_lines: u64,
-}
-
-// One more.
-fn count(number: &mut u64)
-    ensures { number.new ≡ counted number.old 1 }
-{
-    *number = number.saturating_add(1);
 }
 
 /// The place of a verb's count (RFC 3435, 3.2.1.1).
