@@ -1,3 +1,16 @@
+pub mod Waiting
+pub mod Flights
+pub mod AgentClock
+pub mod Wakes
+pub mod Duties
+pub mod Hooks
+pub mod Responses
+pub mod Orders
+pub mod Turns
+pub mod Showing
+pub mod Boards
+pub mod Typed
+pub mod Example
 pub mod Clock
 pub mod Report
 pub mod Wiring

@@ -3,10 +3,10 @@ ghost use Rattle.std.specs.Prelude.{◌≡◌, IfOk};
 
 use crate::recorder::Recorder;
 use crate::session::serve;
+use crate::switchboard::Switchboard;
 use crate::wire::Wire;
 use agent_texts::{AgentConfig, Journal};
 use bad_network::{BadNetwork, Spoiling};
-use call_desk::Switchboard;
 use exchange_log::put_peer;
 use live_ends::{CommonEnding, Live, Outlets, SocketWanted, boxed, open_capture};
 use mg_bytes::{Draft, OutOfMemory};

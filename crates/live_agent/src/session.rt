@@ -4,11 +4,12 @@ ghost use Rattle.live_agent.specs.Clock.{is_behind};
 
 use crate::loading::count_came;
 use crate::recorder::Recorder;
+use crate::switchboard::Switchboard;
+use crate::typed::{TypedFault, typed_text};
 use crate::wire::Wire;
 use agent_texts::count;
 use bad_network::Way;
 use call_agent::Issued;
-use call_desk::{Switchboard, TypedFault, typed_text};
 use live_ends::STOP_FROM_AFAR;
 use mg_bytes::{Draft, OutOfMemory};
 use plain_machine::{Outputs, Refusal};

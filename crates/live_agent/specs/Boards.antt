@@ -1,0 +1,49 @@
+-- What is asked of the gateways of a board, and of the lines of its exchange.
+use Rattle.std.specs.Prelude.{◌≡◌, ℕ, Bool, true, length, Option, Some, None, IsSomeAnd}
+use Rattle.std.specs.Global.{Box}
+use Rattle.std.specs.declared.net.socket_addr.SocketAddrV4.{SocketAddrV4}
+use Rattle.transmission.specs.Packing.{same_address}
+use Rattle.live_agent.specs.declared.gateway.Gateway.{Gateway}
+use Rattle.live_agent.specs.declared.gateway.Wake.{Wake}
+use Rattle.live_agent.specs.declared.office.Office.{Office}
+use Rattle.live_agent.specs.declared.worklist.Worklist.{Worklist}
+use Rattle.live_agent.specs.Duties.{woken}
+use Rattle.live_agent.specs.Orders.{cared}
+use Rattle.live_agent.specs.Waiting.{waits, settling, Settles}
+use Rattle.live_agent.specs.Wakes.{first_woken}
+
+-- the gateway is at this address
+abbrev pub is_at : SocketAddrV4 → Gateway → Bool
+is_at address gateway = same_address gateway.address address
+
+-- so many lines of the exchange are settled now; none where there is no exchange
+abbrev pub settling_in : Option (Box Office) → ℕ
+settling_in None = 0
+settling_in (Some office) =
+    settling office.value.worklist.settled.items office.value.worklist.settles_all (length office.value.cares.items)
+
+-- those lines of the exchange that waited are settled from now on; nothing else of it has changed
+abbrev pub SettlesIn : Option (Box Office) → Option (Box Office) → Type 0
+SettlesIn None is = is ≡ None
+SettlesIn (Some was) is =
+    IsSomeAnd is (λ office. Settles was.value.worklist office.value.worklist
+    × (office.value ≡ record was.value { worklist = office.value.worklist }))
+
+-- so many lines of the gateway are taken, of those whose notifications came; none where there is no such gateway
+abbrev pub taking_in : Option Gateway → Worklist → ℕ
+taking_in None notifying = 0
+taking_in (Some gateway) notifying = settling notifying.settled.items notifying.settles_all gateway.lines
+
+-- the next line of the gateway to which a command is sent again by now; none where there is no such gateway
+abbrev pub woken_at : Option Gateway → Option Wake
+woken_at None = None
+woken_at (Some gateway) = first_woken gateway.ticked gateway.wakes.items
+
+-- What was put off of that line is sent again, if this was its moment: it waits to be settled. Nothing has happened to the exchange.
+abbrev pub WakesIn : Option Wake → Option (Box Office) → Option (Box Office) → Type 0
+WakesIn None was is = is ≡ was
+WakesIn (Some wake) None is = is ≡ None
+WakesIn (Some wake) (Some was) is =
+    IsSomeAnd is (λ office. (office.value.exchange ≡ was.value.exchange)
+    × ((office.value.cares.items ≡ cared (woken wake.moment) was.value.cares.items wake.line)
+    × (waits office.value.worklist.waiting.items office.value.worklist.is_all wake.line ≡ true)))

@@ -1,0 +1,51 @@
+-- What the worked examples speak of.
+use Rattle.std.specs.Prelude.{ℕ, List, [], ◌∷◌, false, true, codes}
+use Rattle.endpoint_names.specs.declared.route.Route.TheVariants.{One}
+use Rattle.endpoint_names.specs.RouteExample.{agent_at}
+use Rattle.outbound.specs.Flight.{InFlight, sent_first}
+use Rattle.mgcp_text.specs.declared.message.Param.{Param}
+use Rattle.call_routing.specs.declared.phase.Side.{Side}
+use Rattle.call_routing.specs.declared.phase.Side.TheVariants.{Caller}
+use Rattle.call_routing.specs.declared.phase.Part.{Part}
+use Rattle.call_routing.specs.declared.phase.Phase.TheVariants.{Resting, InCall}
+use Rattle.call_routing.specs.declared.command.Command.TheVariants.{Create}
+use Rattle.call_routing.specs.Line.{new_line, sent}
+use Rattle.call_routing.specs.Exchange.{ExchangeState}
+use Rattle.live_agent.specs.declared.care.Care.{Care}
+use Rattle.live_agent.specs.declared.gateway.Wake.{Wake}
+use Rattle.live_agent.specs.Duties.{new_care, begun, landed}
+
+-- a line once it was cleared, and once it was audited
+abbrev pub cleared : Care
+cleared = landed (begun new_care)
+
+abbrev pub audited : Care
+audited = landed (begun cleared)
+
+-- an audit found its handset lifted
+abbrev pub found_off : Care
+found_off = record audited { is_found_off = true }
+
+-- a line to which a command is sent again at a moment
+abbrev pub wake_at : ℕ → ℕ → Wake
+wake_at moment line = record { moment = moment; line = line }
+
+abbrev pub param : List ℕ → List ℕ → Param
+param code value = record { code = code; value = value }
+
+abbrev pub part : Side → Part
+part side = record { call = 7; other = 3; side = side; answered = false }
+
+abbrev pub answered_part : Side → Part
+answered_part side = record { call = 7; other = 3; side = side; answered = true }
+
+-- an exchange of two lines, at the second of which a connection is created for its caller
+abbrev pub creating : ExchangeState
+creating = record {
+  calls = record { last = 7; phases = Resting ∷ InCall (part Caller) ∷ [] };
+  lines = new_line ∷ sent (Create 7 false) new_line ∷ [];
+}
+
+-- a command that was issued at moment 0
+abbrev pub issued : InFlight
+issued = sent_first 7 (One (agent_at 1)) (codes "AUEP 7 aaln/1 MGCP 1.0\r\n") 0

@@ -1,0 +1,104 @@
+//! A command that is in flight.
+ghost use Rattle.std.specs.Prelude.{◌≡◌, IfOk};
+ghost use Rattle.endpoint_names.specs.declared.route.Route.TheVariants as routes;
+ghost use Rattle.outbound.specs.Flight.{sent_first};
+ghost use Rattle.live_agent.specs.Flights.{most_steps, fallen, behind, falls, answered_by, over_by};
+
+use call_agent::Issued;
+use endpoint_names::Route;
+use mg_bytes::OutOfMemory;
+use mgcp_text::TransactionId;
+use outbound::{Pending, Repeat, Reply};
+use std::alloc::{AllocError, Global};
+
+// Moments are below this (in ms), as those of an agent are.
+const END_OF_TIME: u64 = 1 << 62;
+
+// The greatest transaction id (RFC 3435, 3.2.1.2).
+const GREATEST_ID: u32 = 999_999_999;
+
+// A command is repeated less often than this, and then given up.
+const MOST_STEPS: u8 = 8;
+
+/// A command that an agent issued and that isn't answered yet. It is kept by the rules by which the agent keeps it, so it is
+/// known when the agent gives it up.
+#[derive(Drop)]
+pub(crate) struct Flight {
+    pub(crate) pending: Pending,
+    /// The place of the line that an exchange sent it to; none where it was typed.
+    pub(crate) line: Option<usize>,
+}
+
+// What falls due first of a command by a moment (in ms): what is done with it then, if anything does.
+fn fall(pending: &mut Pending, moment: u64) -> Option<Repeat>
+    ensures done { result ≡ fallen pending.old moment }
+    ensures pending { pending.new ≡ behind pending.old moment }
+{
+    let due = pending.due();
+    if due <= moment && due < END_OF_TIME {
+        Some(pending.repeat(due))
+    } else {
+        None
+    }
+}
+
+// What falls due of a command by a moment (in ms): whether it is given up.
+fn is_given_up(pending: &mut Pending, moment: u64) -> bool
+    ensures { (result, pending.new) ≡ falls most_steps pending.old moment }
+{
+    for _ in 0..MOST_STEPS {
+        match fall(pending, moment) {
+            None => return false,
+            Some(Repeat::Sent) => {}
+            Some(Repeat::GivenUp) => return true,
+        }
+    }
+    false
+}
+
+// A response with this id and return code comes at a moment (in ms): whether it answers a command.
+fn is_answered(pending: &mut Pending, id: TransactionId, code: u16, moment: u64) -> bool
+    ensures { (result, pending.new) ≡ answered_by id code pending.old moment }
+{
+    if moment >= END_OF_TIME {
+        return false;
+    }
+    match pending.answer(id, code, moment) {
+        Reply::Answered => true,
+        Reply::Provisional | Reply::Stranger => false,
+    }
+}
+
+impl Flight {
+    /// A command that was issued just now. An error is for want of memory only.
+    pub(crate) fn begin(
+        alloc: Global,
+        issued: &Issued,
+        line: Option<usize>,
+    ) -> Result<Flight, OutOfMemory>
+        ensures pending { IfOk result (λ flight. flight.pending
+            ≡ sent_first issued.now.id (routes.One issued.now.datagram.to) issued.now.datagram.bytes issued.now.datagram.moment) }
+        ensures line { IfOk result (λ flight. flight.line ≡ line) }
+    {
+        let moment = issued.datagram.moment;
+        if moment >= END_OF_TIME || issued.id < 1 || issued.id > GREATEST_ID {
+            return Err(AllocError);
+        }
+        let id = TransactionId::of(issued.id);
+        let to = Route::One(issued.datagram.to);
+        let text = issued.datagram.bytes.as_bytes();
+        let pending = Pending::begin(alloc, id, to, text, moment)?;
+        Ok(Flight { pending, line })
+    }
+
+    /// Whether it is over at a moment (in ms): answered by a response with this id and return code; without a response, given up.
+    pub(crate) fn is_over(&mut self, response: &Option<(TransactionId, u16)>, moment: u64) -> bool
+        ensures over { (result, self.new.pending) ≡ over_by response.now self.old.pending moment }
+        ensures line { self.new.line ≡ self.old.line }
+    {
+        match response {
+            None => is_given_up(&mut self.pending, moment),
+            Some((id, code)) => is_answered(&mut self.pending, *id, *code, moment),
+        }
+    }
+}

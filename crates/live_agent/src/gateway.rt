@@ -1,0 +1,241 @@
+//! A gateway that a call agent works with.
+ghost use Rattle.std.specs.Prelude.{◌≡◌, ◌≤◌, [], ◌∷◌, ◌++◌, None, IfOk, OnOk, OnErr};
+ghost use Rattle.endpoint_names.specs.declared.route.Route.TheVariants as routes;
+ghost use Rattle.plain_machine.specs.Event.{tick};
+ghost use Rattle.call_agent.specs.Hearing.{hears};
+ghost use Rattle.call_agent.specs.AgentStands.{AgentStands, AgentTook, AgentStays};
+ghost use Rattle.live_agent.specs.AgentClock.{first_id, tick_to};
+ghost use Rattle.live_agent.specs.Wakes.{first_moment, first_woken, behind_woken};
+
+use crate::flight::Flight;
+use agent_texts::copied;
+use call_agent::{Agent, IssueFault, Issued};
+use endpoint_names::Route;
+use mg_bytes::{OutOfMemory, Text};
+use mgcp_text::TransactionId;
+use plain_machine::{Event, Outputs, Refusal};
+use std::alloc::{AllocError, Global};
+use std::net::SocketAddrV4;
+
+// The clock of an agent goes on by no more than this at once, in ms.
+const LONGEST_TICK: u64 = 1000;
+
+// How long an announcement with the same id is a repeat, from the first on, in ms (RFC 3435, 3.5.1).
+const REPEAT_TIME: u64 = 30_000;
+
+// Ids begin up to here, so that enough are left.
+const FIRST_IDS: u64 = 900_000_000;
+
+/// A line to which a command is sent again at a moment, in ms.
+#[derive(Clone, Copy)]
+pub(crate) struct Wake {
+    pub(crate) moment: u64,
+    pub(crate) line: usize,
+}
+
+/// A gateway, with the agent that works with it.
+#[derive(Drop)]
+pub(crate) struct Gateway {
+    // In a box: a check pays for all that a value holds inline at each step of a function that is lent it.
+    pub(crate) agent: Box<Agent>,
+    pub(crate) address: SocketAddrV4,
+    /// What stands behind the `@` of its endpoints' names.
+    pub(crate) domain: Text,
+    /// The place of its first line among those of all gateways, and how many it has.
+    pub(crate) first: usize,
+    pub(crate) lines: u16,
+    // What isn't answered yet, in the order in which it was issued.
+    flights: Vec<Flight>,
+    // The lines of which commands were put off. Each is sent again as long behind its answer, so they stand in the order of that.
+    wakes: Vec<Wake>,
+    // The moment of the agent's clock, in ms.
+    ticked: u64,
+    // The id of the last announcement, and when it came.
+    announced: Option<(u32, u64)>,
+}
+
+// The first id that an agent issues that is started at this time of day, in ms.
+fn first_id(time: u64) -> u32
+    ensures { result ≡ first_id time }
+{
+    (time % FIRST_IDS) as u32 + 1
+}
+
+// How far a clock that has come to here goes on to a moment, in ms.
+fn tick_to(ticked: u64, moment: u64) -> u64
+    ensures { result ≡ tick_to ticked moment }
+{
+    moment.min(ticked.saturating_add(LONGEST_TICK))
+}
+
+// The agent of a gateway at this address with this domain and so many lines, which issues its commands from this id on.
+fn agent_of(
+    alloc: Global,
+    own: SocketAddrV4,
+    address: SocketAddrV4,
+    domain: Text,
+    lines: u16,
+    first: u32,
+) -> Result<Box<Agent>, OutOfMemory>
+    requires some { 1 ≤ first }
+    requires short { first ≤ 999999999 }
+    ensures stands { IfOk result (λ agent. AgentStands agent.value []) }
+    ensures setup { IfOk result (λ agent. agent.value.setup ≡ record {
+      own = routes.One own;
+      gateway = address;
+      domain = domain;
+      lines = lines;
+      first = first;
+    }) }
+{
+    let agent = Agent::new(alloc, Route::One(own), address, domain, lines, first)?;
+    match Box::new(alloc, agent) {
+        Ok(agent) => Ok(agent),
+        Err(_) => Err(AllocError),
+    }
+}
+
+impl Gateway {
+    /// A gateway at this address with this domain and so many lines, of which the first has this place. The agent has this address of
+    /// its own. It is this time of day, in ms: an agent that is started again issues its commands behind the ids of the one before, of
+    /// which the gateway may know some still. An error is for want of memory only.
+    pub(crate) fn new(
+        alloc: Global,
+        own: SocketAddrV4,
+        address: SocketAddrV4,
+        domain: &[u8],
+        first: usize,
+        lines: u16,
+        time: u64,
+    ) -> Result<Gateway, OutOfMemory>
+        ensures agent { IfOk result (λ made. AgentStands made.agent.value []) }
+        ensures setup { IfOk result (λ made. made.agent.value.setup ≡ record {
+          own = routes.One own;
+          gateway = address;
+          domain = domain.now;
+          lines = lines;
+          first = first_id time;
+        }) }
+        ensures named { IfOk result (λ made. (made.address ≡ address) × (made.domain ≡ domain.now)) }
+        ensures lines { IfOk result (λ made. (made.first ≡ first) × (made.lines ≡ lines)) }
+        ensures quiet { IfOk result (λ made. (made.flights.items ≡ []) × (made.ticked ≡ 0) × (made.announced ≡ None)) }
+        ensures none_put_off { IfOk result (λ made. made.wakes.items ≡ []) }
+    {
+        let kept = copied(alloc, domain)?;
+        let named = copied(alloc, domain)?;
+        let agent = agent_of(alloc, own, address, named, lines, first_id(time))?;
+        Ok(Gateway {
+            agent,
+            address,
+            domain: kept,
+            first,
+            lines,
+            flights: Vec::new(alloc),
+            wakes: Vec::new(alloc),
+            ticked: 0,
+            announced: None,
+        })
+    }
+
+    /// Issues a command; to the line at this place, where an exchange sends it. After an error nothing is to be sent.
+    pub(crate) fn issue(
+        &mut self,
+        alloc: Global,
+        verb: &[u8],
+        name: &[u8],
+        rest: &[u8],
+        line: Option<usize>,
+    ) -> Result<Issued, IssueFault> {
+        let issued = self.agent.issue(verb, name, rest)?;
+        let flight = Flight::begin(alloc, &issued, line)?;
+        match self.flights.push(flight) {
+            Ok(()) => Ok(issued),
+            Err(_) => Err(IssueFault::OutOfMemory),
+        }
+    }
+
+    /// The clock goes on to this moment (in ms), but by no more than a second: what is sent.
+    pub(crate) fn tick(&mut self, moment: u64) -> Result<Outputs, Refusal>
+        ensures ok { IfOk result (λ outputs.
+            AgentTook self.old.agent.value (hears (tick (tick_to self.old.ticked moment))) self.new.agent.value outputs) }
+        ensures ticked { OnOk result (self.new.ticked ≡ tick_to self.old.ticked moment) }
+        ensures err { OnErr result (AgentStays self.old.agent.value self.new.agent.value) }
+        ensures not_ticked { OnErr result (self.new.ticked ≡ self.old.ticked) }
+    {
+        let moment = tick_to(self.ticked, moment);
+        let outputs = self.agent.step(Event::Tick { moment })?;
+        self.ticked = moment;
+        Ok(outputs)
+    }
+
+    /// The moment of its clock, in ms.
+    pub(crate) fn ticked(&self) -> u64
+        ensures { result ≡ self.now.ticked }
+    {
+        self.ticked
+    }
+
+    /// A command to the line at this place is sent again at a moment, in ms: no earlier one than those before. An error is for want of
+    /// memory only, and leaves that out.
+    pub(crate) fn put_off(&mut self, line: usize, moment: u64) -> Result<(), OutOfMemory>
+        ensures ok { OnOk result (self.new.wakes.items ≡ self.old.wakes.items ++ (record { moment = moment; line = line }) ∷ []) }
+        ensures err { OnErr result (self.new.wakes.items ≡ self.old.wakes.items) }
+    {
+        match self.wakes.push(Wake { moment, line }) {
+            Ok(()) => Ok(()),
+            Err(_) => Err(AllocError),
+        }
+    }
+
+    /// When a command is sent again next that was put off, in ms.
+    pub(crate) fn next_wake(&self) -> Option<u64>
+        ensures { result ≡ first_moment self.now.wakes.items }
+    {
+        match self.wakes.first() {
+            Some(wake) => Some(wake.moment),
+            None => None,
+        }
+    }
+
+    /// The next line to which a command is sent again by now. It isn't put off any more.
+    pub(crate) fn woken(&mut self) -> Option<Wake>
+        ensures wake { result ≡ first_woken self.old.ticked self.old.wakes.items }
+        ensures rest { self.new.wakes.items ≡ behind_woken self.old.ticked self.old.wakes.items }
+    {
+        let first = self.wakes.first().copied()?;
+        if first.moment <= self.ticked {
+            self.wakes.remove(0);
+            return Some(first);
+        }
+        None
+    }
+
+    /// The command that a response with this id and return code answers; without a response, the next one that is given up by now. It
+    /// isn't in flight any more.
+    pub(crate) fn ended(&mut self, response: Option<(TransactionId, u16)>) -> Option<Flight> {
+        let now = self.ticked;
+        for place in 0..self.flights.len() {
+            let is_over = match self.flights.get_mut(place) {
+                Some(flight) => flight.is_over(&response, now),
+                None => false,
+            };
+            if is_over && place < self.flights.len() {
+                return Some(self.flights.remove(place));
+            }
+        }
+        None
+    }
+
+    /// Something is announced under this id: whether that is new.
+    pub(crate) fn announces(&mut self, id: TransactionId) -> bool {
+        let now = self.ticked;
+        if let Some((last, first)) = self.announced
+            && last == id.number()
+            && now.saturating_sub(first) < REPEAT_TIME
+        {
+            return false;
+        }
+        self.announced = Some((id.number(), now));
+        true
+    }
+}

@@ -1,0 +1,587 @@
+//! The gateways that a call agent works with, and their lines.
+ghost use Rattle.std.specs.Prelude.{◌≡◌, is_some, length, position, slice_get};
+ghost use Rattle.live_agent.specs.Boards.{is_at, settling_in, SettlesIn, taking_in, woken_at, WakesIn};
+ghost use Rattle.live_agent.specs.Waiting.{Settles};
+
+use crate::flight::Flight;
+use crate::gateway::{Gateway, Wake};
+use crate::office::{Office, Order};
+use crate::typed::{TypedFault, typed_in};
+use crate::worklist::Worklist;
+use agent_texts::{AgentConfig, Journal, Station, copied};
+use call_agent::{IssueFault, Issued};
+use call_routing::NumberPlan;
+use endpoint_names::{Pattern, read_name, write_name};
+use mg_bytes::{Draft, OutOfMemory, Sequence, Text, same_no_case, split_once};
+use mgcp_text::{Message, Param, TextFault, TransactionId, Verb, param_at, read_message};
+use plain_machine::{Event, Outputs, Refusal};
+use std::alloc::Global;
+use std::net::SocketAddrV4;
+use transmission::same_address;
+use turns::earlier;
+
+/// The gateways, the lines of all of them, and where calls are routed the exchange.
+pub struct Switchboard {
+    alloc: Global,
+    gateways: Vec<Gateway>,
+    stations: Vec<Station>,
+    // In a box: a check pays for all that a value holds inline at each step of a function that is lent it.
+    office: Option<Box<Office>>,
+    // The lines of the gateway that was heard last whose notifications came.
+    notifying: Worklist,
+}
+
+// Written out: a derived drop, and those of all its parts, are proved anew by each crate that lets one go.
+impl Drop for Switchboard {
+    fn drop(self) {
+        let Switchboard {
+            alloc: _,
+            gateways,
+            stations,
+            office,
+            notifying,
+        } = self;
+        drop(gateways);
+        drop(stations);
+        drop(office);
+        drop(notifying);
+    }
+}
+
+// Puts a line behind the others.
+fn put_station(
+    alloc: Global,
+    stations: &mut Vec<Station>,
+    gateway: usize,
+    line: u16,
+    domain: &[u8],
+    number: &[u8],
+) -> Result<(), OutOfMemory> {
+    stations.push(Station {
+        gateway,
+        line,
+        name: write_name(alloc, Pattern::One(line), domain)?,
+        number: copied(alloc, number)?,
+        taken: 0,
+    })?;
+    Ok(())
+}
+
+// The numbers of the lines, in their order.
+fn plan_of(alloc: Global, stations: &[Station]) -> Result<NumberPlan, OutOfMemory> {
+    let mut numbers = Vec::new(alloc);
+    for station in stations {
+        numbers.push(copied(alloc, station.number.as_bytes())?)?;
+    }
+    Ok(NumberPlan::of(numbers))
+}
+
+// The whole name of an endpoint.
+fn whole_name(alloc: Global, local: &[u8], domain: &[u8]) -> Result<Vec<u8>, OutOfMemory> {
+    let mut name = Draft::new(alloc);
+    name.put(local);
+    name.put_byte(b'@');
+    name.put(domain);
+    name.end()
+}
+
+fn is_at(gateway: &Gateway, address: SocketAddrV4) -> bool
+    ensures { result ≡ is_at address gateway.now }
+{
+    same_address(gateway.address, address)
+}
+
+impl Switchboard {
+    // No gateways, and no exchange.
+    fn new(alloc: Global) -> Switchboard {
+        Switchboard {
+            alloc,
+            gateways: Vec::new(alloc),
+            stations: Vec::new(alloc),
+            office: None,
+            notifying: Worklist::new(alloc, false),
+        }
+    }
+
+    // Adds a gateway behind the others, with a line for each number. The agent has this address of its own; it is this time of day, in
+    // ms.
+    fn add(
+        &mut self,
+        own: SocketAddrV4,
+        address: SocketAddrV4,
+        domain: &[u8],
+        numbers: &[Text],
+        time: u64,
+    ) -> Result<(), OutOfMemory> {
+        let place = self.gateways.len();
+        let first = self.stations.len();
+        let lines = u16::try_from(numbers.len()).unwrap_or(u16::MAX);
+        let gateway = Gateway::new(self.alloc, own, address, domain, first, lines, time)?;
+        self.gateways.push(gateway)?;
+        let mut line: u16 = 0;
+        for number in numbers {
+            line = line.saturating_add(1);
+            let number = number.as_bytes();
+            put_station(self.alloc, &mut self.stations, place, line, domain, number)?;
+        }
+        Ok(())
+    }
+
+    // Opens an exchange for the lines that there are, which are dialled by this map.
+    fn open(&mut self, map: &[u8]) -> Result<(), OutOfMemory> {
+        let plan = plan_of(self.alloc, &self.stations)?;
+        let map = copied(self.alloc, map)?;
+        let office = Office::new(self.alloc, self.stations.len(), plan, map)?;
+        self.office = Some(office);
+        Ok(())
+    }
+
+    // Adds the gateways of a configuration, and opens an exchange for their lines where calls are routed.
+    fn fill(
+        &mut self,
+        config: &AgentConfig,
+        is_routed: bool,
+        time: u64,
+    ) -> Result<(), OutOfMemory> {
+        for gateway in config.gateways.iter() {
+            let domain = gateway.domain.as_bytes();
+            let numbers = gateway.numbers.as_slice();
+            self.add(config.own, gateway.address, domain, numbers, time)?;
+        }
+        if let (true, Some(map)) = (is_routed, &config.map) {
+            return self.open(map.as_bytes());
+        }
+        Ok(())
+    }
+
+    /// The gateways of a configuration, and an exchange for their lines where calls are routed. It is this time of day, in ms. An error
+    /// is for want of memory only.
+    pub fn of(
+        alloc: Global,
+        config: &AgentConfig,
+        is_routed: bool,
+        time: u64,
+    ) -> Result<Switchboard, OutOfMemory> {
+        let mut board = Switchboard::new(alloc);
+        match board.fill(config, is_routed, time) {
+            Ok(()) => Ok(board),
+            Err(refused) => Err(refused),
+        }
+    }
+
+    /// Lets it go. Where it is dropped instead, the drops of all its parts are checked once more.
+    pub fn close(self) {}
+
+    /// How many gateways there are.
+    pub fn gateways(&self) -> usize
+        ensures { result ≡ length self.now.gateways.items }
+    {
+        self.gateways.len()
+    }
+
+    /// The lines to which something has happened are settled now: each is shown (`show`), then each is sent what it is to be sent
+    /// (`issue_next`).
+    pub fn begin_settling(&mut self)
+        ensures settles { SettlesIn self.old.office self.new.office }
+        ensures rest { self.new ≡ record self.old { office = self.new.office } }
+    {
+        if let Some(office) = &mut self.office {
+            office.begin_settling();
+        }
+    }
+
+    /// How many lines are settled now.
+    pub fn settling(&self) -> usize
+        ensures { result ≡ settling_in self.now.office }
+    {
+        match &self.office {
+            Some(office) => office.settling(),
+            None => 0,
+        }
+    }
+
+    /// The agent of the gateway at this place hears a datagram: what is sent.
+    pub fn step(
+        &mut self,
+        place: usize,
+        source: SocketAddrV4,
+        bytes: &[u8],
+    ) -> Result<Outputs, Refusal> {
+        match self.gateways.get_mut(place) {
+            Some(gateway) => gateway.agent.step(Event::Datagram { source, bytes }),
+            None => Ok(Sequence::new(self.alloc)),
+        }
+    }
+
+    /// The clock of the agent of the gateway at this place goes on to this moment (in ms), but by no more than a second: what is sent.
+    pub fn tick(&mut self, place: usize, moment: u64) -> Result<Outputs, Refusal> {
+        match self.gateways.get_mut(place) {
+            Some(gateway) => gateway.tick(moment),
+            None => Ok(Sequence::new(self.alloc)),
+        }
+    }
+
+    /// The place of the gateway at this address.
+    pub fn place_of(&self, address: SocketAddrV4) -> Option<usize>
+        ensures { result ≡ position (is_at address) self.now.gateways.items }
+    {
+        self.gateways
+            .iter()
+            .position(|gateway| is_at(gateway, address))
+    }
+
+    // The place of the gateway with this domain.
+    fn place_named(&self, domain: &[u8]) -> Option<usize> {
+        for (place, gateway) in self.gateways.iter().enumerate() {
+            if same_no_case(gateway.domain.as_bytes(), domain) {
+                return Some(place);
+            }
+        }
+        None
+    }
+
+    // The place of the gateway that an endpoint's name means, and the name without its domain. Where there is one gateway alone its
+    // domain may be left out.
+    fn meant<'t>(&self, name: &'t [u8]) -> Option<(usize, &'t [u8])> {
+        match split_once(name, b'@') {
+            Some((local, domain)) => match self.place_named(domain) {
+                Some(place) => Some((place, local)),
+                None => None,
+            },
+            None if self.gateways.len() == 1 => Some((0, name)),
+            None => None,
+        }
+    }
+
+    /// The moment at which something falls due next at an agent, or a command is sent again that was put off, in ms.
+    pub fn next_due(&self) -> Option<u64> {
+        let mut least = None;
+        for gateway in self.gateways.iter() {
+            least = earlier(least, gateway.agent.next_due());
+            least = earlier(least, gateway.next_wake());
+        }
+        least
+    }
+
+    /// Issues a command that was typed (`typed_text`): what is to be sent.
+    pub fn issue_typed(&mut self, text: &[u8]) -> Result<Issued, TypedFault> {
+        let Some(typed) = typed_in(text) else {
+            return Err(TypedFault::Unknown);
+        };
+        let Some((place, local)) = self.meant(typed.name) else {
+            return Err(TypedFault::NoSuchGateway);
+        };
+        let Some(gateway) = self.gateways.get_mut(place) else {
+            return Err(TypedFault::NoSuchGateway);
+        };
+        let Ok(name) = whole_name(self.alloc, local, gateway.domain.as_bytes()) else {
+            return Err(TypedFault::OutOfMemory);
+        };
+        match gateway.issue(self.alloc, typed.verb, name.as_slice(), typed.rest, None) {
+            Ok(issued) => Ok(issued),
+            Err(IssueFault::OutOfMemory) => Err(TypedFault::OutOfMemory),
+            Err(IssueFault::NoMoreIds) => Err(TypedFault::NoMoreIds),
+            Err(IssueFault::BadCommand) => Err(TypedFault::BadCommand),
+        }
+    }
+
+    // Issues a command of the exchange to a line.
+    fn issue(&mut self, line: usize, order: &Order) -> Result<Issued, IssueFault> {
+        let Some(station) = self.stations.get(line) else {
+            return Err(IssueFault::BadCommand);
+        };
+        let Some(gateway) = self.gateways.get_mut(station.gateway) else {
+            return Err(IssueFault::BadCommand);
+        };
+        let name = station.name.as_bytes();
+        let rest = order.rest.as_bytes();
+        gateway.issue(self.alloc, order.verb, name, rest, Some(line))
+    }
+
+    // The command in flight to a line was given up, or couldn't be issued.
+    fn forget(&mut self, line: usize) {
+        if let Some(office) = &mut self.office {
+            office.given_up(line);
+        }
+    }
+
+    /// Issues what the line that is settled so many behind the first is to be sent now: what is to be sent, if anything is. Where it
+    /// can't be issued it counts as given up.
+    pub fn issue_next(&mut self, index: usize) -> Result<Option<Issued>, IssueFault> {
+        let Some(office) = &mut self.office else {
+            return Ok(None);
+        };
+        let Some(line) = office.settled_at(index) else {
+            return Ok(None);
+        };
+        let issued = match office.order(self.alloc, line) {
+            Ok(None) => return Ok(None),
+            Ok(Some(order)) => self.issue(line, &order),
+            Err(_) => Err(IssueFault::OutOfMemory),
+        };
+        match issued {
+            Ok(issued) => Ok(Some(issued)),
+            Err(fault) => {
+                self.forget(line);
+                Err(fault)
+            }
+        }
+    }
+
+    /// Tells how the line that is settled so many behind the first stands, where that has changed.
+    pub fn show(&mut self, journal: &mut Journal, index: usize) {
+        let Some(office) = &mut self.office else {
+            return;
+        };
+        if let Some(line) = office.settled_at(index) {
+            office.show(self.alloc, journal, &self.stations, line);
+        }
+    }
+
+    // The command that a response with this id and return code answers; without a response, the next one that is given up.
+    fn ended(&mut self, place: usize, response: Option<(TransactionId, u16)>) -> Option<Flight> {
+        let gateway = self.gateways.get_mut(place)?;
+        gateway.ended(response)
+    }
+
+    /// The next command to the gateway at this place that is given up by now is so: whether there is one. It is this time, in
+    /// microseconds since 1970.
+    pub fn give_up(&mut self, journal: &mut Journal, place: usize, time: u64) -> bool {
+        let Some(flight) = self.ended(place, None) else {
+            return false;
+        };
+        journal.tell_given_up(time, flight.pending.to(), flight.pending.text());
+        if let Some(line) = flight.line {
+            self.forget(line);
+        }
+        true
+    }
+
+    // The exchange's command to a line of the gateway at this place was answered. Where memory is refused for keeping when it is sent
+    // again, it is so at once.
+    fn answer(&mut self, place: usize, line: usize, code: u16, text: &[u8]) {
+        let Some(gateway) = self.gateways.get_mut(place) else {
+            return;
+        };
+        let moment = gateway.ticked();
+        let Some(office) = &mut self.office else {
+            return;
+        };
+        let Some(again) = office.answered(self.alloc, line, moment, code, text) else {
+            return;
+        };
+        if gateway.put_off(line, again).is_err() {
+            office.wake(line, again);
+        }
+    }
+
+    // The next line of the gateway at this place to which a command is sent again by now. It isn't put off any more.
+    fn woken(&mut self, place: usize) -> Option<Wake>
+        ensures wake { result ≡ woken_at (slice_get self.old.gateways.items place) }
+        ensures office { self.new.office ≡ self.old.office }
+    {
+        let gateway = self.gateways.get_mut(place)?;
+        gateway.woken()
+    }
+
+    /// The next line of the gateway at this place to which a command is sent again by now waits to be settled: whether there is one.
+    pub fn wake(&mut self, place: usize) -> bool
+        ensures found { result ≡ is_some (woken_at (slice_get self.old.gateways.items place)) }
+        ensures line { WakesIn (woken_at (slice_get self.old.gateways.items place)) self.old.office self.new.office }
+    {
+        let Some(wake) = self.woken(place) else {
+            return false;
+        };
+        if let Some(office) = &mut self.office {
+            office.wake(wake.line, wake.moment);
+        }
+        true
+    }
+
+    // A response came from the gateway at this place.
+    fn hear_response(
+        &mut self,
+        journal: &mut Journal,
+        place: usize,
+        id: TransactionId,
+        code: u16,
+        text: &[u8],
+    ) {
+        let Some(flight) = self.ended(place, Some((id, code))) else {
+            return;
+        };
+        journal.tell_answer(flight.pending.text(), text);
+        if let Some(line) = flight.line {
+            self.answer(place, line, code, text);
+        }
+    }
+
+    // The lines of a gateway that a name means are there again, or lost their agent.
+    fn announce(&mut self, place: usize, name: &[u8], is_restart: bool) {
+        let Some(gateway) = self.gateways.get(place) else {
+            return;
+        };
+        let Ok(pattern) = read_name(name, gateway.domain.as_bytes(), gateway.lines) else {
+            return;
+        };
+        let Some(office) = &mut self.office else {
+            return;
+        };
+        for before in 0..gateway.lines {
+            let is_meant = match pattern {
+                Pattern::One(line) => line == before.saturating_add(1),
+                Pattern::All | Pattern::Any => true,
+            };
+            if is_meant {
+                let line = gateway.first.saturating_add(usize::from(before));
+                office.announced(line, is_restart);
+            }
+        }
+    }
+
+    // An announcement came (RFC 3435, 2.3.12).
+    fn hear_announcement(
+        &mut self,
+        journal: &mut Journal,
+        place: usize,
+        id: TransactionId,
+        name: &[u8],
+        params: &[Param<'_>],
+    ) {
+        let is_new = match self.gateways.get_mut(place) {
+            Some(gateway) => gateway.announces(id),
+            None => false,
+        };
+        if !is_new {
+            return;
+        }
+        let method = match param_at(b"RM", params) {
+            Some(param) => param.value.as_slice(),
+            None => b"restart",
+        };
+        journal.tell_announcement(name, method);
+        if same_no_case(method, b"restart") {
+            self.announce(place, name, true);
+        } else if same_no_case(method, b"disconnected") {
+            self.announce(place, name, false);
+        }
+    }
+
+    // A notification came: what the agent took of it is to be taken of its line.
+    fn hear_notification(&mut self, place: usize, name: &[u8]) {
+        let Some(gateway) = self.gateways.get(place) else {
+            return;
+        };
+        let named = read_name(name, gateway.domain.as_bytes(), gateway.lines);
+        if let Ok(Pattern::One(line)) = named {
+            let before = usize::from(line.saturating_sub(1));
+            self.notifying.put(gateway.first.saturating_add(before));
+        }
+    }
+
+    // A message came from the gateway at this place, which this text is.
+    fn hear_message(
+        &mut self,
+        journal: &mut Journal,
+        place: usize,
+        message: &Message<'_>,
+        text: &[u8],
+    ) {
+        match message {
+            Message::Response { code, id, .. } => {
+                self.hear_response(journal, place, *id, *code, text);
+            }
+            Message::Command {
+                verb: Verb::Rsip,
+                id,
+                name,
+                params,
+                ..
+            } => self.hear_announcement(journal, place, *id, name.as_slice(), params.as_slice()),
+            Message::Command {
+                verb: Verb::Ntfy,
+                name,
+                ..
+            } => self.hear_notification(place, name.as_slice()),
+            Message::Command { .. } => {}
+        }
+    }
+
+    // Tells of a command whose name isn't of the gateway at this place.
+    fn tell_strange(
+        &self,
+        journal: &mut Journal,
+        place: usize,
+        message: &Message<'_>,
+        text: &[u8],
+    ) {
+        let Message::Command { name, .. } = message else {
+            return;
+        };
+        let Some(gateway) = self.gateways.get(place) else {
+            return;
+        };
+        if read_name(name.as_slice(), gateway.domain.as_bytes(), gateway.lines).is_err() {
+            journal.tell_strange(text);
+        }
+    }
+
+    /// A text came from the gateway at this place, of which its agent has heard.
+    pub fn hear(&mut self, journal: &mut Journal, place: usize, text: &[u8]) {
+        match read_message(self.alloc, text) {
+            Ok(message) => {
+                self.tell_strange(journal, place, &message, text);
+                self.hear_message(journal, place, &message, text);
+            }
+            // It may have been a notification of any line.
+            Err(TextFault::OutOfMemory) => self.notifying.put_all(),
+            Err(_) => {}
+        }
+    }
+
+    /// The lines are taken from now on whose notifications came from the gateway at this place: how many they are.
+    pub fn begin_taking(&mut self, place: usize) -> usize
+        ensures count { result ≡ taking_in (slice_get self.old.gateways.items place) self.new.notifying }
+        ensures settles { Settles self.old.notifying self.new.notifying }
+        ensures rest { self.new ≡ record self.old { notifying = self.new.notifying } }
+    {
+        self.notifying.begin();
+        match self.gateways.get(place) {
+            Some(gateway) => self.notifying.len(usize::from(gateway.lines)),
+            None => 0,
+        }
+    }
+
+    /// Takes what the line that is so many behind the first of these has told and wasn't taken yet: whether there was anything.
+    pub fn take(&mut self, journal: &mut Journal, place: usize, index: usize) -> bool {
+        let first = match self.gateways.get(place) {
+            Some(gateway) => gateway.first,
+            None => 0,
+        };
+        match self.notifying.at(first, index) {
+            Some(line) => self.take_of(journal, place, line),
+            None => false,
+        }
+    }
+
+    // Takes what a line has told and wasn't taken yet: whether there was anything.
+    fn take_of(&mut self, journal: &mut Journal, place: usize, line: usize) -> bool {
+        let Some(gateway) = self.gateways.get(place) else {
+            return false;
+        };
+        let Some(station) = self.stations.get_mut(line) else {
+            return false;
+        };
+        let observed = gateway.agent.taken(station.line);
+        let told = observed.get(station.taken..).unwrap_or(&[]);
+        if told.is_empty() {
+            return false;
+        }
+        station.taken = observed.len();
+        journal.tell_notification(station.name.as_bytes(), told);
+        if let Some(office) = &mut self.office {
+            office.told(self.alloc, line, told);
+        }
+        true
+    }
+}
