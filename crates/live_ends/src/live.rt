@@ -155,6 +155,8 @@ impl<R: Net + Clock> Surroundings for Live<'_, R> {
 
     ghost receives = { λ was given room is. ⊤ };
 
+    ghost sends = { λ was to bytes outcome is. ⊤ };
+
     ghost hears = { λ was given room is. ⊤ };
 
     ghost answers = { λ was to text is. ⊤ };

@@ -287,7 +287,8 @@ impl<S: Surroundings + Drop> Exchange<S> {
         ensures faults { self.new.faults ≡ self.old.faults }
         ensures read { self.new.read ≡ self.old.read }
         ensures turn { IsSameTurn self.old self.new }
-        ensures noted { (sent : Result ⊤ Fault) × NotesLate self.old.journal self.old.now.time to sent self.new.journal }
+        ensures noted { (sent : Result ⊤ Fault) × S.sends self.old.around to bytes.now sent self.new.around
+            × NotesLate self.old.journal self.old.now.time to sent self.new.journal }
     {
         let sent = self.around.send(to, bytes);
         self.note_late(to, sent);

@@ -246,6 +246,8 @@ impl Surroundings for Scripted {
 
     ghost receives = { λ was given room is. ⊤ };
 
+    ghost sends = { λ was to bytes outcome is. ⊤ };
+
     ghost hears = { λ was given room is. ⊤ };
 
     ghost answers = { λ was to text is. ⊤ };

@@ -17,10 +17,11 @@ pub struct Told {
 
 /// A socket for datagrams, another for lines, a clock, and a wait for all of them.
 ///
-/// It says whether it tells what went over it: one in memory does, sockets don't; and what it can be held to of what it gave and of
-/// what it was told to answer. Who calls it is held to that it was asked so. No call waits but `wait`.
+/// It says whether it tells what went over it: one in memory does, sockets don't; and what it can be held to of what it gave, of what
+/// it was told to answer, and of what became of what it was to send. Who calls it is held to that it was asked so. No call waits but
+/// `wait`.
 pub trait Surroundings {
-    ghost use Rattle.std.specs.Prelude.{ℕ, List, Option, Result};
+    ghost use Rattle.std.specs.Prelude.{⊤, ℕ, List, Option, Result};
     ghost use Rattle.std.specs.declared.net.socket_addr.SocketAddr.{SocketAddr};
     ghost use Rattle.std.specs.declared.net.socket_addr.SocketAddrV4.{SocketAddrV4};
     ghost use Rattle.surroundings.specs.Sending.{Traffic};
@@ -34,6 +35,9 @@ pub trait Surroundings {
 
     /// It was looked for a datagram: that gave this, and left the room so.
     ghost receives: { Self → Result (Option (SocketAddrV4 × ℕ)) Fault → List ℕ → Self → Type 0 };
+
+    /// This datagram was handed to it to be sent: that came to this.
+    ghost sends: { Self → SocketAddrV4 → List ℕ → Result ⊤ Fault → Self → Type 0 };
 
     /// It was looked for lines of who types: that gave this, and left the room so.
     ghost hears: { Self → Option (SocketAddr × ℕ) → List ℕ → Self → Type 0 };
@@ -70,7 +74,8 @@ pub trait Surroundings {
     /// Sends a datagram. After a fault it counts as lost in the network.
     fn send(&mut self, to: SocketAddrV4, bytes: &[u8]) -> Result<(), Fault>
         ensures sent { Grows (traffic self.old).sent (record { to = to; bytes = bytes.now } ∷ []) (traffic self.new).sent }
-        ensures received { (traffic self.new).received ≡ (traffic self.old).received };
+        ensures received { (traffic self.new).received ≡ (traffic self.old).received }
+        ensures handed { sends self.old to bytes.now result self.new };
 
     /// A datagram of lines of who types, put at the start of the room, if one has come: from whom, and how long it is.
     fn hear(&mut self, room: &mut [u8]) -> Option<(SocketAddr, usize)>
