@@ -8,8 +8,8 @@ use Rattle.endpoint_names.specs.declared.route.Route.TheVariants.{One}
 use Rattle.outbound.specs.Flight.{InFlight, sent_first}
 use Rattle.flights.specs.Flights.{Commands, begun, settled}
 use Rattle.transactions.proofs.RecallLaws.{recalls_itself, recalls_purged}
-use Rattle.plain_machine.specs.declared.refusal.Refusal.{Refusal}
-use Rattle.plain_machine.specs.declared.refusal.Refusal.TheVariants.{TickTooFar, ClockBack}
+use Rattle.gateway_rules.specs.declared.refusal.Refusal.{Refusal}
+use Rattle.gateway_rules.specs.declared.refusal.Refusal.TheVariants.{TickTooFar, ClockBack}
 use Rattle.plain_machine.specs.Event.{GatewayEvent, datagram, phone, tick}
 use Rattle.plain_machine.specs.Refusing.{tick_refusal, ends}
 use Rattle.transmission.specs.declared.output.OutDatagram.{OutDatagram}

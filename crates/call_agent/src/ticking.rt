@@ -2,7 +2,8 @@
 ghost use Rattle.std.specs.Prelude.{◌<◌, ◌^◌, is_none};
 ghost use Rattle.std.specs.Result.{result_err};
 ghost use Rattle.outbound.specs.Flight.{repeat_of};
-ghost use Rattle.plain_machine.specs.Refusing.{tick_refusal, ends};
+ghost use Rattle.plain_machine.specs.Refusing.{ends};
+ghost use Rattle.gateway_rules.specs.Refusing.{tick_refusal};
 ghost use Rattle.flights.specs.Choosing.{first_flight, if_due};
 ghost use Rattle.call_agent.specs.Flying.{flown_on, pass, ticked};
 ghost use Rattle.call_agent.specs.State.{kept_in, Flies, Happens};

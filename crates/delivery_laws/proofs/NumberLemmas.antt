@@ -22,7 +22,7 @@ use Rattle.timers.specs.Order.{earlier}
 use Rattle.mg_line.specs.Falling.{due_of}
 use Rattle.plain_machine.specs.declared.endpoint.Endpoint.{Endpoint}
 use Rattle.plain_machine.specs.declared.post.Post.{Post}
-use Rattle.plain_machine.specs.declared.refusal.Refusal.{Refusal}
+use Rattle.gateway_rules.specs.declared.refusal.Refusal.{Refusal}
 use Rattle.plain_machine.specs.declared.setup.Setup.{Setup}
 use Rattle.plain_machine.specs.Announcing.{announced, announcement}
 use Rattle.plain_machine.specs.Effect.{Effect}

@@ -1,7 +1,8 @@
 //! What a configuration sets up, and what there is at the opening: the endpoints, and the post of the gateway itself.
 ghost use Rattle.std.specs.Prelude.{◌≡◌, ◌≤◌, ◌<◌, ◌+◌, ◌^◌, [], length, map, IfOk};
 ghost use Rattle.std.specs.List.{AllByRecursion, range_with_len};
-ghost use Rattle.plain_machine.specs.Setup.{table_from, is_wait, is_media_base, is_address, parts_of, setup_from, key_at_fault, IsSetUp, most_lines, highest_media_base};
+ghost use Rattle.plain_machine.specs.Setup.{table_from, is_wait, is_media_base, is_address, parts_of, setup_from, key_at_fault, IsSetUp, highest_media_base};
+ghost use Rattle.gateway_rules.specs.Lines.{most_lines};
 ghost use Rattle.plain_machine.specs.Machine.{port_of, opening_post, opening_endpoint, opening_own};
 ghost use Rattle.endpoints.specs.Ids.{HasId};
 

@@ -8,7 +8,7 @@ ghost use Rattle.mg_line.specs.Acting.{is_heeded};
 ghost use Rattle.plain_machine.specs.Effect.{silently};
 ghost use Rattle.plain_machine.specs.Acting.{acted_on};
 ghost use Rattle.plain_machine.specs.Falling.{first_due, due_by};
-ghost use Rattle.plain_machine.specs.Setup.{most_lines};
+ghost use Rattle.gateway_rules.specs.Lines.{most_lines};
 ghost use Rattle.endpoints.specs.Ids.{HasId};
 ghost use Rattle.endpoints.specs.Changing.{EndpointChanges, OwnChanges, KeepsId};
 ghost use Rattle.endpoints.specs.Saving.{endpoints_of};
@@ -37,7 +37,7 @@ pub(crate) struct Timed {
 impl Model for Timed {
     ghost use Rattle.std.specs.Prelude.{◌≤◌, length};
     ghost use Rattle.plain_machine.specs.Machine.{Endpoints};
-    ghost use Rattle.plain_machine.specs.Setup.{most_lines};
+    ghost use Rattle.gateway_rules.specs.Lines.{most_lines};
     ghost use Rattle.endpoints.specs.Ids.{HasId};
     ghost use Rattle.endpoints.specs.Saving.{endpoints_of};
     ghost use Rattle.endpoints.specs.DueTable.{InStep};

@@ -1,7 +1,7 @@
 -- One turn of a gateway that is served, as its code tells of it.
 use Rattle.std.specs.Prelude.{◌≡◌, ℕ, true, cond, List, [], ◌∷◌, map}
 use Rattle.transmission.specs.declared.output.OutDatagram.{OutDatagram}
-use Rattle.plain_machine.specs.declared.refusal.Refusal.{Refusal}
+use Rattle.gateway_rules.specs.declared.refusal.Refusal.{Refusal}
 use Rattle.plain_machine.specs.Event.{GatewayEvent}
 use Rattle.gateway_core.specs.declared.served.Served.{Served}
 use Rattle.gateway_rules.specs.declared.turning.TurnEnd.{TurnEnd}

@@ -4,7 +4,8 @@ ghost use Rattle.plain_machine.specs.Falling.{is_due, pass};
 ghost use Rattle.plain_machine.specs.GivingUp.{given_up_until};
 ghost use Rattle.plain_machine.specs.Happening.{ticked};
 ghost use Rattle.std.specs.Result.{result_err};
-ghost use Rattle.plain_machine.specs.Refusing.{tick_refusal, ends};
+ghost use Rattle.plain_machine.specs.Refusing.{ends};
+ghost use Rattle.gateway_rules.specs.Refusing.{tick_refusal};
 ghost use Rattle.endpoints.specs.Telling.{MayTell};
 ghost use Rattle.gateway_texts.specs.State.{machine_in, Happens};
 

@@ -1,1 +1,5 @@
+pub mod Refusal
+pub mod Lines
+pub mod Refusing
+pub mod Falling
 pub mod Turning

@@ -1,8 +1,8 @@
 //! Why an act at a telephone is refused.
 ghost use Rattle.std.specs.Prelude.{◌≡◌, if◌then◌else◌, Some, None};
-ghost use Rattle.plain_machine.specs.declared.refusal.Refusal.TheVariants.{PhoneState};
+ghost use Rattle.gateway_rules.specs.declared.refusal.Refusal.TheVariants.{PhoneState};
 
-use plain_machine::Refusal;
+use crate::refusal::Refusal;
 
 /// Why an act is refused, but for want of memory: the hook state of its line rules it out.
 pub fn act_refusal(is_possible: bool) -> Option<Refusal>

@@ -1,6 +1,6 @@
 //! What of all that falls due comes next (RFC 3435, 2.1.5, 2.1.7, 3.5.3 and 4.4.6).
 ghost use Rattle.std.specs.Prelude.{◌≡◌, IfSome};
-ghost use Rattle.plain_machine.specs.Falling.{if_by};
+ghost use Rattle.gateway_rules.specs.Falling.{if_by};
 ghost use Rattle.timers.specs.Table.{least_of, IsLeast};
 
 use timers::{Due, DueItem};

@@ -1,8 +1,9 @@
 //! How many lines a gateway may have.
 ghost use Rattle.std.specs.Prelude.{◌≡◌};
-ghost use Rattle.plain_machine.specs.Setup.{are_lines};
+ghost use Rattle.gateway_rules.specs.Lines.{are_lines};
 
-use plain_machine::MOST_LINES;
+/// The most lines of a gateway (this gateway's profile).
+pub const MOST_LINES: u16 = 96;
 
 /// Whether a gateway may have so many lines.
 pub fn are_lines(lines: u32) -> bool

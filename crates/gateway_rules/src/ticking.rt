@@ -1,8 +1,8 @@
 //! Why a tick is refused: how the clock of an end goes on.
 ghost use Rattle.std.specs.Prelude.{◌≡◌, ◌<◌, ◌^◌};
-ghost use Rattle.plain_machine.specs.Refusing.{tick_refusal};
+ghost use Rattle.gateway_rules.specs.Refusing.{tick_refusal};
 
-use plain_machine::Refusal;
+use crate::refusal::Refusal;
 
 // Moments are below this (in ms).
 const END_OF_TIME: u64 = 1 << 62;

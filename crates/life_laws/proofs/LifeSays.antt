@@ -12,7 +12,7 @@ use Rattle.outbound.specs.Flight.{InFlight}
 use Rattle.piggyback.specs.Parts.{parts_of}
 use Rattle.transmission.specs.declared.output.OutDatagram.{OutDatagram}
 use Rattle.transmission.specs.Packing.{messages_in}
-use Rattle.plain_machine.specs.declared.refusal.Refusal.TheVariants.{TickTooFar, ClockBack}
+use Rattle.gateway_rules.specs.declared.refusal.Refusal.TheVariants.{TickTooFar, ClockBack}
 use Rattle.plain_machine.specs.declared.endpoint.Endpoint.{Endpoint}
 use Rattle.plain_machine.specs.declared.setup.Setup.{Setup}
 use Rattle.plain_machine.specs.Setup.{IsSetUp}

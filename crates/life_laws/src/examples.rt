@@ -6,7 +6,7 @@ ghost use Rattle.std.specs.Prelude.{◌≡◌, ◌++◌, List, codes, [], ◌∷
 ghost use Rattle.mg_packages.specs.declared.event.LineEvent.TheVariants as events;
 ghost use Rattle.mg_line.specs.declared.phone.Act.TheVariants as acts;
 ghost use Rattle.event_values.specs.declared.observed.Observed.TheVariants.{Happened};
-ghost use Rattle.plain_machine.specs.declared.refusal.Refusal.TheVariants as refusals;
+ghost use Rattle.gateway_rules.specs.declared.refusal.Refusal.TheVariants as refusals;
 ghost use Rattle.endpoint_names.specs.Table.{is_domain};
 ghost use Rattle.plain_machine.specs.Setup.{IsSetUp};
 ghost use Rattle.plain_machine.specs.Event.{datagram, phone, tick};

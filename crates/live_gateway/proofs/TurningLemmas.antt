@@ -5,7 +5,7 @@ use Rattle.std.specs.declared.net.socket_addr.SocketAddrV4.{SocketAddrV4}
 use Rattle.mg_line.specs.declared.phone.Act.{Act}
 use Rattle.gateway_core.specs.Wire.{counted}
 use Rattle.plain_machine.specs.Event.{GatewayEvent, phone}
-use Rattle.plain_machine.specs.declared.refusal.Refusal.{Refusal}
+use Rattle.gateway_rules.specs.declared.refusal.Refusal.{Refusal}
 use Rattle.traces.specs.Writing.{Input, typed}
 use Rattle.live_gateway.specs.Running.{Live, Ran, HeardFrom, Takes, Refuses, Asked}
 use Rattle.live_gateway.specs.Desk.{Standing, with_input}

@@ -6,8 +6,8 @@ use Rattle.transmission.specs.declared.output.OutDatagram.{OutDatagram}
 use Rattle.plain_machine.specs.Event.{GatewayEvent}
 use Rattle.gateway_core.specs.GatewayState.{GatewayState}
 use Rattle.gateway_core.specs.Stands.{Stands, Took}
-use Rattle.plain_machine.specs.declared.refusal.Refusal.{Refusal}
-use Rattle.plain_machine.specs.declared.refusal.Refusal.TheVariants.{OutOfMemory}
+use Rattle.gateway_rules.specs.declared.refusal.Refusal.{Refusal}
+use Rattle.gateway_rules.specs.declared.refusal.Refusal.TheVariants.{OutOfMemory}
 use Rattle.rgw_scripts.specs.Moves.{give, ask, sends, refuses, line_shown, printed, told as answer_of}
 use Rattle.rgw_scripts.specs.Printing.{printed_line, refusal_line}
 use Rattle.rgw_scripts.specs.Status.{LineStatus}

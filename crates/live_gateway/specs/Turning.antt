@@ -5,7 +5,7 @@ use Rattle.mg_bytes.specs.Words.{words}
 use Rattle.mg_line.specs.declared.phone.Act.{Act}
 use Rattle.gateway_core.specs.Wire.{counted}
 use Rattle.plain_machine.specs.Event.{GatewayEvent, datagram, phone, tick}
-use Rattle.plain_machine.specs.declared.refusal.Refusal.{Refusal}
+use Rattle.gateway_rules.specs.declared.refusal.Refusal.{Refusal}
 use Rattle.rgw_scripts.specs.declared.step.ScriptStep.TheVariants.{Phone, Show}
 use Rattle.rgw_scripts.specs.declared.step.ScriptLine.TheVariants.{Whole}
 use Rattle.rgw_scripts.specs.Script.{line_in}

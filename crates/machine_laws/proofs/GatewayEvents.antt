@@ -21,7 +21,7 @@ use Rattle.history.specs.Kept.{firsts_in}
 use Rattle.history.specs.Looking.{Looked, new, repeat, confirmed, full, look_of}
 use Rattle.outbound.specs.Flight.{InFlight}
 use Rattle.plain_machine.specs.declared.setup.Setup.{Setup}
-use Rattle.plain_machine.specs.declared.refusal.Refusal.TheVariants.{ClockBack, TickTooFar}
+use Rattle.gateway_rules.specs.declared.refusal.Refusal.TheVariants.{ClockBack, TickTooFar}
 use Rattle.plain_machine.specs.Effect.{Effect, silently}
 use Rattle.plain_machine.specs.Setup.{IsSetUp, most_lines}
 use Rattle.plain_machine.specs.Event.{GatewayEvent, datagram, phone, tick}

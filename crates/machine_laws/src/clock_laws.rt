@@ -5,7 +5,7 @@ ghost use Rattle.plain_machine.specs.declared.setup.Setup.{Setup};
 ghost use Rattle.plain_machine.specs.Event.{GatewayEvent};
 ghost use Rattle.plain_machine.specs.Machine.{Machine, opening};
 ghost use Rattle.plain_machine.specs.Falling.{due_by};
-ghost use Rattle.plain_machine.specs.Refusing.{tick_refusal};
+ghost use Rattle.gateway_rules.specs.Refusing.{tick_refusal};
 ghost use Rattle.plain_machine.specs.Lists.{plain, are_taken};
 
 /// Each part of a gateway that is given a moment asks that it is below 2^62 ms, so that a wait can be added to it. Here is

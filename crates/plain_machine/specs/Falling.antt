@@ -1,6 +1,6 @@
 -- What falls due: on a line the end of timer T and the ends of signals; and of it and of the gateway itself the repeats of
 -- the command that is in flight, and the announcement, each at its own moment (RFC 3435, 2.1.5, 2.1.7, 3.5.3 and 4.4.6).
-use Rattle.std.specs.Prelude.{ℕ, ◌+◌, ◌*◌, ◌==◌, zero, suc, nat_le, if◌then◌else◌, Bool, length, fold, Option, Some, None, is_some, option_map, option_and_then}
+use Rattle.std.specs.Prelude.{ℕ, ◌+◌, ◌*◌, ◌==◌, zero, suc, if◌then◌else◌, Bool, length, fold, Option, Some, None, is_some, option_map, option_and_then}
 use Rattle.timers.specs.declared.kind.LineDue.{LineDue}
 use Rattle.mg_line.specs.Falling.{due_of, fired}
 use Rattle.outbound.specs.Flight.{InFlight}
@@ -12,6 +12,7 @@ use Rattle.timers.specs.Order.{earlier}
 use Rattle.plain_machine.specs.declared.post.Post.{Post}
 use Rattle.plain_machine.specs.declared.setup.Setup.{Setup}
 use Rattle.plain_machine.specs.declared.endpoint.Endpoint.{Endpoint}
+pub use Rattle.gateway_rules.specs.Falling.{if_by}
 use Rattle.plain_machine.specs.Effect.{Effect, silently, afterwards}
 use Rattle.plain_machine.specs.Posting.{resent_on}
 use Rattle.plain_machine.specs.Announcing.{announced_on}
@@ -47,10 +48,6 @@ due_at endpoints line =
 -- what falls due first of all: the earliest, and of several as early that of the least line
 unfoldable pub first_due : Endpoints → Option DueItem
 first_due endpoints = fold (λ first one. earlier first (due_on one)) (post_due 0 endpoints.own) (numbered endpoints)
-
-abbrev pub if_by : ℕ → Option DueItem → Option DueItem
-if_by moment None = None
-if_by moment (Some item) = if nat_le item.moment moment then Some item else None
 
 -- the same where it is due up to this moment
 unfoldable pub due_by : Endpoints → ℕ → Option DueItem

@@ -2,7 +2,8 @@
 ghost use Rattle.std.specs.Prelude.{◌≡◌, ℕ, ◌%◌, ◌==◌, ◌&&◌, true, false, nat_lt, List, length, None, Some, is_some};
 ghost use Rattle.plain_machine.specs.declared.config.Config.{Config};
 ghost use Rattle.plain_machine.specs.declared.config.ConfigKey.TheVariants as keys;
-ghost use Rattle.plain_machine.specs.Setup.{are_lines, is_wait, is_media_base, key_at_fault};
+ghost use Rattle.plain_machine.specs.Setup.{is_wait, is_media_base, key_at_fault};
+ghost use Rattle.gateway_rules.specs.Lines.{are_lines};
 ghost use Rattle.rgw_scripts.specs.Configuration.{config_in};
 ghost use Rattle.rgw_scripts.specs.Play.{largest_input};
 ghost use Rattle.rgw_scenes.specs.Bounds.{bounds_of, within};

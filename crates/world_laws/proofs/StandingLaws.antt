@@ -5,7 +5,7 @@ use Rattle.std.proofs.lemmas.Bool.{and_parts}
 use Rattle.history.specs.Recalling.{Recalls}
 use Rattle.transactions.proofs.RecallLaws.{recalls_back, recalls_through}
 use Rattle.plain_machine.specs.declared.setup.Setup.{Setup}
-use Rattle.plain_machine.specs.declared.refusal.Refusal.{Refusal}
+use Rattle.gateway_rules.specs.declared.refusal.Refusal.{Refusal}
 use Rattle.plain_machine.specs.Event.{datagram, phone, tick}
 use Rattle.plain_machine.specs.Machine.{opening}
 use Rattle.plain_machine.specs.Refusing.{tick_refusal}
