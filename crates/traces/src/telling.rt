@@ -1,5 +1,5 @@
 //! What a trace has of what a gateway sends and answers.
-ghost use Rattle.std.specs.Prelude.{◌≡◌, [], ◌∷◌, ◌++◌, decimal, OnOk, codes};
+ghost use Rattle.std.specs.Prelude.{◌≡◌, [], ◌∷◌, ◌++◌, decimal, codes};
 ghost use Rattle.std.specs.List.{flat_map};
 ghost use Rattle.std.specs.Net.Text.{socket_v4_text};
 ghost use Rattle.mg_bytes.specs.Lines.{lines_of};
@@ -7,9 +7,8 @@ ghost use Rattle.rgw_scripts.specs.Printing.{printed_line};
 ghost use Rattle.traces.specs.Telling.{told_line, told_text, told_datagram, told_output, told_first, told_mark, broken_off, begins, mark, number_behind, is_mark};
 
 use exchange_log::put_peer;
-use mg_bytes::{Draft, OutOfMemory, decimal, lines};
+use mg_bytes::{Draft, decimal, lines};
 use plain_machine::OutDatagram;
-use std::alloc::Global;
 use std::net::SocketAddrV4;
 
 // What stands before each line that is told.
