@@ -12,14 +12,13 @@ use connections::{Connection, mode_text};
 use exchange_log::put_peer;
 use gateway_core::Gateway;
 use line_changes::{SeenConnection, SeenLine, codec_text};
-use live_journal::{Faults, Journal, MessageTally};
+use live_journal::{Faults, Journal, MessageTally, place_of};
 use mg_bytes::Draft;
 use mg_packages::{Hook, signal_name};
 use mgcp_text::Verb;
 use page_answers::{
     CodeCount, ConnectionView, Counts, FileCount, LineView, Picture, SignalView, VerbCount,
 };
-use sent_counts::place_of;
 use signals::ActiveSignal;
 use std::alloc::{AllocError, Global};
 use std::net::SocketAddrV4;

@@ -17,7 +17,7 @@ use Rattle.gateway_texts.specs.declared.outcome.TextOutcome.{TextOutcome}
 use Rattle.gateway_texts.specs.declared.outcome.TextOutcome.TheVariants.{NoMessage, Command, Response}
 use Rattle.gateway_texts.specs.Outcomes.{outcomes_of}
 use Rattle.gateway_core.specs.Wire.{counted}
-use Rattle.sent_counts.specs.Counting.{one_more_at, place_of}
+use Rattle.live_journal.specs.SentCounting.{one_more_at, place_of}
 use Rattle.live_journal.specs.Counting.{Counts, with_command, with_reply, with_text, with_texts, counts_after, outcomes_from, is_command_at, is_response, is_other, is_lost}
 
 counted_on : (n a b : ℕ) → counted (counted n a) b ≡ counted n (a + b)

@@ -1,4 +1,5 @@
 pub mod Computing
 pub mod CountLemmas
+pub mod SentCountLemmas
 pub mod RecordLemmas
 mod PuttingLemmas

@@ -12,7 +12,7 @@ use Rattle.gateway_texts.specs.declared.outcome.TextOutcome.{TextOutcome}
 use Rattle.gateway_texts.specs.declared.outcome.TextOutcome.TheVariants.{NoMessage, Command, Response}
 use Rattle.gateway_texts.specs.Outcomes.{outcomes_of}
 use Rattle.gateway_core.specs.Wire.{counted}
-use Rattle.sent_counts.specs.Counting.{one_more_at, place_of}
+use Rattle.live_journal.specs.SentCounting.{one_more_at, place_of}
 use Rattle.live_journal.specs.declared.text_counts.TextCounts.{TextCounts}
 
 -- commands by verb, responses, texts that are no message that can be read, and commands that found no room

@@ -7,7 +7,7 @@ use Rattle.std.specs.declared.net.socket_addr.SocketAddrV4.{SocketAddrV4}
 use Rattle.endpoint_names.specs.declared.route.Route.{Route}
 use Rattle.endpoint_names.specs.Route.{addresses, most_addresses}
 use Rattle.plain_machine.specs.declared.label.SentMessage.{SentMessage}
-use Rattle.sent_counts.specs.Counting.{one_more_at}
+use Rattle.live_journal.specs.SentCounting.{one_more_at}
 use Rattle.live_journal.specs.Strangers.{is_own}
 
 abbrev pub is_same : SocketAddrV4 → SocketAddrV4 → Bool

@@ -5,7 +5,7 @@ use Rattle.std.specs.Borrow.{Bor}
 use Rattle.mgcp_text.specs.declared.message.Verb.TheVariants.{Ntfy, Rsip}
 use Rattle.live_ends.specs.Written.{written_line}
 use Rattle.page_answers.specs.Metrics.{code_text}
-use Rattle.sent_counts.specs.Counting.{place_of, tally_in, all_given_up}
+use Rattle.live_journal.specs.SentCounting.{place_of, tally_in, all_given_up}
 use Rattle.live_journal.specs.declared.journal.Journal.{Journal}
 use Rattle.live_journal.specs.declared.message_tally.MessageTally.{MessageTally}
 use Rattle.live_journal.specs.declared.reporting.Faults.{Faults}

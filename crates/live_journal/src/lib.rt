@@ -1,5 +1,6 @@
-//! What is kept and told of a gateway on a live network: its counts, its trace, the log for people, a capture, and what the page
-//! is shown. It opens no socket and no file; whoever serves tells it what goes over the wire, and gives it outlets for what it has put.
+//! What is kept and told of a gateway on a live network: its counts, also of all that it sends and gives up, its trace, the log for people,
+//! a capture, and what the page is shown. It opens no socket and no file; whoever serves tells it what goes over the wire, and gives it
+//! outlets for what it has put.
 #![tactic(auto)]
 
 mod capture;
@@ -12,6 +13,9 @@ mod message_tally;
 mod place_counts;
 mod recording;
 mod reporting;
+mod sent_counts;
+pub mod sent_examples;
+pub mod sent_laws;
 mod spoiling;
 mod strangers;
 mod taken;
@@ -26,6 +30,7 @@ pub use crate::log::Log;
 pub use crate::message_tally::MessageTally;
 pub use crate::place_counts::PlaceCounts;
 pub use crate::reporting::{Faults, report_with};
+pub use crate::sent_counts::{SentCounts, place_of};
 pub use crate::strangers::Quiet;
 pub use crate::taken::Taken;
 pub use crate::text_counts::TextCounts;

@@ -3,14 +3,14 @@ ghost use Rattle.std.specs.Prelude.{◌≡◌, IfOk, None};
 ghost use Rattle.small_rules.specs.Counting.{counted};
 ghost use Rattle.live_journal.specs.Counting.{counts_in, no_counts, with_texts};
 ghost use Rattle.live_journal.specs.Places.{with_sends};
+ghost use Rattle.live_journal.specs.SentCounting.{tally_in, no_tally, with_sent, with_given_up};
 ghost use Rattle.live_journal.specs.Waiting.{unanswered_after};
-ghost use Rattle.sent_counts.specs.Counting.{tally_in, no_tally, with_sent, with_given_up};
 
 use crate::place_counts::PlaceCounts;
+use crate::sent_counts::SentCounts;
 use crate::taken::Taken;
 use crate::text_counts::TextCounts;
 use crate::waiting::unanswered_after;
-use sent_counts::SentCounts;
 use small_rules::count;
 use std::alloc::{AllocError, Global};
 

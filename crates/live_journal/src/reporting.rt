@@ -6,9 +6,9 @@ ghost use Rattle.live_journal.specs.Reporting.{told, entry_text, datagrams_text,
 
 use crate::journal::Journal;
 use crate::message_tally::MessageTally;
+use crate::sent_counts::place_of;
 use mg_bytes::Draft;
 use mgcp_text::Verb;
-use sent_counts::place_of;
 use std::alloc::{AllocError, Global};
 
 /// How often a turn failed. A count stays at its greatest value.

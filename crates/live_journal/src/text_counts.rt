@@ -2,9 +2,9 @@
 ghost use Rattle.std.specs.Prelude.{◌≡◌};
 ghost use Rattle.live_journal.specs.Counting.{counts_in, no_counts, with_command, with_reply, with_text, with_texts};
 
+use crate::sent_counts::place_of;
 use gateway_core::{Reply, TextOutcome};
 use mgcp_text::Verb;
-use sent_counts::place_of;
 use small_rules::count;
 
 /// What was counted of the texts that came.

@@ -8,7 +8,7 @@ ghost use Rattle.plain_machine.specs.Labelling.{labels_of};
 ghost use Rattle.plain_machine.specs.Lists.{sent_from};
 ghost use Rattle.plain_machine.specs.Machine.{Machine};
 ghost use Rattle.small_rules.specs.Counting.{counted};
-ghost use Rattle.sent_counts.specs.Counting.{Tally, with_sent, with_given_up, tally_after, given_up_from, is_command_at, is_sent_again_at, is_answer_with, is_given_again, is_of_gateway, is_of_line};
+ghost use Rattle.live_journal.specs.SentCounting.{Tally, with_sent, with_given_up, tally_after, given_up_from, is_command_at, is_sent_again_at, is_answer_with, is_given_again, is_of_gateway, is_of_line};
 
 /// Each count is the sum of what it was and of the messages that it is the count of, up to 18,446,744,073,709,551,615.
 pub fn counts_are_sums()

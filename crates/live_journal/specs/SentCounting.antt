@@ -14,7 +14,7 @@ use Rattle.plain_machine.specs.Labelling.{labels_of}
 use Rattle.plain_machine.specs.Machine.{Machine}
 use Rattle.plain_machine.specs.Happening.{effect}
 use Rattle.gateway_core.specs.Wire.{counted}
-use Rattle.sent_counts.specs.declared.sent_counts.SentCounts.{SentCounts}
+use Rattle.live_journal.specs.declared.sent_counts.SentCounts.{SentCounts}
 
 -- sends of its own commands by verb, and of these the ones that were sent before; responses by return code, and of these the
 -- answers that were given before; commands that were given up, of the gateway itself and of its lines

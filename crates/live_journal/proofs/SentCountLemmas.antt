@@ -18,7 +18,7 @@ use Rattle.plain_machine.specs.Lists.{sent_from}
 use Rattle.plain_machine.specs.Machine.{Machine}
 use Rattle.plain_machine.specs.Happening.{effect}
 use Rattle.gateway_core.specs.Wire.{counted}
-use Rattle.sent_counts.specs.Counting.{Tally, one_more_at, place_of, with_what, with_message, with_sent, is_of_gateway, is_of_line, with_own_given_up, with_line_given_up, with_one_given_up, with_given_up, tally_after, given_up_from, has_verb_at, is_command_at, has_again_at, is_sent_again_at, has_code, is_answer_with, is_again, is_given_again}
+use Rattle.live_journal.specs.SentCounting.{Tally, one_more_at, place_of, with_what, with_message, with_sent, is_of_gateway, is_of_line, with_own_given_up, with_line_given_up, with_one_given_up, with_given_up, tally_after, given_up_from, has_verb_at, is_command_at, has_again_at, is_sent_again_at, has_code, is_answer_with, is_again, is_given_again}
 
 counted_on : (n a b : ℕ) → counted (counted n a) b ≡ counted n (a + b)
 counted_on n a b = omega arith

@@ -1,6 +1,6 @@
 //! Counts what is sent and given up. A count stays at its greatest value, 18,446,744,073,709,551,615.
 ghost use Rattle.std.specs.Prelude.{◌≡◌, ◌<◌, IfOk};
-ghost use Rattle.sent_counts.specs.Counting.{tally_in, no_tally, place_of, with_answer, with_what, with_sent, with_one_given_up, with_given_up, all_given_up};
+ghost use Rattle.live_journal.specs.SentCounting.{tally_in, no_tally, place_of, with_answer, with_what, with_sent, with_one_given_up, with_given_up, all_given_up};
 
 use gateway_core::{GivenUpCommand, SentMessage, What};
 use mgcp_text::Verb;

@@ -1,5 +1,5 @@
-use Rattle.sent_counts.proofs.CountLemmas.{commands_sum, again_sum, answers_sum, given_sum, own_sum, line_sum}
-use Rattle.sent_counts.proofs.laws.counts_are_sums.Goals as goal
+use Rattle.live_journal.proofs.SentCountLemmas.{commands_sum, again_sum, answers_sum, given_sum, own_sum, line_sum}
+use Rattle.live_journal.proofs.sent_laws.counts_are_sums.Goals as goal
 
 pub returns-clause-commands : goal.returns-clause-commands
 returns-clause-commands c = commands_sum

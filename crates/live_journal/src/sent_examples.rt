@@ -5,8 +5,8 @@ ghost use Rattle.std.specs.Prelude.{◌≡◌, ◌-◌, ◌^◌, [], ◌∷◌, 
 ghost use Rattle.mgcp_text.specs.declared.message.Verb.TheVariants as verbs;
 ghost use Rattle.plain_machine.specs.declared.label.Whose.TheVariants.{AnswerOf, OwnOf, Nobody};
 ghost use Rattle.plain_machine.specs.declared.label.What.TheVariants as whats;
-ghost use Rattle.sent_counts.specs.Counting.{no_tally, place_of, with_sent, with_given_up, all_given_up};
-ghost use Rattle.sent_counts.specs.Example.{said, lost, announcement, counted_once};
+ghost use Rattle.live_journal.specs.SentCounting.{no_tally, place_of, with_sent, with_given_up, all_given_up};
+ghost use Rattle.live_journal.specs.SentExample.{said, lost, announcement, counted_once};
 
 /// Each sentence at an example.
 pub fn each_sentence_has_an_example()

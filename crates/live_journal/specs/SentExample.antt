@@ -6,7 +6,7 @@ use Rattle.plain_machine.specs.declared.label.SentMessage.{SentMessage}
 use Rattle.plain_machine.specs.declared.label.What.{What}
 use Rattle.plain_machine.specs.declared.label.Whose.TheVariants.{Nobody}
 use Rattle.plain_machine.specs.Example.{agent}
-use Rattle.sent_counts.specs.Counting.{Tally, no_tally, with_sent}
+use Rattle.live_journal.specs.SentCounting.{Tally, no_tally, with_sent}
 
 -- a message to the agent at 1,000 that is this
 abbrev pub said : What → SentMessage
