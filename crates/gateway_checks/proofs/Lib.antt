@@ -1,3 +1,4 @@
 pub mod Computing
 pub mod VerdictLaws
 pub mod BarLemmas
+pub mod MailLemmas

@@ -1,5 +1,5 @@
 //! What the gateway said by itself, as long as a check is played.
-ghost use Rattle.std.specs.Prelude.{◌≡◌, ◌<◌, ◌++◌, ◌∷◌, [], None, OnOk, IfOk, vec_len, option_to_list};
+ghost use Rattle.std.specs.Prelude.{◌≡◌, ◌<◌, ◌++◌, ◌∷◌, [], None, OnOk, IfOk, vec_len, slice_get, remove, option_map, option_to_list};
 ghost use Rattle.gateway_checks.specs.Unasked.{is_copy, disturbs, is_disturbed, is_quiet, counts_at, likeness_at, first_meant};
 ghost use Rattle.gateway_checks.specs.Unasked.{last_of, with_copy, gaps_of, gaps_behind};
 
@@ -20,7 +20,10 @@ pub(crate) struct Mailbox {
 
 impl Mailbox {
     /// Nothing has come.
-    pub(crate) fn new(alloc: Global) -> Mailbox {
+    pub(crate) fn new(alloc: Global) -> Mailbox
+        ensures waiting { result.waiting.items ≡ [] }
+        ensures heard { result.heard.items ≡ [] }
+    {
         Mailbox {
             alloc,
             waiting: Vec::new(alloc),
@@ -85,8 +88,13 @@ impl Mailbox {
         Ok(None)
     }
 
-    /// A step has asked for the one at this place: its id, if it is there.
-    pub(crate) fn ask(&mut self, place: usize) -> Result<Option<u32>, OutOfMemory> {
+    /// A step has asked for the one at this place: its id, if it is there. After an error, which is for want of memory, that one is lost.
+    pub(crate) fn ask(&mut self, place: usize) -> Result<Option<u32>, OutOfMemory>
+        ensures id { IfOk result (λ id. id ≡ option_map (λ unasked. unasked.id) (slice_get self.old.waiting.items place)) }
+        ensures waiting { self.new.waiting.items ≡ remove self.old.waiting.items place }
+        ensures heard { OnOk result (self.new.heard.items
+            ≡ self.old.heard.items ++ option_to_list (slice_get self.old.waiting.items place)) }
+    {
         if place >= self.waiting.len() {
             return Ok(None);
         }
