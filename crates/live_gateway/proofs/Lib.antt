@@ -15,3 +15,4 @@ pub mod DeskLemmas
 pub mod TurningLemmas
 pub mod WatchingLemmas
 pub mod HearingLaws
+pub mod ShowingLemmas

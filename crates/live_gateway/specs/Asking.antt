@@ -78,3 +78,20 @@ abbrev pub request_in : Typist → List ℕ → TelephoneRequest
 request_in Here line = line_request true line
 request_in Elsewhere line = line_request false line
 request_in Stranger line = Refused
+
+-- what the lines are that ask for something
+abbrev pub usage : List ℕ
+usage = codes "? phone LINE off|on|flash|KEY, show LINE|*, watch SECONDS, counts, or stop\n"
+
+-- what is answered to a request that is answered by a text alone: where to ask from, want of memory, or what may be asked
+abbrev pub short_text : TelephoneRequest → List ℕ
+short_text (Act line act) = usage
+short_text (Show line) = usage
+short_text ShowAll = usage
+short_text (Watch seconds) = usage
+short_text Counts = usage
+short_text Stop = usage
+short_text StopFromAfar = codes "! stop is taken from a loopback address alone, 127.0.0.0/8\n"
+short_text Refused = usage
+short_text Unknown = usage
+short_text OutOfMemory = codes "! 1 OutOfMemory\n"

@@ -17,3 +17,4 @@ pub mod Turning
 pub mod Watching
 pub mod Example
 pub mod Picturing
+pub mod Paging

@@ -1,8 +1,9 @@
 -- How a gateway runs live.
-use Rattle.std.specs.Prelude.{◌≡◌, ⊤, ◌⊎◌, ℕ, ◌+◌, ◌<◌, ◌≤◌, List, [], ◌∷◌, ◌++◌, length, map, Option, Some, None, IfSome}
+use Rattle.std.specs.Prelude.{◌≡◌, ⊤, ◌⊎◌, ℕ, zero, suc, ◌+◌, ◌<◌, ◌≤◌, List, [], ◌∷◌, ◌++◌, length, map, Option, Some, None, IfSome}
 use Rattle.std.specs.declared.net.socket_addr.SocketAddrV4.{SocketAddrV4}
 use Rattle.surroundings.specs.Sending.{Sent, Grows}
 use Rattle.transmission.specs.declared.output.OutDatagram.{OutDatagram}
+use Rattle.plain_machine.specs.declared.setup.Setup.{Setup}
 use Rattle.plain_machine.specs.Event.{GatewayEvent}
 use Rattle.gateway_core.specs.GatewayState.{GatewayState}
 use Rattle.gateway_core.specs.Stands.{Stands, Took}
@@ -85,6 +86,11 @@ pub record IsAnswer (g : GatewayState) (line : ℕ) (answered : List ℕ) : Type
   pub status : Option LineStatus
   pub shows : (before : List GatewayEvent) → Stands g before → line_shown g.setup before line ≡ answer_of status
   pub text : answered ≡ printed (answer_of status)
+
+-- what is printed of so many lines, one behind the other from the first, where the gateway has taken these events
+unfoldable pub lines_shown : Setup → List GatewayEvent → ℕ → List ℕ
+lines_shown setup events zero = []
+lines_shown setup events (suc lines) = lines_shown setup events lines ++ printed (line_shown setup events (suc lines))
 
 -- It took an event that came in so: its entry was told, all that was sent at it was handed out, and behind the entry stands what became
 -- of that, and nothing else.

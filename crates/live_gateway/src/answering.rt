@@ -4,7 +4,10 @@ ghost use Rattle.plain_machine.specs.Event.{GatewayEvent};
 ghost use Rattle.plain_machine.specs.Lists.{plain};
 ghost use Rattle.gateway_core.specs.Stands.{Stands};
 ghost use Rattle.rgw_scripts.specs.Status.{status_of};
-ghost use Rattle.live_gateway.specs.Running.{IsAnswer};
+ghost use Rattle.surroundings.specs.Hearing.{AnswersTo};
+ghost use Rattle.live_gateway.specs.Asking.{short_text};
+ghost use Rattle.live_gateway.specs.Paging.{TakesAct, ShowsPage};
+ghost use Rattle.live_gateway.specs.Running.{IsAnswer, lines_shown};
 ghost use Rattle.live_gateway.specs.Watching.{full_text};
 
 use crate::picture::picture_of;
@@ -75,7 +78,10 @@ pub(crate) fn full_answer(alloc: Global) -> Result<Vec<u8>, OutOfMemory>
 }
 
 /// What each line is, from the first.
-pub(crate) fn all_shown(alloc: Global, gateway: &Gateway) -> Result<Vec<u8>, OutOfMemory> {
+pub(crate) fn all_shown(alloc: Global, gateway: &Gateway) -> Result<Vec<u8>, OutOfMemory>
+    ensures { (events : List GatewayEvent) → Stands gateway.now events →
+        IfOk result (λ text. text.items ≡ lines_shown gateway.now.setup events gateway.now.setup.names.lines) }
+{
     let mut text = Vec::new(alloc);
     for before in 0..gateway.lines() {
         put_shown(alloc, gateway, before + 1, &mut text)?;
@@ -84,7 +90,9 @@ pub(crate) fn all_shown(alloc: Global, gateway: &Gateway) -> Result<Vec<u8>, Out
 }
 
 /// What is answered to a request that is answered by a text alone.
-pub(crate) fn short_answer(request: TelephoneRequest) -> &'static [u8] {
+pub(crate) fn short_answer(request: TelephoneRequest) -> &'static [u8]
+    ensures { result.now ≡ short_text request }
+{
     match request {
         TelephoneRequest::StopFromAfar => STOP_FROM_AFAR,
         TelephoneRequest::OutOfMemory => OUT_OF_MEMORY,
@@ -98,6 +106,8 @@ pub(crate) fn answer_put<S: Surroundings>(
     around: &mut S,
     answer: Result<Vec<u8>, OutOfMemory>,
 )
+    ensures answered { IfOk answer (λ text. AnswersTo S.answers lines.old.sender around.old text.items around.new) }
+    ensures refused { IfErr answer (λ _. AnswersTo S.answers lines.old.sender around.old (codes "! 1 OutOfMemory\n") around.new) }
     ensures traffic { S.traffic around.new ≡ S.traffic around.old }
 {
     match answer {
@@ -130,8 +140,10 @@ pub fn question_answer(asked: Result<(), OutOfMemory>, printed: &[u8]) -> &[u8]
     }
 }
 
-/// What the page asks for next becomes a line of nobody's: whether it asks for something.
-pub(crate) fn take_act(alloc: Global, journal: &mut Journal, lines: &mut Lines) -> bool {
+/// What the page asks for next becomes a line of nobody's: whether it asks for something, and memory isn't refused for the line.
+pub(crate) fn take_act(alloc: Global, journal: &mut Journal, lines: &mut Lines) -> bool
+    ensures { TakesAct journal.old lines.old result journal.new lines.new }
+{
     let Some(board) = &mut journal.board else {
         return false;
     };
@@ -146,14 +158,17 @@ pub(crate) fn take_act(alloc: Global, journal: &mut Journal, lines: &mut Lines) 
     true
 }
 
-/// The page is shown the gateway as it is now, where its clock is so far behind the machine's, in ms.
+/// The page is shown the gateway as it is now, where its clock is so far behind the machine's, in ms. Where memory is refused it is shown
+/// what it was.
 pub(crate) fn show(
     alloc: Global,
     gateway: &Gateway,
     journal: &mut Journal,
     faults: Faults,
     behind: u64,
-) {
+)
+    ensures { ShowsPage gateway.now faults behind journal.old journal.new }
+{
     if journal.board.is_none() {
         return;
     }
