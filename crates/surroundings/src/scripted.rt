@@ -1,6 +1,6 @@
 //! A program's surroundings in memory, by a script.
 ghost use Rattle.std.specs.Prelude.{◌≡◌, ◌≤◌, ◌<◌, ◌++◌, ◌∷◌, [], false, Some, length, IfSome, OnOk, OnErr};
-ghost use Rattle.surroundings.specs.Keeping.{told_by};
+ghost use Rattle.surroundings.specs.Keeping.{told_by, KeepsAnswer};
 
 use crate::arrivals::Arrivals;
 use crate::keeping::{SentDatagram, keep};
@@ -103,6 +103,27 @@ fn fill(room: &mut [u8], bytes: &[u8]) -> usize
     let len = bytes.len().min(room.len());
     room[..len].copy_from_slice(&bytes[..len]);
     len
+}
+
+// What was answered at this moment, in ms, when so much had been handed over, is kept. Where memory is refused it is lost, as on a network.
+fn keep_answer(
+    alloc: Global,
+    answers: &mut Vec<Answer>,
+    moment: u64,
+    sent: usize,
+    to: SocketAddr,
+    text: &[u8],
+)
+    ensures { KeepsAnswer answers.old.items (record { moment = moment; sent = sent; to = to; text = text.now }) answers.new.items }
+{
+    if let Ok(text) = Vec::from_slice(alloc, text) {
+        let _ = answers.push(Answer {
+            moment,
+            sent,
+            to,
+            text,
+        });
+    }
 }
 
 impl Scripted {
@@ -238,7 +259,7 @@ fn is_asked(what: &Happening, is_lines: bool) -> bool {
 
 impl Surroundings for Scripted {
     ghost use Rattle.std.specs.Prelude.{⊤};
-    ghost use Rattle.surroundings.specs.Keeping.{told_by};
+    ghost use Rattle.surroundings.specs.Keeping.{told_by, Answers};
 
     ghost traffic = { told_by };
 
@@ -250,7 +271,7 @@ impl Surroundings for Scripted {
 
     ghost hears = { λ was given room is. ⊤ };
 
-    ghost answers = { λ was to text is. ⊤ };
+    ghost answers = { Answers };
 
     fn moment(&self) -> Result<u64, Fault> {
         Ok(self.moment)
@@ -312,15 +333,7 @@ impl Surroundings for Scripted {
     }
 
     fn answer(&mut self, to: SocketAddr, text: &[u8]) {
-        let (moment, sent) = (self.moment, self.sent.len());
-        // Where memory is refused the answer is lost, as on a network.
-        if let Ok(text) = Vec::from_slice(self.alloc, text) {
-            let _ = self.answers.push(Answer {
-                moment,
-                sent,
-                to,
-                text,
-            });
-        }
+        let sent = self.sent.len();
+        keep_answer(self.alloc, &mut self.answers, self.moment, sent, to, text);
     }
 }
