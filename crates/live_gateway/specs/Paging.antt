@@ -15,7 +15,7 @@ use Rattle.surroundings.specs.declared.lines.Lines.{Lines}
 use Rattle.surroundings.specs.Hearing.{Begins}
 use Rattle.live_journal.specs.declared.journal.Journal.{Journal}
 use Rattle.live_journal.specs.declared.reporting.Faults.{Faults}
-use Rattle.live_gateway.specs.Picturing.{with_numbers}
+use Rattle.live_gateway.specs.Picturing.{with_numbers, verbs_from, codes_from}
 
 -- all that a journal keeps but what the page is shown
 abbrev pub IsSameBeside : Journal → Journal → Type 0
@@ -31,6 +31,8 @@ pub record IsOf (gateway : GatewayState) (journal : Journal) (faults : Faults) (
   pub serving : (events : List GatewayEvent) → Stands gateway events → picture.is_serving ≡ serves (plain gateway.setup events).endpoints
   pub unanswered : picture.unanswered_since ≡ journal.tally.value.unanswered_since
   pub first : picture.first ≡ gateway.setup.first
+  pub commands : picture.counts.commands.items ≡ verbs_from 0 journal.tally.value.texts.commands
+  pub answers : picture.counts.answers.items ≡ codes_from 0 journal.tally.value.sent.answers.items
   pub held : (events : List GatewayEvent) → Stands gateway events → picture.counts.transactions ≡ remembered (plain gateway.setup events)
 
 -- a board shows another picture; what happened, and what is asked for, stay

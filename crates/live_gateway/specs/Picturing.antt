@@ -1,11 +1,14 @@
 -- What the page is shown of what was counted.
-use Rattle.std.specs.Prelude.{slice_index}
+use Rattle.std.specs.Prelude.{ℕ, ◌+◌, ◌++◌, nat_lt, min, if◌then◌else◌, List, [], ◌∷◌, slice_index}
 use Rattle.mgcp_text.specs.declared.message.Verb.TheVariants.{Ntfy, Rsip}
+use Rattle.page_answers.specs.declared.counts.CodeCount.{CodeCount}
 use Rattle.page_answers.specs.declared.counts.Counts.{Counts}
+use Rattle.page_answers.specs.declared.counts.VerbCount.{VerbCount}
 use Rattle.live_journal.specs.SentCounting.{place_of}
 use Rattle.live_journal.specs.declared.journal.Journal.{Journal}
 use Rattle.live_journal.specs.declared.message_tally.MessageTally.{MessageTally}
 use Rattle.live_journal.specs.declared.reporting.Faults.{Faults}
+use Rattle.live_gateway.specs.declared.picture.TheConstants.{LAST_CODE}
 
 -- what came, and what answers were sent before
 abbrev pub with_traffic : Counts → MessageTally → Counts
@@ -44,3 +47,17 @@ with_faults counts faults journal = record counts {
 abbrev pub with_numbers : Counts → Journal → Faults → Counts
 with_numbers counts journal faults =
     with_faults (with_own (with_traffic counts journal.tally.value) journal.tally.value) faults journal
+
+-- how many commands came with each verb, from the one at this place on
+unfoldable pub verbs_from : ℕ → List ℕ → List VerbCount
+verbs_from place [] = []
+verbs_from place (number ∷ numbers) = record { verb = place; number = number } ∷ verbs_from (place + 1) numbers
+
+-- how many answers had a code, if any had
+abbrev pub codes_at : ℕ → ℕ → List CodeCount
+codes_at code number = if nat_lt 0 number then record { code = min code LAST_CODE; number = number } ∷ [] else []
+
+-- how many had each code that any had, from this one on
+unfoldable pub codes_from : ℕ → List ℕ → List CodeCount
+codes_from code [] = []
+codes_from code (number ∷ numbers) = codes_at code number ++ codes_from (code + 1) numbers

@@ -1,11 +1,11 @@
 //! What the page is shown of the gateway.
-ghost use Rattle.std.specs.Prelude.{◌≡◌, ◌≤◌, List, IfOk};
+ghost use Rattle.std.specs.Prelude.{◌≡◌, ◌≤◌, ◌++◌, false, List, Ok, IfOk, OnOk};
 ghost use Rattle.plain_machine.specs.Event.{GatewayEvent};
 ghost use Rattle.plain_machine.specs.Lists.{plain};
 ghost use Rattle.plain_machine.specs.Machine.{serves};
 ghost use Rattle.gateway_core.specs.Remembering.{remembered};
 ghost use Rattle.gateway_core.specs.Stands.{Stands};
-ghost use Rattle.live_gateway.specs.Picturing.{with_traffic, with_own, with_faults, with_numbers};
+ghost use Rattle.live_gateway.specs.Picturing.{with_traffic, with_own, with_faults, with_numbers, verbs_from, codes_at, codes_from};
 
 use crate::seeing::seen_line;
 use connections::{Connection, mode_text};
@@ -13,7 +13,7 @@ use exchange_log::put_peer;
 use gateway_core::Gateway;
 use line_changes::{SeenConnection, SeenLine, codec_text};
 use live_journal::{Faults, Journal, MessageTally, place_of};
-use mg_bytes::Draft;
+use mg_bytes::{Draft, OutOfMemory};
 use mg_packages::{Hook, signal_name};
 use mgcp_text::Verb;
 use page_answers::{
@@ -22,6 +22,9 @@ use page_answers::{
 use signals::ActiveSignal;
 use std::alloc::{AllocError, Global};
 use std::net::SocketAddrV4;
+
+// The greatest number that a code has room for.
+const LAST_CODE: usize = u16::MAX as usize;
 
 // What is gathered for a picture. That memory was refused for some of it is kept, and asked once.
 #[derive(Drop)]
@@ -35,6 +38,19 @@ impl Gathering {
         match views.push(view) {
             Ok(()) => {}
             Err(_) => self.is_refused = true,
+        }
+    }
+
+    // What was made, where memory was there for it; else nothing.
+    fn kept<V: Drop>(&mut self, made: Result<Vec<V>, OutOfMemory>) -> Vec<V>
+        ensures { self.new.is_refused ≡ false → (self.old.is_refused ≡ false) × (made ≡ Ok result) }
+    {
+        match made {
+            Ok(views) => views,
+            Err(_) => {
+                self.is_refused = true;
+                Vec::new(self.alloc)
+            }
         }
     }
 
@@ -156,23 +172,42 @@ fn put_line(gathering: &mut Gathering, views: &mut Vec<LineView>, gateway: &Gate
     }
 }
 
-fn put_commands(gathering: &mut Gathering, views: &mut Vec<VerbCount>, tally: &MessageTally) {
+// How many commands came with each verb.
+#[tactic(auto, unfolding(crate::specs::Picturing::verbs_from))]
+fn verbs_of(alloc: Global, tally: &MessageTally) -> Result<Vec<VerbCount>, OutOfMemory>
+    ensures { IfOk result (λ views. views.items ≡ verbs_from 0 tally.now.texts.commands) }
+{
+    let mut views = Vec::new(alloc);
     for (place, number) in tally.texts.commands.iter().enumerate() {
-        let view = VerbCount {
+        views.push(VerbCount {
             verb: place as u8,
             number: *number,
-        };
-        gathering.push(views, view);
+        })?;
     }
+    Ok(views)
 }
 
-fn put_answers(gathering: &mut Gathering, views: &mut Vec<CodeCount>, tally: &MessageTally) {
-    for (code, number) in (0..u16::MAX).zip(tally.sent.answers.iter()) {
-        let number = *number;
-        if number > 0 {
-            gathering.push(views, CodeCount { code, number });
-        }
+// How many answers had a code, if any had.
+fn put_code(views: &mut Vec<CodeCount>, code: usize, number: u64) -> Result<(), OutOfMemory>
+    ensures { OnOk result (views.new.items ≡ views.old.items ++ codes_at code number) }
+{
+    if number > 0 {
+        let code = code.min(LAST_CODE) as u16;
+        views.push(CodeCount { code, number })?;
     }
+    Ok(())
+}
+
+// How many answers had each code that any had.
+#[tactic(auto, unfolding(crate::specs::Picturing::codes_from))]
+fn codes_of(alloc: Global, tally: &MessageTally) -> Result<Vec<CodeCount>, OutOfMemory>
+    ensures { IfOk result (λ views. views.items ≡ codes_from 0 tally.now.sent.answers.items) }
+{
+    let mut views = Vec::new(alloc);
+    for (code, number) in tally.sent.answers.iter().enumerate() {
+        put_code(&mut views, code, *number)?;
+    }
+    Ok(views)
 }
 
 fn put_file(gathering: &mut Gathering, views: &mut Vec<FileCount>, file: &[u8], number: u64) {
@@ -243,16 +278,18 @@ fn put_lines(gathering: &mut Gathering, views: &mut Vec<LineView>, gateway: &Gat
 }
 
 // What there are several of, by reference: a picture is large.
-fn put_lists(
-    gathering: &mut Gathering,
-    picture: &mut Picture,
-    gateway: &Gateway,
-    journal: &Journal,
-) {
+fn put_lists(gathering: &mut Gathering, picture: &mut Picture, gateway: &Gateway, journal: &Journal)
+    ensures commands { gathering.new.is_refused ≡ false
+        → picture.new.counts.commands.items ≡ verbs_from 0 journal.now.tally.value.texts.commands }
+    ensures answers { gathering.new.is_refused ≡ false
+        → picture.new.counts.answers.items ≡ codes_from 0 journal.now.tally.value.sent.answers.items }
+{
     put_lines(gathering, &mut picture.lines, gateway);
-    put_commands(gathering, &mut picture.counts.commands, &journal.tally);
-    put_answers(gathering, &mut picture.counts.answers, &journal.tally);
     put_written(gathering, &mut picture.counts.write_faults, journal);
+    let commands = verbs_of(gathering.alloc, &journal.tally);
+    picture.counts.commands = gathering.kept(commands);
+    let answers = codes_of(gathering.alloc, &journal.tally);
+    picture.counts.answers = gathering.kept(answers);
 }
 
 /// The gateway as it is now, where its clock is so far behind the machine's, in ms. Its only error is want of memory.
@@ -271,6 +308,10 @@ pub fn picture_of(
         → IfOk result (λ picture. picture.is_serving ≡ serves (plain gateway.now.setup events).endpoints) }
     ensures unanswered { IfOk result (λ picture. picture.unanswered_since ≡ journal.now.tally.value.unanswered_since) }
     ensures first { IfOk result (λ picture. picture.first ≡ gateway.now.setup.first) }
+    ensures commands { IfOk result (λ picture.
+        picture.counts.commands.items ≡ verbs_from 0 journal.now.tally.value.texts.commands) }
+    ensures answers { IfOk result (λ picture.
+        picture.counts.answers.items ≡ codes_from 0 journal.now.tally.value.sent.answers.items) }
     ensures held { (events : List GatewayEvent) → Stands gateway.now events
         → IfOk result (λ picture. picture.counts.transactions ≡ remembered (plain gateway.now.setup events)) }
 {
