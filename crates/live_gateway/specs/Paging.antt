@@ -24,10 +24,10 @@ IsSameBeside was is = (is.tally ≡ was.tally) × (is.log ≡ was.log) × (is.ca
 -- Shown
 
 -- a picture is of a gateway as it is, whose clock is so far behind the machine's, and of what was counted
-pub record IsOf (gateway : GatewayState) (journal : Journal) (faults : Faults) (behind : ℕ) (picture : Picture) : Type 0 where
+pub record IsOf (gateway : GatewayState) (journal : Journal) (faults : Faults) (lag : ℕ) (picture : Picture) : Type 0 where
   pub counted : picture.counts ≡ with_numbers picture.counts journal faults
   pub clock : (events : List GatewayEvent) → Stands gateway events → picture.clock ≡ (plain gateway.setup events).now
-  pub behind : picture.behind ≡ behind
+  pub behind : picture.behind ≡ lag
   pub serving : (events : List GatewayEvent) → Stands gateway events → picture.is_serving ≡ serves (plain gateway.setup events).endpoints
   pub unanswered : picture.unanswered_since ≡ journal.tally.value.unanswered_since
   pub first : picture.first ≡ gateway.setup.first
