@@ -8,7 +8,7 @@ use Rattle.live_journal.specs.SentCounting.{place_of}
 use Rattle.live_journal.specs.declared.journal.Journal.{Journal}
 use Rattle.live_journal.specs.declared.message_tally.MessageTally.{MessageTally}
 use Rattle.live_journal.specs.declared.reporting.Faults.{Faults}
-use Rattle.live_gateway.specs.declared.picture.TheConstants.{LAST_CODE}
+use Rattle.live_gateway.specs.declared.picture.TheConstants.{LAST_CODE, LAST_VERB}
 
 -- what came, and what answers were sent before
 abbrev pub with_traffic : Counts → MessageTally → Counts
@@ -51,7 +51,7 @@ with_numbers counts journal faults =
 -- how many commands came with each verb, from the one at this place on
 unfoldable pub verbs_from : ℕ → List ℕ → List VerbCount
 verbs_from place [] = []
-verbs_from place (number ∷ numbers) = record { verb = place; number = number } ∷ verbs_from (place + 1) numbers
+verbs_from place (number ∷ numbers) = record { verb = min place LAST_VERB; number = number } ∷ verbs_from (place + 1) numbers
 
 -- how many answers had a code, if any had
 abbrev pub codes_at : ℕ → ℕ → List CodeCount

@@ -23,7 +23,9 @@ use signals::ActiveSignal;
 use std::alloc::{AllocError, Global};
 use std::net::SocketAddrV4;
 
-// The greatest number that a code has room for.
+// The last places for which numbers of verbs and codes have room.
+const LAST_VERB: usize = u8::MAX as usize;
+
 const LAST_CODE: usize = u16::MAX as usize;
 
 // What is gathered for a picture. That memory was refused for some of it is kept, and asked once.
@@ -174,13 +176,13 @@ fn put_line(gathering: &mut Gathering, views: &mut Vec<LineView>, gateway: &Gate
 
 // How many commands came with each verb.
 #[tactic(auto, unfolding(crate::specs::Picturing::verbs_from))]
-fn verbs_of(alloc: Global, tally: &MessageTally) -> Result<Vec<VerbCount>, OutOfMemory>
-    ensures { IfOk result (λ views. views.items ≡ verbs_from 0 tally.now.texts.commands) }
+fn verbs_of(alloc: Global, commands: &[u64]) -> Result<Vec<VerbCount>, OutOfMemory>
+    ensures { IfOk result (λ views. views.items ≡ verbs_from 0 commands.now) }
 {
     let mut views = Vec::new(alloc);
-    for (place, number) in tally.texts.commands.iter().enumerate() {
+    for (place, number) in commands.iter().enumerate() {
         views.push(VerbCount {
-            verb: place as u8,
+            verb: place.min(LAST_VERB) as u8,
             number: *number,
         })?;
     }
@@ -286,7 +288,7 @@ fn put_lists(gathering: &mut Gathering, picture: &mut Picture, gateway: &Gateway
 {
     put_lines(gathering, &mut picture.lines, gateway);
     put_written(gathering, &mut picture.counts.write_faults, journal);
-    let commands = verbs_of(gathering.alloc, &journal.tally);
+    let commands = verbs_of(gathering.alloc, &journal.tally.texts.commands);
     picture.counts.commands = gathering.kept(commands);
     let answers = codes_of(gathering.alloc, &journal.tally);
     picture.counts.answers = gathering.kept(answers);

@@ -1,9 +1,9 @@
-use Rattle.std.proofs.Common.{arith}
+use Rattle.std.proofs.Common.{◌∙◌, arith}
 use Rattle.live_gateway.proofs.ShowingLemmas.{none_shown, more_shown}
 use Rattle.live_gateway.proofs.answering.all_shown.Goals as goal
 
 pub loop-before-init : goal.loop-before-init
-loop-before-init c = record { shown = λ events s. none_shown _ events; few = omega arith }
+loop-before-init c = record { shown = λ events s. c.new-text.ensures.items ∙ none_shown c.args.gateway.now.setup events; few = omega arith }
 
 pub loop-before-preserved : goal.loop-before-preserved
 loop-before-preserved c = record {

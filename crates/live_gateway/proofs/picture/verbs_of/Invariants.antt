@@ -3,4 +3,4 @@ use Rattle.live_gateway.specs.Picturing.{verbs_from}
 use Rattle.live_gateway.proofs.picture.verbs_of.Given as goal
 
 abbrev pub invariant-loop-place : goal.invariant-loop-place
-invariant-loop-place l = l.views.items ++ verbs_from l.place (drop l.place l.tally.texts.commands) ≡ verbs_from 0 l.tally.texts.commands
+invariant-loop-place l = l.views.items ++ verbs_from l.place (drop l.place l.commands) ≡ verbs_from 0 l.commands
