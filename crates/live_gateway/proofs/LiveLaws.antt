@@ -19,4 +19,4 @@ live_text was is entries head text ran begins before told =
 
 pub live_replays : (was is : Live) (entries : List Entry) → Ran was entries is → Stands was.gateway []
     → AreWritable opening_script entries → ReadsBack was.gateway.setup entries
-live_replays was is entries ran stands can = reads_back was.gateway.setup entries (ran.play [] stands) can
+live_replays was is entries ran stands can = reads_back was.gateway.setup entries (ran.play [] stands) ran.ticks can

@@ -14,7 +14,7 @@ use Rattle.mg_bytes.specs.Words.{words}
 use Rattle.mg_bytes.proofs.TextLaws.{words_more}
 use Rattle.plain_machine.specs.declared.setup.Setup.{Setup}
 use Rattle.gateway_rules.specs.declared.refusal.Refusal.{Refusal}
-use Rattle.gateway_rules.specs.declared.refusal.Refusal.TheVariants.{NoSuchLine}
+use Rattle.gateway_rules.specs.declared.refusal.Refusal.TheVariants.{NoSuchLine, TickTooFar, ClockBack}
 use Rattle.plain_machine.specs.Arriving.{clock_after}
 use Rattle.plain_machine.specs.Message.{Sent, datagrams_of}
 use Rattle.plain_machine.specs.Packing.{put_out}
@@ -41,8 +41,8 @@ use Rattle.traces.specs.Replaying.{move_in}
 use Rattle.traces.specs.Telling.{mark, begins, is_mark, unsent_words, lost_words, broken_off, number_behind, told_output, told_mark, told as shown_text}
 use Rattle.traces.specs.Running.{Run, opening_run, run_from}
 use Rattle.traces.specs.Writing.{Entry, showed, became, arrived, typed, passed, hex_text, datagram_text, clock_text, at_clock, is_far, pass_text, caught_up, passed_to, opening_script, after_entry, entry_text, written, script_after, whole_text, step_move, IsPlay, taken_after}
-use Rattle.live_gateway.specs.Readable.{Never, CanAnswer}
-use Rattle.live_gateway.specs.Replay.{clock_moves, pass_moves, entry_moves, moves_of, KeepsClock, IsWritable, AreWritable, owing, entry_told, told_in, ReadsBack}
+use Rattle.live_gateway.specs.Readable.{Never, CanAnswer, KeepsClock, IsTaken, AreByTicks}
+use Rattle.live_gateway.specs.Replay.{clock_moves, pass_moves, entry_moves, moves_of, IsWritable, AreWritable, owing, entry_told, told_in, ReadsBack}
 use Rattle.live_gateway.proofs.TickLaws.{joined_machine, joined_sent}
 use Rattle.live_gateway.proofs.ReadingLaws.{at_again, from_again, raw_again, never_append, never_decimal, never_address, never_hex, decimal_again}
 use Rattle.live_gateway.proofs.PieceLaws.{ended_line, cut_line, cut_ended, reads_input, reads_empty, reads_mark, reads_shown}
@@ -208,6 +208,31 @@ tick_went : (setup : Setup) (taken : List GatewayEvent) (moment : ℕ) → (plai
 unfolding move_went refusal_of
 tick_went setup taken moment low near few =
     ap (λ (r : Option Refusal). event_went setup taken (tick moment) r) (tick_fine (plain setup taken).now moment low near few)
+
+-- one that wasn't refused goes on by no more than a tick may
+
+only_near : (far high back : Bool) → (if far || high then Some TickTooFar else (if back then Some ClockBack else None)) ≡ None → far ≡ false
+only_near true high back none = absurd cc
+only_near false high back none = refl
+
+taken_near : (now moment : ℕ) → tick_refusal now moment ≡ None → moment ≤ now + 1000
+taken_near now moment none =
+    let near : nat_lt (now + 1000) moment ≡ false = only_near (nat_lt (now + 1000) moment) (nat_le (2 ^ 62) moment) (nat_lt moment now) none in
+    grind (arith, nat_tests, near)
+
+none_refused : (setup : Setup) (before : List GatewayEvent) (event : GatewayEvent) (refusal : Option Refusal) (shown : Shown) → IsTaken shown
+    → (event_went setup before event refusal).shown ≡ shown ∷ [] → refusal ≡ None
+none_refused setup before event None shown taken shows = refl
+none_refused setup before event (Some refusal) shown taken shows =
+    let is : refuses refusal ≡ shown = cc in
+    absurd (subst IsTaken (sym is) taken)
+
+played_near : (setup : Setup) (before : List GatewayEvent) (moment : ℕ) (shown : Shown) → IsTaken shown
+    → (move_went setup before (give (tick moment))).shown ≡ shown ∷ [] → moment ≤ (plain setup before).now + 1000
+unfolding move_went refusal_of
+played_near setup before moment shown taken shows =
+    taken_near (plain setup before).now moment
+    (none_refused setup before (tick moment) (tick_refusal (plain setup before).now moment) shown taken shows)
 
 -- a line that says a step, and what that showed
 reads_step : (setup : Setup) (taken : List GatewayEvent) (told : List ℕ) (moves : List Move) (line : List ℕ) (step : ScriptStep) (move : Move) (shown : Shown)
@@ -668,15 +693,16 @@ abbrev EntryReads : Setup → List GatewayEvent → List GatewayEvent → Script
 EntryReads setup before taken script entry told moves =
     ReadsOn setup (taken_at setup before entry) taken (after_entry script entry) (entry_text script entry) (entry_moves script entry) (entry_told entry) told moves
 
--- a tick that is a play wasn't refused
+-- a tick that wasn't refused
 passed_reads : (setup : Setup) (before taken : List GatewayEvent) (script : Script) (moment : ℕ) (shown : Shown) (told : List ℕ) (moves : List Move)
-    → Beside setup before taken script → script.clock < moment → moment ≤ script.clock + 1000 → moment < 10 ^ 18
+    → Beside setup before taken script → script.clock < moment → moment < 10 ^ 18 → IsTaken shown
     → (move_went setup before (give (tick moment))).shown ≡ shown ∷ []
     → EntryReads setup before taken script (showed (passed moment) (give (tick moment)) shown) told moves
-passed_reads setup before taken script moment shown told moves b later near few shows =
+passed_reads setup before taken script moment shown told moves b later few is_taken shows =
     let outputs = outputs_from setup (plain setup before) (tick moment ∷ []) in
     let low : (plain setup before).now ≤ moment = subst (λ (n : ℕ). n ≤ moment) (sym b.clock) (least_of script.clock moment later) in
-    let close : moment ≤ (plain setup before).now + 1000 = subst (λ (n : ℕ). moment ≤ n + 1000) (sym b.clock) near in
+    let close : moment ≤ (plain setup before).now + 1000 = played_near setup before moment shown is_taken shows in
+    let near : moment ≤ script.clock + 1000 = subst (λ (n : ℕ). moment ≤ n + 1000) b.clock close in
     let went = tick_went setup before moment low close few in
     let is : sends outputs ≡ shown = only (sends outputs) shown (sym (ap (λ (w : Went). w.shown) went) ∙ shows) in
     subst (λ (s : Shown). EntryReads setup before taken script (showed (passed moment) (give (tick moment)) s) told moves) is
@@ -688,35 +714,35 @@ passed_reads setup before taken script moment shown told moves b later near few 
       only x y e = cc
 
 entry_reads : (setup : Setup) (before taken : List GatewayEvent) (script : Script) (entry : Entry) (entries : List Entry) (told : List ℕ) (moves : List Move)
-    → Beside setup before taken script → IsPlay setup before (entry ∷ entries) → IsWritable script entry → EntryReads setup before taken script entry told moves
-entry_reads setup before taken script (showed (arrived source bytes) move shown) entries told moves b play can =
+    → Beside setup before taken script → IsPlay setup before (entry ∷ entries) → AreByTicks (entry ∷ entries) → IsWritable script entry → EntryReads setup before taken script entry told moves
+entry_reads setup before taken script (showed (arrived source bytes) move shown) entries told moves b play ticks can =
     subst (λ (m : Move). (move_went setup before m).shown ≡ shown ∷ [] → EntryReads setup before taken script (showed (arrived source bytes) m shown) told moves) (sym play.0)
     (λ shows. came_in setup before taken script told moves (datagram_text source bytes) (give (datagram source bytes)) shown b tt shows (reads_datagram setup source bytes shown can.0 can.1)) play.1
-entry_reads setup before taken script (showed (typed line) move shown) entries told moves b play can =
-    came_in setup before taken script told moves (ended_line line) move shown b can.1 play.1 (reads_line setup line move shown can.0 play.0)
-entry_reads setup before taken script (showed (passed moment) move shown) entries told moves b play can =
+entry_reads setup before taken script (showed (typed line) move shown) entries told moves b play ticks can =
+    came_in setup before taken script told moves (ended_line line) move shown b ticks.0 play.1 (reads_line setup line move shown can play.0)
+entry_reads setup before taken script (showed (passed moment) move shown) entries told moves b play ticks can =
     subst (λ (m : Move). (move_went setup before m).shown ≡ shown ∷ [] → EntryReads setup before taken script (showed (passed moment) m shown) told moves) (sym play.0)
-    (λ shows. passed_reads setup before taken script moment shown told moves b can.0 can.1 can.2 shows) play.1
-entry_reads setup before taken script (became fate place) entries told moves b play can =
+    (λ shows. passed_reads setup before taken script moment shown told moves b can.0 can.1 ticks.0 shows) play.1
+entry_reads setup before taken script (became fate place) entries told moves b play ticks can =
     record { next = taken; beside = b; reads = reads_became setup taken told moves fate place can }
 
 all_read : (setup : Setup) (before taken : List GatewayEvent) (script : Script) (entries : List Entry) (told : List ℕ) (moves : List Move)
-    → Beside setup before taken script → IsPlay setup before entries → AreWritable script entries
+    → Beside setup before taken script → IsPlay setup before entries → AreByTicks entries → AreWritable script entries
     → ReadsOn setup (taken_after setup before entries) taken (script_after script entries) (written script entries) (moves_of script entries) (told_in entries) told moves
 unfolding written script_after moves_of
-all_read setup before taken script [] told moves b play can = record { next = taken; beside = b; reads = reads_none setup taken told moves }
-all_read setup before taken script (showed input move shown ∷ entries) told moves b play can =
+all_read setup before taken script [] told moves b play ticks can = record { next = taken; beside = b; reads = reads_none setup taken told moves }
+all_read setup before taken script (showed input move shown ∷ entries) told moves b play ticks can =
     let entry : Entry = showed input move shown in
-    let one = entry_reads setup before taken script entry entries told moves b play can.0 in
+    let one = entry_reads setup before taken script entry entries told moves b play ticks can.0 in
     reads_then setup (move_went setup before move).taken (taken_after setup (move_went setup before move).taken entries) taken (after_entry script entry) (script_after (after_entry script entry) entries)
     (entry_text script entry) (written (after_entry script entry) entries) (entry_moves script entry) (moves_of (after_entry script entry) entries) (entry_told entry) (told_in entries) told moves one
-    (all_read setup (move_went setup before move).taken one.next (after_entry script entry) entries (told ++ entry_told entry) (moves ++ entry_moves script entry) one.beside play.2 can.1)
-all_read setup before taken script (became fate place ∷ entries) told moves b play can =
+    (all_read setup (move_went setup before move).taken one.next (after_entry script entry) entries (told ++ entry_told entry) (moves ++ entry_moves script entry) one.beside play.2 ticks.1 can.1)
+all_read setup before taken script (became fate place ∷ entries) told moves b play ticks can =
     let entry : Entry = became fate place in
-    let one = entry_reads setup before taken script entry entries told moves b play can.0 in
+    let one = entry_reads setup before taken script entry entries told moves b play ticks can.0 in
     reads_then setup before (taken_after setup before entries) taken script (script_after script entries)
     (entry_text script entry) (written script entries) (entry_moves script entry) (moves_of script entries) (entry_told entry) (told_in entries) told moves one
-    (all_read setup before one.next script entries (told ++ entry_told entry) (moves ++ entry_moves script entry) one.beside play can.1)
+    (all_read setup before one.next script entries (told ++ entry_told entry) (moves ++ entry_moves script entry) one.beside play ticks can.1)
 
 -- ---- the whole trace
 
@@ -737,9 +763,9 @@ run_ends : (setup : Setup) (run : Run) → run_from setup run (cut []) ≡ Some 
 unfolding run_from cut
 run_ends setup run = refl
 
-pub reads_back : (setup : Setup) (entries : List Entry) → IsPlay setup [] entries → AreWritable opening_script entries → ReadsBack setup entries
-reads_back setup entries play can =
-    let all = all_read setup [] [] opening_script entries [] [] (opening_beside setup) play can in
+pub reads_back : (setup : Setup) (entries : List Entry) → IsPlay setup [] entries → AreByTicks entries → AreWritable opening_script entries → ReadsBack setup entries
+reads_back setup entries play ticks can =
+    let all = all_read setup [] [] opening_script entries [] [] (opening_beside setup) play ticks can in
     let script = script_after opening_script entries in
     let caught = catches_up setup (taken_after setup [] entries) all.next script (told_in entries) (moves_of opening_script entries) all.beside in
     let end = owing caught.next [] (told_in entries) (moves_of opening_script entries ++ clock_moves script) in

@@ -34,6 +34,7 @@ use Rattle.traces.specs.Replaying.{move_in}
 use Rattle.traces.specs.Telling.{told, told_mark, told_text}
 use Rattle.traces.specs.Writing.{Entry, Input, arrived, typed, passed, clock_text, at_clock, showed, became, Says, IsPlay, taken_after, sent_at, sent_in, input_text, after_input, datagrams_in, entry_text, after_entry, written, script_after}
 use Rattle.live_gateway.specs.Running.{Live, live, sent_of, Ran, IsFrom, AreFrom, HeardFrom, AreInPlace, AreMarks, HandsOut, Takes, Refuses, Asked, IsAnswer, TellsRefusal}
+use Rattle.live_gateway.specs.Readable.{KeepsClock, IsByTick, AreByTicks}
 use Rattle.traces.proofs.ShowLemmas.{both_not}
 
 -- ---- what is told
@@ -87,6 +88,11 @@ marks_in_place : (after last : ℕ) (marks : List Entry) → AreMarks after last
 marks_in_place after last [] are = tt
 marks_in_place after last (showed input move shown ∷ marks) are = absurd are
 marks_in_place after last (became mark place ∷ marks) are = (are.0, are.1, marks_in_place place last marks are.2)
+
+marks_by_ticks : (after last : ℕ) (marks : List Entry) → AreMarks after last marks → AreByTicks marks
+marks_by_ticks after last [] are = tt
+marks_by_ticks after last (showed input move shown ∷ marks) are = absurd are
+marks_by_ticks after last (became mark place ∷ marks) are = marks_by_ticks place last marks are.2
 
 marks_pass_no_time : (script : Script) (after last : ℕ) (marks : List Entry) → AreMarks after last marks → script_after script marks ≡ script
 unfolding script_after
@@ -215,6 +221,7 @@ ran_nothing was is took handed told script = record {
   told = subst (λ (o : Option (List ℕ)). Grows was.told [] o) (sym told) (grows_nothing was.told);
   script = if_some is.told script;
   marks = tt;
+  ticks = tt;
 } where
   if_some : (o : Option (List ℕ)) → is.script ≡ was.script → IfSome o (λ text. is.script ≡ was.script)
   if_some None same = tt
@@ -232,13 +239,13 @@ event_refused setup before event refusal other ends = ap (λ (r : Option Refusal
 
 -- an event was taken, its entry told, and its datagrams handed out
 pub ran_sent : (was mid is : Live) (input : Input) (event : GatewayEvent) (outputs : List OutDatagram) (marks : List Entry) → Says input (give event)
-    → Took was.gateway (event ∷ []) mid.gateway [] outputs
+    → IsByTick input (give event) (sends outputs) → Took was.gateway (event ∷ []) mid.gateway [] outputs
     → ((before : List GatewayEvent) → Stands was.gateway before → Ends (plain was.gateway.setup before) event None)
     → mid.handed ≡ was.handed → Grows was.told (input_text was.script input (sends outputs)) mid.told
     → IfSome mid.told (λ text. mid.script ≡ after_input was.script input (sends outputs))
     → HandsOut mid 0 outputs marks is → Ran was (showed input (give event) (sends outputs) ∷ marks) is
 unfolding written script_after
-ran_sent was mid is input event outputs marks says took ends kept told script hands = record {
+ran_sent was mid is input event outputs marks says ticks took ends kept told script hands = record {
   setup = ap (λ (g : GatewayState). g.setup) hands.gateway ∙ took.setup;
   stands = λ before s. subst (λ (g : GatewayState). Stands g (taken_after was.gateway.setup before (showed input (give event) (sends outputs) ∷ marks))) (sym hands.gateway)
       (subst (Stands mid.gateway) (sym (taken_here before s)) (took.stands before s));
@@ -248,6 +255,7 @@ ran_sent was mid is input event outputs marks says took ends kept told script ha
   script = rw (marks_pass_no_time (after_input was.script input (sends outputs)) 0 (0 + length outputs) marks hands.are)
       (if_told mid.told is.told (written mid.script marks) (after_input was.script input (sends outputs)) mid.script is.script hands.told script hands.script);
   marks = marks_in_place 0 (length outputs) marks (all_marked mid is outputs marks hands);
+  ticks = (ticks, marks_by_ticks 0 (length outputs) marks (all_marked mid is outputs marks hands));
 } where
   all_sent : sent_in (showed input (give event) (sends outputs) ∷ marks) ≡ outputs
   all_sent = ap (λ (l : List OutDatagram). outputs ++ l) (marks_send_nothing 0 (0 + length outputs) marks hands.are) ∙ append-nil outputs
@@ -263,14 +271,14 @@ ran_sent was mid is input event outputs marks says took ends kept told script ha
 
 -- nothing was sent: a line was answered
 pub ran_answered : (was is : Live) (input : Input) (move : Move) (shown : Shown) → Says input move
-    → is.gateway.setup ≡ was.gateway.setup
+    → IsByTick input move shown → is.gateway.setup ≡ was.gateway.setup
     → ((before : List GatewayEvent) → Stands was.gateway before → Stands is.gateway before)
     → ((before : List GatewayEvent) → Stands was.gateway before → move_went was.gateway.setup before move ≡ record { shown = shown ∷ []; taken = before })
     → sent_at (showed input move shown) ≡ [] → is.handed ≡ was.handed
     → Grows was.told (input_text was.script input shown) is.told
     → IfSome is.told (λ text. is.script ≡ after_input was.script input shown) → Ran was (showed input move shown ∷ []) is
 unfolding written script_after
-ran_answered was is input move shown says setup stands went none handed told script = record {
+ran_answered was is input move shown says ticks setup stands went none handed told script = record {
   setup = setup;
   stands = λ before s. subst (Stands is.gateway) (sym (ap (λ (w : Went). w.taken) (went before s))) (stands before s);
   play = λ before s. (says, ap (λ (w : Went). w.shown) (went before s), tt);
@@ -278,6 +286,7 @@ ran_answered was is input move shown says setup stands went none handed told scr
   told = rw (append-nil (input_text was.script input shown)) told;
   script = script;
   marks = tt;
+  ticks = (ticks, tt);
 }
 
 -- ---- runs one after the other
@@ -317,6 +326,11 @@ in_place_more after last [] b p q = in_place_anew after last b q
 in_place_more after last (showed input move shown ∷ a) b p q = in_place_more 0 (length (datagrams_in shown)) a b p q
 in_place_more after last (became mark place ∷ a) b p q = (p.0, p.1, in_place_more place last a b p.2 q)
 
+by_ticks_more : (a b : List Entry) → AreByTicks a → AreByTicks b → AreByTicks (a ++ b)
+by_ticks_more [] b p q = q
+by_ticks_more (showed input move shown ∷ a) b p q = (p.0, by_ticks_more a b p.1 q)
+by_ticks_more (became mark place ∷ a) b p q = by_ticks_more a b p q
+
 pub ran_on : (was mid is : Live) (a b : List Entry) → Ran was a mid → Ran mid b is → Ran was (a ++ b) is
 ran_on was mid is a b p q = record {
   setup = q.setup ∙ p.setup;
@@ -329,6 +343,7 @@ ran_on was mid is a b p q = record {
   told = rw (written_more was.script a b) (then_told was.told mid.told is.told (written was.script a) (script_after was.script a) mid.script b p.told p.script q.told);
   script = rw (script_more was.script a b) (by_told mid.told is.told p.script q.script q.told);
   marks = in_place_more 0 0 a b p.marks q.marks;
+  ticks = by_ticks_more a b p.ticks q.ticks;
 } where
   by_told : (m o : Option (List ℕ)) → IfSome m (λ text. mid.script ≡ script_after was.script a) → IfSome o (λ text. is.script ≡ script_after mid.script b)
       → Grows m (written mid.script b) o → IfSome o (λ text. is.script ≡ script_after (script_after was.script a) b)
@@ -365,12 +380,12 @@ pub goes_on_quietly : (speaks : SocketAddrV4 → Type 0) (was is : Live) → Too
 goes_on_quietly speaks was is took handed told script = record { entries = []; ran = ran_nothing was is took handed told script; from = tt }
 
 pub takes_so : (was mid is : Live) (stepped : GatewayState) (input : Input) (event : GatewayEvent) (outputs sent : List OutDatagram) → Says input (give event)
-    → Took was.gateway (event ∷ []) stepped [] outputs → mid.gateway ≡ stepped → sent ≡ outputs
+    → IsByTick input (give event) (sends sent) → Took was.gateway (event ∷ []) stepped [] outputs → mid.gateway ≡ stepped → sent ≡ outputs
     → ((before : List GatewayEvent) → Stands was.gateway before → Ends (plain was.gateway.setup before) event None)
     → mid.handed ≡ was.handed → Grows was.told (input_text was.script input (sends sent)) mid.told
     → IfSome mid.told (λ text. mid.script ≡ after_input was.script input (sends sent))
     → (marks : List Entry) × HandsOut mid 0 sent marks is → Takes was input event is
-takes_so was mid is stepped input event outputs sent says took gateway same ends kept told script hands =
+takes_so was mid is stepped input event outputs sent says ticks took gateway same ends kept told script hands =
     let took_so : Took was.gateway (event ∷ []) mid.gateway [] sent =
     subst (λ (g : GatewayState). Took was.gateway (event ∷ []) g [] sent) (sym gateway)
     (subst (λ (l : List OutDatagram). Took was.gateway (event ∷ []) stepped [] l) (sym same) took) in
@@ -379,7 +394,7 @@ takes_so was mid is stepped input event outputs sent says took gateway same ends
       marks = hands.0;
       took = subst (λ (g : GatewayState). Took was.gateway (event ∷ []) g [] sent) (sym hands.1.gateway) took_so;
       are = all_marked mid is sent hands.0 hands.1;
-      ran = ran_sent was mid is input event sent hands.0 says took_so ends kept told script hands.1;
+      ran = ran_sent was mid is input event sent hands.0 says ticks took_so ends kept told script hands.1;
     }
 
 pub goes_on_by : (speaks : SocketAddrV4 → Type 0) (was is : Live) (input : Input) (event : GatewayEvent) → IsFrom speaks input → Takes was input event is
@@ -391,26 +406,26 @@ goes_on_by speaks was is input event from t = record {
 }
 
 -- an act that was refused, and not for want of memory
-ran_refused : (was is : Live) (line : List ℕ) (event : GatewayEvent) (refusal : Refusal) → Says (typed line) (give event) → (refusal ≡ OutOfMemory → ⊥)
-    → Took was.gateway [] is.gateway [] []
+ran_refused : (was is : Live) (line : List ℕ) (event : GatewayEvent) (refusal : Refusal) → Says (typed line) (give event) → KeepsClock (give event)
+    → (refusal ≡ OutOfMemory → ⊥) → Took was.gateway [] is.gateway [] []
     → ((before : List GatewayEvent) → Stands was.gateway before → Ends (plain was.gateway.setup before) event (Some refusal))
     → is.handed ≡ was.handed → Grows was.told (clock_text was.script ++ printed_line line ++ told_text (printed_line (refusal_line refusal))) is.told
     → IfSome is.told (λ text. is.script ≡ at_clock was.script) → Ran was (showed (typed line) (give event) (refuses refusal) ∷ []) is
 unfolding told
-ran_refused was is line event refusal says other took ends kept told script =
-    ran_answered was is (typed line) (give event) (refuses refusal) says took.setup
+ran_refused was is line event refusal says still other took ends kept told script =
+    ran_answered was is (typed line) (give event) (refuses refusal) says still took.setup
     (λ before s. rw (append-nil before) at (took.stands before s))
     (λ before s. event_refused was.gateway.setup before event refusal other (ends before s)) refl kept told script
 
 -- and one of which it isn't said here why, or that it was told
 pub refuses_so : (was is : Live) (line : List ℕ) (event : GatewayEvent) (refusal answer : Refusal) (text : List ℕ) → Says (typed line) (give event)
-    → Took was.gateway [] is.gateway [] []
+    → KeepsClock (give event) → Took was.gateway [] is.gateway [] []
     → ((before : List GatewayEvent) → Stands was.gateway before → Ends (plain was.gateway.setup before) event (Some refusal))
     → is.handed ≡ was.handed → TellsRefusal line refusal answer text was.told was.script is.told is.script → Refuses was line event answer text is
-refuses_so was is line event refusal answer text says took ends kept (inl quiet) = inl (quiet.0, ran_nothing was is took kept quiet.1 quiet.2)
-refuses_so was is line event refusal answer text says took ends kept (inr r) =
+refuses_so was is line event refusal answer text says still took ends kept (inl quiet) = inl (quiet.0, ran_nothing was is took kept quiet.1 quiet.2)
+refuses_so was is line event refusal answer text says still took ends kept (inr r) =
     subst (λ (x : Refusal). Refuses was line event x text is) (sym r.0)
-    (inr (r.1, ran_refused was is line event refusal says r.1 took ends kept r.2 r.3, r.4))
+    (inr (r.1, ran_refused was is line event refusal says still r.1 took ends kept r.2 r.3, r.4))
 
 pub goes_on_refused : (speaks : SocketAddrV4 → Type 0) (was is : Live) (line : List ℕ) (event : GatewayEvent) (refusal : Refusal) (text : List ℕ)
     → Refuses was line event refusal text is → HeardFrom speaks was is
@@ -502,7 +517,7 @@ pub answers_so : (was is : Live) (line : List ℕ) (number : ℕ) (text : List �
 answers_so was is line number text says a gateway handed grew script = record {
   answer = a;
   gateway = gateway;
-  ran = ran_answered was is (typed line) (ask number) (answer_of a.status) (says_ask line number says) (ap (λ (g : GatewayState). g.setup) gateway)
+  ran = ran_answered was is (typed line) (ask number) (answer_of a.status) (says_ask line number says) tt (ap (λ (g : GatewayState). g.setup) gateway)
       (λ before s. subst (λ (g : GatewayState). Stands g before) (sym gateway) s)
       (λ before s. asked_went was.gateway.setup before number (answer_of a.status) (a.shows before s))
       (sends_nothing (typed line) (ask number) a.status) handed
@@ -536,6 +551,7 @@ ran_written_off was is gateway script handed told = record {
   told = told;
   script = any_text is.told;
   marks = tt;
+  ticks = tt;
 } where
   any_text : (o : Option (List ℕ)) → IfSome o (λ text. is.script ≡ was.script)
   any_text None = tt

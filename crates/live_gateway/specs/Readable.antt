@@ -2,6 +2,9 @@
 use Rattle.std.specs.Prelude.{◌≡◌, ⊤, ℕ, ◌≤◌, Bool, false, List, [], ◌∷◌}
 use Rattle.std.specs.List.{AllByRecursion}
 use Rattle.std.specs.declared.net.socket_addr.SocketAddrV4.{SocketAddrV4}
+use Rattle.plain_machine.specs.Event.{datagram, phone, tick}
+use Rattle.rgw_scripts.specs.Moves.{Move, Shown, give, pass, ask, sends, refuses, tells}
+use Rattle.traces.specs.Writing.{Input, Entry, arrived, typed, passed, showed, became}
 
 -- no byte of a text passes
 abbrev pub Never : (ℕ → Bool) → List ℕ → Type 0
@@ -18,3 +21,29 @@ pub record CanAnswer (source : SocketAddrV4) : Type 0 where
   pub each : AllByRecursion (λ octet. octet ≤ 255) (a ∷ b ∷ c ∷ d ∷ [])
   pub low : 1 ≤ source.port
   pub high : source.port ≤ 65535
+
+-- a move goes on by no time
+abbrev pub KeepsClock : Move → Type 0
+KeepsClock (give (datagram source bytes)) = ⊤
+KeepsClock (give (phone line act)) = ⊤
+KeepsClock (give (tick moment)) = ⊥
+KeepsClock (pass by) = ⊥
+KeepsClock (ask line) = ⊤
+
+-- an event wasn't refused
+abbrev pub IsTaken : Shown → Type 0
+IsTaken (sends datagrams) = ⊤
+IsTaken (refuses refusal) = ⊥
+IsTaken (tells status) = ⊥
+
+-- a line moves no clock, and a tick wasn't refused
+abbrev pub IsByTick : Input → Move → Shown → Type 0
+IsByTick (arrived source bytes) move shown = ⊤
+IsByTick (typed line) move shown = KeepsClock move
+IsByTick (passed moment) move shown = IsTaken shown
+
+-- at these entries the clock goes on by ticks alone, of which none was refused
+abbrev pub AreByTicks : List Entry → Type 0
+AreByTicks [] = ⊤
+AreByTicks (showed input move shown ∷ entries) = IsByTick input move shown × AreByTicks entries
+AreByTicks (became mark place ∷ entries) = AreByTicks entries

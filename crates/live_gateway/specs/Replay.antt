@@ -1,17 +1,17 @@
 -- What a written trace says.
-use Rattle.std.specs.Prelude.{◌≡◌, ⊤, ℕ, ◌+◌, ◌<◌, ◌≤◌, ◌^◌, ◌==◌, true, if◌then◌else◌, List, [], ◌∷◌, ◌++◌, length, Some, None}
+use Rattle.std.specs.Prelude.{◌≡◌, ⊤, ℕ, ◌<◌, ◌^◌, ◌==◌, true, if◌then◌else◌, List, [], ◌∷◌, ◌++◌, length, Some, None}
 use Rattle.std.specs.List.{AllByRecursion, flat_map}
 use Rattle.mg_bytes.specs.Lines.{is_line_feed, cut}
 use Rattle.plain_machine.specs.declared.setup.Setup.{Setup}
 use Rattle.plain_machine.specs.Lists.{plain}
-use Rattle.plain_machine.specs.Event.{GatewayEvent, datagram, phone, tick}
+use Rattle.plain_machine.specs.Event.{GatewayEvent, tick}
 use Rattle.transmission.specs.declared.output.OutDatagram.{OutDatagram}
-use Rattle.rgw_scripts.specs.Moves.{Move, Shown, give, pass, ask}
+use Rattle.rgw_scripts.specs.Moves.{Move, Shown, give}
 use Rattle.traces.specs.declared.script.Script.{Script}
 use Rattle.traces.specs.Replaying.{may_end}
 use Rattle.traces.specs.Running.{Run, opening_run, run_from}
 use Rattle.traces.specs.Telling.{told as shown_text}
-use Rattle.traces.specs.Writing.{Input, Entry, showed, became, arrived, typed, passed, longest_step, is_far, passed_to, datagrams_in, after_entry, opening_script, script_after, whole_text, taken_after}
+use Rattle.traces.specs.Writing.{Input, Entry, showed, became, arrived, typed, passed, is_far, passed_to, datagrams_in, after_entry, opening_script, script_after, whole_text, taken_after}
 use Rattle.live_gateway.specs.Readable.{Never, CanAnswer}
 
 -- Its moves: ticks that were told together are one
@@ -39,20 +39,12 @@ unfoldable pub moves_of : Script → List Entry → List Move
 moves_of script [] = []
 moves_of script (entry ∷ entries) = entry_moves script entry ++ moves_of (after_entry script entry) entries
 
--- a line for the telephones moves no clock
-abbrev pub KeepsClock : Move → Type 0
-KeepsClock (give (datagram source bytes)) = ⊤
-KeepsClock (give (phone line act)) = ⊤
-KeepsClock (give (tick moment)) = ⊥
-KeepsClock (pass by) = ⊥
-KeepsClock (ask line) = ⊤
-
 -- What can be written so that it is read again: datagrams of bytes that come from where one can answer, lines that are one line, and
--- moments that go on by no more than one tick may, and have no more than 18 digits
+-- moments that go on, and have no more than 18 digits
 abbrev pub IsWritable : Script → Entry → Type 0
 IsWritable script (showed (arrived source bytes) move shown) = CanAnswer source × AllByRecursion (λ byte. byte < 256) bytes
-IsWritable script (showed (typed line) move shown) = Never is_line_feed line × KeepsClock move
-IsWritable script (showed (passed moment) move shown) = (script.clock < moment) × (moment ≤ script.clock + longest_step) × (moment < 10 ^ 18)
+IsWritable script (showed (typed line) move shown) = Never is_line_feed line
+IsWritable script (showed (passed moment) move shown) = (script.clock < moment) × (moment < 10 ^ 18)
 IsWritable script (became fate place) = place < 10 ^ 18
 
 abbrev pub AreWritable : Script → List Entry → Type 0

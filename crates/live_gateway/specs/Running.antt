@@ -15,6 +15,7 @@ use Rattle.rgw_scripts.specs.Status.{LineStatus}
 use Rattle.traces.specs.declared.script.Script.{Script}
 use Rattle.traces.specs.Telling.{told_text}
 use Rattle.traces.specs.Writing.{Entry, Input, arrived, typed, passed, showed, became, datagrams_in, IsPlay, taken_after, sent_in, written, script_after, clock_text, at_clock}
+use Rattle.live_gateway.specs.Readable.{AreByTicks}
 
 -- the gateway, the moments that its trace has come to, all that this was told, and all that was handed out
 pub record Live : Type 0 where
@@ -38,7 +39,7 @@ AreInPlace after last (showed input move shown ∷ entries) = AreInPlace 0 (leng
 AreInPlace after last (became mark place ∷ entries) = (after < place) × (place ≤ last) × AreInPlace place last entries
 
 -- It went on by these entries: they are a play of its gateway, what was handed out is what they sent, and its trace was told their
--- text.
+-- text. Its clock went on by ticks alone.
 pub record Ran (was : Live) (entries : List Entry) (is : Live) : Type 0 where
   pub setup : is.gateway.setup ≡ was.gateway.setup
   pub stands : (before : List GatewayEvent) → Stands was.gateway before →
@@ -48,6 +49,7 @@ pub record Ran (was : Live) (entries : List Entry) (is : Live) : Type 0 where
   pub told : Grows was.told (written was.script entries) is.told
   pub script : IfSome is.told (λ text. is.script ≡ script_after was.script entries)
   pub marks : AreInPlace 0 0 entries
+  pub ticks : AreByTicks entries
 
 -- what came in is no datagram, or one whose source is so
 abbrev pub IsFrom : (SocketAddrV4 → Type 0) → Input → Type 0

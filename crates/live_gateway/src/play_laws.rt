@@ -5,6 +5,7 @@ ghost use Rattle.surroundings.specs.Sending.{Sent};
 ghost use Rattle.plain_machine.specs.Event.{GatewayEvent};
 ghost use Rattle.gateway_core.specs.Stands.{Stands};
 ghost use Rattle.traces.specs.Writing.{Entry, IsPlay, taken_after, sent_in, written, script_after};
+ghost use Rattle.live_gateway.specs.Readable.{AreByTicks};
 ghost use Rattle.live_gateway.specs.Running.{Live, Ran, AreInPlace, sent_of};
 
 pub mod lines;
@@ -15,7 +16,7 @@ pub mod ticks;
 
 /// A gateway that went on by entries stands for what it took at them; what they show is what the plain machine shows; what was handed
 /// out, and what the trace was told, is theirs, in their order; what became of a datagram is said behind the entry that sent it, once at
-/// most.
+/// most; the clock goes on by ticks alone, none of which was refused.
 pub fn a_live_run_is_a_play()
     ensures stands { (was is : Live) (entries : List Entry) (before : List GatewayEvent) → Ran was entries is → Stands was.gateway before →
         Stands is.gateway (taken_after was.gateway.setup before entries) }
@@ -28,6 +29,7 @@ pub fn a_live_run_is_a_play()
     ensures script { (was is : Live) (entries : List Entry) (text : List ℕ) → Ran was entries is → is.told ≡ Some text →
         is.script ≡ script_after was.script entries }
     ensures marks { (was is : Live) (entries : List Entry) → Ran was entries is → AreInPlace 0 0 entries }
+    ensures ticks { (was is : Live) (entries : List Entry) → Ran was entries is → AreByTicks entries }
 {}
 
 /// Runs one after the other are one run, by the entries of both.

@@ -18,3 +18,6 @@ returns-clause-script c = script_known
 
 pub returns-clause-marks : goal.returns-clause-marks
 returns-clause-marks c = λ was is entries r. r.marks
+
+pub returns-clause-ticks : goal.returns-clause-ticks
+returns-clause-ticks c = λ was is entries r. r.ticks

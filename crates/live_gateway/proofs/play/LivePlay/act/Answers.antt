@@ -10,7 +10,7 @@ pub returns-in-Ok-clause-taken : goal.returns-in-Ok-clause-taken
 returns-in-Ok-clause-taken g c =
     takes_so _
     (live c.take.new.gateway.value c.tell_act-told.new.script (g.T.Teller.told c.tell_act-told.new.teller) (g.O.Outlet.handed c.args.out.now)) _ c.take.new.gateway.value
-    (typed c.args.text.now) (phone c.args.line c.args.act) _ c.as_slice-sent.result.now (says_act c.args.text.now c.args.line c.args.act c.requires) c.in-Ok.ensures.ok refl c.as_slice-sent.ensures c.in-Ok.ensures.ends refl
+    (typed c.args.text.now) (phone c.args.line c.args.act) _ c.as_slice-sent.result.now (says_act c.args.text.now c.args.line c.args.act c.requires) tt c.in-Ok.ensures.ok refl c.as_slice-sent.ensures c.in-Ok.ensures.ends refl
     c.tell_act-told.ensures.told c.tell_act-told.ensures.script c.hand_out.ensures.handed
 
 pub returns-in-Ok-clause-ran : goal.returns-in-Ok-clause-ran
@@ -20,7 +20,7 @@ returns-in-Ok-clause-ran g c =
 pub returns-in-Err-clause-refused : goal.returns-in-Err-clause-refused
 returns-in-Err-clause-refused g c =
     refuses_so _ _ c.args.text.now (phone c.args.line c.args.act) c.in-Err.refusal c.refuse.result c.refuse.new.printed.items (says_act c.args.text.now c.args.line c.args.act c.requires)
-    c.in-Err.ensures.err c.in-Err.ensures.ends refl c.refuse.ensures
+    tt c.in-Err.ensures.err c.in-Err.ensures.ends refl c.refuse.ensures
 
 pub returns-in-Err-clause-ran : goal.returns-in-Err-clause-ran
 returns-in-Err-clause-ran g c =

@@ -10,7 +10,7 @@ pub returns-in-Ok-clause-taken : goal.returns-in-Ok-clause-taken
 returns-in-Ok-clause-taken g c =
     takes_so _
     (live c.take.new.gateway.value c.tell_tick-told.new.script (g.T.Teller.told c.tell_tick-told.new.teller) (g.O.Outlet.handed c.args.out.now)) _ c.take.new.gateway.value
-    (passed c.args.moment) (tick c.args.moment) _ c.as_slice-sent.result.now refl c.in-Ok.ensures.ok refl c.as_slice-sent.ensures c.in-Ok.ensures.ends refl
+    (passed c.args.moment) (tick c.args.moment) _ c.as_slice-sent.result.now refl tt c.in-Ok.ensures.ok refl c.as_slice-sent.ensures c.in-Ok.ensures.ends refl
     c.tell_tick-told.ensures.told c.tell_tick-told.ensures.script c.hand_out.ensures.handed
 
 pub returns-in-Ok-clause-ran : goal.returns-in-Ok-clause-ran
