@@ -4,9 +4,9 @@ use Rattle.std.specs.List.{flat_map}
 use Rattle.std.specs.declared.net.socket_addr.SocketAddrV4.{SocketAddrV4}
 use Rattle.std.proofs.lemmas.Grind.{flat_map-append}
 use Rattle.surroundings.specs.Sending.{Received}
-use Rattle.traces.specs.Writing.{Entry, arrived, typed, passed, showed, became}
+use Rattle.traces.specs.Writing.{Entry, Input, arrived, typed, passed, showed, became}
 use Rattle.live_gateway.specs.Coming.{arrived_at, arrived_in, AreAllBut}
-use Rattle.live_gateway.specs.Running.{AreFrom, AreMarks}
+use Rattle.live_gateway.specs.Running.{AreOf, AreMarks}
 
 pub arrived_both : (a b : List Entry) → arrived_in (a ++ b) ≡ arrived_in a ++ arrived_in b
 arrived_both a b = flat_map-append arrived_at a b
@@ -16,12 +16,16 @@ marks_bring_nothing after last [] are = refl
 marks_bring_nothing after last (showed input move shown ∷ marks) are = absurd are
 marks_bring_nothing after last (became mark place ∷ marks) are = marks_bring_nothing place last marks are.2
 
-pub nobody_came : (entries : List Entry) → AreFrom (λ (nobody : SocketAddrV4). ⊥) entries → arrived_in entries ≡ []
-nobody_came [] are = refl
-nobody_came (showed (arrived source bytes) move shown ∷ entries) are = absurd are.0
-nobody_came (showed (typed line) move shown ∷ entries) are = nobody_came entries are.1
-nobody_came (showed (passed moment) move shown ∷ entries) are = nobody_came entries are.1
-nobody_came (became mark place ∷ entries) are = nobody_came entries are
+-- no datagram is so
+abbrev pub IsQuiet : (Input → Type 0) → Type 0
+IsQuiet says = (source : SocketAddrV4) (bytes : List ℕ) → says (arrived source bytes) → ⊥
+
+pub nobody_came : (says : Input → Type 0) → IsQuiet says → (entries : List Entry) → AreOf says entries → arrived_in entries ≡ []
+nobody_came says quiet [] are = refl
+nobody_came says quiet (showed (arrived source bytes) move shown ∷ entries) are = absurd (quiet source bytes are.0)
+nobody_came says quiet (showed (typed line) move shown ∷ entries) are = nobody_came says quiet entries are.1
+nobody_came says quiet (showed (passed moment) move shown ∷ entries) are = nobody_came says quiet entries are.1
+nobody_came says quiet (became mark place ∷ entries) are = nobody_came says quiet entries are
 
 -- ---- all but some
 

@@ -8,11 +8,13 @@ use Rattle.gateway_core.specs.Wire.{counted}
 use Rattle.gateway_core.proofs.ServeLemmas.{counted_on}
 use Rattle.plain_machine.specs.Event.{datagram}
 use Rattle.rgw_scripts.specs.Moves.{give, sends}
-use Rattle.traces.specs.Writing.{Entry, arrived, showed}
+use Rattle.mg_bytes.specs.Lines.{is_line_feed}
+use Rattle.traces.specs.Writing.{Entry, Input, arrived, typed, passed, showed}
 use Rattle.live_gateway.specs.Coming.{Came, arrived_in, AreAllBut}
-use Rattle.live_gateway.specs.Running.{Live, live, Ran, Takes, HeardFrom}
-use Rattle.live_gateway.proofs.CameLemmas.{arrived_both, marks_bring_nothing, nobody_came, all_of, all_but_both}
-use Rattle.live_gateway.proofs.RunLemmas.{ran_on, ran_stays, ran_written_off}
+use Rattle.live_gateway.specs.Readable.{Never, IsLine}
+use Rattle.live_gateway.specs.Running.{Live, live, Ran, Takes, RanOf}
+use Rattle.live_gateway.proofs.CameLemmas.{arrived_both, marks_bring_nothing, IsQuiet, nobody_came, all_of, all_but_both}
+use Rattle.live_gateway.proofs.RunLemmas.{ran_on, ran_stays, ran_written_off, marks_are_of, are_of_more, are_so}
 use Rattle.live_gateway.specs.declared.admission.Admission.{Admission}
 use Rattle.live_gateway.specs.declared.desk.Desk.{Desk}
 use Rattle.live_gateway.specs.declared.exchange.Exchange.{Exchange}
@@ -57,6 +59,7 @@ stays_by admission was is same = subst (λ (x : Standing). GoesOnBy admission wa
   received = grows_nothing was.came.received;
   refused = none_more was.came.refused;
   events = refl;
+  lines = tt;
 })
 
 then_by : (admission : Admission) (was mid is : Standing) (a b : List Entry) (some more : List Received) (m n : ℕ) → GoesOnBy admission was mid a some m
@@ -68,6 +71,7 @@ then_by admission was mid is a b some more m n g h = record {
   events = subst (λ (l : List Received). AreAllBut (m + n) l (arrived_in (a ++ b))) (sym (heard_both admission some more))
       (subst (λ (l : List Received). AreAllBut (m + n) (heard_of admission some ++ heard_of admission more) l) (sym (arrived_both a b))
       (all_but_both m n (heard_of admission some) (arrived_in a) (heard_of admission more) (arrived_in b) g.events h.events));
+  lines = are_of_more IsLine a b g.lines h.lines;
 }
 
 pub stays_so : {S T : Type 0} (told : T → Option (List ℕ)) (traffic : S → Traffic) (old new : Desk S T)
@@ -104,31 +108,50 @@ between told traffic old mid after new goes before same behind kept =
 
 -- ---- ticks, acts and questions: nobody is heard
 
-quiet_by : (admission : Admission) (was mid is : Standing) (is_refused : Bool) → HeardFrom (λ (nobody : SocketAddrV4). ⊥) was.live mid.live
+quiet_by : (admission : Admission) (was mid is : Standing) (is_refused : Bool) (says : Input → Type 0) → IsQuiet says
+    → ((input : Input) → says input → IsLine input) → RanOf says was.live mid.live
     → mid.came ≡ was.came → is ≡ with_input is_refused mid → (entries : List Entry) × GoesOnBy admission was is entries [] (refused_of is_refused)
-quiet_by admission was mid is is_refused heard same input = (
-  heard.entries,
+quiet_by admission was mid is is_refused says quiet line went same input = (
+  went.entries,
   record {
-    ran = subst (λ (x : Live). Ran was.live heard.entries x) (sym (ap (λ (x : Standing). x.live) input)) heard.ran;
+    ran = subst (λ (x : Live). Ran was.live went.entries x) (sym (ap (λ (x : Standing). x.live) input)) went.ran;
     received = nothing_more was.came.received is.came.received (ap (λ (x : Standing). x.came.received) input ∙ ap (λ (x : Came). x.received) same);
     refused = ap (λ (x : Standing). x.came.refused) input ∙ ap (λ (x : Came). refusals is_refused x.refused) same ∙ counts_one is_refused was.came.refused;
-    events = nobody_came heard.entries heard.from;
+    events = nobody_came says quiet went.entries went.inputs;
+    lines = are_so says IsLine line went.entries went.inputs;
   },
 )
 
 -- an input was taken, or refused
 pub ticks : {S T : Type 0} (told : T → Option (List ℕ)) (traffic : S → Traffic) (old new : Desk S T) (mid : Standing) (is_refused : Bool)
-    → HeardFrom (λ (nobody : SocketAddrV4). ⊥) (at_desk told traffic old).live mid.live → mid.came ≡ (at_desk told traffic old).came
+    (says : Input → Type 0) → IsQuiet says → ((input : Input) → says input → IsLine input)
+    → RanOf says (at_desk told traffic old).live mid.live → mid.came ≡ (at_desk told traffic old).came
     → at_desk told traffic new ≡ with_input is_refused mid → new.admission ≡ old.admission → GoesOn told traffic old new
-ticks told traffic old new mid is_refused heard same input kept =
-    let found = quiet_by old.admission (at_desk told traffic old) mid (at_desk told traffic new) is_refused heard same input in
+ticks told traffic old new mid is_refused says quiet line went same input kept =
+    let found = quiet_by old.admission (at_desk told traffic old) mid (at_desk told traffic new) is_refused says quiet line went same input in
     record { entries = found.0; came = []; missing = refused_of is_refused; went = found.1; admission = kept }
 
 -- a question is no input
 pub asks : {S T : Type 0} (told : T → Option (List ℕ)) (traffic : S → Traffic) (old new : Desk S T)
-    → HeardFrom (λ (nobody : SocketAddrV4). ⊥) (at_desk told traffic old).live (at_desk told traffic new).live
+    (says : Input → Type 0) → IsQuiet says → ((input : Input) → says input → IsLine input)
+    → RanOf says (at_desk told traffic old).live (at_desk told traffic new).live
     → (at_desk told traffic new).came ≡ (at_desk told traffic old).came → new.admission ≡ old.admission → GoesOn told traffic old new
-asks told traffic old new heard same kept = ticks told traffic old new (at_desk told traffic new) false heard same refl kept
+asks told traffic old new says quiet line went same kept =
+    ticks told traffic old new (at_desk told traffic new) false says quiet line went same refl kept
+
+-- a tick, and a line, are no datagram
+
+pub tick_is_quiet : (moment : ℕ) → IsQuiet (λ (input : Input). input ≡ passed moment)
+tick_is_quiet moment source bytes e = absurd cc
+
+pub tick_is_line : (moment : ℕ) (input : Input) → input ≡ passed moment → IsLine input
+tick_is_line moment input e = subst IsLine (sym e) tt
+
+pub line_is_quiet : (line : List ℕ) → IsQuiet (λ (input : Input). input ≡ typed line)
+line_is_quiet line source bytes e = absurd cc
+
+pub line_is_line : (line : List ℕ) → Never is_line_feed line → (input : Input) → input ≡ typed line → IsLine input
+line_is_line line free input e = subst IsLine (sym e) free
 
 -- ---- a datagram
 
@@ -146,6 +169,7 @@ hears_nobody told traffic old new heard live counts kept = record {
     received = heard.1;
     refused = counts ∙ none_more (at_desk told traffic old).came.refused;
     events = subst (λ (l : List Received). AreAllBut 0 l []) (sym heard.2) refl;
+    lines = tt;
   };
   admission = kept;
 }
@@ -163,6 +187,7 @@ taken_by admission was mid source bytes heard t counts = (
     refused = counts ∙ none_more was.came.refused;
     events = subst (λ (l : List Received). AreAllBut 0 l (one ∷ arrived_in t.marks)) (sym heard.2)
         (subst (λ (l : List Received). AreAllBut 0 (one ∷ []) (one ∷ l)) (sym (marks_bring_nothing 0 (length t.outputs) t.marks t.are)) (all_of (one ∷ [])));
+    lines = (tt, marks_are_of IsLine 0 (length t.outputs) t.marks t.are);
   },
 ) where
   one : Received
@@ -179,6 +204,7 @@ missed_by admission was mid one heard ran counts = (
     received = heard.1;
     refused = ap (λ (n : ℕ). counted n 1) counts;
     events = subst (λ (l : List Received). AreAllBut 1 l []) (sym heard.2) (inr (0, refl, refl));
+    lines = tt;
   },
 )
 
@@ -224,6 +250,7 @@ written_off told traffic old new gateway script handed grows same kept = record 
     received = nothing_more (at_desk told traffic old).came.received (at_desk told traffic new).came.received (ap (λ (x : Came). x.received) same);
     refused = ap (λ (x : Came). x.refused) same ∙ none_more (at_desk told traffic old).came.refused;
     events = refl;
+    lines = tt;
   };
   admission = kept;
 }

@@ -16,3 +16,4 @@ pub mod TurningLemmas
 pub mod WatchingLemmas
 pub mod HearingLaws
 pub mod ShowingLemmas
+pub mod LineLemmas

@@ -33,7 +33,7 @@ use Rattle.rgw_scripts.specs.Printing.{printed_line, refusal_line, shown_line}
 use Rattle.traces.specs.Replaying.{move_in}
 use Rattle.traces.specs.Telling.{told, told_mark, told_text}
 use Rattle.traces.specs.Writing.{Entry, Input, arrived, typed, passed, clock_text, at_clock, showed, became, Says, IsPlay, taken_after, sent_at, sent_in, input_text, after_input, datagrams_in, entry_text, after_entry, written, script_after}
-use Rattle.live_gateway.specs.Running.{Live, live, sent_of, Ran, IsFrom, AreFrom, HeardFrom, AreInPlace, AreMarks, HandsOut, Takes, Refuses, Asked, IsAnswer, TellsRefusal}
+use Rattle.live_gateway.specs.Running.{Live, live, sent_of, Ran, AreOf, RanOf, AreInPlace, AreMarks, HandsOut, Takes, Refuses, Asked, IsAnswer, TellsRefusal}
 use Rattle.live_gateway.specs.Readable.{KeepsClock, IsByTick, AreByTicks}
 use Rattle.traces.proofs.ShowLemmas.{both_not}
 
@@ -366,18 +366,28 @@ script_known was is entries text r told = from (rw told at r.script) where
   from : IfSome (Some text) (λ (t : List ℕ). is.script ≡ script_after was.script entries) → is.script ≡ script_after was.script entries
   from same = same
 
--- ---- from whom datagrams came
+-- ---- what came in
 
-marks_are_from : (speaks : SocketAddrV4 → Type 0) (after last : ℕ) (marks : List Entry) → AreMarks after last marks → AreFrom speaks marks
-marks_are_from speaks after last [] are = tt
-marks_are_from speaks after last (showed input move shown ∷ marks) are = absurd are
-marks_are_from speaks after last (became mark place ∷ marks) are = marks_are_from speaks place last marks are.2
+pub marks_are_of : (says : Input → Type 0) (after last : ℕ) (marks : List Entry) → AreMarks after last marks → AreOf says marks
+marks_are_of says after last [] are = tt
+marks_are_of says after last (showed input move shown ∷ marks) are = absurd are
+marks_are_of says after last (became mark place ∷ marks) are = marks_are_of says place last marks are.2
+
+pub are_of_more : (says : Input → Type 0) (a b : List Entry) → AreOf says a → AreOf says b → AreOf says (a ++ b)
+are_of_more says [] b p q = q
+are_of_more says (showed input move shown ∷ a) b p q = (p.0, are_of_more says a b p.1 q)
+are_of_more says (became mark place ∷ a) b p q = are_of_more says a b p q
+
+pub are_so : (says other : Input → Type 0) → ((input : Input) → says input → other input) → (entries : List Entry) → AreOf says entries → AreOf other entries
+are_so says other so [] are = tt
+are_so says other so (showed input move shown ∷ entries) are = (so input are.0, are_so says other so entries are.1)
+are_so says other so (became mark place ∷ entries) are = are_so says other so entries are
 
 -- ---- one event or question
 
-pub goes_on_quietly : (speaks : SocketAddrV4 → Type 0) (was is : Live) → Took was.gateway [] is.gateway [] [] → is.handed ≡ was.handed → is.told ≡ was.told
-    → is.script ≡ was.script → HeardFrom speaks was is
-goes_on_quietly speaks was is took handed told script = record { entries = []; ran = ran_nothing was is took handed told script; from = tt }
+pub goes_on_quietly : (says : Input → Type 0) (was is : Live) → Took was.gateway [] is.gateway [] [] → is.handed ≡ was.handed → is.told ≡ was.told
+    → is.script ≡ was.script → RanOf says was is
+goes_on_quietly says was is took handed told script = record { entries = []; ran = ran_nothing was is took handed told script; inputs = tt }
 
 pub takes_so : (was mid is : Live) (stepped : GatewayState) (input : Input) (event : GatewayEvent) (outputs sent : List OutDatagram) → Says input (give event)
     → IsByTick input (give event) (sends sent) → Took was.gateway (event ∷ []) stepped [] outputs → mid.gateway ≡ stepped → sent ≡ outputs
@@ -397,12 +407,12 @@ takes_so was mid is stepped input event outputs sent says ticks took gateway sam
       ran = ran_sent was mid is input event sent hands.0 says ticks took_so ends kept told script hands.1;
     }
 
-pub goes_on_by : (speaks : SocketAddrV4 → Type 0) (was is : Live) (input : Input) (event : GatewayEvent) → IsFrom speaks input → Takes was input event is
-    → HeardFrom speaks was is
-goes_on_by speaks was is input event from t = record {
+pub goes_on_by : (says : Input → Type 0) (was is : Live) (input : Input) (event : GatewayEvent) → says input → Takes was input event is
+    → RanOf says was is
+goes_on_by says was is input event so t = record {
   entries = showed input (give event) (sends t.outputs) ∷ t.marks;
   ran = t.ran;
-  from = (from, marks_are_from speaks 0 (length t.outputs) t.marks t.are);
+  inputs = (so, marks_are_of says 0 (length t.outputs) t.marks t.are);
 }
 
 -- an act that was refused, and not for want of memory
@@ -427,11 +437,11 @@ refuses_so was is line event refusal answer text says still took ends kept (inr 
     subst (λ (x : Refusal). Refuses was line event x text is) (sym r.0)
     (inr (r.1, ran_refused was is line event refusal says still r.1 took ends kept r.2 r.3, r.4))
 
-pub goes_on_refused : (speaks : SocketAddrV4 → Type 0) (was is : Live) (line : List ℕ) (event : GatewayEvent) (refusal : Refusal) (text : List ℕ)
-    → Refuses was line event refusal text is → HeardFrom speaks was is
-goes_on_refused speaks was is line event refusal text (inl quiet) = record { entries = []; ran = quiet.1; from = tt }
-goes_on_refused speaks was is line event refusal text (inr r) =
-    record { entries = showed (typed line) (give event) (refuses refusal) ∷ []; ran = r.1; from = (tt, tt) }
+pub goes_on_refused : (says : Input → Type 0) (was is : Live) (line : List ℕ) (event : GatewayEvent) (refusal : Refusal) (text : List ℕ)
+    → says (typed line) → Refuses was line event refusal text is → RanOf says was is
+goes_on_refused says was is line event refusal text so (inl quiet) = record { entries = []; ran = quiet.1; inputs = tt }
+goes_on_refused says was is line event refusal text so (inr r) =
+    record { entries = showed (typed line) (give event) (refuses refusal) ∷ []; ran = r.1; inputs = (so, tt) }
 
 -- an act that can be done ends as its event does, also where want of memory is told of it
 pub ends_as_told : (m : Machine) (event : GatewayEvent) (line text : List ℕ) (refusal answer : Refusal) (were are : Option (List ℕ)) (was is : Script)
@@ -524,18 +534,18 @@ answers_so was is line number text says a gateway handed grew script = record {
       (subst (λ (t : List ℕ). Grows was.told (clock_text was.script ++ printed_line line ++ t) is.told) (answer_told a.status text a.text) grew) script;
 }
 
-pub goes_on_answered : (speaks : SocketAddrV4 → Type 0) (was is : Live) (line : List ℕ) (number : ℕ) (text : List ℕ) → Asked was line number text is
-    → HeardFrom speaks was is
-goes_on_answered speaks was is line number text a =
-    record { entries = showed (typed line) (ask number) (answer_of a.answer.status) ∷ []; ran = a.ran; from = (tt, tt) }
+pub goes_on_answered : (says : Input → Type 0) (was is : Live) (line : List ℕ) (number : ℕ) (text : List ℕ) → says (typed line)
+    → Asked was line number text is → RanOf says was is
+goes_on_answered says was is line number text so a =
+    record { entries = showed (typed line) (ask number) (answer_of a.answer.status) ∷ []; ran = a.ran; inputs = (so, tt) }
 
 -- ---- runs in a loop
 
 same_gateway : (g h : GatewayState) → h ≡ g → Took g [] h [] []
 same_gateway g h same = subst (λ (x : GatewayState). Took g [] x [] []) (sym same) (took_none g g [] [] refl refl refl refl (λ m is. is))
 
-pub stays : (speaks : SocketAddrV4 → Type 0) (was : Live) → HeardFrom speaks was was
-stays speaks was = goes_on_quietly speaks was was (same_gateway was.gateway was.gateway refl) refl refl refl
+pub stays : (says : Input → Type 0) (was : Live) → RanOf says was was
+stays says was = goes_on_quietly says was was (same_gateway was.gateway was.gateway refl) refl refl refl
 
 pub ran_stays : (was : Live) → Ran was [] was
 ran_stays was = ran_nothing was was (same_gateway was.gateway was.gateway refl) refl refl refl

@@ -7,7 +7,7 @@ use Rattle.gateway_core.specs.Wire.{counted}
 use Rattle.plain_machine.specs.Event.{GatewayEvent, phone}
 use Rattle.gateway_rules.specs.declared.refusal.Refusal.{Refusal}
 use Rattle.traces.specs.Writing.{Input, typed}
-use Rattle.live_gateway.specs.Running.{Live, Ran, HeardFrom, Takes, Refuses, Asked}
+use Rattle.live_gateway.specs.Running.{Live, Ran, RanOf, Takes, Refuses, Asked}
 use Rattle.live_gateway.specs.Desk.{Standing, with_input}
 use Rattle.live_gateway.specs.Turning.{Tries, TriesAct, DoesLine}
 
@@ -39,10 +39,10 @@ tries_act text line act (Err refusal) printed was mid is takes misses counts sam
 
 -- what a line is was told, unless memory was refused
 pub asks_of : {A B : Type 0} (text : List ℕ) (line : ℕ) (done : Result A B) (printed : List ℕ) (was is : Live)
-    → OnOk done (Asked was text line printed is) → HeardFrom (λ (nobody : SocketAddrV4). ⊥) was is
-    → ((told : List ℕ) × Asked was text line told is) ⊎ HeardFrom (λ (nobody : SocketAddrV4). ⊥) was is
-asks_of text line (Ok done) printed was is asked heard = inl (printed, asked)
-asks_of text line (Err why) printed was is asked heard = inr heard
+    → OnOk done (Asked was text line printed is) → RanOf (λ (input : Input). input ≡ typed text) was is
+    → ((told : List ℕ) × Asked was text line told is) ⊎ RanOf (λ (input : Input). input ≡ typed text) was is
+asks_of text line (Ok done) printed was is asked ran = inl (printed, asked)
+asks_of text line (Err why) printed was is asked ran = inr ran
 
 -- what comes before and behind changes nothing of how it stands
 pub line_between : (was mid after is : Standing) → mid ≡ was → is ≡ after → DoesLine mid after → DoesLine was is

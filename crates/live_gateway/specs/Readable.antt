@@ -2,6 +2,7 @@
 use Rattle.std.specs.Prelude.{◌≡◌, ⊤, ℕ, ◌≤◌, Bool, false, List, [], ◌∷◌}
 use Rattle.std.specs.List.{AllByRecursion}
 use Rattle.std.specs.declared.net.socket_addr.SocketAddrV4.{SocketAddrV4}
+use Rattle.mg_bytes.specs.Lines.{is_line_feed}
 use Rattle.plain_machine.specs.Event.{datagram, phone, tick}
 use Rattle.rgw_scripts.specs.Moves.{Move, Shown, give, pass, ask, sends, refuses, tells}
 use Rattle.traces.specs.Writing.{Input, Entry, arrived, typed, passed, showed, became}
@@ -21,6 +22,12 @@ pub record CanAnswer (source : SocketAddrV4) : Type 0 where
   pub each : AllByRecursion (λ octet. octet ≤ 255) (a ∷ b ∷ c ∷ d ∷ [])
   pub low : 1 ≤ source.port
   pub high : source.port ≤ 65535
+
+-- a line is one line
+abbrev pub IsLine : Input → Type 0
+IsLine (arrived source bytes) = ⊤
+IsLine (typed line) = Never is_line_feed line
+IsLine (passed moment) = ⊤
 
 -- a move goes on by no time
 abbrev pub KeepsClock : Move → Type 0

@@ -63,11 +63,17 @@ AreFrom speaks [] = ⊤
 AreFrom speaks (showed input move shown ∷ entries) = IsFrom speaks input × AreFrom speaks entries
 AreFrom speaks (became mark place ∷ entries) = AreFrom speaks entries
 
--- it went on by entries, and heard such sources alone
-pub record HeardFrom (speaks : SocketAddrV4 → Type 0) (was is : Live) : Type 0 where
+-- what came in at each of these entries is so
+abbrev pub AreOf : (Input → Type 0) → List Entry → Type 0
+AreOf says [] = ⊤
+AreOf says (showed input move shown ∷ entries) = says input × AreOf says entries
+AreOf says (became mark place ∷ entries) = AreOf says entries
+
+-- it went on by entries, and all that came in is so
+pub record RanOf (says : Input → Type 0) (was is : Live) : Type 0 where
   pub entries : List Entry
   pub ran : Ran was entries is
-  pub from : AreFrom speaks entries
+  pub inputs : AreOf says entries
 
 -- these entries say what became of datagrams, and nothing else: of each at most once, in their order
 abbrev pub AreMarks : ℕ → ℕ → List Entry → Type 0

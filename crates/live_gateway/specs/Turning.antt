@@ -16,7 +16,7 @@ use Rattle.turns.specs.declared.schedule.Schedule.{Schedule}
 use Rattle.turns.specs.declared.turn.Turn.{Turn}
 use Rattle.turns.specs.declared.turn.Turn.TheVariants.{End, Look, Wait, Tick, Command, Datagram, Visit, Note}
 use Rattle.turns.specs.Schedule.{next_of}
-use Rattle.live_gateway.specs.Running.{Ran, HeardFrom, Takes, Refuses, Asked}
+use Rattle.live_gateway.specs.Running.{Ran, RanOf, Takes, Refuses, Asked}
 use Rattle.live_gateway.specs.declared.admission.Admission.{Admission}
 use Rattle.live_gateway.specs.declared.exchange.Exchange.{Exchange}
 use Rattle.live_gateway.specs.Desk.{Standing, IsHeard}
@@ -49,7 +49,7 @@ TriesAct text line act was is =
 abbrev pub Asks : List ℕ → ℕ → Standing → Standing → Type 0
 Asks text line was is =
     ((printed : List ℕ) × Asked was.live text line printed is.live)
-    ⊎ HeardFrom (λ (nobody : SocketAddrV4). ⊥) was.live is.live
+    ⊎ RanOf (λ (input : Input). input ≡ typed text) was.live is.live
 
 -- no line asked for anything of the gateway; or one did, for an act, or for what a line is
 abbrev pub DoesLine : Standing → Standing → Type 0

@@ -11,7 +11,7 @@ ghost use Rattle.rgw_scripts.specs.declared.step.ScriptStep.TheVariants.{Phone, 
 ghost use Rattle.rgw_scripts.specs.declared.step.ScriptLine.TheVariants.{Whole};
 ghost use Rattle.rgw_scripts.specs.Script.{line_in};
 ghost use Rattle.traces.specs.Writing.{Entry, arrived, typed, passed, clock_text, opening_script};
-ghost use Rattle.live_gateway.specs.Running.{live, Ran, HeardFrom, HandsOut, Takes, Refuses, Asked, IsAnswer};
+ghost use Rattle.live_gateway.specs.Running.{live, Ran, RanOf, HandsOut, Takes, Refuses, Asked, IsAnswer};
 
 use crate::answering::put_shown;
 use crate::ends::Outlet;
@@ -116,7 +116,7 @@ impl<T: Teller + Drop> LivePlay<T> {
     /// The clock goes to this moment, in ms: what the gateway sends at it is handed out. A refused tick changes nothing.
     #[tactic(auto, using(crate::proofs::RunLemmas::goes_on_quietly))]
     pub fn tick<O: Outlet>(&mut self, out: &mut O, moment: u64) -> Result<(), Refusal>
-        ensures ran { HeardFrom (λ nobody. ⊥)
+        ensures ran { RanOf (λ input. input ≡ passed moment)
             (live self.old.gateway.value self.old.script (T.told self.old.teller) (O.handed out.old))
             (live self.new.gateway.value self.new.script (T.told self.new.teller) (O.handed out.new)) }
         ensures came { O.came out.new ≡ O.came out.old }
@@ -148,7 +148,7 @@ impl<T: Teller + Drop> LivePlay<T> {
         source: SocketAddrV4,
         bytes: &[u8],
     ) -> Result<(), Refusal>
-        ensures ran { HeardFrom (λ sender. sender ≡ source)
+        ensures ran { RanOf (λ input. input ≡ arrived source bytes.now)
             (live self.old.gateway.value self.old.script (T.told self.old.teller) (O.handed out.old))
             (live self.new.gateway.value self.new.script (T.told self.new.teller) (O.handed out.new)) }
         ensures came { O.came out.new ≡ O.came out.old }
@@ -189,7 +189,7 @@ impl<T: Teller + Drop> LivePlay<T> {
         act: Act,
     ) -> Result<(), Refusal>
         requires { line_in (words text.now) ≡ Some (Whole (Phone line act)) }
-        ensures ran { HeardFrom (λ nobody. ⊥)
+        ensures ran { RanOf (λ input. input ≡ typed text.now)
             (live self.old.gateway.value self.old.script (T.told self.old.teller) (O.handed out.old))
             (live self.new.gateway.value self.new.script (T.told self.new.teller) (O.handed out.new)) }
         ensures came { O.came out.new ≡ O.came out.old }
@@ -237,7 +237,7 @@ impl<T: Teller + Drop> LivePlay<T> {
     /// What a line is is asked, as a line of text said: the answer is `printed`.
     pub fn ask(&mut self, text: &[u8], line: u16) -> Result<(), OutOfMemory>
         requires { line_in (words text.now) ≡ Some (Whole (Show line)) }
-        ensures ran { (handed : Option (List Sent)) → HeardFrom (λ nobody. ⊥)
+        ensures ran { (handed : Option (List Sent)) → RanOf (λ input. input ≡ typed text.now)
             (live self.old.gateway.value self.old.script (T.told self.old.teller) handed)
             (live self.new.gateway.value self.new.script (T.told self.new.teller) handed) }
         ensures answered { (handed : Option (List Sent)) → OnOk result (Asked

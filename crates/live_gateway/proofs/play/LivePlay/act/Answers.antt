@@ -1,7 +1,6 @@
-use Rattle.std.proofs.Common.{refl, ap}
-use Rattle.std.specs.declared.net.socket_addr.SocketAddrV4.{SocketAddrV4}
+use Rattle.std.proofs.Common.{◌≡◌, refl, ap}
 use Rattle.plain_machine.specs.Event.{phone}
-use Rattle.traces.specs.Writing.{typed}
+use Rattle.traces.specs.Writing.{Input, typed}
 use Rattle.live_gateway.specs.Running.{live}
 use Rattle.live_gateway.proofs.RunLemmas.{takes_so, goes_on_by, refuses_so, goes_on_refused, says_act, ends_as_told}
 use Rattle.live_gateway.proofs.play.LivePlay.act.Goals as goal
@@ -15,7 +14,7 @@ returns-in-Ok-clause-taken g c =
 
 pub returns-in-Ok-clause-ran : goal.returns-in-Ok-clause-ran
 returns-in-Ok-clause-ran g c =
-    goes_on_by (λ (nobody : SocketAddrV4). ⊥) _ _ (typed c.args.text.now) (phone c.args.line c.args.act) tt (returns-in-Ok-clause-taken g c)
+    goes_on_by (λ (input : Input). input ≡ typed c.args.text.now) _ _ (typed c.args.text.now) (phone c.args.line c.args.act) refl (returns-in-Ok-clause-taken g c)
 
 pub returns-in-Err-clause-refused : goal.returns-in-Err-clause-refused
 returns-in-Err-clause-refused g c =
@@ -24,7 +23,8 @@ returns-in-Err-clause-refused g c =
 
 pub returns-in-Err-clause-ran : goal.returns-in-Err-clause-ran
 returns-in-Err-clause-ran g c =
-    goes_on_refused (λ (nobody : SocketAddrV4). ⊥) _ _ c.args.text.now (phone c.args.line c.args.act) c.refuse.result c.refuse.new.printed.items
+    goes_on_refused (λ (input : Input). input ≡ typed c.args.text.now) _ _ c.args.text.now (phone c.args.line c.args.act) c.refuse.result
+    c.refuse.new.printed.items refl
     (returns-in-Err-clause-refused g c)
 
 pub returns-in-Ok-clause-ends : goal.returns-in-Ok-clause-ends

@@ -1,12 +1,12 @@
-use Rattle.std.proofs.Common.{refl, ap, subst}
-use Rattle.std.specs.declared.net.socket_addr.SocketAddrV4.{SocketAddrV4}
+use Rattle.std.proofs.Common.{◌≡◌, refl, ap, subst}
 use Rattle.gateway_core.specs.GatewayState.{GatewayState}
+use Rattle.traces.specs.Writing.{Input, typed}
 use Rattle.live_gateway.specs.Running.{IsAnswer}
 use Rattle.live_gateway.proofs.RunLemmas.{answers_so, goes_on_answered, stays}
 use Rattle.live_gateway.proofs.play.LivePlay.ask.Goals as goal
 
 pub returns-in_err-put_answer-clause-ran : goal.returns-in_err-put_answer-clause-ran
-returns-in_err-put_answer-clause-ran g c = λ handed. stays (λ (nobody : SocketAddrV4). ⊥) _
+returns-in_err-put_answer-clause-ran g c = λ handed. stays (λ (input : Input). input ≡ typed c.args.text.now) _
 
 pub returns-clause-answered : goal.returns-clause-answered
 returns-clause-answered g c =
@@ -16,5 +16,5 @@ returns-clause-answered g c =
 
 pub returns-clause-ran : goal.returns-clause-ran
 returns-clause-ran g c =
-    λ handed. goes_on_answered (λ (nobody : SocketAddrV4). ⊥) _ _ c.args.text.now c.args.line c.put_answer.new.out.items
+    λ handed. goes_on_answered (λ (input : Input). input ≡ typed c.args.text.now) _ _ c.args.text.now c.args.line c.put_answer.new.out.items refl
     (returns-clause-answered g c handed)

@@ -1,7 +1,6 @@
 use Rattle.std.proofs.Common.{◌≡◌, refl, ap}
-use Rattle.std.specs.declared.net.socket_addr.SocketAddrV4.{SocketAddrV4}
 use Rattle.plain_machine.specs.Event.{datagram}
-use Rattle.traces.specs.Writing.{arrived}
+use Rattle.traces.specs.Writing.{Input, arrived}
 use Rattle.live_gateway.specs.Running.{live}
 use Rattle.live_gateway.proofs.RunLemmas.{ran_nothing, takes_so, goes_on_by}
 use Rattle.live_gateway.proofs.play.LivePlay.datagram.Goals as goal
@@ -15,7 +14,7 @@ returns-in-Ok-clause-taken g c =
 
 pub returns-in-Ok-clause-ran : goal.returns-in-Ok-clause-ran
 returns-in-Ok-clause-ran g c =
-    goes_on_by (λ (sender : SocketAddrV4). sender ≡ c.args.source) _ _ (arrived c.args.source c.args.bytes.now) (datagram c.args.source c.args.bytes.now) refl
+    goes_on_by (λ (input : Input). input ≡ arrived c.args.source c.args.bytes.now) _ _ (arrived c.args.source c.args.bytes.now) (datagram c.args.source c.args.bytes.now) refl
     (returns-in-Ok-clause-taken g c)
 
 pub returns-in-Err-clause-refused : goal.returns-in-Err-clause-refused

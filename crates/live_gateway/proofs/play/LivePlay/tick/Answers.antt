@@ -1,7 +1,6 @@
-use Rattle.std.proofs.Common.{refl, ap}
-use Rattle.std.specs.declared.net.socket_addr.SocketAddrV4.{SocketAddrV4}
+use Rattle.std.proofs.Common.{◌≡◌, refl, ap}
 use Rattle.plain_machine.specs.Event.{tick}
-use Rattle.traces.specs.Writing.{passed}
+use Rattle.traces.specs.Writing.{Input, passed}
 use Rattle.live_gateway.specs.Running.{live}
 use Rattle.live_gateway.proofs.RunLemmas.{ran_nothing, takes_so, goes_on_by}
 use Rattle.live_gateway.proofs.play.LivePlay.tick.Goals as goal
@@ -14,7 +13,7 @@ returns-in-Ok-clause-taken g c =
     c.tell_tick-told.ensures.told c.tell_tick-told.ensures.script c.hand_out.ensures.handed
 
 pub returns-in-Ok-clause-ran : goal.returns-in-Ok-clause-ran
-returns-in-Ok-clause-ran g c = goes_on_by (λ (nobody : SocketAddrV4). ⊥) _ _ (passed c.args.moment) (tick c.args.moment) tt (returns-in-Ok-clause-taken g c)
+returns-in-Ok-clause-ran g c = goes_on_by (λ (input : Input). input ≡ passed c.args.moment) _ _ (passed c.args.moment) (tick c.args.moment) refl (returns-in-Ok-clause-taken g c)
 
 pub returns-in-Err-clause-refused : goal.returns-in-Err-clause-refused
 returns-in-Err-clause-refused g c = ran_nothing _ _ c.in-Err.ensures.err refl refl refl
