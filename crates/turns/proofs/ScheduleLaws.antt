@@ -257,7 +257,7 @@ none_ready b r last source none = by_test (is_ready b r source) refl where
 -- ---- ticks
 
 abbrev Bounded : Situation → Turn → Type 0
-Bounded at turn = (moment : ℕ) → turn ≡ Tick moment → (at.ticked ≤ moment) × (moment ≤ at.moment) × (moment ≤ at.ticked + longest_tick)
+Bounded at turn = (moment : ℕ) → turn ≡ Tick moment → (at.ticked < moment) × (moment ≤ at.moment) × (moment ≤ at.ticked + longest_tick)
 
 tick_bounds : (at : Situation) → at.moment < 2 ^ 64 → nat_lt at.ticked at.moment ≡ true → Bounded at (Tick (tick_to at))
 tick_bounds at few behind moment is =
@@ -324,7 +324,7 @@ woken_quiet P s at note look =
     by_if (λ (r : Turn × Schedule). P r.0) (is_far_behind at) (noted s at (lateness_of s at) None) _ (λ long. note) (λ short. look)
 
 pub ticks_within : (s : Schedule) (at : Situation) (moment : ℕ) → at.moment < 2 ^ 64 → (next_of s at).0 ≡ Tick moment
-    → (at.ticked ≤ moment) × (moment ≤ at.moment) × (moment ≤ at.ticked + longest_tick)
+    → (at.ticked < moment) × (moment ≤ at.moment) × (moment ≤ at.ticked + longest_tick)
 unfolding next_of
 ticks_within s at moment few is =
     by_if (λ (r : Turn × Schedule). Bounded at r.0) (is_over at) (End, s) (next_met (met s at) at) (λ over m e. absurd cc)

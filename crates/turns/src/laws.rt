@@ -28,10 +28,10 @@ pub fn a_pause_is_read_at_the_moment_before_it()
         source_of (next_of (reading s late before) at).0 ≡ Some source → at.moment - at.ticked ≤ longest_read_pause }
 {}
 
-/// A tick never goes back, past now, or on by more than a longest one.
+/// A tick goes on, but neither past now nor by more than a longest one.
 pub fn ticks_go_on_by_little()
     ensures { (s : Schedule) (at : Situation) (moment : ℕ) → at.moment < 2 ^ 64 → (next_of s at).0 ≡ Tick moment →
-        (at.ticked ≤ moment) × (moment ≤ at.moment) × (moment ≤ at.ticked + longest_tick) }
+        (at.ticked < moment) × (moment ≤ at.moment) × (moment ≤ at.ticked + longest_tick) }
 {}
 
 /// Nobody is made to wait who is ready, and nobody waits for longer than a longest wait.
