@@ -1,20 +1,23 @@
 -- How a desk goes on.
-use Rattle.std.proofs.Common.{◌≡◌, ℕ, ◌+◌, inr, Bool, true, false, List, [], ◌∷◌, ◌++◌, length, Option, refl, sym, ◌∙◌, ap, subst, arith}
+use Rattle.std.proofs.Common.{◌≡◌, ℕ, ◌+◌, ◌<◌, inr, Bool, true, false, List, [], ◌∷◌, ◌++◌, length, Option, refl, sym, ◌∙◌, ap, subst, arith}
 use Rattle.std.specs.Prelude.{not, is_ok, Result, Ok, Err, OnOk, OnErr}
 use Rattle.std.specs.declared.net.socket_addr.SocketAddrV4.{SocketAddrV4}
 use Rattle.surroundings.specs.Sending.{Received, Traffic, Grows}
 use Rattle.surroundings.proofs.TrafficLemmas.{grows_nothing, nothing_more, grows_on}
 use Rattle.gateway_core.specs.Wire.{counted}
 use Rattle.gateway_core.proofs.ServeLemmas.{counted_on}
-use Rattle.plain_machine.specs.Event.{datagram}
+use Rattle.gateway_core.specs.Stands.{Stands}
+use Rattle.plain_machine.specs.declared.setup.Setup.{Setup}
+use Rattle.plain_machine.specs.Event.{GatewayEvent, datagram, tick}
+use Rattle.plain_machine.specs.Lists.{plain}
 use Rattle.rgw_scripts.specs.Moves.{give, sends}
 use Rattle.mg_bytes.specs.Lines.{is_line_feed}
-use Rattle.traces.specs.Writing.{Entry, Input, arrived, typed, passed, showed}
+use Rattle.traces.specs.Writing.{Entry, Input, arrived, typed, passed, showed, taken_after}
 use Rattle.live_gateway.specs.Coming.{Came, arrived_in, AreAllBut}
-use Rattle.live_gateway.specs.Readable.{Never, IsLine}
+use Rattle.live_gateway.specs.Readable.{Never, IsLine, AreLater}
 use Rattle.live_gateway.specs.Running.{Live, live, Ran, Takes, RanOf}
 use Rattle.live_gateway.proofs.CameLemmas.{arrived_both, marks_bring_nothing, IsQuiet, nobody_came, all_of, all_but_both}
-use Rattle.live_gateway.proofs.RunLemmas.{ran_on, ran_stays, ran_written_off, marks_are_of, are_of_more, are_so}
+use Rattle.live_gateway.proofs.RunLemmas.{ran_on, ran_stays, ran_written_off, marks_are_of, are_of_more, are_so, IsStill, marks_are_later, later_more, later_of}
 use Rattle.live_gateway.specs.declared.admission.Admission.{Admission}
 use Rattle.live_gateway.specs.declared.desk.Desk.{Desk}
 use Rattle.live_gateway.specs.declared.exchange.Exchange.{Exchange}
@@ -60,6 +63,7 @@ stays_by admission was is same = subst (λ (x : Standing). GoesOnBy admission wa
   refused = none_more was.came.refused;
   events = refl;
   lines = tt;
+  later = λ before s. tt;
 })
 
 then_by : (admission : Admission) (was mid is : Standing) (a b : List Entry) (some more : List Received) (m n : ℕ) → GoesOnBy admission was mid a some m
@@ -72,6 +76,9 @@ then_by admission was mid is a b some more m n g h = record {
       (subst (λ (l : List Received). AreAllBut (m + n) (heard_of admission some ++ heard_of admission more) l) (sym (arrived_both a b))
       (all_but_both m n (heard_of admission some) (arrived_in a) (heard_of admission more) (arrived_in b) g.events h.events));
   lines = are_of_more IsLine a b g.lines h.lines;
+  later = λ before s. later_more was.live.gateway.setup before a b (g.later before s)
+      (subst (λ (x : Setup). AreLater x (taken_after was.live.gateway.setup before a) b) g.ran.setup
+      (h.later (taken_after was.live.gateway.setup before a) (g.ran.stands before s)));
 }
 
 pub stays_so : {S T : Type 0} (told : T → Option (List ℕ)) (traffic : S → Traffic) (old new : Desk S T)
@@ -106,12 +113,66 @@ between told traffic old mid after new goes before same behind kept =
     goes_on_then told traffic old mid new (stays_so told traffic old mid before same)
     (goes_on_then told traffic mid after new goes (stays_so told traffic after new behind kept))
 
--- ---- ticks, acts and questions: nobody is heard
+-- ---- a tick, which goes on
+
+ticked_by : (admission : Admission) (was mid : Standing) (moment : ℕ) → Takes was.live (passed moment) (tick moment) mid.live
+    → ((before : List GatewayEvent) → Stands was.live.gateway before → (plain was.live.gateway.setup before).now < moment)
+    → mid.came ≡ was.came → (entries : List Entry) × GoesOnBy admission was (with_input false mid) entries [] 0
+ticked_by admission was mid moment t later same = (
+  showed (passed moment) (give (tick moment)) (sends t.outputs) ∷ t.marks,
+  record {
+    ran = t.ran;
+    received = nothing_more was.came.received mid.came.received (ap (λ (x : Came). x.received) same);
+    refused = ap (λ (x : Came). x.refused) same ∙ none_more was.came.refused;
+    events = marks_bring_nothing 0 (length t.outputs) t.marks t.are;
+    lines = (tt, marks_are_of IsLine 0 (length t.outputs) t.marks t.are);
+    later = λ before s. (later before s, marks_are_later was.live.gateway.setup _ 0 (length t.outputs) t.marks t.are);
+  },
+)
+
+unticked_by : (admission : Admission) (was mid : Standing) → Ran was.live [] mid.live → mid.came ≡ was.came
+    → GoesOnBy admission was (with_input true mid) [] [] 1
+unticked_by admission was mid ran same = record {
+  ran = ran;
+  received = nothing_more was.came.received mid.came.received (ap (λ (x : Came). x.received) same);
+  refused = ap (λ (x : Came). counted x.refused 1) same;
+  events = refl;
+  lines = tt;
+  later = λ before s. tt;
+}
+
+-- it was taken, or refused
+pub ticks : {S T A B : Type 0} (told : T → Option (List ℕ)) (traffic : S → Traffic) (old new : Desk S T) (mid : Standing) (done : Result A B) (moment : ℕ)
+    → OnOk done (Takes (at_desk told traffic old).live (passed moment) (tick moment) mid.live)
+    → OnErr done (Ran (at_desk told traffic old).live [] mid.live)
+    → ((before : List GatewayEvent) → Stands (at_desk told traffic old).live.gateway before
+    → (plain (at_desk told traffic old).live.gateway.setup before).now < moment)
+    → mid.came ≡ (at_desk told traffic old).came → at_desk told traffic new ≡ with_input (not (is_ok done)) mid → new.admission ≡ old.admission
+    → GoesOn told traffic old new
+ticks told traffic old new mid (Ok done) moment takes misses later same input kept =
+    let found = ticked_by old.admission (at_desk told traffic old) mid moment takes later same in
+    record {
+      entries = found.0;
+      came = [];
+      missing = 0;
+      went = subst (λ (x : Standing). GoesOnBy old.admission (at_desk told traffic old) x found.0 [] 0) (sym input) found.1;
+      admission = kept;
+    }
+ticks told traffic old new mid (Err why) moment takes misses later same input kept = record {
+  entries = [];
+  came = [];
+  missing = 1;
+  went = subst (λ (x : Standing). GoesOnBy old.admission (at_desk told traffic old) x [] [] 1) (sym input)
+      (unticked_by old.admission (at_desk told traffic old) mid misses same);
+  admission = kept;
+}
+
+-- ---- acts and questions: nobody is heard, and no time passes
 
 quiet_by : (admission : Admission) (was mid is : Standing) (is_refused : Bool) (says : Input → Type 0) → IsQuiet says
-    → ((input : Input) → says input → IsLine input) → RanOf says was.live mid.live
+    → IsStill says → ((input : Input) → says input → IsLine input) → RanOf says was.live mid.live
     → mid.came ≡ was.came → is ≡ with_input is_refused mid → (entries : List Entry) × GoesOnBy admission was is entries [] (refused_of is_refused)
-quiet_by admission was mid is is_refused says quiet line went same input = (
+quiet_by admission was mid is is_refused says quiet still line went same input = (
   went.entries,
   record {
     ran = subst (λ (x : Live). Ran was.live went.entries x) (sym (ap (λ (x : Standing). x.live) input)) went.ran;
@@ -119,36 +180,34 @@ quiet_by admission was mid is is_refused says quiet line went same input = (
     refused = ap (λ (x : Standing). x.came.refused) input ∙ ap (λ (x : Came). refusals is_refused x.refused) same ∙ counts_one is_refused was.came.refused;
     events = nobody_came says quiet went.entries went.inputs;
     lines = are_so says IsLine line went.entries went.inputs;
+    later = λ before s. later_of says still went.entries went.inputs was.live.gateway.setup before;
   },
 )
 
--- an input was taken, or refused
-pub ticks : {S T : Type 0} (told : T → Option (List ℕ)) (traffic : S → Traffic) (old new : Desk S T) (mid : Standing) (is_refused : Bool)
-    (says : Input → Type 0) → IsQuiet says → ((input : Input) → says input → IsLine input)
+-- a line was taken, or refused
+pub acts : {S T : Type 0} (told : T → Option (List ℕ)) (traffic : S → Traffic) (old new : Desk S T) (mid : Standing) (is_refused : Bool)
+    (says : Input → Type 0) → IsQuiet says → IsStill says → ((input : Input) → says input → IsLine input)
     → RanOf says (at_desk told traffic old).live mid.live → mid.came ≡ (at_desk told traffic old).came
     → at_desk told traffic new ≡ with_input is_refused mid → new.admission ≡ old.admission → GoesOn told traffic old new
-ticks told traffic old new mid is_refused says quiet line went same input kept =
-    let found = quiet_by old.admission (at_desk told traffic old) mid (at_desk told traffic new) is_refused says quiet line went same input in
+acts told traffic old new mid is_refused says quiet still line went same input kept =
+    let found = quiet_by old.admission (at_desk told traffic old) mid (at_desk told traffic new) is_refused says quiet still line went same input in
     record { entries = found.0; came = []; missing = refused_of is_refused; went = found.1; admission = kept }
 
 -- a question is no input
 pub asks : {S T : Type 0} (told : T → Option (List ℕ)) (traffic : S → Traffic) (old new : Desk S T)
-    (says : Input → Type 0) → IsQuiet says → ((input : Input) → says input → IsLine input)
+    (says : Input → Type 0) → IsQuiet says → IsStill says → ((input : Input) → says input → IsLine input)
     → RanOf says (at_desk told traffic old).live (at_desk told traffic new).live
     → (at_desk told traffic new).came ≡ (at_desk told traffic old).came → new.admission ≡ old.admission → GoesOn told traffic old new
-asks told traffic old new says quiet line went same kept =
-    ticks told traffic old new (at_desk told traffic new) false says quiet line went same refl kept
+asks told traffic old new says quiet still line went same kept =
+    acts told traffic old new (at_desk told traffic new) false says quiet still line went same refl kept
 
--- a tick, and a line, are no datagram
-
-pub tick_is_quiet : (moment : ℕ) → IsQuiet (λ (input : Input). input ≡ passed moment)
-tick_is_quiet moment source bytes e = absurd cc
-
-pub tick_is_line : (moment : ℕ) (input : Input) → input ≡ passed moment → IsLine input
-tick_is_line moment input e = subst IsLine (sym e) tt
+-- a line is neither a datagram nor a tick
 
 pub line_is_quiet : (line : List ℕ) → IsQuiet (λ (input : Input). input ≡ typed line)
 line_is_quiet line source bytes e = absurd cc
+
+pub line_is_still : (line : List ℕ) → IsStill (λ (input : Input). input ≡ typed line)
+line_is_still line moment e = absurd cc
 
 pub line_is_line : (line : List ℕ) → Never is_line_feed line → (input : Input) → input ≡ typed line → IsLine input
 line_is_line line free input e = subst IsLine (sym e) free
@@ -170,6 +229,7 @@ hears_nobody told traffic old new heard live counts kept = record {
     refused = counts ∙ none_more (at_desk told traffic old).came.refused;
     events = subst (λ (l : List Received). AreAllBut 0 l []) (sym heard.2) refl;
     lines = tt;
+    later = λ before s. tt;
   };
   admission = kept;
 }
@@ -188,6 +248,7 @@ taken_by admission was mid source bytes heard t counts = (
     events = subst (λ (l : List Received). AreAllBut 0 l (one ∷ arrived_in t.marks)) (sym heard.2)
         (subst (λ (l : List Received). AreAllBut 0 (one ∷ []) (one ∷ l)) (sym (marks_bring_nothing 0 (length t.outputs) t.marks t.are)) (all_of (one ∷ [])));
     lines = (tt, marks_are_of IsLine 0 (length t.outputs) t.marks t.are);
+    later = λ before s. (tt, marks_are_later was.live.gateway.setup _ 0 (length t.outputs) t.marks t.are);
   },
 ) where
   one : Received
@@ -205,6 +266,7 @@ missed_by admission was mid one heard ran counts = (
     refused = ap (λ (n : ℕ). counted n 1) counts;
     events = subst (λ (l : List Received). AreAllBut 1 l []) (sym heard.2) (inr (0, refl, refl));
     lines = tt;
+    later = λ before s. tt;
   },
 )
 
@@ -251,6 +313,7 @@ written_off told traffic old new gateway script handed grows same kept = record 
     refused = ap (λ (x : Came). x.refused) same ∙ none_more (at_desk told traffic old).came.refused;
     events = refl;
     lines = tt;
+    later = λ before s. tt;
   };
   admission = kept;
 }

@@ -5,6 +5,7 @@ use Rattle.traces.specs.declared.script.Script.{Script}
 use Rattle.traces.specs.Writing.{Entry, clock_text, opening_script, written, script_after, whole_text}
 use Rattle.live_gateway.specs.Running.{Live, Ran}
 use Rattle.live_gateway.proofs.RunLemmas.{told_known, script_known}
+use Rattle.live_gateway.specs.Readable.{AreLater}
 use Rattle.live_gateway.specs.Replay.{AreWritable, ReadsBack}
 use Rattle.live_gateway.proofs.ReplayLaws.{reads_back}
 
@@ -18,5 +19,5 @@ live_text was is entries head text ran begins before told =
     ∙ append_assoc head (written opening_script entries) (clock_text (script_after opening_script entries))
 
 pub live_replays : (was is : Live) (entries : List Entry) → Ran was entries is → Stands was.gateway []
-    → AreWritable opening_script entries → ReadsBack was.gateway.setup entries
-live_replays was is entries ran stands can = reads_back was.gateway.setup entries (ran.play [] stands) ran.ticks can
+    → AreLater was.gateway.setup [] entries → AreWritable entries → ReadsBack was.gateway.setup entries
+live_replays was is entries ran stands later can = reads_back was.gateway.setup entries (ran.play [] stands) ran.ticks later can

@@ -41,7 +41,7 @@ use Rattle.traces.specs.Replaying.{move_in}
 use Rattle.traces.specs.Telling.{mark, begins, is_mark, unsent_words, lost_words, broken_off, number_behind, told_output, told_mark, told as shown_text}
 use Rattle.traces.specs.Running.{Run, opening_run, run_from}
 use Rattle.traces.specs.Writing.{Entry, showed, became, arrived, typed, passed, hex_text, datagram_text, clock_text, at_clock, is_far, pass_text, caught_up, passed_to, opening_script, after_entry, entry_text, written, script_after, whole_text, step_move, IsPlay, taken_after}
-use Rattle.live_gateway.specs.Readable.{Never, CanAnswer, KeepsClock, IsTaken, AreByTicks}
+use Rattle.live_gateway.specs.Readable.{Never, CanAnswer, KeepsClock, IsTaken, AreByTicks, AreLater}
 use Rattle.live_gateway.specs.Replay.{clock_moves, pass_moves, entry_moves, moves_of, IsWritable, AreWritable, owing, entry_told, told_in, ReadsBack}
 use Rattle.live_gateway.proofs.TickLaws.{joined_machine, joined_sent}
 use Rattle.live_gateway.proofs.ReadingLaws.{at_again, from_again, raw_again, never_append, never_decimal, never_address, never_hex, decimal_again}
@@ -695,12 +695,13 @@ EntryReads setup before taken script entry told moves =
 
 -- a tick that wasn't refused
 passed_reads : (setup : Setup) (before taken : List GatewayEvent) (script : Script) (moment : ℕ) (shown : Shown) (told : List ℕ) (moves : List Move)
-    → Beside setup before taken script → script.clock < moment → moment < 10 ^ 18 → IsTaken shown
+    → Beside setup before taken script → (plain setup before).now < moment → moment < 10 ^ 18 → IsTaken shown
     → (move_went setup before (give (tick moment))).shown ≡ shown ∷ []
     → EntryReads setup before taken script (showed (passed moment) (give (tick moment)) shown) told moves
-passed_reads setup before taken script moment shown told moves b later few is_taken shows =
+passed_reads setup before taken script moment shown told moves b goes_on few is_taken shows =
     let outputs = outputs_from setup (plain setup before) (tick moment ∷ []) in
-    let low : (plain setup before).now ≤ moment = subst (λ (n : ℕ). n ≤ moment) (sym b.clock) (least_of script.clock moment later) in
+    let later : script.clock < moment = subst (λ (n : ℕ). n < moment) b.clock goes_on in
+    let low : (plain setup before).now ≤ moment = least_of (plain setup before).now moment goes_on in
     let close : moment ≤ (plain setup before).now + 1000 = played_near setup before moment shown is_taken shows in
     let near : moment ≤ script.clock + 1000 = subst (λ (n : ℕ). moment ≤ n + 1000) b.clock close in
     let went = tick_went setup before moment low close few in
@@ -714,35 +715,36 @@ passed_reads setup before taken script moment shown told moves b later few is_ta
       only x y e = cc
 
 entry_reads : (setup : Setup) (before taken : List GatewayEvent) (script : Script) (entry : Entry) (entries : List Entry) (told : List ℕ) (moves : List Move)
-    → Beside setup before taken script → IsPlay setup before (entry ∷ entries) → AreByTicks (entry ∷ entries) → IsWritable script entry → EntryReads setup before taken script entry told moves
-entry_reads setup before taken script (showed (arrived source bytes) move shown) entries told moves b play ticks can =
+    → Beside setup before taken script → IsPlay setup before (entry ∷ entries) → AreByTicks (entry ∷ entries) → AreLater setup before (entry ∷ entries) → IsWritable entry
+    → EntryReads setup before taken script entry told moves
+entry_reads setup before taken script (showed (arrived source bytes) move shown) entries told moves b play ticks later can =
     subst (λ (m : Move). (move_went setup before m).shown ≡ shown ∷ [] → EntryReads setup before taken script (showed (arrived source bytes) m shown) told moves) (sym play.0)
     (λ shows. came_in setup before taken script told moves (datagram_text source bytes) (give (datagram source bytes)) shown b tt shows (reads_datagram setup source bytes shown can.0 can.1)) play.1
-entry_reads setup before taken script (showed (typed line) move shown) entries told moves b play ticks can =
+entry_reads setup before taken script (showed (typed line) move shown) entries told moves b play ticks later can =
     came_in setup before taken script told moves (ended_line line) move shown b ticks.0 play.1 (reads_line setup line move shown can play.0)
-entry_reads setup before taken script (showed (passed moment) move shown) entries told moves b play ticks can =
+entry_reads setup before taken script (showed (passed moment) move shown) entries told moves b play ticks later can =
     subst (λ (m : Move). (move_went setup before m).shown ≡ shown ∷ [] → EntryReads setup before taken script (showed (passed moment) m shown) told moves) (sym play.0)
-    (λ shows. passed_reads setup before taken script moment shown told moves b can.0 can.1 ticks.0 shows) play.1
-entry_reads setup before taken script (became fate place) entries told moves b play ticks can =
+    (λ shows. passed_reads setup before taken script moment shown told moves b later.0 can ticks.0 shows) play.1
+entry_reads setup before taken script (became fate place) entries told moves b play ticks later can =
     record { next = taken; beside = b; reads = reads_became setup taken told moves fate place can }
 
 all_read : (setup : Setup) (before taken : List GatewayEvent) (script : Script) (entries : List Entry) (told : List ℕ) (moves : List Move)
-    → Beside setup before taken script → IsPlay setup before entries → AreByTicks entries → AreWritable script entries
+    → Beside setup before taken script → IsPlay setup before entries → AreByTicks entries → AreLater setup before entries → AreWritable entries
     → ReadsOn setup (taken_after setup before entries) taken (script_after script entries) (written script entries) (moves_of script entries) (told_in entries) told moves
 unfolding written script_after moves_of
-all_read setup before taken script [] told moves b play ticks can = record { next = taken; beside = b; reads = reads_none setup taken told moves }
-all_read setup before taken script (showed input move shown ∷ entries) told moves b play ticks can =
+all_read setup before taken script [] told moves b play ticks later can = record { next = taken; beside = b; reads = reads_none setup taken told moves }
+all_read setup before taken script (showed input move shown ∷ entries) told moves b play ticks later can =
     let entry : Entry = showed input move shown in
-    let one = entry_reads setup before taken script entry entries told moves b play ticks can.0 in
+    let one = entry_reads setup before taken script entry entries told moves b play ticks later can.0 in
     reads_then setup (move_went setup before move).taken (taken_after setup (move_went setup before move).taken entries) taken (after_entry script entry) (script_after (after_entry script entry) entries)
     (entry_text script entry) (written (after_entry script entry) entries) (entry_moves script entry) (moves_of (after_entry script entry) entries) (entry_told entry) (told_in entries) told moves one
-    (all_read setup (move_went setup before move).taken one.next (after_entry script entry) entries (told ++ entry_told entry) (moves ++ entry_moves script entry) one.beside play.2 ticks.1 can.1)
-all_read setup before taken script (became fate place ∷ entries) told moves b play ticks can =
+    (all_read setup (move_went setup before move).taken one.next (after_entry script entry) entries (told ++ entry_told entry) (moves ++ entry_moves script entry) one.beside play.2 ticks.1 later.1 can.1)
+all_read setup before taken script (became fate place ∷ entries) told moves b play ticks later can =
     let entry : Entry = became fate place in
-    let one = entry_reads setup before taken script entry entries told moves b play ticks can.0 in
+    let one = entry_reads setup before taken script entry entries told moves b play ticks later can.0 in
     reads_then setup before (taken_after setup before entries) taken script (script_after script entries)
     (entry_text script entry) (written script entries) (entry_moves script entry) (moves_of script entries) (entry_told entry) (told_in entries) told moves one
-    (all_read setup before one.next script entries (told ++ entry_told entry) (moves ++ entry_moves script entry) one.beside play ticks can.1)
+    (all_read setup before one.next script entries (told ++ entry_told entry) (moves ++ entry_moves script entry) one.beside play ticks later can.1)
 
 -- ---- the whole trace
 
@@ -763,9 +765,10 @@ run_ends : (setup : Setup) (run : Run) → run_from setup run (cut []) ≡ Some 
 unfolding run_from cut
 run_ends setup run = refl
 
-pub reads_back : (setup : Setup) (entries : List Entry) → IsPlay setup [] entries → AreByTicks entries → AreWritable opening_script entries → ReadsBack setup entries
-reads_back setup entries play ticks can =
-    let all = all_read setup [] [] opening_script entries [] [] (opening_beside setup) play ticks can in
+pub reads_back : (setup : Setup) (entries : List Entry) → IsPlay setup [] entries → AreByTicks entries → AreLater setup [] entries → AreWritable entries
+    → ReadsBack setup entries
+reads_back setup entries play ticks later can =
+    let all = all_read setup [] [] opening_script entries [] [] (opening_beside setup) play ticks later can in
     let script = script_after opening_script entries in
     let caught = catches_up setup (taken_after setup [] entries) all.next script (told_in entries) (moves_of opening_script entries) all.beside in
     let end = owing caught.next [] (told_in entries) (moves_of opening_script entries ++ clock_moves script) in

@@ -34,7 +34,7 @@ use Rattle.traces.specs.Replaying.{move_in}
 use Rattle.traces.specs.Telling.{told, told_mark, told_text}
 use Rattle.traces.specs.Writing.{Entry, Input, arrived, typed, passed, clock_text, at_clock, showed, became, Says, IsPlay, taken_after, sent_at, sent_in, input_text, after_input, datagrams_in, entry_text, after_entry, written, script_after}
 use Rattle.live_gateway.specs.Running.{Live, live, sent_of, Ran, AreOf, RanOf, AreInPlace, AreMarks, HandsOut, Takes, Refuses, Asked, IsAnswer, TellsRefusal}
-use Rattle.live_gateway.specs.Readable.{KeepsClock, IsByTick, AreByTicks}
+use Rattle.live_gateway.specs.Readable.{KeepsClock, IsByTick, AreByTicks, IsLater, AreLater}
 use Rattle.traces.proofs.ShowLemmas.{both_not}
 
 -- ---- what is told
@@ -382,6 +382,35 @@ pub are_so : (says other : Input → Type 0) → ((input : Input) → says input
 are_so says other so [] are = tt
 are_so says other so (showed input move shown ∷ entries) are = (so input are.0, are_so says other so entries are.1)
 are_so says other so (became mark place ∷ entries) are = are_so says other so entries are
+
+-- ---- ticks that go on
+
+pub marks_are_later : (setup : Setup) (before : List GatewayEvent) (after last : ℕ) (marks : List Entry) → AreMarks after last marks → AreLater setup before marks
+marks_are_later setup before after last [] are = tt
+marks_are_later setup before after last (showed input move shown ∷ marks) are = absurd are
+marks_are_later setup before after last (became mark place ∷ marks) are = marks_are_later setup before place last marks are.2
+
+pub later_more : (setup : Setup) (before : List GatewayEvent) (a b : List Entry) → AreLater setup before a → AreLater setup (taken_after setup before a) b
+    → AreLater setup before (a ++ b)
+later_more setup before [] b p q = q
+later_more setup before (showed input move shown ∷ a) b p q = (p.0, later_more setup (move_went setup before move).taken a b p.1 q)
+later_more setup before (became mark place ∷ a) b p q = later_more setup before a b p q
+
+-- no tick is so
+abbrev pub IsStill : (Input → Type 0) → Type 0
+IsStill says = (moment : ℕ) → says (passed moment) → ⊥
+
+later_input : (says : Input → Type 0) → IsStill says → (now : ℕ) (input : Input) → says input → IsLater now input
+later_input says still now (arrived source bytes) so = tt
+later_input says still now (typed line) so = tt
+later_input says still now (passed moment) so = absurd (still moment so)
+
+pub later_of : (says : Input → Type 0) → IsStill says → (entries : List Entry) → AreOf says entries → (setup : Setup) (before : List GatewayEvent)
+    → AreLater setup before entries
+later_of says still [] are setup before = tt
+later_of says still (showed input move shown ∷ entries) are setup before =
+    (later_input says still (plain setup before).now input are.0, later_of says still entries are.1 setup (move_went setup before move).taken)
+later_of says still (became mark place ∷ entries) are setup before = later_of says still entries are setup before
 
 -- ---- one event or question
 

@@ -1,5 +1,5 @@
 -- What a turn does, from what its calls say.
-use Rattle.std.proofs.Common.{◌≡◌, ◌⊎◌, inl, inr, ℕ, List, [], sym, ◌∙◌, ap, subst}
+use Rattle.std.proofs.Common.{◌≡◌, ◌⊎◌, inl, inr, ℕ, ◌<◌, ◌^◌, List, [], sym, ◌∙◌, ap, subst}
 use Rattle.std.specs.Prelude.{not, is_ok, Result, Ok, Err, OnOk, OnErr, IfErr}
 use Rattle.std.specs.declared.net.socket_addr.SocketAddrV4.{SocketAddrV4}
 use Rattle.mg_line.specs.declared.phone.Act.{Act}
@@ -7,6 +7,12 @@ use Rattle.gateway_core.specs.Wire.{counted}
 use Rattle.plain_machine.specs.Event.{GatewayEvent, phone}
 use Rattle.gateway_rules.specs.declared.refusal.Refusal.{Refusal}
 use Rattle.traces.specs.Writing.{Input, typed}
+use Rattle.turns.specs.declared.schedule.Schedule.{Schedule}
+use Rattle.turns.specs.declared.situation.Situation.{Situation}
+use Rattle.turns.specs.declared.turn.Turn.{Turn}
+use Rattle.turns.specs.declared.turn.Turn.TheVariants.{Tick}
+use Rattle.turns.specs.Schedule.{next_of}
+use Rattle.turns.proofs.ScheduleLaws.{ticks_within}
 use Rattle.live_gateway.specs.Running.{Live, Ran, RanOf, Takes, Refuses, Asked}
 use Rattle.live_gateway.specs.Desk.{Standing, with_input}
 use Rattle.live_gateway.specs.Turning.{Tries, TriesAct, DoesLine}
@@ -48,3 +54,10 @@ asks_of text line (Err why) printed was is asked ran = inr ran
 pub line_between : (was mid after is : Standing) → mid ≡ was → is ≡ after → DoesLine mid after → DoesLine was is
 line_between was mid after is before behind does =
     subst (λ (s : Standing). DoesLine s is) before (subst (λ (s : Standing). DoesLine mid s) (sym behind) does)
+
+-- a tick that comes next goes on
+pub tick_is_later : (s : Schedule) (at : Situation) (turn : Turn) (next : Schedule) (to now : ℕ) → at.moment < 2 ^ 64 → (turn, next) ≡ next_of s at
+    → turn ≡ Tick to → at.ticked ≡ now → now < to
+tick_is_later s at turn next to now few comes is same =
+    let first : (next_of s at).0 ≡ Tick to = sym (ap (λ (r : Turn × Schedule). r.0) comes) ∙ is in
+    subst (λ (n : ℕ). n < to) same (ticks_within s at to few first).0

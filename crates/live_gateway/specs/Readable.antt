@@ -1,10 +1,12 @@
 -- What can be written so that it is read again.
-use Rattle.std.specs.Prelude.{◌≡◌, ⊤, ℕ, ◌≤◌, Bool, false, List, [], ◌∷◌}
+use Rattle.std.specs.Prelude.{◌≡◌, ⊤, ℕ, ◌<◌, ◌≤◌, Bool, false, List, [], ◌∷◌}
 use Rattle.std.specs.List.{AllByRecursion}
 use Rattle.std.specs.declared.net.socket_addr.SocketAddrV4.{SocketAddrV4}
 use Rattle.mg_bytes.specs.Lines.{is_line_feed}
-use Rattle.plain_machine.specs.Event.{datagram, phone, tick}
-use Rattle.rgw_scripts.specs.Moves.{Move, Shown, give, pass, ask, sends, refuses, tells}
+use Rattle.plain_machine.specs.declared.setup.Setup.{Setup}
+use Rattle.plain_machine.specs.Event.{GatewayEvent, datagram, phone, tick}
+use Rattle.plain_machine.specs.Lists.{plain}
+use Rattle.rgw_scripts.specs.Moves.{Move, Shown, give, pass, ask, sends, refuses, tells, move_went}
 use Rattle.traces.specs.Writing.{Input, Entry, arrived, typed, passed, showed, became}
 
 -- no byte of a text passes
@@ -12,7 +14,17 @@ abbrev pub Never : (ℕ → Bool) → List ℕ → Type 0
 Never p [] = ⊤
 Never p (b ∷ bs) = (p b ≡ false) × Never p bs
 
--- an address that can be answered: four octets, and a port from 1 on
+-- an address: four octets, and a port
+pub record IsAddress (source : SocketAddrV4) : Type 0 where
+  pub a : ℕ
+  pub b : ℕ
+  pub c : ℕ
+  pub d : ℕ
+  pub parts : source.ip.octets ≡ a ∷ b ∷ c ∷ d ∷ []
+  pub each : AllByRecursion (λ octet. octet ≤ 255) (a ∷ b ∷ c ∷ d ∷ [])
+  pub high : source.port ≤ 65535
+
+-- one that can be answered: its port is one from 1 on
 pub record CanAnswer (source : SocketAddrV4) : Type 0 where
   pub a : ℕ
   pub b : ℕ
@@ -54,3 +66,16 @@ abbrev pub AreByTicks : List Entry → Type 0
 AreByTicks [] = ⊤
 AreByTicks (showed input move shown ∷ entries) = IsByTick input move shown × AreByTicks entries
 AreByTicks (became mark place ∷ entries) = AreByTicks entries
+
+-- a tick goes on from where the clock stands
+abbrev pub IsLater : ℕ → Input → Type 0
+IsLater now (arrived source bytes) = ⊤
+IsLater now (typed line) = ⊤
+IsLater now (passed moment) = now < moment
+
+-- each tick does, where the gateway has taken these events before
+abbrev pub AreLater : Setup → List GatewayEvent → List Entry → Type 0
+AreLater setup before [] = ⊤
+AreLater setup before (showed input move shown ∷ entries) =
+    IsLater (plain setup before).now input × AreLater setup (move_went setup before move).taken entries
+AreLater setup before (became mark place ∷ entries) = AreLater setup before entries

@@ -12,7 +12,7 @@ use Rattle.traces.specs.Replaying.{may_end}
 use Rattle.traces.specs.Running.{Run, opening_run, run_from}
 use Rattle.traces.specs.Telling.{told as shown_text}
 use Rattle.traces.specs.Writing.{Input, Entry, showed, became, arrived, typed, passed, is_far, passed_to, datagrams_in, after_entry, opening_script, script_after, whole_text, taken_after}
-use Rattle.live_gateway.specs.Readable.{Never, CanAnswer}
+use Rattle.live_gateway.specs.Readable.{Never, IsAddress, CanAnswer}
 
 -- Its moves: ticks that were told together are one
 
@@ -40,16 +40,27 @@ moves_of script [] = []
 moves_of script (entry ∷ entries) = entry_moves script entry ++ moves_of (after_entry script entry) entries
 
 -- What can be written so that it is read again: datagrams of bytes that come from where one can answer, lines that are one line, and
--- moments that go on, and have no more than 18 digits
-abbrev pub IsWritable : Script → Entry → Type 0
-IsWritable script (showed (arrived source bytes) move shown) = CanAnswer source × AllByRecursion (λ byte. byte < 256) bytes
-IsWritable script (showed (typed line) move shown) = Never is_line_feed line
-IsWritable script (showed (passed moment) move shown) = (script.clock < moment) × (moment < 10 ^ 18)
-IsWritable script (became fate place) = place < 10 ^ 18
+-- moments and places of no more than 18 digits
+abbrev pub IsWritable : Entry → Type 0
+IsWritable (showed (arrived source bytes) move shown) = CanAnswer source × AllByRecursion (λ byte. byte < 256) bytes
+IsWritable (showed (typed line) move shown) = Never is_line_feed line
+IsWritable (showed (passed moment) move shown) = moment < 10 ^ 18
+IsWritable (became fate place) = place < 10 ^ 18
 
-abbrev pub AreWritable : Script → List Entry → Type 0
-AreWritable script [] = ⊤
-AreWritable script (entry ∷ entries) = IsWritable script entry × AreWritable (after_entry script entry) entries
+abbrev pub AreWritable : List Entry → Type 0
+AreWritable [] = ⊤
+AreWritable (entry ∷ entries) = IsWritable entry × AreWritable entries
+
+-- The same but for what a desk sees to: bytes, octets and ports that are such, and moments and places of no more than 18 digits
+abbrev pub IsSmall : Entry → Type 0
+IsSmall (showed (arrived source bytes) move shown) = IsAddress source × AllByRecursion (λ byte. byte < 256) bytes
+IsSmall (showed (typed line) move shown) = ⊤
+IsSmall (showed (passed moment) move shown) = moment < 10 ^ 18
+IsSmall (became fate place) = place < 10 ^ 18
+
+abbrev pub AreSmall : List Entry → Type 0
+AreSmall [] = ⊤
+AreSmall (entry ∷ entries) = IsSmall entry × AreSmall entries
 
 -- Replays
 

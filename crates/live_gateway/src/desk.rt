@@ -1,7 +1,7 @@
 //! The loop: it asks what comes next, and does that.
 #![tactic(auto, using(crate::proofs::DeskLemmas::stays_so))]
 
-ghost use Rattle.std.specs.Prelude.{◌≡◌, ◌↔◌, ◌≤◌, ◌⊎◌, ◌-◌, ◌^◌, ℕ, true, false, not, codes, List, [], Option, IsTrue, IfOk};
+ghost use Rattle.std.specs.Prelude.{◌≡◌, ◌↔◌, ◌<◌, ◌≤◌, ◌⊎◌, ◌-◌, ◌^◌, ℕ, true, false, not, codes, List, [], Option, IsTrue, IfOk};
 ghost use Rattle.turns.specs.Runs.{is_end};
 ghost use Rattle.plain_machine.specs.Event.{GatewayEvent, tick};
 ghost use Rattle.plain_machine.specs.Lists.{plain};
@@ -129,6 +129,8 @@ impl<S: Surroundings + Drop, T: Teller + Drop> Desk<S, T> {
 
     // The clock goes on.
     fn tick(&mut self, moment: u64)
+        requires { (events : List GatewayEvent) → Stands self.old.play.gateway.value events
+            → (plain self.old.play.gateway.value.setup events).now < moment }
         ensures play { GoesOn T.told S.traffic self.old self.new }
         ensures tried { Tries (passed moment) (tick moment) (at_desk T.told S.traffic self.old) (at_desk T.told S.traffic self.new) }
     {
@@ -297,6 +299,8 @@ impl<S: Surroundings + Drop, T: Teller + Drop> Desk<S, T> {
 
     // A turn of somebody's, or a wait, where it is now this moment.
     fn do_turn<V: Visitors<S>>(&mut self, turn: Turn, visitors: &mut Option<Box<V>>, moment: u64)
+        requires { (to : ℕ) → turn ≡ Turn.Tick to → (events : List GatewayEvent) → Stands self.old.play.gateway.value events
+            → (plain self.old.play.gateway.value.setup events).now < to }
         ensures play { GoesOn T.told S.traffic self.old self.new }
         ensures does { Does S.receives self.old.admission turn (at_desk T.told S.traffic self.old) (at_desk T.told S.traffic self.new) }
         ensures over { is_end turn ≡ true → (self.new.play ≡ self.old.play) × (self.new.end ≡ self.old.end) }

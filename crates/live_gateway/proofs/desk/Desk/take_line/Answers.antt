@@ -4,7 +4,7 @@ use Rattle.live_journal.specs.declared.reporting.Faults.{Faults}
 use Rattle.live_gateway.specs.Coming.{Came}
 use Rattle.live_gateway.specs.Desk.{at_desk}
 use Rattle.live_gateway.specs.Exchanging.{handed_by}
-use Rattle.live_gateway.proofs.DeskLemmas.{standing_of, counted_so, ticks, asks, line_is_quiet, line_is_line}
+use Rattle.live_gateway.proofs.DeskLemmas.{standing_of, counted_so, acts, asks, line_is_quiet, line_is_still, line_is_line}
 use Rattle.live_gateway.proofs.LineLemmas.{taken_free}
 use Rattle.live_gateway.proofs.TurningLemmas.{tries_act, asks_of}
 use Rattle.live_gateway.proofs.desk.Desk.take_line.Goals as goal
@@ -12,7 +12,8 @@ use Rattle.live_gateway.proofs.desk.Desk.take_line.Goals as goal
 pub returns-in-Show-clause-play : goal.returns-in-Show-clause-play
 returns-in-Show-clause-play g c =
     asks g.T.Teller.told g.S.Surroundings.traffic _ _ (λ (input : Input). input ≡ typed c.in-Some.text.now)
-    (line_is_quiet c.in-Some.text.now) (line_is_line c.in-Some.text.now (taken_free _ c.in-Some.text.now _ c.in-Some.ensures))
+    (line_is_quiet c.in-Some.text.now) (line_is_still c.in-Some.text.now)
+    (line_is_line c.in-Some.text.now (taken_free _ c.in-Some.text.now _ c.in-Some.ensures))
     (rw (c.answer.ensures.traffic)
     (c.ask-asked.ensures.ran (handed_by c.args.self.now.exchange.network (g.S.Surroundings.traffic c.args.self.now.exchange.around).sent)))
     (rw (c.answer.ensures.traffic) refl)
@@ -35,8 +36,9 @@ pub returns-in-Act-clause-play : goal.returns-in-Act-clause-play
 returns-in-Act-clause-play g c =
     let told = g.T.Teller.told in
     let traffic = g.S.Surroundings.traffic in
-    ticks told traffic _ _ (standing_of told traffic c.act-done.new.self c.act-done.new.out) _ (λ (input : Input). input ≡ typed c.in-Some.text.now)
-    (line_is_quiet c.in-Some.text.now) (line_is_line c.in-Some.text.now (taken_free _ c.in-Some.text.now _ c.in-Some.ensures))
+    acts told traffic _ _ (standing_of told traffic c.act-done.new.self c.act-done.new.out) _ (λ (input : Input). input ≡ typed c.in-Some.text.now)
+    (line_is_quiet c.in-Some.text.now) (line_is_still c.in-Some.text.now)
+    (line_is_line c.in-Some.text.now (taken_free _ c.in-Some.text.now _ c.in-Some.ensures))
     c.act-done.ensures.ran
     c.act-done.ensures.came
     (counted_so told traffic c.act-done.new.self c.act-done.new.out c.answer_act.new.exchange _

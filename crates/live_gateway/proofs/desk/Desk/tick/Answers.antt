@@ -1,8 +1,7 @@
-use Rattle.std.proofs.Common.{◌≡◌, refl, ap}
-use Rattle.traces.specs.Writing.{Input, passed}
+use Rattle.std.proofs.Common.{refl, ap}
 use Rattle.live_gateway.specs.Coming.{Came}
 use Rattle.live_gateway.specs.Desk.{at_desk}
-use Rattle.live_gateway.proofs.DeskLemmas.{standing_of, counted_so, ticks, tick_is_quiet, tick_is_line}
+use Rattle.live_gateway.proofs.DeskLemmas.{standing_of, counted_so, ticks}
 use Rattle.live_gateway.proofs.TurningLemmas.{tries}
 use Rattle.live_gateway.proofs.desk.Desk.tick.Goals as goal
 
@@ -10,12 +9,13 @@ pub returns-clause-play : goal.returns-clause-play
 returns-clause-play g c =
     let told = g.T.Teller.told in
     let traffic = g.S.Surroundings.traffic in
-    ticks told traffic _ _ (standing_of told traffic c.tick-done.new.self c.tick-done.new.out) _ (λ (input : Input). input ≡ passed c.args.moment)
-    (tick_is_quiet c.args.moment) (tick_is_line c.args.moment)
-    (rw (c.begin.ensures.network, c.begin.ensures.around) at c.tick-done.ensures.ran)
+    ticks told traffic _ _ (standing_of told traffic c.tick-done.new.self c.tick-done.new.out) c.tick-done.result c.args.moment
+    (rw (c.begin.ensures.network, c.begin.ensures.around) at c.tick-done.ensures.taken)
+    (rw (c.begin.ensures.network, c.begin.ensures.around) at c.tick-done.ensures.refused)
+    c.requires
     (rw (c.begin.ensures.network, c.begin.ensures.around, c.begin.ensures.faults) at c.tick-done.ensures.came)
     (counted_so told traffic c.tick-done.new.self c.tick-done.new.out c.note_taken.new.exchange _
-    c.note_taken.ensures.network (ap traffic c.note_taken.ensures.around) c.note_taken.ensures.refused)
+    c.note_taken.ensures.network (ap traffic c.note_taken.ensures.around) (rw (c.is_ok.ensures.value) at c.note_taken.ensures.refused))
     refl
 
 pub returns-clause-tried : goal.returns-clause-tried

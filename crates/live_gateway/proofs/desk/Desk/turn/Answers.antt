@@ -1,4 +1,4 @@
-use Rattle.std.proofs.Common.{◌≡◌, List, refl, ◌∙◌, ap, subst, sym}
+use Rattle.std.proofs.Common.{◌≡◌, ◌<◌, ◌^◌, List, refl, ◌∙◌, ap, subst, sym, rules}
 use Rattle.std.specs.Prelude.{not}
 use Rattle.plain_machine.specs.Event.{GatewayEvent}
 use Rattle.plain_machine.specs.Lists.{plain}
@@ -6,6 +6,7 @@ use Rattle.gateway_core.specs.GatewayState.{GatewayState}
 use Rattle.gateway_core.specs.Stands.{Stands}
 use Rattle.live_gateway.proofs.DeskLemmas.{between}
 use Rattle.live_gateway.proofs.EndingLemmas.{turn_ends}
+use Rattle.live_gateway.proofs.TurningLemmas.{tick_is_later}
 use Rattle.live_gateway.proofs.desk.Desk.turn.Goals as goal
 
 pub returns-clause-play : goal.returns-clause-play
@@ -16,6 +17,16 @@ returns-clause-play g c =
     refl
     (rw (c.tell.ensures.traffic) refl)
     refl
+
+pub do_turn-requires : goal.do_turn-requires
+do_turn-requires g c =
+    let here : (events : List GatewayEvent) → Stands c.args.self.now.play.gateway.value events
+    → c.now-ticked.result ≡ (plain c.args.self.now.play.gateway.value.setup events).now =
+    subst (λ (gateway : GatewayState). (events : List GatewayEvent) → Stands gateway events → c.now-ticked.result ≡ (plain gateway.setup events).now)
+    c.deref.ensures c.now-ticked.ensures.value in
+    let few : c.situation-at.result.moment < 2 ^ 64 = search rules in
+    λ to is events stands. tick_is_later _ c.situation-at.result c.next-turn.result _ to _ few c.next-turn.ensures is
+    (c.situation-at.ensures.ticked ∙ here events stands)
 
 pub returns-clause-end : goal.returns-clause-end
 returns-clause-end g c =
