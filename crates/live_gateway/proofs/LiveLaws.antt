@@ -1,12 +1,21 @@
 -- What the trace of a live run was told.
-use Rattle.std.proofs.Common.{◌≡◌, ℕ, List, [], ◌++◌, Some, refl, sym, ◌∙◌, ap, append_assoc}
+use Rattle.std.proofs.Common.{◌≡◌, ℕ, ◌<◌, ◌≤◌, Bool, true, false, List, [], ◌∷◌, ◌++◌, Some, refl, sym, ◌∙◌, ap, append_assoc, arith}
+use Rattle.std.specs.Prelude.{◌&&◌, not, nat_lt}
+use Rattle.std.specs.declared.net.socket_addr.SocketAddrV4.{SocketAddrV4}
+use Rattle.std.proofs.lemmas.Bool.{ltb-true}
+use Rattle.surroundings.specs.Sending.{Received}
+use Rattle.surroundings.specs.Speaking.{admitted_by, may_speak}
 use Rattle.gateway_core.specs.Stands.{Stands}
 use Rattle.traces.specs.declared.script.Script.{Script}
-use Rattle.traces.specs.Writing.{Entry, clock_text, opening_script, written, script_after, whole_text}
-use Rattle.live_gateway.specs.Running.{Live, Ran}
+use Rattle.traces.specs.Writing.{Entry, arrived, typed, passed, showed, became, clock_text, opening_script, written, script_after, whole_text}
+use Rattle.live_gateway.specs.declared.admission.Admission.{Admission}
+use Rattle.live_gateway.specs.Admitting.{is_its_own}
+use Rattle.live_gateway.specs.Desk.{Standing, GoesOnBy, IsHeard}
+use Rattle.live_gateway.specs.Running.{Live, Ran, AreOf, AreFrom}
+use Rattle.live_gateway.proofs.HearingLaws.{are_from}
 use Rattle.live_gateway.proofs.RunLemmas.{told_known, script_known}
-use Rattle.live_gateway.specs.Readable.{AreLater}
-use Rattle.live_gateway.specs.Replay.{AreWritable, ReadsBack}
+use Rattle.live_gateway.specs.Readable.{IsAddress, CanAnswer, IsLine, AreLater}
+use Rattle.live_gateway.specs.Replay.{AreWritable, AreSmall, ReadsBack}
 use Rattle.live_gateway.proofs.ReplayLaws.{reads_back}
 
 pub live_text : (was is : Live) (entries : List Entry) (head text : List ℕ) → Ran was entries is → was.script ≡ opening_script
@@ -21,3 +30,33 @@ live_text was is entries head text ran begins before told =
 pub live_replays : (was is : Live) (entries : List Entry) → Ran was entries is → Stands was.gateway []
     → AreLater was.gateway.setup [] entries → AreWritable entries → ReadsBack was.gateway.setup entries
 live_replays was is entries ran stands later can = reads_back was.gateway.setup entries (ran.play [] stands) ran.ticks later can
+
+-- ---- a desk
+
+first_holds : (a b c : Bool) → (a && b && c) ≡ true → a ≡ true
+first_holds true b c e = refl
+first_holds false b c e = absurd cc
+
+-- who is heard can be answered
+has_port : (admission : Admission) (source : SocketAddrV4) → IsHeard admission source → 1 ≤ source.port
+has_port admission source heard =
+    let some : 0 < source.port = ltb-true 0 source.port
+    (first_holds (nat_lt 0 source.port) (not (is_its_own admission.own source)) (may_speak (admitted_by admission.speakers) source.ip) heard) in
+    omega (arith, some)
+
+can_answer : (source : SocketAddrV4) → IsAddress source → 1 ≤ source.port → CanAnswer source
+can_answer source is low = record { a = is.a; b = is.b; c = is.c; d = is.d; parts = is.parts; each = is.each; low = low; high = is.high }
+
+writable : (admission : Admission) (entries : List Entry) → AreSmall entries → AreOf IsLine entries → AreFrom (IsHeard admission) entries → AreWritable entries
+writable admission [] small lines heard = tt
+writable admission (showed (arrived source bytes) move shown ∷ entries) small lines heard =
+    ((can_answer source small.0.0 (has_port admission source heard.0), small.0.1), writable admission entries small.1 lines.1 heard.1)
+writable admission (showed (typed line) move shown ∷ entries) small lines heard = (lines.0, writable admission entries small.1 lines.1 heard.1)
+writable admission (showed (passed moment) move shown ∷ entries) small lines heard = (small.0, writable admission entries small.1 lines.1 heard.1)
+writable admission (became mark place ∷ entries) small lines heard = (small.0, writable admission entries small.1 lines heard)
+
+pub desk_replays : (admission : Admission) (was is : Standing) (entries : List Entry) (came : List Received) (missing : ℕ)
+    → GoesOnBy admission was is entries came missing → Stands was.live.gateway [] → AreSmall entries → ReadsBack was.live.gateway.setup entries
+desk_replays admission was is entries came missing went stands small =
+    live_replays was.live is.live entries went.ran stands (went.later [] stands)
+    (writable admission entries small went.lines (are_from admission missing came entries went.events))

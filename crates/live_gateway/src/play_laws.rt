@@ -8,6 +8,7 @@ ghost use Rattle.traces.specs.Writing.{Entry, IsPlay, taken_after, sent_in, writ
 ghost use Rattle.live_gateway.specs.Readable.{AreByTicks};
 ghost use Rattle.live_gateway.specs.Running.{Live, Ran, AreInPlace, sent_of};
 
+pub mod desks;
 pub mod lines;
 pub mod live;
 pub mod replays;
