@@ -138,8 +138,11 @@ impl Log {
     /// not speak it is noted that no answer to it is heard, and by which word one would be.
     #[tactic(auto, using(crate::proofs::RecordLemmas::puts_text, crate::proofs::RecordLemmas::puts_nothing, crate::proofs::RecordLemmas::refuses))]
     pub fn unheard(&mut self, now: Now, sent: &[SentMessage], speakers: &Speakers)
-        ensures { Records self.old.record
+        ensures record { Records self.old.record
             (flat_map (unheard_text (admitted_by speakers.now) now.time) sent.now) self.new.record }
+        ensures quiet { self.new.quiet ≡ self.old.quiet }
+        ensures moments { (self.new.sent ≡ self.old.sent) × (self.new.came ≡ self.old.came) × (self.new.arrival ≡ self.old.arrival) }
+        ensures rest { (self.new.domain ≡ self.old.domain) × (self.new.own ≡ self.old.own) × (self.new.messages ≡ self.old.messages) }
     {
         if !self.record.is_on() {
             return;
