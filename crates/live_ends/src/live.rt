@@ -138,11 +138,6 @@ impl<'a, R: Net + Clock> Live<'a, R> {
             Err(_) => Err(CommonEnding::OutOfMemory),
         }
     }
-
-    /// The addresses of its sockets.
-    pub fn addresses(&self) -> io::Result<(SocketAddr, SocketAddr)> {
-        Ok((self.socket.local_addr()?, self.commands.local_addr()?))
-    }
 }
 
 impl<R: Net + Clock> Surroundings for Live<'_, R> {
