@@ -14,8 +14,10 @@ ghost use Rattle.call_routing.specs.Fates.{is_success, may_pass, is_deleted, hoo
 ghost use Rattle.call_routing.specs.Numbers.{line_called, told_in};
 ghost use Rattle.call_routing.specs.Parameters.{verb_of, request_lines, creation_lines, change_lines, deletion_lines, parameters_of};
 ghost use Rattle.call_routing.specs.Exchange.{phase_of, line_of, put_off_at, due};
-ghost use Rattle.call_laws.specs.Turns.{tells, sends, clears, after, is_sent, is_answered, is_coded, is_put_off, is_settled, count_turns, commands_in, leaves_alone, is_asked_on, is_bare, is_request, is_creation, accepts, ends};
-ghost use Rattle.call_laws.specs.Example.{opened, all_sent, driven, coded, accepted, given_up, created_first, created_second, ready, dial, ring, pick_up, connect, hang_up, then_is, phase_then, sent_at, key};
+ghost use Rattle.call_laws.specs.Turns.{tells, sends, clears, after, is_sent, is_answered, is_coded, is_put_off, is_settled, count_turns};
+ghost use Rattle.call_laws.specs.Turns.{commands_in, leaves_alone, is_asked_on, is_bare, is_request, is_creation, accepts, ends};
+ghost use Rattle.call_laws.specs.Example.{opened, all_sent, driven, coded, accepted, given_up, created_first, created_second, ready};
+ghost use Rattle.call_laws.specs.Example.{dial, ring, pick_up, connect, hang_up, then_is, phase_then, sent_at, key};
 
 use call_routing::{Asked, Cause, Command, Leg, Outcome, Phase, Side, Told, Tone};
 use mg_packages::Hook;

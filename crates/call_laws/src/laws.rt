@@ -19,7 +19,9 @@ ghost use Rattle.call_routing.specs.Asking.{wanted_in, is_asked};
 ghost use Rattle.call_routing.specs.Fates.{is_success, is_deleted, is_wanted, most_put_off, times_of};
 ghost use Rattle.call_routing.specs.Parameters.{gives, leg_of, description_of_other};
 ghost use Rattle.call_routing.specs.Exchange.{ExchangeState, opening, phase_of, line_of, told, answered, due};
-ghost use Rattle.call_laws.specs.Turns.{IsApart, IsAsBefore, Turn, sends, after, is_in_flight, count_if, is_sent, is_answered, is_coded, is_settled, count_turns, AreQuietFor, IsAtRest, is_request, is_creation, is_asked_on, is_bare, accepts, ends, IsPutOffOr, IsConnected};
+ghost use Rattle.call_laws.specs.Turns.{IsApart, IsAsBefore, Turn, sends, after, is_in_flight, count_if, is_sent, is_answered, is_coded};
+ghost use Rattle.call_laws.specs.Turns.{is_settled, count_turns, AreQuietFor, IsAtRest, is_request, is_creation, is_asked_on, is_bare};
+ghost use Rattle.call_laws.specs.Turns.{accepts, ends, IsPutOffOr, IsConnected};
 
 /// Where a line is in a call, the line that it names is in the same call, from the other side, and names it.
 pub fn both_ends_of_a_call_name_each_other()

@@ -80,7 +80,8 @@ found_again = answered_late ++ delivering 7 ∷ []
 -- line 1 reports to another address, where its notification is handed over at once each time
 abbrev pub sent_elsewhere : List WorldStep
 sent_elsewhere =
-    redirected ++ delivering 4 ∷ ticking 501 ∷ delivering 5 ∷ ticking 1501 ∷ delivering 6 ∷ ticking 2501 ∷ ticking 3501 ∷ delivering 7 ∷ ticking 4000 ∷ []
+    redirected ++ delivering 4 ∷ ticking 501 ∷ delivering 5 ∷ ticking 1501 ∷ delivering 6 ∷ ticking 2501 ∷ ticking 3501 ∷ delivering 7
+    ∷ ticking 4000 ∷ []
 
 -- the gateway's announcement, packets 0 to 7, is lost, and given up at 23,501; 1 ms later it goes out anew, packet 8, which is handed
 -- over 300 ms later; and so is its answer, packet 9, while the announcement goes out again, packet 10

@@ -43,8 +43,8 @@ pub fn a_command_of_its_own_is_sent_eight_times()
         HasResponse events flight.id ⊎ ((plain setup events).now < flight.first + answer_wait) }
 {}
 
-/// What is in flight is sent as it falls due, where it may be sent again then and no response to it comes until then: so 5,000 ms behind the
-/// last provisional one (RFC 3435, 3.5.3 and 3.5.6).
+/// What is in flight is sent as it falls due, where it may be sent again then and no response to it comes until then: so 5,000 ms behind
+/// the last provisional one (RFC 3435, 3.5.3 and 3.5.6).
 pub fn what_is_in_flight_is_sent_as_it_falls_due()
     ensures line { (setup : Setup) (before after : List GatewayEvent) (line : ℕ) (was is : Endpoint) (flight : InFlight) →
         endpoint_at (plain setup before).endpoints line ≡ Some was → was.post.pending ≡ Some flight →
@@ -74,13 +74,15 @@ pub fn a_redirected_announcement_goes_out_anew()
     ensures redirected { (setup : Setup) (line moment : ℕ) (response : Response) (post : Post) (message : InFlight) (agent : Entity) →
         post.restart ≡ Announced → post.pending ≡ Some message → reply_of message response.id response.code ≡ Answered →
         response.code ≡ 521 → response.entity ≡ Some agent → replied_on setup line moment response post
-        ≡ with_command line moment (record post { entity = agent; restart = Announced }) (announcement setup line (id_on line post.number)) }
+        ≡ with_command line moment (record post { entity = agent; restart = Announced })
+        (announcement setup line (id_on line post.number)) }
     ensures notified { (setup : Setup) (line moment : ℕ) (response : Response) (post : Post) (message : InFlight) →
         post.restart ≡ Serving → post.pending ≡ Some message → reply_of message response.id response.code ≡ Answered →
         replied_on setup line moment response post ≡ silently (record post { pending = None; restart = Serving }) }
     ensures named_nobody { (setup : Setup) (line moment : ℕ) (response : Response) (post : Post) (message : InFlight) →
-        post.restart ≡ Announced → post.pending ≡ Some message →
-        reply_of message response.id response.code ≡ Answered → response.entity ≡ None → replied_on setup line moment response post ≡ silently (record post { pending = None; restart = Serving }) }
+        post.restart ≡ Announced → post.pending ≡ Some message → reply_of message response.id response.code ≡ Answered →
+        response.entity ≡ None → replied_on setup line moment response post
+        ≡ silently (record post { pending = None; restart = Serving }) }
 {}
 
 /// A line that waits for no answer longer than so many ms is of a gateway that serves: one that doesn't serve yet has lines that wait with

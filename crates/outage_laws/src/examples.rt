@@ -29,7 +29,9 @@ ghost use Rattle.delivery_laws.specs.OwnChances.{IsOfLine};
 ghost use Rattle.outage_laws.specs.AfterOutage.{AgentHasRoomFrom, IsFairFrom, gap_of, longest_pause};
 ghost use Rattle.outage_laws.specs.Alone.{HasBegun, HasResponse, HasResponseSince, IsSentAt, IsSentSince};
 ghost use Rattle.outage_laws.specs.Carrying.{IsCarriedBack};
-ghost use Rattle.outage_laws.specs.Example.{all_lost, announcement, answered_late, came_at, came_at_1_and_2, dialled, first_round, found_again, held_then, last_copy, lost_at_first, moments_of, own_due, put_off, put_off_twice, saved, sent_elsewhere, serving_late, two_rounds, unserved};
+ghost use Rattle.outage_laws.specs.Example.{all_lost, announcement, answered_late, came_at, came_at_1_and_2, dialled, first_round};
+ghost use Rattle.outage_laws.specs.Example.{found_again, held_then, last_copy, lost_at_first, moments_of, own_due, put_off};
+ghost use Rattle.outage_laws.specs.Example.{put_off_twice, saved, sent_elsewhere, serving_late, two_rounds, unserved};
 
 /// An announcement goes out again after 500 ms, unless a response to it came. A provisional one puts that off to 5,000 ms after the last of
 /// them, and 521 that names another agent is announced at once.

@@ -105,8 +105,8 @@ dropped_in_loop =
 abbrev pub has_return_told : Request
 has_return_told = requests (codes "A2") (codes "L/hd(I),D/5(I),D/6(A),L/hu(N)")
 
--- Line 1 is lifted, and key 5 is pressed until its quarantine is full, and behind that request key 6. Then the first notification is answered,
--- and the handset put back.
+-- Line 1 is lifted, and key 5 is pressed until its quarantine is full, and behind that request key 6. Then the first notification is
+-- answered, and the handset put back.
 abbrev pub full_then_asked : List GatewayEvent
 full_then_asked =
     asks_for_all 7 (codes "aaln/1") ∷ phone 1 OffHook ∷ replicate most_quarantined (phone 1 (Key Five))

@@ -47,8 +47,8 @@ abbrev pub IsOnItsWay : Option InFlight → List Observed → Type 0
 IsOnItsWay None told = told ≡ []
 IsOnItsWay (Some flight) told = (told ≡ []) ⊎ (told ≡ told_as (read_text flight.text))
 
--- What was on its way at first, and what the line told meanwhile, is what the agent took meanwhile, and what is on its way at last: each once,
--- and in that order.
+-- What was on its way at first, and what the line told meanwhile, is what the agent took meanwhile, and what is on its way at last: each
+-- once, and in that order.
 pub record IsWhole (first last : Option InFlight) (told taken : List Observed) : Type 0 where
   pub late : List Observed
   pub left : List Observed

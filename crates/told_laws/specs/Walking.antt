@@ -1,6 +1,6 @@
 -- How what a line tells walks through what was done at its telephone (RFC 3435, 2.3.3 and 4.4.1): each act is told, or is kept to be told,
--- or was lost, and counted, or was dropped where the walk says so: neither R nor T named it, and it isn't persistent; R gave it nothing, or I;
--- E without A took it, or emptied the list in which it was; or a request emptied that list.
+-- or was lost, and counted, or was dropped where the walk says so: neither R nor T named it, and it isn't persistent; R gave it nothing,
+-- or I; E without A took it, or emptied the list in which it was; or a request emptied that list.
 use Rattle.std.specs.Prelude.{◌≡◌, ℕ, zero, suc, ◌≤◌, min, Bool, true, false, not, if◌then◌else◌, List, [], ◌∷◌, ◌++◌, filter}
 use Rattle.std.specs.List.{list_all}
 use Rattle.mg_packages.specs.declared.event.LineEvent.{LineEvent}
@@ -108,8 +108,8 @@ Brings (AccumulateAndEmbed embedded) gathered request carried = (embedded ≡ re
 abbrev pub behind_embedded : Place → EmbeddedRequest → List Observed → Place
 behind_embedded place request carried = record place { requests = with_embedded place.requests request; carried = carried }
 
--- Embedded requests come into force, each by an event: one of those that wait, with a quiet front of them, or one that is no telephone's, an
--- end of a signal or of timer T. In step nothing occurs between a notification and the next request.
+-- Embedded requests come into force, each by an event: one of those that wait, with a quiet front of them, or one that is no telephone's,
+-- an end of a signal or of timer T. In step nothing occurs between a notification and the next request.
 pub data Embeds : Place → List Observed → Place → List Observed → Type 0 where
   no_more : (place : Place) (waiting : List Observed) → Embeds place waiting place waiting
   by_event : (place next : Place) (waiting front rest left carried : List Observed) (event : Observed) (request : EmbeddedRequest)
@@ -121,9 +121,10 @@ pub data Embeds : Place → List Observed → Place → List Observed → Type 0
 abbrev pub Then : Place → List Observed → End → Type 0
 Then place waiting end = (next : Place) × (left : List Observed) × Embeds place waiting next left × end next left
 
--- From there, and what is waiting to be told, in its order. A request: what had occurred (of it nothing is told at once) is dropped, and the
--- rest, which is quarantined, stays or is discarded; in step nothing occurs between a notification and the next request. A notification: what
--- it tells is all that R has told of a front of what waits; the rest waits on. Before each of them embedded requests may come into force.
+-- From there, and what is waiting to be told, in its order. A request: what had occurred (of it nothing is told at once) is dropped, and
+-- the rest, which is quarantined, stays or is discarded; in step nothing occurs between a notification and the next request. A
+-- notification: what it tells is all that R has told of a front of what waits; the rest waits on. Before each of them embedded requests
+-- may come into force.
 abbrev pub Walks : Place → List Observed → List CourseStep → End → Type 0
 Walks place waiting [] end = Then place waiting end
 Walks place waiting (acts act ∷ course) end =
@@ -148,7 +149,8 @@ Stays line place waiting =
 -- these steps are left of a course: all, but for so many acts
 pub data AllButLost : ℕ → List CourseStep → List CourseStep → Type 0 where
   no_step : AllButLost zero [] []
-  a_step : (n : ℕ) (step : CourseStep) (left course : List CourseStep) → AllButLost n left course → AllButLost n (step ∷ left) (step ∷ course)
+  a_step : (n : ℕ) (step : CourseStep) (left course : List CourseStep) → AllButLost n left course
+      → AllButLost n (step ∷ left) (step ∷ course)
   a_lost_act : (n : ℕ) (act : Act) (left course : List CourseStep) → AllButLost n left course → AllButLost (suc n) left (acts act ∷ course)
 
 -- An act that is lost might as well not have been done; the line counts each, up to the greatest count; and all others are walked through.
@@ -168,8 +170,8 @@ AreActs (acts act ∷ course) = AreActs course
 AreActs (accepts request ∷ course) = ⊥
 AreActs (notifies identifier observed ∷ course) = ⊥
 
--- It tells, in their order, all that R has told of a front of these: what the request left of what waited, and what of the acts since is kept.
--- And what it left, behind all that was told before, was done before, in that order.
+-- It tells, in their order, all that R has told of a front of these: what the request left of what waited, and what of the acts since is
+-- kept. And what it left, behind all that was told before, was done before, in that order.
 pub record TellsAFront (request : Request) (told done since observed : List Observed) : Type 0 where
   pub held : List Observed
   pub front : List Observed
@@ -178,8 +180,8 @@ pub record TellsAFront (request : Request) (told done since observed : List Obse
   pub order : left_by request.handling.quarantined held ++ filter (is_kept request.events) since ≡ front ++ rest
   pub told_so : of_telephone observed ≡ filter (collects request.events) front
 
--- What was kept of the acts between a notification, in step, and the next request is quarantined still at that, behind what the notification
--- left.
+-- What was kept of the acts between a notification, in step, and the next request is quarantined still at that, behind what the
+-- notification left.
 pub record TellsWhatWasKept (latest request : Request) (told done some since observed : List Observed) : Type 0 where
   pub left : List Observed
   pub front : List Observed

@@ -62,9 +62,11 @@ taken_at before steps = taken_meanwhile two_lines 1 (world before) (world (befor
 
 -- it gave nothing up at these
 abbrev pub GaveNothingUp : List WorldStep → List WorldStep → Type 0
-GaveNothingUp before steps = GivesNothingUp two_lines 1 (world before) (world (before ++ steps)) (endpoint_then before) (endpoint_then (before ++ steps))
+GaveNothingUp before steps =
+    GivesNothingUp two_lines 1 (world before) (world (before ++ steps)) (endpoint_then before) (endpoint_then (before ++ steps))
 
 -- the conclusion of the law
 abbrev pub WasWhole : List WorldStep → List WorldStep → Type 0
 WasWhole before steps =
-    IsWhole (endpoint_then before).post.pending (endpoint_then (before ++ steps)).post.pending (told_at before steps) (taken_at before steps)
+    IsWhole (endpoint_then before).post.pending (endpoint_then (before ++ steps)).post.pending (told_at before steps)
+    (taken_at before steps)

@@ -16,9 +16,14 @@ ghost use Rattle.delivery_laws.specs.Course.{acts as does, accepts, notifies};
 ghost use Rattle.delivery_laws.specs.Rounds.{of_telephone};
 ghost use Rattle.told_laws.specs.Among.{AreAmong, kept_by};
 ghost use Rattle.delivery_laws.specs.Dialled.{told_along};
-ghost use Rattle.told_laws.specs.Walking.{nothing_asked, EmbedsNone, reaction_to, Brings, TellsAFront, TellsWhatWasKept, Walks, AllButLost, WalksButLost};
-ghost use Rattle.told_laws.specs.Example.{dials_two, flashes_and_dials, has_keys_collected, has_lifting_told, has_lifting_kept, has_all_told, has_all_told_in_loop, discards_then, flashed, flash_drops, flash_carries, flashes_and_hangs_up, counts, waits, WalksThen, request_then, next_request_then, told_twice, dropped_in_loop, AllToldThen, full_then_asked, has_return_told};
-ghost use Rattle.delivery_laws.specs.OnceExample.{lifted, hung_up, five, six, asks_for_all, dials, dials_before, discards, keys_are_collected, asked_and_full};
+ghost use Rattle.told_laws.specs.Walking.{nothing_asked, EmbedsNone, reaction_to, Brings, TellsAFront, TellsWhatWasKept, Walks};
+ghost use Rattle.told_laws.specs.Walking.{AllButLost, WalksButLost};
+ghost use Rattle.told_laws.specs.Example.{dials_two, flashes_and_dials, has_keys_collected, has_lifting_told, has_lifting_kept};
+ghost use Rattle.told_laws.specs.Example.{has_all_told, has_all_told_in_loop, discards_then, flashed, flash_drops, flash_carries};
+ghost use Rattle.told_laws.specs.Example.{flashes_and_hangs_up, counts, waits, WalksThen, request_then, next_request_then, told_twice};
+ghost use Rattle.told_laws.specs.Example.{dropped_in_loop, AllToldThen, full_then_asked, has_return_told};
+ghost use Rattle.delivery_laws.specs.OnceExample.{lifted, hung_up, five, six, asks_for_all, dials, dials_before, discards};
+ghost use Rattle.delivery_laws.specs.OnceExample.{keys_are_collected, asked_and_full};
 ghost use Rattle.delivery_laws.specs.OnceExample.{course_then, line_then, told_then};
 
 /// Some events are among others where they stand there in that order, each once.
@@ -28,13 +33,14 @@ pub fn some_are_among_others()
     ensures twice { ¬ AreAmong (five ∷ five ∷ []) (five ∷ []) }
     ensures order { ¬ AreAmong (six ∷ five ∷ []) (five ∷ six ∷ []) }
     ensures other { ¬ AreAmong (six ∷ []) (five ∷ []) }
-    ensures of_telephones { of_telephone (lifted ∷ Ended tones.Ringing ∷ Happened (events.Letter letters.Timer) ∷ five ∷ []) ≡ lifted ∷ five ∷ [] }
+    ensures of_telephones { of_telephone (lifted ∷ Ended tones.Ringing ∷ Happened (events.Letter letters.Timer) ∷ five ∷ [])
+        ≡ lifted ∷ five ∷ [] }
 {}
 
 /// A key that is collected by a digit map is kept until that is completed, and then all of them are told, in their order.
 pub fn keys_are_told_together()
-    ensures first { kept_by (line_then (keys_are_collected ∷ phone 1 acts.OffHook ∷ response 200 10000000 ∷ phone 1 (acts.Key keys.Five) ∷ []))
-        ≡ five ∷ [] }
+    ensures first { kept_by (line_then (keys_are_collected ∷ phone 1 acts.OffHook ∷ response 200 10000000
+        ∷ phone 1 (acts.Key keys.Five) ∷ [])) ≡ five ∷ [] }
     ensures told { of_telephone (told_along (course_then (keys_are_collected ∷ dials_two))) ≡ lifted ∷ five ∷ six ∷ [] }
     ensures kept { kept_by (line_then (keys_are_collected ∷ dials_two)) ≡ [] }
     ensures walk { WalksThen (keys_are_collected ∷ dials_two) }
@@ -54,7 +60,8 @@ pub fn a_walk_says_where_each_act_is()
     ensures persistent { Walks nothing_asked [] (does acts.OffHook ∷ does (acts.Key keys.Five) ∷ []) (waits (lifted ∷ [])) }
     ensures dropped { Walks nothing_asked [] (accepts has_lifting_kept ∷ does acts.OffHook ∷ accepts has_lifting_kept ∷ []) (waits []) }
     ensures at_once { ¬ Walks nothing_asked [] (accepts has_lifting_told ∷ does acts.OffHook ∷ accepts has_lifting_told ∷ []) (waits []) }
-    ensures processed { Walks nothing_asked [] (accepts has_lifting_told ∷ does acts.OffHook ∷ accepts has_lifting_told ∷ []) (waits (lifted ∷ [])) }
+    ensures processed { Walks nothing_asked [] (accepts has_lifting_told ∷ does acts.OffHook ∷ accepts has_lifting_told ∷ [])
+        (waits (lifted ∷ [])) }
     ensures discarded { Walks nothing_asked [] (accepts has_lifting_told ∷ does acts.OffHook ∷ accepts discards_then ∷ []) (waits []) }
     ensures quarantined { Walks nothing_asked [] (accepts has_all_told ∷ does acts.OffHook ∷ notifies (codes "A1") (lifted ∷ [])
         ∷ does (acts.Key keys.Five) ∷ accepts has_all_told ∷ []) (waits (five ∷ [])) }
@@ -70,9 +77,11 @@ pub fn a_front_is_told()
     ensures front { TellsAFront has_keys_collected [] [] (five ∷ six ∷ []) (five ∷ []) }
     ensures quarantined { TellsAFront has_keys_collected (lifted ∷ []) (lifted ∷ five ∷ []) (six ∷ []) (five ∷ six ∷ []) }
     ensures skipped { ¬ TellsAFront has_keys_collected [] [] (five ∷ six ∷ []) (six ∷ []) }
-    ensures kept_meanwhile { TellsWhatWasKept has_keys_collected has_keys_collected (lifted ∷ []) (lifted ∷ []) (five ∷ []) (six ∷ []) (five ∷ six ∷ []) }
+    ensures kept_meanwhile { TellsWhatWasKept has_keys_collected has_keys_collected (lifted ∷ []) (lifted ∷ []) (five ∷ []) (six ∷ [])
+        (five ∷ six ∷ []) }
     ensures not_kept { TellsWhatWasKept has_lifting_told has_keys_collected (lifted ∷ []) (lifted ∷ []) (five ∷ []) (six ∷ []) (six ∷ []) }
-    ensures dropped { ¬ TellsWhatWasKept has_keys_collected has_keys_collected (lifted ∷ []) (lifted ∷ []) (five ∷ []) (six ∷ []) (six ∷ []) }
+    ensures dropped { ¬ TellsWhatWasKept has_keys_collected has_keys_collected (lifted ∷ []) (lifted ∷ []) (five ∷ []) (six ∷ [])
+        (six ∷ []) }
 {}
 
 /// By E alone an event is dropped, and with it what had occurred; with A that is carried on, and told behind the embedded request.
@@ -82,7 +91,8 @@ pub fn a_walk_goes_on_behind_an_embedded_request()
     ensures carried { Walks nothing_asked [] (accepts flash_carries ∷ does acts.OffHook ∷ does acts.Flash ∷ does acts.OnHook
         ∷ notifies (codes "A1") (lifted ∷ flashed ∷ hung_up ∷ []) ∷ []) (waits []) }
     ensures not_carried { (request : EmbeddedRequest) → ¬ Brings (reaction_to flash_carries.events flashed) (lifted ∷ []) request [] }
-    ensures not_dropped { (request : EmbeddedRequest) → ¬ Brings (reaction_to flash_drops.events flashed) (lifted ∷ []) request (lifted ∷ []) }
+    ensures not_dropped { (request : EmbeddedRequest) →
+        ¬ Brings (reaction_to flash_drops.events flashed) (lifted ∷ []) request (lifted ∷ []) }
     ensures no_request { (request : EmbeddedRequest) → ¬ Brings (reaction_to flash_drops.events hung_up) [] request [] }
     ensures on_a_line { WalksThen flashes_and_dials }
 {}
@@ -113,11 +123,13 @@ pub fn else_the_first_notification_may_skip()
 
 /// Where an act is lost, the first notification behind a request skips it.
 pub fn else_what_is_lost_is_skipped()
-    ensures course { course_then full_then_asked ≡ accepts (request_then full_then_asked) ∷ does acts.OffHook ∷ notifies (codes "C2") (lifted ∷ [])
+    ensures course { course_then full_then_asked
+        ≡ accepts (request_then full_then_asked) ∷ does acts.OffHook ∷ notifies (codes "C2") (lifted ∷ [])
         ∷ (replicate most_quarantined (does (acts.Key keys.Five)) ++ accepts has_return_told ∷ does (acts.Key keys.Six) ∷ does acts.OnHook
         ∷ notifies (codes "A2") (hung_up ∷ []) ∷ []) }
     ensures lost { (line_then full_then_asked).quarantined.lost ≡ 1 }
-    ensures skipped { ¬ TellsAFront has_return_told (lifted ∷ []) (lifted ∷ replicate most_quarantined five) (six ∷ hung_up ∷ []) (hung_up ∷ []) }
+    ensures skipped { ¬ TellsAFront has_return_told (lifted ∷ []) (lifted ∷ replicate most_quarantined five) (six ∷ hung_up ∷ [])
+        (hung_up ∷ []) }
 {}
 
 /// The second notification behind a request may tell later events alone; and in loop a request may drop what was done since a notification.

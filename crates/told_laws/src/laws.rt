@@ -34,10 +34,10 @@ pub fn what_is_told_was_done_in_that_order()
 {}
 
 /// Each act is walked through by what the line tells: it is told, in its order, by a notification that tells all that R has told of a front
-/// of what waits; or it waits, accumulated or quarantined; or it was lost for want of room, and the line counts each, so none where it counts
-/// none; or it was dropped: neither R nor T named it, and it isn't persistent; R gave it nothing, or I; E without A took it, or emptied the
-/// list in which it was; or a request emptied that list, in which R had none told at once, and which was empty where the line waited for that
-/// request, in step; or it discards what is quarantined.
+/// of what waits; or it waits, accumulated or quarantined; or it was lost for want of room, and the line counts each, so none where it
+/// counts none; or it was dropped: neither R nor T named it, and it isn't persistent; R gave it nothing, or I; E without A took it, or
+/// emptied the list in which it was; or a request emptied that list, in which R had none told at once, and which was empty where the line
+/// waited for that request, in step; or it discards what is quarantined.
 pub fn each_act_is_walked_through()
     ensures but_lost { (setup : Setup) (line : ℕ) (events : List GatewayEvent) (endpoint : Endpoint) →
         endpoint_at (plain setup events).endpoints line ≡ Some endpoint → WalksButLost (course_of setup line events) endpoint.line }
@@ -99,9 +99,9 @@ pub fn what_the_agent_took_was_done_in_that_order()
         (done_in (course_of setup line (plain_world setup steps).gateway_took)) }
 {}
 
-/// So over a stretch, whatever was before it: where the line gives nothing up in it, nor in the 10,500 ms before it, and it served already at
-/// their beginning, what the agent took of it in the stretch is what the line told in it, each once and in that order: but first what was on
-/// its way at its beginning, if it came, and without what is on its way at its end. For that the line's numbers aren't used up.
+/// So over a stretch, whatever was before it: where the line gives nothing up in it, nor in the 10,500 ms before it, and it served already
+/// at their beginning, what the agent took of it in the stretch is what the line told in it, each once and in that order: but first what
+/// was on its way at its beginning, if it came, and without what is on its way at its end. For that the line's numbers aren't used up.
 pub fn what_the_agent_took_over_a_stretch_is_whole()
     ensures { (setup : Setup) (line : ℕ) (first pause stretch : List WorldStep) (before was is : Endpoint) → IsSetUp setup →
         steps_are_taken setup world_opening ((first ++ pause) ++ stretch) ≡ true →

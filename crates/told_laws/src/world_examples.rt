@@ -10,7 +10,8 @@ ghost use Rattle.delivery_laws.specs.GivenUp.{has_given_up};
 ghost use Rattle.delivery_laws.specs.OnceExample.{lifted as off_hook, five, six};
 ghost use Rattle.delivery_laws.specs.DialledExample.{asked, answered, world, endpoint_then, done_then, told_then};
 ghost use Rattle.told_laws.specs.Among.{AreAmong};
-ghost use Rattle.told_laws.specs.WorldExample.{taken_late, given_up_once, come_late, well_again, later_on, seconds_from, presses_six, rests, gives_up, gives_up_sooner, last_comes, told_at, taken_at, GaveNothingUp, WasWhole};
+ghost use Rattle.told_laws.specs.WorldExample.{taken_late, given_up_once, come_late, well_again, later_on, seconds_from, presses_six};
+ghost use Rattle.told_laws.specs.WorldExample.{rests, gives_up, gives_up_sooner, last_comes, told_at, taken_at, GaveNothingUp, WasWhole};
 
 /// Where a line gave a notification up, a copy of that may come to the agent behind a later one; where it gave none up, none does.
 pub fn what_is_given_up_may_be_taken_late()
@@ -19,7 +20,8 @@ pub fn what_is_given_up_may_be_taken_late()
     ensures done { done_then taken_late ≡ off_hook ∷ five ∷ [] }
     ensures told { told_then taken_late ≡ five ∷ off_hook ∷ [] }
     ensures out_of_order { ¬ AreAmong (five ∷ off_hook ∷ []) (off_hook ∷ five ∷ []) }
-    ensures none_given_up { has_given_up (of_line 1 (sent_of two_lines (world answered).gateway_took)) (endpoint_then answered).post ≡ false }
+    ensures none_given_up { has_given_up (of_line 1 (sent_of two_lines (world answered).gateway_took)) (endpoint_then answered).post
+        ≡ false }
     ensures in_order { told_then answered ≡ off_hook ∷ [] }
 {}
 
