@@ -5,3 +5,4 @@
 
 pub mod examples;
 pub mod laws;
+pub mod premise_examples;
