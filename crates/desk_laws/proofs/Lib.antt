@@ -1,0 +1,4 @@
+mod CareLemmas
+mod WakeLemmas
+mod DeskLaws
+mod Computing

@@ -1,0 +1,33 @@
+-- What the worked examples speak of: a gateway with two lines.
+use Rattle.std.specs.Prelude.{ℕ, false, List, [], ◌∷◌, ◌++◌, Option, None, slice_get, option_map}
+use Rattle.call_routing.specs.declared.fate.Cause.TheVariants as causes
+use Rattle.call_routing.specs.declared.fate.PutOff.{PutOff}
+use Rattle.live_agent.specs.declared.care.Care.{Care}
+use Rattle.live_agent.specs.declared.gateway.Wake.{Wake}
+use Rattle.desk_laws.specs.Desk.{Desk, DeskTurn, after_turns, answers, begins, happens, opening_desk, ticks}
+
+abbrev pub desk_then : List DeskTurn → Desk
+desk_then turns = after_turns (opening_desk 2) turns
+
+-- what is put off of a line then, and of the gateway
+abbrev pub again_then : ℕ → List DeskTurn → Option (Option ℕ)
+again_then line turns = option_map (λ (care : Care). care.again) (slice_get (desk_then turns).cares line)
+
+abbrev pub wakes_then : List DeskTurn → List Wake
+wakes_then turns = (desk_then turns).wakes
+
+-- at 500 the deletion that line 0 is sent first is refused for a cause that may pass
+abbrev pub put_off_at_500 : List DeskTurn
+put_off_at_500 = ticks 500 ∷ happens 0 begins ∷ answers 0 400 None false ∷ []
+
+-- and at 700 that of line 1
+abbrev pub both_put_off : List DeskTurn
+both_put_off = put_off_at_500 ++ ticks 700 ∷ happens 1 begins ∷ answers 1 405 None false ∷ []
+
+-- both are to be sent again by 1,700
+abbrev pub due_again : List DeskTurn
+due_again = both_put_off ++ ticks 1500 ∷ ticks 1700 ∷ []
+
+-- a command of the exchange's, that was put off once
+abbrev pub once : PutOff
+once = record { cause = causes.Request; times = 1 }
