@@ -15,3 +15,5 @@ pub mod YoungLemmas
 pub mod Computing
 pub mod SentExamples
 pub mod FairFromExamples
+pub mod CopyPlaces
+pub mod FirstServes

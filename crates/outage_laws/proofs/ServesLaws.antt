@@ -192,7 +192,7 @@ module _ (setup : Setup) (steps : List WorldStep) (since within : ℕ) (set_up :
     not_back = by_track (world_tracked setup set_up is.before before_taken closed_before)
 
   -- so none was
-  none_back : (j wait : ℕ) → OneOf (λ (one : Begun). one ≡ announcement_at setup j) (begun_in sent) → OneOf (SaysAt (announcement_at setup j).text (start_of setup j + wait)) sent
+  pub none_back : (j wait : ℕ) → OneOf (λ (one : Begun). one ≡ announcement_at setup j) (begun_in sent) → OneOf (SaysAt (announcement_at setup j).text (start_of setup j + wait)) sent
       → since ≤ start_of setup j + wait → start_of setup j + wait + 2 * within ≤ now → wait + 2 * within < answer_wait → ⊥
   none_back j wait begun said late twice few =
       not_back j wait late few (comes_in_time setup steps since within 0 (announcement_at setup j) set_up taken fair roomy of (reach (announcement_at setup j) of) wait told late twice) where
@@ -299,11 +299,11 @@ serves_by setup steps since within wait set_up taken some fair roomy reach among
 
 -- The last of them
 
-record IsInTime (within was : ℕ) (waits : List ℕ) (last : ℕ) : Type 0 where
-  few : last + 2 * within < answer_wait
-  among : (last ≡ was) ⊎ OneOf (λ (one : ℕ). one ≡ last) waits
+pub record IsInTime (within was : ℕ) (waits : List ℕ) (last : ℕ) : Type 0 where
+  pub few : last + 2 * within < answer_wait
+  pub among : (last ≡ was) ⊎ OneOf (λ (one : ℕ). one ≡ last) waits
 
-in_time : (within was : ℕ) (waits : List ℕ) → was + 2 * within < answer_wait → IsInTime within was waits (last_in_time within was waits)
+pub in_time : (within was : ℕ) (waits : List ℕ) → was + 2 * within < answer_wait → IsInTime within was waits (last_in_time within was waits)
 in_time within was [] few = record { few = few; among = inl refl }
 in_time within was (wait ∷ waits) few = by_test (nat_lt (wait + 2 * within) answer_wait) refl (λ next. in_time within wait waits next) where
   on : (last : ℕ) → (last ≡ wait) ⊎ OneOf (λ (one : ℕ). one ≡ last) waits → (last ≡ was) ⊎ ((wait ≡ last) ⊎ OneOf (λ (one : ℕ). one ≡ last) waits)
@@ -317,14 +317,14 @@ in_time within was (wait ∷ waits) few = by_test (nat_lt (wait + 2 * within) an
       record { few = is.few; among = on (last_in_time within wait waits) is.among }
   by_test false more next = record { few = few; among = inl refl }
 
-one_of_chances : (last : ℕ) → (last ≡ 0) ⊎ OneOf (λ (one : ℕ). one ≡ last) chances → OneOf (λ (one : ℕ). one ≡ last) chances
+pub one_of_chances : (last : ℕ) → (last ≡ 0) ⊎ OneOf (λ (one : ℕ). one ≡ last) chances → OneOf (λ (one : ℕ). one ≡ last) chances
 one_of_chances last (inl none) = inl (sym none)
 one_of_chances last (inr there) = there
 
 gap_late : (since within now restart last : ℕ) → last + 2 * within < answer_wait → since + (answer_wait - last) + restart + 2 * within ≤ now + 1 → since + answer_wait + restart + 2 * within ≤ now + 1 + last
 gap_late since within now restart last few late = omega (arith, few, late)
 
-first_few : (within : ℕ) → within ≤ oldest_packet → 0 + 2 * within < answer_wait
+pub first_few : (within : ℕ) → within ≤ oldest_packet → 0 + 2 * within < answer_wait
 first_few within young = omega (arith, young)
 
 pub serves_behind_the_last : (setup : Setup) (steps : List WorldStep) (since within : ℕ) → IsSetUp setup → steps_are_taken setup world_opening steps ≡ true → 1 ≤ since → within ≤ oldest_packet

@@ -2,3 +2,4 @@ pub mod Alone
 pub mod Carrying
 pub mod AfterOutage
 pub mod Example
+pub mod Premises

@@ -1,0 +1,134 @@
+-- Over a network that is fair from the first moment on a gateway serves by then too.
+use Rattle.std.proofs.Common.{◌≡◌, ℕ, zero, suc, ◌+◌, ◌-◌, ◌*◌, ◌<◌, ◌≤◌, Bool, true, false, List, inl, inr, refl, sym, subst, arith}
+use Rattle.outbound.specs.Sends.{most_repeats}
+use Rattle.plain_machine.specs.declared.setup.Setup.{Setup}
+use Rattle.plain_machine.specs.Lists.{sent_of}
+use Rattle.plain_machine.specs.Machine.{serves}
+use Rattle.plain_machine.specs.Message.{Sent}
+use Rattle.plain_machine.specs.Setup.{IsSetUp}
+use Rattle.machine_laws.specs.Belonging.{of_line}
+use Rattle.machine_laws.specs.Saying.{Begun, OneOf, begun_in}
+use Rattle.machine_laws.proofs.EachLemmas.{Each, one_of_each, one_to}
+use Rattle.agent_core.specs.World.{World, WorldStep, gateway_in, now_in, oldest_packet, plain_world, steps_are_taken, world_opening}
+use Rattle.delivery_laws.specs.Chances.{chances, last_chance}
+use Rattle.delivery_laws.specs.Copies.{answer_wait}
+use Rattle.delivery_laws.specs.Fairness.{GoesToAgent}
+use Rattle.delivery_laws.specs.OwnChances.{IsOfLine}
+use Rattle.delivery_laws.proofs.CarryLaws.{chances_low}
+use Rattle.delivery_laws.proofs.ChanceLaws.{eight}
+use Rattle.delivery_laws.proofs.OwnChanceLaws.{flying_said}
+use Rattle.delivery_laws.proofs.PostedLemmas.{SaysAt}
+use Rattle.outage_laws.specs.AfterOutage.{AgentHasRoomFrom, IsFairFrom, gap_of, last_in_time}
+use Rattle.outage_laws.proofs.ServesLaws.{first_few, in_time, none_back, one_of_chances}
+use Rattle.outage_laws.proofs.TrackLaws.{Behind, IsTracked, world_tracked}
+use Rattle.outage_laws.proofs.TrackLemmas.{IsFlying, IsWaiting, Went, announcement_at, start_first, start_of}
+
+-- the second send of each announcement may be answered in time
+
+not_yet : (first within now restart : ℕ) → first ≡ 0 + restart → now < first → restart + 500 + 2 * within ≤ now → ⊥
+not_yet first within now restart is soon late = absurd (omega (arith, is, soon, late))
+
+none_gone : (within now restart : ℕ) → now ≡ 0 → restart + 500 + 2 * within ≤ now → ⊥
+none_gone within now restart none late = absurd (omega (arith, none, late))
+
+over_twice : (first within now : ℕ) → 500 + 2 * within < answer_wait → first + answer_wait ≤ now → first + 500 + 2 * within ≤ now
+over_twice first within now few over = omega (arith, few, over)
+
+first_twice : (first within now restart : ℕ) → first ≡ 0 + restart → restart + 500 + 2 * within ≤ now → first + 500 + 2 * within ≤ now
+first_twice first within now restart is late = omega (arith, is, late)
+
+first_sent : (first within now : ℕ) → first + 500 + 2 * within ≤ now → first + 500 ≤ now
+first_sent first within now late = omega (arith, late)
+
+module _ (setup : Setup) (steps : List WorldStep) (within : ℕ) (set_up : IsSetUp setup) (taken : steps_are_taken setup world_opening steps ≡ true)
+    (fair : IsFairFrom setup steps 0 within) (roomy : AgentHasRoomFrom setup steps 0)
+    (reach : (b : Begun) → IsOfLine setup (plain_world setup steps) 0 b → GoesToAgent setup (plain_world setup steps) b.text)
+    (closed : serves (gateway_in setup (plain_world setup steps)).endpoints ≡ false) (few : 500 + 2 * within < answer_wait)
+    (late : setup.restart_wait + 500 + 2 * within ≤ now_in setup (plain_world setup steps)) where
+  abbrev w : World
+  w = plain_world setup steps
+
+  abbrev sent : List Sent
+  sent = of_line 0 (sent_of setup w.gateway_took)
+
+  abbrev now : ℕ
+  now = now_in setup w
+
+  fair_on : IsFairFrom setup steps 1 within
+  fair_on = λ number post found past. fair number post found (omega arith)
+
+  roomy_on : AgentHasRoomFrom setup steps 1
+  roomy_on = λ before later order past. roomy before later order (omega arith)
+
+  abbrev Says : ℕ → ℕ → Type 0
+  Says j one = OneOf (SaysAt (announcement_at setup j).text (start_of setup j + one)) sent
+
+  never : (j : ℕ) → OneOf (λ (one : Begun). one ≡ announcement_at setup j) (begun_in sent) → Says j 500 → start_of setup j + 500 + 2 * within ≤ now → ⊥
+  never j begun said twice =
+      none_back setup steps 1 within set_up taken (omega arith) fair_on roomy_on reach closed j 500 begun said (omega arith) twice few
+
+  -- one that is over
+  before : (j : ℕ) → Went setup sent j most_repeats → start_of setup j + answer_wait ≤ now → ⊥
+  before j went over =
+      let all : Each (Says j) chances = eight (Says j) (λ number few. went.out number few) in
+      never j went.begun all.1.0 (over_twice (start_of setup j) within now few over)
+
+  by_waiting : IsWaiting setup (Behind now) sent now (gateway_in setup w).endpoints.own → ⊥
+  by_waiting v = by_up v.up where
+    by_k : (k : ℕ) → v.k ≡ k → now < start_of setup k → ⊥
+    by_k zero same soon = not_yet (start_of setup 0) within now setup.restart_wait (start_first setup) soon late
+    by_k (suc j) same soon =
+        before j (v.went j (subst (λ (n : ℕ). j < n) (sym same) (omega arith))) (v.over j (subst (λ (n : ℕ). j < n) (sym same) (omega arith)))
+
+    by_up : Behind now (start_of setup v.k) → ⊥
+    by_up (inr none) = none_gone within now setup.restart_wait none late
+    by_up (inl soon) = by_k v.k refl soon
+
+  by_flying : IsFlying setup (Behind now) sent now (gateway_in setup w).endpoints.own → ⊥
+  by_flying f = by_up f.up where
+    by_k : now < f.flight.due → (k : ℕ) → f.k ≡ k → ⊥
+    by_k soon zero same =
+        let twice : start_of setup f.k + 500 + 2 * within ≤ now =
+        subst (λ (n : ℕ). start_of setup n + 500 + 2 * within ≤ now) (sym same)
+        (first_twice (start_of setup 0) within now setup.restart_wait (start_first setup) late) in
+        let all : Each (λ (one : ℕ). start_of setup f.k + one ≤ now → Says f.k one) chances =
+        eight (λ (one : ℕ). start_of setup f.k + one ≤ now → Says f.k one)
+        (λ number few past. flying_said sent (announcement_at setup f.k) f.flight now f.is f.on soon number past) in
+        never f.k f.begun (all.1.0 (first_sent (start_of setup f.k) within now twice)) twice
+    by_k soon (suc j) same =
+        before j (f.went j (subst (λ (n : ℕ). j < n) (sym same) (omega arith))) (f.over j (subst (λ (n : ℕ). j < n) (sym same) (omega arith)))
+
+    by_up : Behind now f.flight.due → ⊥
+    by_up (inr none) = none_gone within now setup.restart_wait none late
+    by_up (inl soon) = by_k soon f.k refl
+
+  by_track : IsTracked setup w → ⊥
+  by_track (inl v) = by_waiting v
+  by_track (inr f) = by_flying f
+
+  pub must_serve : ⊥
+  must_serve = by_track (world_tracked setup set_up steps taken closed)
+
+-- the last of the sends that may be answered in time is one of the eight
+last_low : (within : ℕ) → within ≤ oldest_packet → last_in_time within 0 chances ≤ last_chance
+last_low within young =
+    let last = last_in_time within 0 chances in
+    let is = in_time within 0 chances (first_few within young) in
+    one_to (λ (one : ℕ). (one ≤ last_chance) × (one ≡ last)) (last ≤ last_chance) (λ one both. subst (λ (n : ℕ). n ≤ last_chance) both.1 both.0) chances
+    (one_of_each (λ (one : ℕ). one ≤ last_chance) (λ (one : ℕ). one ≡ last) chances chances_low (one_of_chances last is.among))
+
+few_for : (within : ℕ) → within ≤ oldest_packet → 500 + 2 * within < answer_wait
+few_for within young = omega (arith, young)
+
+late_for : (within now restart last : ℕ) → last ≤ last_chance → 0 + (answer_wait - last) + restart + 2 * within ≤ now + 1 → restart + 500 + 2 * within ≤ now
+late_for within now restart last low late = omega (arith, low, late)
+
+pub serves_from_the_first : (setup : Setup) (steps : List WorldStep) (within : ℕ) → IsSetUp setup → steps_are_taken setup world_opening steps ≡ true → within ≤ oldest_packet
+    → IsFairFrom setup steps 0 within → AgentHasRoomFrom setup steps 0 → let w = plain_world setup steps in ((b : Begun) → IsOfLine setup w 0 b → GoesToAgent setup w b.text)
+    → 0 + gap_of within + setup.restart_wait + 2 * within ≤ now_in setup w + 1 → serves (gateway_in setup w).endpoints ≡ true
+serves_from_the_first setup steps within set_up taken young fair roomy reach late = by_test (serves (gateway_in setup (plain_world setup steps)).endpoints) refl where
+  by_test : (b : Bool) → serves (gateway_in setup (plain_world setup steps)).endpoints ≡ b → serves (gateway_in setup (plain_world setup steps)).endpoints ≡ true
+  by_test true serving = serving
+  by_test false closed =
+      absurd (must_serve setup steps within set_up taken fair roomy reach closed (few_for within young)
+      (late_for within (now_in setup (plain_world setup steps)) setup.restart_wait (last_in_time within 0 chances) (last_low within young) late))
