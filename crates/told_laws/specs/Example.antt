@@ -12,7 +12,7 @@ use Rattle.plain_machine.specs.Event.{GatewayEvent, phone}
 use Rattle.plain_machine.specs.Example.{rqnt, response}
 use Rattle.delivery_laws.specs.Course.{requests_in}
 use Rattle.delivery_laws.specs.Dialled.{done_in, told_along}
-use Rattle.delivery_laws.specs.OnceExample.{asks_for_all, flash_embeds, course_then, line_then}
+use Rattle.delivery_laws.specs.OnceExample.{flash_embeds, course_then, line_then}
 use Rattle.delivery_laws.specs.Rounds.{of_telephone}
 use Rattle.told_laws.specs.Walking.{nothing_asked, End, Walks, Stays}
 
@@ -105,11 +105,12 @@ dropped_in_loop =
 abbrev pub has_return_told : Request
 has_return_told = requests (codes "A2") (codes "L/hd(I),D/5(I),D/6(A),L/hu(N)")
 
--- Line 1 is lifted, and key 5 is pressed until its quarantine is full, and behind that request key 6. Then the first notification is
--- answered, and the handset put back.
+-- Line 1, asked for all in step, is lifted, and key 5 is pressed until its quarantine is full, and behind that request key 6. Then the
+-- first notification is answered, and the handset put back.
 abbrev pub full_then_asked : List GatewayEvent
 full_then_asked =
-    asks_for_all 7 (codes "aaln/1") ∷ phone 1 OffHook ∷ replicate most_quarantined (phone 1 (Key Five))
+    rqnt 7 (codes "aaln/1") (codes "X: C2\r\nR: L/hd(N),L/hu(N),L/hf(N),D/[0-9*#ABCD](N)\r\n") ∷ phone 1 OffHook
+    ∷ replicate most_quarantined (phone 1 (Key Five))
     ++ rqnt 8 (codes "aaln/1") (codes "X: A2\r\nR: L/hd(I),D/5(I),D/6(A),L/hu(N)\r\n") ∷ phone 1 (Key Six) ∷ response 200 10000000
     ∷ phone 1 OnHook ∷ []
 

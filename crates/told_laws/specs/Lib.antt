@@ -3,3 +3,5 @@ pub mod Walking
 pub mod Stretch
 pub mod Example
 pub mod WorldExample
+pub mod Premises
+pub mod WorldPremises

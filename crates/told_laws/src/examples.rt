@@ -1,7 +1,8 @@
 //! Worked examples of the definitions, as theorems: each sentence of a definition has one that a slip in it breaks.
 #![tactic(auto, unfolding(crate::proofs::Computing::on_examples))]
 
-ghost use Rattle.std.specs.Prelude.{◌≡◌, codes, [], ◌∷◌, ◌++◌, Some, replicate};
+ghost use Rattle.std.specs.Prelude.{◌≡◌, codes, [], ◌∷◌, ◌++◌, None, Some, false, replicate, true};
+ghost use Rattle.mg_line.specs.Answering.{is_loop};
 ghost use Rattle.event_values.specs.declared.observed.Observed.TheVariants.{Happened, Ended};
 ghost use Rattle.event_syntax.specs.declared.request.EmbeddedRequest.{EmbeddedRequest};
 ghost use Rattle.mg_line.specs.declared.phone.Act.TheVariants as acts;
@@ -15,7 +16,7 @@ ghost use Rattle.plain_machine.specs.Example.{rqnt, response};
 ghost use Rattle.delivery_laws.specs.Course.{acts as does, accepts, notifies};
 ghost use Rattle.delivery_laws.specs.Rounds.{of_telephone};
 ghost use Rattle.told_laws.specs.Among.{AreAmong, kept_by};
-ghost use Rattle.delivery_laws.specs.Dialled.{told_along};
+ghost use Rattle.delivery_laws.specs.Dialled.{latest_from, told_along};
 ghost use Rattle.told_laws.specs.Walking.{nothing_asked, EmbedsNone, reaction_to, Brings, TellsAFront, TellsWhatWasKept, Walks};
 ghost use Rattle.told_laws.specs.Walking.{AllButLost, WalksButLost};
 ghost use Rattle.told_laws.specs.Example.{dials_two, flashes_and_dials, has_keys_collected, has_lifting_told, has_lifting_kept};
@@ -116,30 +117,51 @@ pub fn else_an_act_may_leave_the_walk()
 
 /// The first notification behind a request that embeds another may skip what its R names.
 pub fn else_the_first_notification_may_skip()
-    ensures embeds { ¬ EmbedsNone flash_drops.events }
+    ensures course { course_then flashes_and_hangs_up
+        ≡ (accepts (request_then flashes_and_hangs_up) ∷ does acts.OffHook ∷ notifies (codes "1") (lifted ∷ []) ∷ [])
+        ++ accepts (next_request_then flashes_and_hangs_up) ∷ (does acts.Flash ∷ does (acts.Key keys.Five) ∷ does acts.OnHook
+        ∷ notifies (codes "2") (hung_up ∷ []) ∷ []) }
+    ensures embeds { ¬ EmbedsNone (next_request_then flashes_and_hangs_up).events }
+    ensures none_lost { (line_then flashes_and_hangs_up).quarantined.lost ≡ 0 }
     ensures told { told_then flashes_and_hangs_up ≡ lifted ∷ hung_up ∷ [] }
-    ensures skipped { ¬ TellsAFront flash_drops (lifted ∷ []) (lifted ∷ []) (flashed ∷ five ∷ hung_up ∷ []) (hung_up ∷ []) }
+    ensures skipped { ¬ TellsAFront (next_request_then flashes_and_hangs_up) (lifted ∷ []) (lifted ∷ []) (flashed ∷ five ∷ hung_up ∷ [])
+        (hung_up ∷ []) }
 {}
 
-/// Where an act is lost, the first notification behind a request skips it.
+/// Where an act is lost, the first notification behind a request skips it, and so it does where the line was in step before.
 pub fn else_what_is_lost_is_skipped()
     ensures course { course_then full_then_asked
         ≡ accepts (request_then full_then_asked) ∷ does acts.OffHook ∷ notifies (codes "C2") (lifted ∷ [])
         ∷ (replicate most_quarantined (does (acts.Key keys.Five)) ++ accepts has_return_told ∷ does (acts.Key keys.Six) ∷ does acts.OnHook
         ∷ notifies (codes "A2") (hung_up ∷ []) ∷ []) }
     ensures lost { (line_then full_then_asked).quarantined.lost ≡ 1 }
+    ensures embeds_none { EmbedsNone (request_then full_then_asked).events }
+    ensures embeds_none_too { EmbedsNone has_return_told.events }
+    ensures latest { latest_from None (accepts (request_then full_then_asked) ∷ does acts.OffHook ∷ [])
+        ≡ Some (request_then full_then_asked) }
+    ensures in_step { is_loop (request_then full_then_asked).handling.notifying ≡ false }
     ensures skipped { ¬ TellsAFront has_return_told (lifted ∷ []) (lifted ∷ replicate most_quarantined five) (six ∷ hung_up ∷ [])
         (hung_up ∷ []) }
+    ensures skipped_meanwhile { ¬ TellsWhatWasKept (request_then full_then_asked) has_return_told (lifted ∷ []) (lifted ∷ [])
+        (replicate most_quarantined five) (six ∷ hung_up ∷ []) (hung_up ∷ []) }
 {}
 
 /// The second notification behind a request may tell later events alone; and in loop a request may drop what was done since a notification.
 pub fn else_a_notification_may_skip()
     ensures twice { course_then told_twice ≡ accepts (request_then told_twice) ∷ does acts.OffHook ∷ notifies (codes "A1") (lifted ∷ [])
         ∷ does (acts.Key keys.Five) ∷ notifies (codes "A1") (five ∷ []) ∷ [] }
+    ensures embeds_none { EmbedsNone (request_then told_twice).events }
+    ensures none_lost { (line_then told_twice).quarantined.lost ≡ 0 }
     ensures second { ¬ TellsAFront (request_then told_twice) [] [] (lifted ∷ five ∷ []) (five ∷ []) }
     ensures in_loop { course_then dropped_in_loop ≡ accepts (request_then dropped_in_loop) ∷ does acts.OffHook
         ∷ notifies (codes "A1") (lifted ∷ []) ∷ does (acts.Key keys.Five) ∷ accepts (next_request_then dropped_in_loop)
         ∷ does (acts.Key keys.Six) ∷ notifies (codes "A2") (six ∷ []) ∷ [] }
+    ensures embeds_none_then { EmbedsNone (request_then dropped_in_loop).events }
+    ensures embeds_none_behind { EmbedsNone (next_request_then dropped_in_loop).events }
+    ensures none_lost_then { (line_then dropped_in_loop).quarantined.lost ≡ 0 }
+    ensures latest { latest_from None (accepts (request_then dropped_in_loop) ∷ does acts.OffHook ∷ [])
+        ≡ Some (request_then dropped_in_loop) }
+    ensures loops { is_loop (request_then dropped_in_loop).handling.notifying ≡ true }
     ensures dropped { ¬ TellsWhatWasKept (request_then dropped_in_loop) (next_request_then dropped_in_loop) (lifted ∷ []) (lifted ∷ [])
         (five ∷ []) (six ∷ []) (six ∷ []) }
 {}

@@ -7,4 +7,6 @@
 
 pub mod examples;
 pub mod laws;
+pub mod premise_examples;
+pub mod premise_worlds;
 pub mod world_examples;

@@ -4,7 +4,7 @@ use Rattle.delivery_laws.specs.OnceExample.{five, lifted, six}
 use Rattle.told_laws.specs.Example.{dropped_in_loop, next_request_then, request_then, told_twice}
 use Rattle.told_laws.specs.Walking.{collects}
 use Rattle.told_laws.proofs.Computing.{on_examples}
-use Rattle.told_laws.proofs.ExampleLemmas.{none_among, none_left_among, tells_first}
+use Rattle.told_laws.proofs.ExampleLemmas.{bare_all, none_among, none_left_among, tells_first}
 use Rattle.told_laws.proofs.examples.else_a_notification_may_skip.Goals as goal
 
 pub returns-clause-second : goal.returns-clause-second
@@ -26,3 +26,15 @@ returns-clause-dropped c =
     let same : six ≡ five =
     tells_first (collects (next_request_then dropped_in_loop).events) five six h.front h.rest (six ∷ []) [] refl order h.told_so in
     cc)
+
+pub returns-clause-embeds_none : goal.returns-clause-embeds_none
+unfolding on_examples
+returns-clause-embeds_none c = bare_all (request_then told_twice).events.requested refl
+
+pub returns-clause-embeds_none_then : goal.returns-clause-embeds_none_then
+unfolding on_examples
+returns-clause-embeds_none_then c = bare_all (request_then dropped_in_loop).events.requested refl
+
+pub returns-clause-embeds_none_behind : goal.returns-clause-embeds_none_behind
+unfolding on_examples
+returns-clause-embeds_none_behind c = bare_all (next_request_then dropped_in_loop).events.requested refl

@@ -3,7 +3,7 @@ use Rattle.std.proofs.lemmas.Bool.{true≢false}
 use Rattle.event_values.specs.declared.observed.Observed.{Observed}
 use Rattle.mg_packages.specs.declared.event.LineEvent.TheVariants as events
 use Rattle.delivery_laws.specs.OnceExample.{five, hung_up, lifted}
-use Rattle.told_laws.specs.Example.{flash_drops, flashed}
+use Rattle.told_laws.specs.Example.{flashed, flashes_and_hangs_up, next_request_then}
 use Rattle.told_laws.specs.Walking.{collects}
 use Rattle.told_laws.proofs.Computing.{on_examples}
 use Rattle.told_laws.proofs.ExampleLemmas.{none_left_among, tells_second}
@@ -21,5 +21,5 @@ returns-clause-skipped c =
     let order : flashed ∷ five ∷ hung_up ∷ [] ≡ h.front ++ h.rest =
     (sym (ap (λ (xs : List Observed). xs ++ flashed ∷ five ∷ hung_up ∷ []) empty) ∙ h.order) in
     let same : hung_up ≡ five =
-    tells_second (collects flash_drops.events) flashed five hung_up h.front h.rest (hung_up ∷ []) [] refl refl order h.told_so in
+    tells_second (collects (next_request_then flashes_and_hangs_up).events) flashed five hung_up h.front h.rest (hung_up ∷ []) [] refl refl order h.told_so in
     cc)

@@ -1,0 +1,67 @@
+-- What comes to the gateway of the worked examples where one premise alone of a law is missing.
+use Rattle.std.specs.Prelude.{ℕ, List, [], ◌∷◌, codes}
+use Rattle.event_requests.specs.declared.request.Request.{Request}
+use Rattle.mg_line.specs.declared.phone.Act.TheVariants.{OffHook, OnHook, Flash, Key}
+use Rattle.mg_line.specs.declared.phone.Key.TheVariants.{Five, Six}
+use Rattle.mg_line.specs.Scenario.{requests, with_handling}
+use Rattle.plain_machine.specs.Event.{GatewayEvent, phone}
+use Rattle.plain_machine.specs.Example.{rqnt, response}
+
+-- line 1 is asked for this
+abbrev pub asks : ℕ → List ℕ → GatewayEvent
+asks id lines = rqnt id (codes "aaln/1") lines
+
+-- requests with this identifier, in step, that have keys told, each at once
+abbrev pub has_each_key_told : List ℕ → Request
+has_each_key_told identifier = requests identifier (codes "D/[0-9](N)")
+
+-- a lifting told at once, a lifting or keys, and a handset's return
+abbrev pub has_lifting_first : Request
+has_lifting_first = requests (codes "1") (codes "L/hd(N)")
+
+abbrev pub has_both_first : Request
+has_both_first = requests (codes "1") (codes "L/hd(N),D/[0-9](N)")
+
+abbrev pub has_return_then : Request
+has_return_then = requests (codes "2") (codes "L/hu(N)")
+
+-- keys, as often as they come about
+abbrev pub has_keys_in_loop : Request
+has_keys_in_loop = with_handling (codes "loop") (has_each_key_told (codes "2"))
+
+-- a lifting, which is told with a flash, brings another request into force, by which keys are dropped
+abbrev pub lifting_embeds : Request
+lifting_embeds = requests (codes "1") (codes "L/hd(A,E(R(L/hf(N)))),D/[0-9](N)")
+
+-- Line 1 is lifted, and flashes, which is told; key 5 is pressed before that is answered. Then it is asked for keys, and key 6 is pressed.
+abbrev pub latest_embeds : List GatewayEvent
+latest_embeds =
+    asks 7 (codes "X: 1\r\nR: L/hd(A,E(R(L/hf(N)))),D/[0-9](N)\r\n") ∷ phone 1 OffHook ∷ phone 1 Flash ∷ phone 1 (Key Five)
+    ∷ response 200 10000000 ∷ asks 8 (codes "X: 2\r\nR: D/[0-9](N)\r\n") ∷ phone 1 (Key Six) ∷ []
+
+-- a flash brings another request into force, by which keys are dropped
+abbrev pub flash_embeds_then : Request
+flash_embeds_then = requests (codes "2") (codes "L/hf(E(R(L/hu(N)))),D/[0-9](N),L/hu(N)")
+
+-- line 1 is lifted, which is answered, and asked so; it flashes, key 5 is pressed, and the handset put back
+abbrev pub next_embeds : List GatewayEvent
+next_embeds =
+    asks 7 (codes "X: 1\r\nR: L/hd(N)\r\n") ∷ phone 1 OffHook ∷ response 200 10000000
+    ∷ asks 8 (codes "X: 2\r\nR: L/hf(E(R(L/hu(N)))),D/[0-9](N),L/hu(N)\r\n") ∷ phone 1 Flash ∷ phone 1 (Key Five) ∷ phone 1 OnHook ∷ []
+
+-- line 1 is lifted, and key 5 is pressed, before it is asked for anything; then it is asked for keys, and key 6 is pressed
+abbrev pub asked_late : List GatewayEvent
+asked_late =
+    phone 1 OffHook ∷ phone 1 (Key Five) ∷ response 200 10000000 ∷ asks 7 (codes "X: 2\r\nR: D/[0-9](N)\r\n") ∷ phone 1 (Key Six) ∷ []
+
+-- line 1 is lifted, which is answered, and key 5 is pressed; a request drops that, and behind one for keys key 6 is pressed
+abbrev pub asked_between : List GatewayEvent
+asked_between =
+    asks 7 (codes "X: 1\r\nR: L/hd(N),D/[0-9](N)\r\n") ∷ phone 1 OffHook ∷ response 200 10000000 ∷ phone 1 (Key Five)
+    ∷ asks 8 (codes "X: 2\r\nR: L/hu(N)\r\n") ∷ asks 9 (codes "X: 3\r\nR: D/[0-9](N)\r\n") ∷ phone 1 (Key Six) ∷ []
+
+-- line 1 is lifted, which is answered, and asked for keys in loop; key 5 is told, which is answered, and key 6
+abbrev pub told_between : List GatewayEvent
+told_between =
+    asks 7 (codes "X: 1\r\nR: L/hd(N)\r\n") ∷ phone 1 OffHook ∷ response 200 10000000
+    ∷ asks 8 (codes "X: 2\r\nR: D/[0-9](N)\r\nQ: loop\r\n") ∷ phone 1 (Key Five) ∷ response 200 10000001 ∷ phone 1 (Key Six) ∷ []
