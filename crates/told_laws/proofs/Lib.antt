@@ -9,6 +9,7 @@ pub mod ToldCourses
 pub mod TakenCourses
 pub mod ExampleLemmas
 pub mod AskedCourses
+pub mod TimerLemmas
 pub mod PhoneLemmas
 pub mod LastTurns
 pub mod SettledLemmas
