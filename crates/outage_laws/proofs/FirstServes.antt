@@ -1,5 +1,5 @@
 -- Over a network that is fair from the first moment on a gateway serves by then too.
-use Rattle.std.proofs.Common.{◌≡◌, ℕ, zero, suc, ◌+◌, ◌-◌, ◌*◌, ◌<◌, ◌≤◌, Bool, true, false, List, inl, inr, refl, sym, subst, arith}
+use Rattle.std.proofs.Common.{◌≡◌, ℕ, zero, suc, ◌+◌, ◌*◌, ◌<◌, ◌≤◌, Bool, true, false, List, inl, inr, refl, sym, subst, arith}
 use Rattle.outbound.specs.Sends.{most_repeats}
 use Rattle.plain_machine.specs.declared.setup.Setup.{Setup}
 use Rattle.plain_machine.specs.Lists.{sent_of}
@@ -8,18 +8,17 @@ use Rattle.plain_machine.specs.Message.{Sent}
 use Rattle.plain_machine.specs.Setup.{IsSetUp}
 use Rattle.machine_laws.specs.Belonging.{of_line}
 use Rattle.machine_laws.specs.Saying.{Begun, OneOf, begun_in}
-use Rattle.machine_laws.proofs.EachLemmas.{Each, one_of_each, one_to}
-use Rattle.agent_core.specs.World.{World, WorldStep, gateway_in, now_in, oldest_packet, plain_world, steps_are_taken, world_opening}
-use Rattle.delivery_laws.specs.Chances.{chances, last_chance}
+use Rattle.machine_laws.proofs.EachLemmas.{Each}
+use Rattle.agent_core.specs.World.{World, WorldStep, gateway_in, now_in, plain_world, steps_are_taken, world_opening}
+use Rattle.delivery_laws.specs.Chances.{chances}
 use Rattle.delivery_laws.specs.Copies.{answer_wait}
 use Rattle.delivery_laws.specs.Fairness.{GoesToAgent}
 use Rattle.delivery_laws.specs.OwnChances.{IsOfLine}
-use Rattle.delivery_laws.proofs.CarryLaws.{chances_low}
 use Rattle.delivery_laws.proofs.ChanceLaws.{eight}
 use Rattle.delivery_laws.proofs.OwnChanceLaws.{flying_said}
 use Rattle.delivery_laws.proofs.PostedLemmas.{SaysAt}
-use Rattle.outage_laws.specs.AfterOutage.{AgentHasRoomFrom, IsFairFrom, gap_of, last_in_time}
-use Rattle.outage_laws.proofs.ServesLaws.{first_few, in_time, none_back, one_of_chances}
+use Rattle.outage_laws.specs.AfterOutage.{AgentHasRoomFrom, IsFairFrom}
+use Rattle.outage_laws.proofs.ServesLaws.{none_back}
 use Rattle.outage_laws.proofs.TrackLaws.{Behind, IsTracked, world_tracked}
 use Rattle.outage_laws.proofs.TrackLemmas.{IsFlying, IsWaiting, Went, announcement_at, start_first, start_of}
 
@@ -109,26 +108,10 @@ module _ (setup : Setup) (steps : List WorldStep) (within : ℕ) (set_up : IsSet
   pub must_serve : ⊥
   must_serve = by_track (world_tracked setup set_up steps taken closed)
 
--- the last of the sends that may be answered in time is one of the eight
-last_low : (within : ℕ) → within ≤ oldest_packet → last_in_time within 0 chances ≤ last_chance
-last_low within young =
-    let last = last_in_time within 0 chances in
-    let is = in_time within 0 chances (first_few within young) in
-    one_to (λ (one : ℕ). (one ≤ last_chance) × (one ≡ last)) (last ≤ last_chance) (λ one both. subst (λ (n : ℕ). n ≤ last_chance) both.1 both.0) chances
-    (one_of_each (λ (one : ℕ). one ≤ last_chance) (λ (one : ℕ). one ≡ last) chances chances_low (one_of_chances last is.among))
-
-few_for : (within : ℕ) → within ≤ oldest_packet → 500 + 2 * within < answer_wait
-few_for within young = omega (arith, young)
-
-late_for : (within now restart last : ℕ) → last ≤ last_chance → 0 + (answer_wait - last) + restart + 2 * within ≤ now + 1 → restart + 500 + 2 * within ≤ now
-late_for within now restart last low late = omega (arith, low, late)
-
-pub serves_from_the_first : (setup : Setup) (steps : List WorldStep) (within : ℕ) → IsSetUp setup → steps_are_taken setup world_opening steps ≡ true → within ≤ oldest_packet
+pub serves_from_the_first : (setup : Setup) (steps : List WorldStep) (within : ℕ) → IsSetUp setup → steps_are_taken setup world_opening steps ≡ true → 500 + 2 * within < answer_wait
     → IsFairFrom setup steps 0 within → AgentHasRoomFrom setup steps 0 → let w = plain_world setup steps in ((b : Begun) → IsOfLine setup w 0 b → GoesToAgent setup w b.text)
-    → 0 + gap_of within + setup.restart_wait + 2 * within ≤ now_in setup w + 1 → serves (gateway_in setup w).endpoints ≡ true
-serves_from_the_first setup steps within set_up taken young fair roomy reach late = by_test (serves (gateway_in setup (plain_world setup steps)).endpoints) refl where
+    → setup.restart_wait + 500 + 2 * within ≤ now_in setup w → serves (gateway_in setup w).endpoints ≡ true
+serves_from_the_first setup steps within set_up taken few fair roomy reach late = by_test (serves (gateway_in setup (plain_world setup steps)).endpoints) refl where
   by_test : (b : Bool) → serves (gateway_in setup (plain_world setup steps)).endpoints ≡ b → serves (gateway_in setup (plain_world setup steps)).endpoints ≡ true
   by_test true serving = serving
-  by_test false closed =
-      absurd (must_serve setup steps within set_up taken fair roomy reach closed (few_for within young)
-      (late_for within (now_in setup (plain_world setup steps)) setup.restart_wait (last_in_time within 0 chances) (last_low within young) late))
+  by_test false closed = absurd (must_serve setup steps within set_up taken fair roomy reach closed few late)

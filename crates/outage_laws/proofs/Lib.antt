@@ -17,3 +17,5 @@ pub mod SentExamples
 pub mod FairFromExamples
 pub mod CopyPlaces
 pub mod FirstServes
+pub mod OldestServes
+pub mod ServesByThen

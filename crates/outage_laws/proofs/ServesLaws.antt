@@ -27,7 +27,7 @@ use Rattle.delivery_laws.proofs.PostedLemmas.{SaysAt, said_posted}
 use Rattle.delivery_laws.proofs.ServingLaws.{gateway_goes_on_amid}
 use Rattle.delivery_laws.proofs.StepLemmas.{taken_front}
 use Rattle.delivery_laws.proofs.WaitLemmas.{offset, offset_last, offset_rises}
-use Rattle.outage_laws.specs.AfterOutage.{AgentHasRoomFrom, IsFairFrom, gap_of, last_in_time, longest_pause}
+use Rattle.outage_laws.specs.AfterOutage.{AgentHasRoomFrom, IsFairFrom, last_in_time, longest_pause}
 use Rattle.outage_laws.proofs.NextSendLemmas.{IsNext, next_send}
 use Rattle.outage_laws.proofs.PlainArrivals.{packet_plain}
 use Rattle.outage_laws.proofs.SinceLaws.{IsBack, comes_in_time}
@@ -321,18 +321,8 @@ pub one_of_chances : (last : ℕ) → (last ≡ 0) ⊎ OneOf (λ (one : ℕ). on
 one_of_chances last (inl none) = inl (sym none)
 one_of_chances last (inr there) = there
 
-gap_late : (since within now restart last : ℕ) → last + 2 * within < answer_wait → since + (answer_wait - last) + restart + 2 * within ≤ now + 1 → since + answer_wait + restart + 2 * within ≤ now + 1 + last
+pub gap_late : (since within now restart last : ℕ) → last + 2 * within < answer_wait → since + (answer_wait - last) + restart + 2 * within ≤ now + 1 → since + answer_wait + restart + 2 * within ≤ now + 1 + last
 gap_late since within now restart last few late = omega (arith, few, late)
 
 pub first_few : (within : ℕ) → within ≤ oldest_packet → 0 + 2 * within < answer_wait
 first_few within young = omega (arith, young)
-
-pub serves_behind_the_last : (setup : Setup) (steps : List WorldStep) (since within : ℕ) → IsSetUp setup → steps_are_taken setup world_opening steps ≡ true → 1 ≤ since → within ≤ oldest_packet
-    → IsFairFrom setup steps since within → AgentHasRoomFrom setup steps since → let w = plain_world setup steps in ((b : Begun) → IsOfLine setup w 0 b → GoesToAgent setup w b.text)
-    → since + gap_of within + setup.restart_wait + 2 * within ≤ now_in setup w + 1 → serves (gateway_in setup w).endpoints ≡ true
-serves_behind_the_last setup steps since within set_up taken some young fair roomy reach late =
-    let last = last_in_time within 0 chances in
-    let is = in_time within 0 chances (first_few within young) in
-    serves_by setup steps since within last set_up taken some fair roomy reach
-    (any_from_one (λ (one : ℕ). one ≡ last) chances (one_of_chances last is.among)) is.few
-    (gap_late since within (now_in setup (plain_world setup steps)) setup.restart_wait last is.few late)

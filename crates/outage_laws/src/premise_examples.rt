@@ -274,15 +274,6 @@ pub fn else_a_gateway_does_not_serve()
     ensures serves_not_yet { serves (gateway_in two_lines (world unserved)).endpoints ≡ false }
 {}
 
-/// That the outage ended 1 ms behind the opening at the earliest isn't wanted: over a network that is fair from the first moment on a
-/// gateway serves by then too.
-pub fn a_gateway_serves_without_an_outage()
-    ensures { (setup : Setup) (steps : List WorldStep) (within : ℕ) → IsRun setup steps → within ≤ oldest_packet →
-        IsFairFrom setup steps 0 within → AgentHasRoomFrom setup steps 0 → let w = plain_world setup steps in
-        ((b : Begun) → IsOfLine setup w 0 b → GoesToAgent setup w b.text) →
-        0 + gap_of within + setup.restart_wait + 2 * within ≤ now_in setup w + 1 → serves (gateway_in setup w).endpoints ≡ true }
-{}
-
 /// By another wait than one of the eight a gateway doesn't serve by then, nor by one behind which an answer comes too late.
 pub fn else_a_send_is_none_that_may_be_answered()
     ensures steps { steps_are_taken two_lines world_opening own_all_lost ≡ true }

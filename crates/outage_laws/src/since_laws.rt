@@ -7,7 +7,7 @@ ghost use Rattle.plain_machine.specs.declared.endpoint.Endpoint.{Endpoint};
 ghost use Rattle.plain_machine.specs.declared.setup.Setup.{Setup};
 ghost use Rattle.plain_machine.specs.Machine.{endpoint_at, serves};
 ghost use Rattle.machine_laws.specs.Saying.{Begun};
-ghost use Rattle.agent_core.specs.World.{WorldStep, gateway_in, now_in, oldest_packet, plain_world};
+ghost use Rattle.agent_core.specs.World.{WorldStep, gateway_in, now_in, plain_world};
 ghost use Rattle.world_laws.specs.Reached.{Reached, taken_in};
 ghost use Rattle.delivery_laws.specs.Chances.{chances, last_chance};
 ghost use Rattle.delivery_laws.specs.Copies.{HasRoom, IsRun, answer_wait};
@@ -54,11 +54,11 @@ pub fn what_is_in_flight_is_taken_after_an_outage()
 /// last of its sends whose answer may still come in time, then the wait before it announces itself anew, and then twice the time of the
 /// network: 4,000 ms, the wait and twice that time, where twice that time is less than 4,000 ms (RFC 3435, 3.5.3, 4.3 and 4.4.6).
 pub fn a_gateway_serves_after_an_outage()
-    ensures behind_the_last { (setup : Setup) (steps : List WorldStep) (since within : ℕ) → IsRun setup steps → 1 ≤ since →
-        within ≤ oldest_packet → IsFairFrom setup steps since within → AgentHasRoomFrom setup steps since →
+    ensures behind_the_last { (setup : Setup) (steps : List WorldStep) (since within : ℕ) → IsRun setup steps →
+        IsFairFrom setup steps since within → AgentHasRoomFrom setup steps since →
         let w = plain_world setup steps in ((b : Begun) → IsOfLine setup w 0 b → GoesToAgent setup w b.text) →
         since + gap_of within + setup.restart_wait + 2 * within ≤ now_in setup w + 1 → serves (gateway_in setup w).endpoints ≡ true }
-    ensures behind_any { (setup : Setup) (steps : List WorldStep) (since within wait : ℕ) → IsRun setup steps → 1 ≤ since →
+    ensures behind_any { (setup : Setup) (steps : List WorldStep) (since within wait : ℕ) → IsRun setup steps →
         IsFairFrom setup steps since within → AgentHasRoomFrom setup steps since → let w = plain_world setup steps in
         ((b : Begun) → IsOfLine setup w 0 b → GoesToAgent setup w b.text) → Any (λ (one : ℕ). one ≡ wait) chances →
         wait + 2 * within < answer_wait → since + answer_wait + setup.restart_wait + 2 * within ≤ now_in setup w + 1 + wait →
