@@ -11,6 +11,11 @@ pub mod SinceLaws
 pub mod TrackLemmas
 pub mod TrackLaws
 pub mod ServesLaws
+pub mod StretchLemmas
+pub mod LineEvents
+pub mod LineTracks
+pub mod LineTrackLaws
+pub mod PostedSince
 pub mod YoungLemmas
 pub mod Computing
 pub mod SentExamples

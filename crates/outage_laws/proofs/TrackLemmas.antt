@@ -225,7 +225,7 @@ module _ (setup : Setup) where
       })
 
   -- one that is given up is due at its end
-  last_due : (sent : List Sent) (flight : InFlight) → IsOn sent flight → repeat_of flight flight.due ≡ GivenUp → flight.due ≡ flight.first + answer_wait
+  pub last_due : (sent : List Sent) (flight : InFlight) → IsOn sent flight → repeat_of flight flight.due ≡ GivenUp → flight.due ≡ flight.first + answer_wait
   last_due sent flight on up = by_case (given_up flight flight.due up) where
     most : flight.repeats ≤ most_repeats
     most = on.few
@@ -306,7 +306,7 @@ module _ (setup : Setup) where
     by_test true low same = (ap (λ (o : Option DueItem). unwrap_or o first) same, leb-true first.moment moment low)
     by_test false high same = absurd (none-some item same)
 
-  none_by : (moment : ℕ) (first : DueItem) → if_by moment (Some first) ≡ None → moment < first.moment
+  pub none_by : (moment : ℕ) (first : DueItem) → if_by moment (Some first) ≡ None → moment < first.moment
   none_by moment first e = by_test (nat_le first.moment moment) refl e where
     by_test : (b : Bool) → nat_le first.moment moment ≡ b → (if b then Some first else None) ≡ None → moment < first.moment
     by_test true low same = absurd (none-some first (sym same))
