@@ -16,6 +16,8 @@ pub mod LineEvents
 pub mod LineTracks
 pub mod LineTrackLaws
 pub mod PostedSince
+pub mod LineBackLaws
+pub mod LineServesLaws
 pub mod YoungLemmas
 pub mod Computing
 pub mod SentExamples

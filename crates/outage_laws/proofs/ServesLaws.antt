@@ -57,7 +57,7 @@ begins_by : (first other wait now : ℕ) → other + answer_wait ≤ first → f
 begins_by first other wait now rise past soon = absurd (omega (arith, rise, past, soon))
 
 -- a command that is on its way is due 23,500 ms behind its first send at the latest
-due_by : (sent : List Sent) (flight : InFlight) → IsOn sent flight → flight.due ≤ flight.first + answer_wait
+pub due_by : (sent : List Sent) (flight : InFlight) → IsOn sent flight → flight.due ≤ flight.first + answer_wait
 due_by sent flight on =
     let few : flight.repeats ≤ most_repeats = on.few in
     let low : offset (flight.repeats + 1) ≤ offset (most_repeats + 1) = offset_rises (flight.repeats + 1) (most_repeats + 1) (omega (arith, few)) in

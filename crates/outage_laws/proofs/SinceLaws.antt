@@ -1,5 +1,5 @@
 -- Over a network that is fair from a moment on a command of the gateway's own is taken and answered by its next send.
-use Rattle.std.proofs.Common.{◌≡◌, ℕ, ◌+◌, ◌*◌, ◌≤◌, true, List, [], ◌∷◌, ◌++◌, Some, inl, inr, sym, ◌∙◌, subst, arith, append_assoc}
+use Rattle.std.proofs.Common.{◌≡◌, ℕ, ◌+◌, ◌*◌, ◌<◌, ◌≤◌, true, List, [], ◌∷◌, ◌++◌, length, Some, inl, inr, sym, ◌∙◌, subst, arith, append_assoc}
 use Rattle.std.specs.Prelude.{◌⊎◌, All, Any, slice_get}
 use Rattle.history.specs.KeptFirst.{KeptFirst}
 use Rattle.history.specs.Kept.{firsts_in}
@@ -16,7 +16,7 @@ use Rattle.delivery_laws.specs.Fairness.{GoesToAgent, IsHandedOver}
 use Rattle.delivery_laws.specs.OwnChances.{HasCome, IsOfLine, IsToldAfter}
 use Rattle.delivery_laws.specs.Taking.{IsTaken, agent_history}
 use Rattle.delivery_laws.proofs.ClockLemmas.{front_forward, handed_now}
-use Rattle.delivery_laws.proofs.FairLaws.{IsBefore, later_before, stays_found}
+use Rattle.delivery_laws.proofs.FairLaws.{IsBefore, found_within, later_before, stays_found}
 use Rattle.delivery_laws.proofs.ReturnedLaws.{reads_so}
 use Rattle.delivery_laws.proofs.StepLemmas.{taken_front}
 use Rattle.outage_laws.specs.AfterOutage.{AgentHasRoomFrom, IsFairFrom, longest_pause}
@@ -65,6 +65,11 @@ pub record IsBack (setup : Setup) (steps : List WorldStep) (within : ℕ) (b : B
   pub reads : IsAnswerTo b.id text
   pub no_sooner : b.moment + wait ≤ now_in setup (plain_world setup before)
   pub no_later : now_in setup (plain_world setup before) ≤ b.moment + wait + 2 * within
+
+-- it is so behind the step at which the copy with this number was posted
+pub record IsBackBehind (setup : Setup) (steps : List WorldStep) (within : ℕ) (b : Begun) (wait number : ℕ) : Type 0 where
+  pub is : IsBack setup steps within b wait
+  pub behind : number < length (plain_world setup is.before).posted
 
 module _ (setup : Setup) (steps : List WorldStep) (since within line : ℕ) (b : Begun) (set_up : IsSetUp setup) (taken : steps_are_taken setup world_opening steps ≡ true)
     (fair : IsFairFrom setup steps since within) (roomy : AgentHasRoomFrom setup steps since)
@@ -168,6 +173,19 @@ module _ (setup : Setup) (steps : List WorldStep) (since within line : ℕ) (b :
         no_sooner = back_since;
         no_later = back_by;
       }
+
+      posted_then : told.number < length (plain_world setup back.before).posted
+      posted_then =
+          found_within (plain_world setup back.before).posted told.number told.post
+          (subst (λ (s : List WorldStep). slice_get (plain_world setup s).posted told.number ≡ Some told.post) (sym behind.1)
+          (stays_found setup b.id there.before behind.0 told.number told.post there.sent))
+
+      pub comes_behind_so : IsBackBehind setup steps within b wait told.number
+      unfolding comes_so
+      comes_behind_so = record { is = comes_so; behind = posted_then }
+
+  pub comes_behind : (wait : ℕ) (told : IsToldAfter setup w b wait) → since ≤ b.moment + wait → b.moment + wait + 2 * within ≤ now_in setup w → IsBackBehind setup steps within b wait told.number
+  comes_behind wait told late twice = comes_behind_so wait told late (half_late b.moment wait within (now_in setup w) twice) twice
 
   -- its answer comes so
   pub comes_in_time : (wait : ℕ) → IsToldAfter setup w b wait → since ≤ b.moment + wait → b.moment + wait + 2 * within ≤ now_in setup w → IsBack setup steps within b wait

@@ -9,4 +9,5 @@ pub mod alone_laws;
 pub mod carrying_laws;
 pub mod examples;
 pub mod premise_examples;
+pub mod line_laws;
 pub mod since_laws;

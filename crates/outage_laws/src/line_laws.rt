@@ -1,0 +1,31 @@
+//! Laws of a line whose network was down and came back.
+ghost use Rattle.std.specs.Prelude.{◌≡◌, ◌≤◌, ◌<◌, ◌+◌, ◌*◌, ℕ, List, Any, Some};
+ghost use Rattle.restart.specs.declared.restart.Restart.TheVariants.{Serving};
+ghost use Rattle.plain_machine.specs.declared.endpoint.Endpoint.{Endpoint};
+ghost use Rattle.plain_machine.specs.declared.setup.Setup.{Setup};
+ghost use Rattle.plain_machine.specs.Machine.{endpoint_at};
+ghost use Rattle.machine_laws.specs.Saying.{Begun};
+ghost use Rattle.agent_core.specs.World.{WorldStep, gateway_in, now_in, oldest_packet, plain_world};
+ghost use Rattle.delivery_laws.specs.Chances.{chances};
+ghost use Rattle.delivery_laws.specs.Copies.{IsRun, answer_wait};
+ghost use Rattle.delivery_laws.specs.Fairness.{GoesToAgent};
+ghost use Rattle.delivery_laws.specs.OwnChances.{IsOfLine};
+ghost use Rattle.outage_laws.specs.AfterOutage.{AgentHasRoomFrom, IsFairFrom, gap_of};
+
+/// A line that was disconnected when the network came back, or whose command is given up yet, has announced itself and was answered by then:
+/// that long behind it as a command is given up behind the last of its sends whose answer may still come in time, then the wait before
+/// it announces itself, and then twice the time of the network: 4,000 ms, the wait and twice that time, where twice that time is less than
+/// 4,000 ms (RFC 3435, 3.5.3, 4.3 and 4.4.7).
+pub fn a_line_has_its_agent_again_after_an_outage()
+    ensures behind_the_last { (setup : Setup) (steps : List WorldStep) (since within line : ℕ) (endpoint : Endpoint) → IsRun setup steps →
+        within ≤ oldest_packet → IsFairFrom setup steps since within → AgentHasRoomFrom setup steps since →
+        let w = plain_world setup steps in ((b : Begun) → IsOfLine setup w line b → GoesToAgent setup w b.text) →
+        endpoint_at (gateway_in setup w).endpoints line ≡ Some endpoint →
+        since + gap_of within + setup.disconnected_wait + 2 * within ≤ now_in setup w + 1 → endpoint.post.restart ≡ Serving }
+    ensures behind_any { (setup : Setup) (steps : List WorldStep) (since within wait line : ℕ) (endpoint : Endpoint) → IsRun setup steps →
+        IsFairFrom setup steps since within → AgentHasRoomFrom setup steps since →
+        let w = plain_world setup steps in ((b : Begun) → IsOfLine setup w line b → GoesToAgent setup w b.text) →
+        endpoint_at (gateway_in setup w).endpoints line ≡ Some endpoint →
+        Any (λ (one : ℕ). one ≡ wait) chances → wait + 2 * within < answer_wait →
+        since + answer_wait + setup.disconnected_wait + 2 * within ≤ now_in setup w + 1 + wait → endpoint.post.restart ≡ Serving }
+{}
