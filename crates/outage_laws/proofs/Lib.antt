@@ -18,6 +18,8 @@ pub mod LineTrackLaws
 pub mod PostedSince
 pub mod LineBackLaws
 pub mod LineServesLaws
+pub mod LineFrontLaws
+pub mod LineWindowLaws
 pub mod YoungLemmas
 pub mod Computing
 pub mod SentExamples
