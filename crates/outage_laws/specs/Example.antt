@@ -2,15 +2,18 @@
 use Rattle.std.specs.Prelude.{ℕ, codes, List, [], ◌∷◌, ◌++◌, map, Option, option_map}
 use Rattle.event_values.specs.declared.observed.Observed.{Observed}
 use Rattle.history.specs.Arrival.{Arrival}
+use Rattle.mg_line.specs.declared.phone.Act.TheVariants.{Key, OffHook}
+use Rattle.mg_line.specs.declared.phone.Key.TheVariants.{Five, Six}
+use Rattle.plain_machine.specs.declared.setup.Setup.{Setup}
 use Rattle.plain_machine.specs.Event.{GatewayEvent, tick}
 use Rattle.plain_machine.specs.Example.{ready, response, two_lines}
 use Rattle.plain_machine.specs.Lists.{plain, sent_of}
 use Rattle.machine_laws.specs.Belonging.{of_line}
 use Rattle.machine_laws.specs.Saying.{Begun}
-use Rattle.agent_core.specs.World.{WorldStep, delivering, ticking}
+use Rattle.agent_core.specs.World.{WorldStep, delivering, dialling, issuing, ticking}
 use Rattle.world_laws.specs.Example.{seconds}
 use Rattle.delivery_laws.specs.Rounds.{of_telephone}
-use Rattle.delivery_laws.specs.Example.{arrived, held, in_step, line_with, notified, redirected, up_to}
+use Rattle.delivery_laws.specs.Example.{arrived, asked_in_step, held, in_step, line_with, notified, redirected, up_to}
 
 -- A gateway alone
 
@@ -90,6 +93,63 @@ unserved = seconds 24 ++ ticking 23501 ∷ ticking 23502 ∷ ticking 23802 ∷ d
 
 abbrev pub serving_late : List WorldStep
 serving_late = unserved ++ delivering 9 ∷ []
+
+-- A line behind an outage
+
+-- the eight copies of its notification are lost; given up at 23,501, line 1 announces itself at 28,501, in packet 10, which is handed over
+-- 300 ms later; and so is its answer, packet 11, while the announcement goes out again, packet 12
+abbrev pub unconnected : List WorldStep
+unconnected =
+    all_lost ++ ticking 24001 ∷ ticking 25001 ∷ ticking 26001 ∷ ticking 27001 ∷ ticking 28001 ∷ ticking 28501 ∷ ticking 28801 ∷ delivering 10 ∷ ticking 29101 ∷ []
+
+abbrev pub connected_late : List WorldStep
+connected_late = unconnected ++ delivering 11 ∷ []
+
+-- the answer isn't handed over in time
+abbrev pub unconnected_yet : List WorldStep
+unconnected_yet = unconnected ++ ticking 29102 ∷ []
+
+-- line 1 reports to another address, where the last two copies of its notification are handed over at once; then it gives that up
+abbrev pub given_up_elsewhere : List WorldStep
+given_up_elsewhere =
+    redirected ++ up_to 15 ++ ticking 15501 ∷ delivering 10 ∷ ticking 16501 ∷ ticking 17501 ∷ ticking 18501 ∷ ticking 19501 ∷ delivering 11
+    ∷ ticking 20501 ∷ ticking 21501 ∷ ticking 22501 ∷ ticking 23501 ∷ []
+
+-- Line 1 is in step and lifted, and dials 5 and 6 meanwhile; its notification, packets 4 to 11, is lost. A packet takes 100 ms from then on:
+-- its announcement, packet 12, goes out at 28,501, and is answered at 28,701.
+abbrev pub connected_in_step : List WorldStep
+connected_in_step =
+    asked_in_step ++ dialling 1 OffHook ∷ dialling 1 (Key Five) ∷ dialling 1 (Key Six) ∷ up_to 23 ++ ticking 23501 ∷ ticking 24001 ∷ ticking 25001
+    ∷ ticking 26001 ∷ ticking 27001 ∷ ticking 28001 ∷ ticking 28501 ∷ ticking 28601 ∷ delivering 12 ∷ ticking 28701 ∷ delivering 13 ∷ ticking 28702 ∷ []
+
+-- the agent asks for the next
+abbrev pub asks_in_step : WorldStep
+asks_in_step = issuing (codes "RQNT") (codes "aaln/1@rgw.example.net") (codes "X: C2\r\nR: L/hd(N),L/hu(N),L/hf(N),D/[0-9*#ABCD](N)\r\n")
+
+-- it does so at once, in packet 14; with its answer the notification of 5 goes out, packet 15, and that is answered, in packet 16
+abbrev pub notified_since : List WorldStep
+notified_since = connected_in_step ++ asks_in_step ∷ ticking 28802 ∷ delivering 14 ∷ ticking 28902 ∷ delivering 15 ∷ []
+
+abbrev pub asked_once : List WorldStep
+asked_once = notified_since ++ ticking 29002 ∷ delivering 16 ∷ []
+
+-- the same of 6, in packets 17 to 19
+abbrev pub asked_again : List WorldStep
+asked_again = asked_once ++ asks_in_step ∷ ticking 29102 ∷ delivering 17 ∷ ticking 29202 ∷ delivering 18 ∷ ticking 29302 ∷ delivering 19 ∷ ticking 29303 ∷ []
+
+-- it isn't asked; or its first notification isn't answered
+abbrev pub never_asked : List WorldStep
+never_asked = connected_in_step ++ ticking 29302 ∷ ticking 29303 ∷ []
+
+abbrev pub never_answered : List WorldStep
+never_answered = notified_since ++ ticking 29302 ∷ ticking 29303 ∷ []
+
+-- a gateway that waits longer than its lines before it announces itself, and after 4,101 ms
+abbrev pub sluggish : Setup
+sluggish = record two_lines { restart_wait = 5000; disconnected_wait = 100 }
+
+abbrev pub not_begun : List WorldStep
+not_begun = up_to 4 ++ ticking 4101 ∷ []
 
 -- a first that came at this moment
 abbrev pub came_at : ℕ → Arrival

@@ -9,5 +9,6 @@ pub mod alone_laws;
 pub mod carrying_laws;
 pub mod examples;
 pub mod premise_examples;
+pub mod line_examples;
 pub mod line_laws;
 pub mod since_laws;
