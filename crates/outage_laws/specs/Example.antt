@@ -149,7 +149,7 @@ abbrev pub sluggish : Setup
 sluggish = record two_lines { restart_wait = 5000; disconnected_wait = 100 }
 
 abbrev pub not_begun : List WorldStep
-not_begun = up_to 4 ++ ticking 4101 ∷ []
+not_begun = seconds 5 ++ ticking 4101 ∷ []
 
 -- a first that came at this moment
 abbrev pub came_at : ℕ → Arrival

@@ -3,3 +3,4 @@ pub mod Carrying
 pub mod AfterOutage
 pub mod Example
 pub mod Premises
+pub mod LinePremises

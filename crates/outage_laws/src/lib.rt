@@ -11,4 +11,5 @@ pub mod examples;
 pub mod premise_examples;
 pub mod line_examples;
 pub mod line_laws;
+pub mod line_premise_examples;
 pub mod since_laws;

@@ -1,0 +1,24 @@
+use Rattle.std.proofs.Common.{[], refl}
+use Rattle.std.proofs.lemmas.Bool.{ltb-true}
+use Rattle.plain_machine.specs.Example.{two_lines}
+use Rattle.delivery_laws.specs.Example.{took_between, took_first}
+use Rattle.delivery_laws.proofs.ExampleLemmas.{to_agent, two_lines_set_up}
+use Rattle.delivery_laws.proofs.FrontLemmas.{agent_has_room, asked_within, not_answered}
+use Rattle.outage_laws.specs.LinePremises.{hung_up, hung_up_yet}
+use Rattle.outage_laws.proofs.Computing.{on_examples}
+use Rattle.outage_laws.proofs.FairFromExamples.{fair_from_is, room_from}
+use Rattle.outage_laws.proofs.line_premise_examples.else_a_quarantine_is_not_out.Goals as goal
+
+pub returns : goal.returns
+unfolding on_examples
+returns c = record {
+  run = (two_lines_set_up, refl);
+  fair = fair_from_is two_lines hung_up_yet 19502 0 refl;
+  room = room_from two_lines hung_up_yet 19502 (agent_has_room two_lines hung_up_yet refl);
+  goes = λ b of. to_agent two_lines hung_up_yet b.text refl;
+  soon = ltb-true _ _ refl;
+  unanswered = not_answered two_lines 1 (took_first hung_up) (took_between hung_up hung_up_yet) [] (took_between hung_up hung_up_yet) 0 refl refl;
+  asked = asked_within two_lines 1 (took_first hung_up) (took_between hung_up hung_up_yet) 0 refl;
+  over = ltb-true _ _ refl;
+  held = refl;
+}
