@@ -20,6 +20,7 @@ pub mod LineBackLaws
 pub mod LineServesLaws
 pub mod LineFrontLaws
 pub mod LineWindowLaws
+pub mod ServesFrontLaws
 pub mod YoungLemmas
 pub mod Computing
 pub mod SentExamples
@@ -28,3 +29,4 @@ pub mod CopyPlaces
 pub mod FirstServes
 pub mod OldestServes
 pub mod ServesByThen
+pub mod WellLaws

@@ -160,7 +160,8 @@ module _ (setup : Setup) (first later : List WorldStep) (since within line : ℕ
     at_front : IsBackBehind setup first within b wait number
     at_front = by_first (one_first is.before first (delivering is.number ∷ is.later) later same)
 
-  back : (b : Begun) (wait : ℕ) → IsOfLine setup w line b → since ≤ b.moment + wait → b.moment + wait + 2 * within + 1 ≤ now_in setup w → (told : IsToldAfter setup w b wait)
+  -- so an answer that had its time comes before the front ends
+  pub back : (b : Begun) (wait : ℕ) → IsOfLine setup w line b → since ≤ b.moment + wait → b.moment + wait + 2 * within + 1 ≤ now_in setup w → (told : IsToldAfter setup w b wait)
       → IsBackBehind setup first within b wait told.number
   unfolding told_whole
   back b wait of past late told =

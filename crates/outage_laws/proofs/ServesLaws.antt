@@ -74,47 +74,52 @@ waits_by first other wait now rise past soon = absurd (omega (arith, rise, past,
 waits_same : (first other wait now : ℕ) → other ≡ first → first + wait ≤ now → now < other → ⊥
 waits_same first other wait now same past soon = absurd (omega (arith, same, past, soon))
 
-over_twice : (first wait within now : ℕ) → wait + 2 * within < answer_wait → first + answer_wait ≤ now → first + wait + 2 * within ≤ now
-over_twice first wait within now few over = omega (arith, few, over)
+over_twice : (first wait within slack now : ℕ) → slack ≤ 1 → wait + 2 * within < answer_wait → first + answer_wait ≤ now → first + wait + 2 * within + slack ≤ now
+over_twice first wait within slack now small few over = omega (arith, small, few, over)
 
-twice_past : (first wait within now : ℕ) → first + wait + 2 * within ≤ now → first + wait ≤ now
-twice_past first wait within now twice = omega (arith, twice)
+twice_past : (first wait within slack now : ℕ) → first + wait + 2 * within + slack ≤ now → first + wait ≤ now
+twice_past first wait within slack now twice = omega (arith, twice)
 
-flies_few : (first wait within now : ℕ) → first + wait + 2 * within ≤ now → now < first + answer_wait → wait + 2 * within < answer_wait
-flies_few first wait within now twice soon = omega (arith, twice, soon)
+flies_few : (first wait within slack now : ℕ) → first + wait + 2 * within + slack ≤ now → now < first + answer_wait → wait + 2 * within < answer_wait
+flies_few first wait within slack now twice soon = omega (arith, twice, soon)
 
-first_late : (since wait within now restart first : ℕ) → first ≡ 0 + restart → now < first → wait ≤ last_chance → since + answer_wait + restart + 2 * within ≤ now + 1 + wait → ⊥
-first_late since wait within now restart first is soon low late = absurd (omega (arith, is, soon, low, late))
+first_late : (since wait within slack now restart first : ℕ) → first ≡ 0 + restart → now < first → wait ≤ last_chance
+    → since + answer_wait + restart + 2 * within + slack ≤ now + 1 + wait → ⊥
+first_late since wait within slack now restart first is soon low late = absurd (omega (arith, is, soon, low, late))
 
-next_past : (since wait within now restart first next : ℕ) → next ≡ first + answer_wait + restart → now < next → since + answer_wait + restart + 2 * within ≤ now + 1 + wait → since ≤ first + wait
-next_past since wait within now restart first next is soon late = omega (arith, is, soon, late)
+next_past : (since wait within slack now restart first next : ℕ) → next ≡ first + answer_wait + restart → now < next
+    → since + answer_wait + restart + 2 * within + slack ≤ now + 1 + wait → since ≤ first + wait
+next_past since wait within slack now restart first next is soon late = omega (arith, is, soon, late)
 
-first_sent : (since wait within now restart first : ℕ) → first ≡ 0 + restart → now < first + 2 * within → wait ≤ last_chance → since + answer_wait + restart + 2 * within ≤ now + 1 + wait → ⊥
-first_sent since wait within now restart first is soon low late = absurd (omega (arith, is, soon, low, late))
+first_sent : (since wait within slack now restart first : ℕ) → first ≡ 0 + restart → now < first + 2 * within + slack → wait ≤ last_chance
+    → since + answer_wait + restart + 2 * within + slack ≤ now + 1 + wait → ⊥
+first_sent since wait within slack now restart first is soon low late = absurd (omega (arith, is, soon, low, late))
 
-next_sent : (since wait within now restart first next : ℕ) → next ≡ first + answer_wait + restart → now < next + 2 * within → since + answer_wait + restart + 2 * within ≤ now + 1 + wait
-    → since ≤ first + wait
-next_sent since wait within now restart first next is soon late = omega (arith, is, soon, late)
+next_sent : (since wait within slack now restart first next : ℕ) → next ≡ first + answer_wait + restart → now < next + 2 * within + slack
+    → since + answer_wait + restart + 2 * within + slack ≤ now + 1 + wait → since ≤ first + wait
+next_sent since wait within slack now restart first next is soon late = omega (arith, is, soon, late)
 
 at_first : (since first one : ℕ) → one ≡ 0 → since ≤ first + one → since ≤ first
 at_first since first one none past = omega (arith, none, past)
 
-before_twice : (first one within now : ℕ) → one ≡ 0 → now < first + one + 2 * within → now < first + 2 * within
-before_twice first one within now none soon = omega (arith, none, soon)
+before_twice : (first one within slack now : ℕ) → one ≡ 0 → now < first + one + 2 * within + slack → now < first + 2 * within + slack
+before_twice first one within slack now none soon = omega (arith, none, soon)
 
-next_twice : (since first one wait within now restart : ℕ) → first + one + 1 ≤ since + longest_pause → wait ≤ last_chance → since + answer_wait + restart + 2 * within ≤ now + 1 + wait
-    → first + one + 2 * within ≤ now
-next_twice since first one wait within now restart next low late = omega (arith, next, low, late)
+next_twice : (since first one wait within slack now restart : ℕ) → first + one + 1 ≤ since + longest_pause → wait ≤ last_chance
+    → since + answer_wait + restart + 2 * within + slack ≤ now + 1 + wait → first + one + 2 * within + slack ≤ now
+next_twice since first one wait within slack now restart next low late = omega (arith, next, low, late)
 
 last_past : (since first wait : ℕ) → since ≤ first + wait → wait ≤ last_chance → since ≤ first + last_chance
 last_past since first wait past low = omega (arith, past, low)
 
-too_late : (since first wait within now restart : ℕ) → now < first + answer_wait → first + wait < since → since + answer_wait + restart + 2 * within ≤ now + 1 + wait → ⊥
-too_late since first wait within now restart soon before late = absurd (omega (arith, soon, before, late))
+too_late : (since first wait within slack now restart : ℕ) → now < first + answer_wait → first + wait < since
+    → since + answer_wait + restart + 2 * within + slack ≤ now + 1 + wait → ⊥
+too_late since first wait within slack now restart soon before late = absurd (omega (arith, soon, before, late))
 
-module _ (setup : Setup) (steps : List WorldStep) (since within : ℕ) (set_up : IsSetUp setup) (taken : steps_are_taken setup world_opening steps ≡ true) (some : 1 ≤ since)
-    (fair : IsFairFrom setup steps since within) (roomy : AgentHasRoomFrom setup steps since)
-    (reach : (b : Begun) → IsOfLine setup (plain_world setup steps) 0 b → GoesToAgent setup (plain_world setup steps) b.text) (closed : Closed setup (plain_world setup steps)) where
+-- where each announcement of the gateway is answered so, as long behind its sends as twice the network's time, and one ms more at most
+module _ (setup : Setup) (steps : List WorldStep) (since within slack : ℕ) (set_up : IsSetUp setup) (taken : steps_are_taken setup world_opening steps ≡ true) (some : 1 ≤ since)
+    (back : (b : Begun) (wait : ℕ) → IsOfLine setup (plain_world setup steps) 0 b → since ≤ b.moment + wait → b.moment + wait + 2 * within + slack ≤ now_in setup (plain_world setup steps)
+    → IsToldAfter setup (plain_world setup steps) b wait → IsBack setup steps within b wait) (closed : Closed setup (plain_world setup steps)) where
   abbrev w : World
   w = plain_world setup steps
 
@@ -192,23 +197,22 @@ module _ (setup : Setup) (steps : List WorldStep) (since within : ℕ) (set_up :
     not_back = by_track (world_tracked setup set_up is.before before_taken closed_before)
 
   -- so none was
-  pub none_back : (j wait : ℕ) → OneOf (λ (one : Begun). one ≡ announcement_at setup j) (begun_in sent) → OneOf (SaysAt (announcement_at setup j).text (start_of setup j + wait)) sent
-      → since ≤ start_of setup j + wait → start_of setup j + wait + 2 * within ≤ now → wait + 2 * within < answer_wait → ⊥
-  none_back j wait begun said late twice few =
-      not_back j wait late few (comes_in_time setup steps since within 0 (announcement_at setup j) set_up taken fair roomy of (reach (announcement_at setup j) of) wait told late twice) where
-        of : IsOfLine setup w 0 (announcement_at setup j)
-        of = any_from_one (λ (one : Begun). one ≡ announcement_at setup j) (begun_in sent) begun
+  never_back : (j wait : ℕ) → OneOf (λ (one : Begun). one ≡ announcement_at setup j) (begun_in sent) → OneOf (SaysAt (announcement_at setup j).text (start_of setup j + wait)) sent
+      → since ≤ start_of setup j + wait → start_of setup j + wait + 2 * within + slack ≤ now → wait + 2 * within < answer_wait → ⊥
+  never_back j wait begun said late twice few = not_back j wait late few (back (announcement_at setup j) wait of late twice told) where
+    of : IsOfLine setup w 0 (announcement_at setup j)
+    of = any_from_one (λ (one : Begun). one ≡ announcement_at setup j) (begun_in sent) begun
 
-        told : IsToldAfter setup w (announcement_at setup j) wait
-        told =
-            told_after setup w (announcement_at setup j) wait
-            (said_posted setup steps set_up taken (announcement_at setup j).text (start_of setup j + wait)
-            (one_unfiltered (SaysAt (announcement_at setup j).text (start_of setup j + wait)) (λ (one : Sent). is_of 0 one.owner) (sent_of setup w.gateway_took) said))
+    told : IsToldAfter setup w (announcement_at setup j) wait
+    told =
+        told_after setup w (announcement_at setup j) wait
+        (said_posted setup steps set_up taken (announcement_at setup j).text (start_of setup j + wait)
+        (one_unfiltered (SaysAt (announcement_at setup j).text (start_of setup j + wait)) (λ (one : Sent). is_of 0 one.owner) (sent_of setup w.gateway_took) said))
 
   -- What that comes to, by one of the waits behind which an answer may come in time
 
-  module _ (wait : ℕ) (among : OneOf (λ (one : ℕ). one ≡ wait) chances) (few : wait + 2 * within < answer_wait)
-      (late : since + answer_wait + setup.restart_wait + 2 * within ≤ now + 1 + wait) where
+  module _ (wait : ℕ) (among : OneOf (λ (one : ℕ). one ≡ wait) chances) (few : wait + 2 * within < answer_wait) (small : slack ≤ 1)
+      (late : since + answer_wait + setup.restart_wait + 2 * within + slack ≤ now + 1 + wait) where
     low : wait ≤ last_chance
     low =
         one_to (λ (one : ℕ). (one ≤ last_chance) × (one ≡ wait)) (wait ≤ last_chance) (λ one both. subst (λ (n : ℕ). n ≤ last_chance) both.1 both.0) chances
@@ -216,7 +220,7 @@ module _ (setup : Setup) (steps : List WorldStep) (since within : ℕ) (set_up :
 
     -- an announcement all of whose sends went out, and that is over, had one that long behind its first
     before_that : (j : ℕ) → Went setup sent j most_repeats → start_of setup j + answer_wait ≤ now → since ≤ start_of setup j + wait → ⊥
-    before_that j went over past = none_back j wait went.begun at past (over_twice (start_of setup j) wait within now few over) few where
+    before_that j went over past = never_back j wait went.begun at past (over_twice (start_of setup j) wait within slack now small few over) few where
       Says : ℕ → Type 0
       Says one = OneOf (SaysAt (announcement_at setup j).text (start_of setup j + one)) sent
 
@@ -228,10 +232,10 @@ module _ (setup : Setup) (steps : List WorldStep) (since within : ℕ) (set_up :
     by_waiting_now : IsWaiting setup (Behind now) sent now (gateway_in setup w).endpoints.own → ⊥
     by_waiting_now v = by_up v.up where
       by_k : (k : ℕ) → v.k ≡ k → now < start_of setup k → ⊥
-      by_k zero same soon = first_late since wait within now setup.restart_wait (start_of setup 0) (start_first setup) soon low late
+      by_k zero same soon = first_late since wait within slack now setup.restart_wait (start_of setup 0) (start_first setup) soon low late
       by_k (suc j) same soon =
           before_that j (v.went j (subst (λ (n : ℕ). j < n) (sym same) (omega arith))) (v.over j (subst (λ (n : ℕ). j < n) (sym same) (omega arith)))
-          (next_past since wait within now setup.restart_wait (start_of setup j) (start_of setup (suc j)) (start_next setup j) soon late)
+          (next_past since wait within slack now setup.restart_wait (start_of setup j) (start_of setup (suc j)) (start_next setup j) soon late)
 
       by_up : Behind now (start_of setup v.k) → ⊥
       by_up (inr none) = absurd (omega (arith, none, low, late))
@@ -245,27 +249,28 @@ module _ (setup : Setup) (steps : List WorldStep) (since within : ℕ) (set_up :
       says : now < f.flight.due → Each Says chances
       says soon = eight Says (λ number few past. flying_said sent (announcement_at setup f.k) f.flight now f.is f.on soon number past)
 
-      answered : (one : ℕ) → Says one → since ≤ start_of setup f.k + one → start_of setup f.k + one + 2 * within ≤ now → now < f.flight.due → ⊥
+      answered : (one : ℕ) → Says one → since ≤ start_of setup f.k + one → start_of setup f.k + one + 2 * within + slack ≤ now → now < f.flight.due → ⊥
       answered one has past twice soon =
-          none_back f.k one f.begun (has (twice_past (start_of setup f.k) one within now twice)) past twice
-          (flies_few (start_of setup f.k) one within now twice
+          never_back f.k one f.begun (has (twice_past (start_of setup f.k) one within slack now twice)) past twice
+          (flies_few (start_of setup f.k) one within slack now twice
           (flies_soon now f.flight.due f.flight.first (start_of setup f.k) soon (due_by sent f.flight f.on) f.is.first))
 
       -- its first send was too late
-      by_k : (n : ℕ) → f.k ≡ n → since ≤ start_of setup n → now < start_of setup n + 2 * within → ⊥
-      by_k zero same past soon = first_sent since wait within now setup.restart_wait (start_of setup 0) (start_first setup) soon low late
+      by_k : (n : ℕ) → f.k ≡ n → since ≤ start_of setup n → now < start_of setup n + 2 * within + slack → ⊥
+      by_k zero same past soon = first_sent since wait within slack now setup.restart_wait (start_of setup 0) (start_first setup) soon low late
       by_k (suc j) same past soon =
           before_that j (f.went j (subst (λ (n : ℕ). j < n) (sym same) (omega arith))) (f.over j (subst (λ (n : ℕ). j < n) (sym same) (omega arith)))
-          (next_sent since wait within now setup.restart_wait (start_of setup j) (start_of setup (suc j)) (start_next setup j) soon late)
+          (next_sent since wait within slack now setup.restart_wait (start_of setup j) (start_of setup (suc j)) (start_next setup j) soon late)
 
-      by_first : (one : ℕ) → Says one → now < f.flight.due → since ≤ start_of setup f.k + one → one ≡ 0 → (b : Bool) → nat_le (start_of setup f.k + one + 2 * within) now ≡ b → ⊥
-      by_first one has soon past none true twice = answered one has past (leb-true (start_of setup f.k + one + 2 * within) now twice) soon
+      by_first : (one : ℕ) → Says one → now < f.flight.due → since ≤ start_of setup f.k + one → one ≡ 0 → (b : Bool) → nat_le (start_of setup f.k + one + 2 * within + slack) now ≡ b → ⊥
+      by_first one has soon past none true twice = answered one has past (leb-true (start_of setup f.k + one + 2 * within + slack) now twice) soon
       by_first one has soon past none false fewer =
-          by_k f.k refl (at_first since (start_of setup f.k) one none past) (before_twice (start_of setup f.k) one within now none (leb-false (start_of setup f.k + one + 2 * within) now fewer))
+          by_k f.k refl (at_first since (start_of setup f.k) one none past) (before_twice (start_of setup f.k) one within slack now none
+          (leb-false (start_of setup f.k + one + 2 * within + slack) now fewer))
 
       by_soon : (one : ℕ) → Says one → now < f.flight.due → since ≤ start_of setup f.k + one → (one ≡ 0) ⊎ (start_of setup f.k + one + 1 ≤ since + longest_pause) → ⊥
-      by_soon one has soon past (inl none) = by_first one has soon past none (nat_le (start_of setup f.k + one + 2 * within) now) refl
-      by_soon one has soon past (inr next) = answered one has past (next_twice since (start_of setup f.k) one wait within now setup.restart_wait next low late) soon
+      by_soon one has soon past (inl none) = by_first one has soon past none (nat_le (start_of setup f.k + one + 2 * within + slack) now) refl
+      by_soon one has soon past (inr next) = answered one has past (next_twice since (start_of setup f.k) one wait within slack now setup.restart_wait next low late) soon
 
       by_next : now < f.flight.due → IsNext Says since (start_of setup f.k) → ⊥
       by_next soon is = by_soon is.wait is.has soon is.late is.soon
@@ -274,7 +279,7 @@ module _ (setup : Setup) (steps : List WorldStep) (since within : ℕ) (set_up :
       by_test soon true past =
           by_next soon (next_send Says since (start_of setup f.k) (last_past since (start_of setup f.k) wait (leb-true since (start_of setup f.k + wait) past) low) (says soon))
       by_test soon false before =
-          too_late since (start_of setup f.k) wait within now setup.restart_wait
+          too_late since (start_of setup f.k) wait within slack now setup.restart_wait
           (flies_soon now f.flight.due f.flight.first (start_of setup f.k) soon (due_by sent f.flight f.on) f.is.first) (leb-false since (start_of setup f.k + wait) before) late
 
       by_up : Behind now f.flight.due → ⊥
@@ -288,14 +293,48 @@ module _ (setup : Setup) (steps : List WorldStep) (since within : ℕ) (set_up :
     pub must_serve : ⊥
     must_serve = by_track_now (world_tracked setup set_up steps taken closed)
 
+-- So it serves.
+pub serves_so : (setup : Setup) (steps : List WorldStep) (since within slack wait : ℕ) → IsSetUp setup → steps_are_taken setup world_opening steps ≡ true → 1 ≤ since
+    → ((b : Begun) (wait : ℕ) → IsOfLine setup (plain_world setup steps) 0 b → since ≤ b.moment + wait → b.moment + wait + 2 * within + slack ≤ now_in setup (plain_world setup steps)
+    → IsToldAfter setup (plain_world setup steps) b wait → IsBack setup steps within b wait) → OneOf (λ (one : ℕ). one ≡ wait) chances → wait + 2 * within < answer_wait → slack ≤ 1
+    → since + answer_wait + setup.restart_wait + 2 * within + slack ≤ now_in setup (plain_world setup steps) + 1 + wait → serves (gateway_in setup (plain_world setup steps)).endpoints ≡ true
+serves_so setup steps since within slack wait set_up taken some back among few small late = by_test (serves (gateway_in setup (plain_world setup steps)).endpoints) refl where
+  by_test : (b : Bool) → serves (gateway_in setup (plain_world setup steps)).endpoints ≡ b → serves (gateway_in setup (plain_world setup steps)).endpoints ≡ true
+  by_test true serving = serving
+  by_test false closed = absurd (must_serve setup steps since within slack set_up taken some back closed wait among few small late)
+
+-- A network that is fair from a moment on
+
+no_slack : (first wait within now : ℕ) → first + wait + 2 * within + 0 ≤ now → first + wait + 2 * within ≤ now
+no_slack first wait within now late = omega (arith, late)
+
+with_none : (since restart within now wait : ℕ) → since + answer_wait + restart + 2 * within ≤ now + 1 + wait → since + answer_wait + restart + 2 * within + 0 ≤ now + 1 + wait
+with_none since restart within now wait late = omega (arith, late)
+
+module _ (setup : Setup) (steps : List WorldStep) (since within : ℕ) (set_up : IsSetUp setup) (taken : steps_are_taken setup world_opening steps ≡ true) (some : 1 ≤ since)
+    (fair : IsFairFrom setup steps since within) (roomy : AgentHasRoomFrom setup steps since)
+    (reach : (b : Begun) → IsOfLine setup (plain_world setup steps) 0 b → GoesToAgent setup (plain_world setup steps) b.text) where
+  comes : (b : Begun) (wait : ℕ) → IsOfLine setup (plain_world setup steps) 0 b → since ≤ b.moment + wait → b.moment + wait + 2 * within + 0 ≤ now_in setup (plain_world setup steps)
+      → IsToldAfter setup (plain_world setup steps) b wait → IsBack setup steps within b wait
+  comes b wait of late twice told =
+      comes_in_time setup steps since within 0 b set_up taken fair roomy of (reach b of) wait told late (no_slack b.moment wait within (now_in setup (plain_world setup steps)) twice)
+
+  pub none_back : Closed setup (plain_world setup steps) → (j wait : ℕ) → let sent = of_line 0 (sent_of setup (plain_world setup steps).gateway_took) in
+      OneOf (λ (one : Begun). one ≡ announcement_at setup j) (begun_in sent) → OneOf (SaysAt (announcement_at setup j).text (start_of setup j + wait)) sent
+      → since ≤ start_of setup j + wait → start_of setup j + wait + 2 * within ≤ now_in setup (plain_world setup steps) → wait + 2 * within < answer_wait → ⊥
+  none_back closed j wait begun said late twice few =
+      never_back setup steps since within 0 set_up taken some comes closed j wait begun said late
+      (one_less (start_of setup j) wait within (now_in setup (plain_world setup steps)) twice) few where
+        one_less : (first wait within now : ℕ) → first + wait + 2 * within ≤ now → first + wait + 2 * within + 0 ≤ now
+        one_less first wait within now twice = omega (arith, twice)
+
 pub serves_by : (setup : Setup) (steps : List WorldStep) (since within wait : ℕ) → IsSetUp setup → steps_are_taken setup world_opening steps ≡ true → 1 ≤ since
     → IsFairFrom setup steps since within → AgentHasRoomFrom setup steps since → let w = plain_world setup steps in ((b : Begun) → IsOfLine setup w 0 b → GoesToAgent setup w b.text)
     → Any (λ (one : ℕ). one ≡ wait) chances → wait + 2 * within < answer_wait → since + answer_wait + setup.restart_wait + 2 * within ≤ now_in setup w + 1 + wait
     → serves (gateway_in setup w).endpoints ≡ true
-serves_by setup steps since within wait set_up taken some fair roomy reach among few late = by_test (serves (gateway_in setup (plain_world setup steps)).endpoints) refl where
-  by_test : (b : Bool) → serves (gateway_in setup (plain_world setup steps)).endpoints ≡ b → serves (gateway_in setup (plain_world setup steps)).endpoints ≡ true
-  by_test true serving = serving
-  by_test false closed = absurd (must_serve setup steps since within set_up taken some fair roomy reach closed wait (one_from_any (λ (one : ℕ). one ≡ wait) chances among) few late)
+serves_by setup steps since within wait set_up taken some fair roomy reach among few late =
+    serves_so setup steps since within 0 wait set_up taken some (comes setup steps since within set_up taken some fair roomy reach)
+    (one_from_any (λ (one : ℕ). one ≡ wait) chances among) few (omega arith) (with_none since setup.restart_wait within (now_in setup (plain_world setup steps)) wait late)
 
 -- The last of them
 

@@ -1,11 +1,17 @@
 -- A network that was down and came back, and by when what is in flight is taken and answered (RFC 3435, 3.5.3 and 4.3).
-use Rattle.std.specs.Prelude.{◌≡◌, ℕ, ◌+◌, ◌-◌, ◌*◌, ◌≤◌, nat_lt, if◌then◌else◌, List, [], ◌∷◌, ◌++◌, Some, slice_get}
+use Rattle.std.specs.Prelude.{◌≡◌, ℕ, ◌+◌, ◌-◌, ◌*◌, ◌≤◌, nat_lt, if◌then◌else◌, List, [], ◌∷◌, ◌++◌, Any, Some, slice_get, true}
+use Rattle.restart.specs.declared.restart.Restart.TheVariants.{Serving}
+use Rattle.plain_machine.specs.declared.endpoint.Endpoint.{Endpoint}
 use Rattle.plain_machine.specs.declared.setup.Setup.{Setup}
+use Rattle.plain_machine.specs.Machine.{endpoint_at, serves}
+use Rattle.machine_laws.specs.Saying.{Begun}
 use Rattle.agent_core.specs.declared.packet.Posted.{Posted}
-use Rattle.agent_core.specs.World.{WorldStep, now_in, plain_world}
-use Rattle.delivery_laws.specs.Chances.{chances}
+use Rattle.agent_core.specs.World.{World, WorldStep, gateway_in, now_in, plain_world}
+use Rattle.world_laws.specs.Reached.{Reached, taken_in}
+use Rattle.delivery_laws.specs.Chances.{chances, last_chance}
 use Rattle.delivery_laws.specs.Copies.{answer_wait}
 use Rattle.delivery_laws.specs.Fairness.{IsHandedOver}
+use Rattle.delivery_laws.specs.OwnChances.{HasCome, IsOfLine}
 use Rattle.delivery_laws.specs.Taking.{AgentHasRoom}
 
 -- each packet that is sent at this moment or later is handed over, so many ms after it was sent at the latest; whatever was before
@@ -34,3 +40,26 @@ last_in_time within was (wait ∷ waits) = if nat_lt (wait + 2 * within) answer_
 -- 8,000, and so on; 22,000 for the greatest age of a packet.
 abbrev pub gap_of : ℕ → ℕ
 gap_of within = answer_wait - last_in_time within 0 chances
+
+-- the longer of the waits before the gateway, or a line of it, announces itself
+abbrev pub longer_wait : Setup → ℕ
+longer_wait setup = if nat_lt setup.restart_wait setup.disconnected_wait then setup.disconnected_wait else setup.restart_wait
+
+-- all is well by then behind an outage that was over at this moment: behind the last send whose answer doesn't come in time, the longer
+-- wait, and twice the network's time
+abbrev pub well_by : Setup → ℕ → ℕ → ℕ
+well_by setup since within = since + gap_of within + longer_wait setup + 2 * within
+
+-- a command of the gateway's own was taken by the agent, and a response to it came
+abbrev pub IsDone : World → ℕ → Type 0
+IsDone w id = Any (λ (one : Reached). one.asked.id ≡ id) (taken_in w) × HasCome w id
+
+-- The gateway serves, each line of it has its agent and nothing to announce, and each command of it is done that began twice the network's
+-- time ago, unless the last of its sends was before
+pub record IsWell (setup : Setup) (w : World) (since within : ℕ) : Type 0 where
+  pub serving : serves (gateway_in setup w).endpoints ≡ true
+  pub lines : (line : ℕ) (endpoint : Endpoint) → endpoint_at (gateway_in setup w).endpoints line ≡ Some endpoint → endpoint.post.restart ≡ Serving
+  pub commands :
+      (line : ℕ) (endpoint : Endpoint) (b : Begun) → endpoint_at (gateway_in setup w).endpoints line ≡ Some endpoint → IsOfLine setup w line b
+      → since ≤ b.moment + last_chance → b.moment + 2 * within ≤ now_in setup w → IsDone w b.id
+  pub announcements : (b : Begun) → IsOfLine setup w 0 b → since ≤ b.moment + last_chance → b.moment + 2 * within ≤ now_in setup w → IsDone w b.id

@@ -8,8 +8,9 @@
 pub mod alone_laws;
 pub mod carrying_laws;
 pub mod examples;
-pub mod premise_examples;
 pub mod line_examples;
 pub mod line_laws;
 pub mod line_premise_examples;
+pub mod premise_examples;
 pub mod since_laws;
+pub mod well_laws;
