@@ -105,6 +105,10 @@ unconnected =
 abbrev pub connected_late : List WorldStep
 connected_late = unconnected ++ delivering 11 ∷ []
 
+-- and line 2 is lifted
+abbrev pub another_lifted : List WorldStep
+another_lifted = connected_late ++ dialling 2 OffHook ∷ []
+
 -- the answer isn't handed over in time
 abbrev pub unconnected_yet : List WorldStep
 unconnected_yet = unconnected ++ ticking 29102 ∷ []

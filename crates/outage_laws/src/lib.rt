@@ -13,4 +13,5 @@ pub mod line_laws;
 pub mod line_premise_examples;
 pub mod premise_examples;
 pub mod since_laws;
+pub mod well_examples;
 pub mod well_laws;
