@@ -3,7 +3,7 @@ use Rattle.std.specs.Prelude.{ℕ, codes, List, [], ◌∷◌, ◌++◌, map, Op
 use Rattle.event_values.specs.declared.observed.Observed.{Observed}
 use Rattle.history.specs.Arrival.{Arrival}
 use Rattle.mg_line.specs.declared.phone.Act.TheVariants.{Key, OffHook}
-use Rattle.mg_line.specs.declared.phone.Key.TheVariants.{Five, Six}
+use Rattle.mg_line.specs.declared.phone.Key.TheVariants.{Five, Seven, Six}
 use Rattle.plain_machine.specs.declared.setup.Setup.{Setup}
 use Rattle.plain_machine.specs.Event.{GatewayEvent, tick}
 use Rattle.plain_machine.specs.Example.{ready, response, two_lines}
@@ -140,6 +140,19 @@ asked_once = notified_since ++ ticking 29002 ∷ delivering 16 ∷ []
 -- the same of 6, in packets 17 to 19
 abbrev pub asked_again : List WorldStep
 asked_again = asked_once ++ asks_in_step ∷ ticking 29102 ∷ delivering 17 ∷ ticking 29202 ∷ delivering 18 ∷ ticking 29302 ∷ delivering 19 ∷ ticking 29303 ∷ []
+
+-- or 7 is dialled as that of 5 begins: each is answered 200 ms later, and behind each answer the request for the next takes 100 ms, in
+-- packets 17 and 20
+abbrev pub pressed_since : List WorldStep
+pressed_since = connected_in_step ++ asks_in_step ∷ ticking 28802 ∷ delivering 14 ∷ dialling 1 (Key Seven) ∷ []
+
+abbrev pub one_to_go : List WorldStep
+one_to_go =
+    pressed_since ++ ticking 28902 ∷ delivering 15 ∷ ticking 29002 ∷ delivering 16 ∷ asks_in_step ∷ ticking 29102 ∷ delivering 17 ∷ ticking 29202
+    ∷ delivering 18 ∷ ticking 29302 ∷ delivering 19 ∷ asks_in_step ∷ ticking 29402 ∷ []
+
+abbrev pub none_to_go : List WorldStep
+none_to_go = one_to_go ++ delivering 20 ∷ ticking 29403 ∷ []
 
 -- it isn't asked; or its first notification isn't answered
 abbrev pub never_asked : List WorldStep

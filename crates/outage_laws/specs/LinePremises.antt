@@ -63,6 +63,10 @@ answered_ever_later =
     announced ++ up_to 28 ++ dialling 1 OffHook ∷ seconds_from 29 10 ++ delivering 2 ∷ delivering 3 ∷ delivering 4 ∷ delivering 5
     ∷ delivering 6 ∷ seconds_from 39 13 ++ ticking 51501 ∷ []
 
+-- line 1 announces itself, packet 10, and 599 ms later isn't answered yet
+abbrev pub connected_soon : List WorldStep
+connected_soon = all_lost ++ seconds_from 24 5 ++ ticking 28501 ∷ ticking 28801 ∷ delivering 10 ∷ ticking 29100 ∷ []
+
 -- no copy comes, and the line waits before it announces itself
 abbrev pub waits_yet : List WorldStep
 waits_yet = all_lost ++ seconds_from 24 5 ++ ticking 28401 ∷ []

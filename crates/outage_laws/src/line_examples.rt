@@ -1,8 +1,8 @@
-//! Worked examples of the laws of a line behind an outage: a world in which each premise holds, and the bound is met; and worlds in which one
-//! premise alone is missing and the law's sentence fails.
+//! Worked examples of the laws of a line behind an outage: a world in which each premise holds, and the bound is met; and worlds in which
+//! one premise alone is missing and the law's sentence fails.
 #![tactic(auto, unfolding(crate::proofs::Computing::on_examples))]
 
-ghost use Rattle.std.specs.Prelude.{◌≡◌, ◌≤◌, ◌+◌, ◌*◌, ◌++◌, [], ◌∷◌, true};
+ghost use Rattle.std.specs.Prelude.{◌≡◌, ◌≤◌, ◌+◌, ◌*◌, ◌++◌, [], ◌∷◌, length, true};
 ghost use Rattle.restart.specs.declared.restart.Restart.TheVariants.{Announced, Serving, Waiting};
 ghost use Rattle.plain_machine.specs.Example.{two_lines};
 ghost use Rattle.plain_machine.specs.Lists.{plain};
@@ -20,7 +20,9 @@ ghost use Rattle.delivery_laws.specs.OnceExample.{five, six};
 ghost use Rattle.delivery_laws.specs.OwnChances.{IsOfLine};
 ghost use Rattle.delivery_laws.specs.Rounds.{IsAnsweredWithin, IsAskedWithin, of_telephone, rounds_take};
 ghost use Rattle.outage_laws.specs.AfterOutage.{AgentHasRoomFrom, IsFairFrom, gap_of};
-ghost use Rattle.outage_laws.specs.Example.{all_lost, asked_again, asked_once, connected_in_step, connected_late, given_up_elsewhere, never_answered, never_asked, not_begun, sluggish, unconnected, unconnected_yet};
+ghost use Rattle.outage_laws.specs.Example.{all_lost, asked_again, asked_once, connected_in_step, connected_late, given_up_elsewhere};
+ghost use Rattle.outage_laws.specs.Example.{never_answered, never_asked, none_to_go, not_begun, one_to_go, pressed_since, sluggish};
+ghost use Rattle.outage_laws.specs.Example.{unconnected, unconnected_yet};
 
 /// The eight sends of a notification, from 1 on, are lost, and the network is there again 1 ms behind the last; the line gives it up, and
 /// announces itself 5,000 ms later. It is answered 4,000 ms, that wait and twice 300 ms behind that, and no sooner.
@@ -48,8 +50,8 @@ pub fn what_is_wanting_leaves_a_line_alone()
     ensures waits { (endpoint_then given_up_elsewhere).post.restart ≡ Waiting 28501 }
 {}
 
-/// Two events are quarantined when the line has its agent again, a packet takes 100 ms, and each request comes 100 ms behind an answer: after
-/// twice 300 ms nothing is quarantined; before the second request one event is.
+/// Two events are quarantined when the line has its agent again, a packet takes 100 ms, and each request comes 100 ms behind an answer:
+/// after twice 300 ms nothing is quarantined; before the second request one event is.
 pub fn what_was_dialled_is_out_after_an_outage()
     ensures run { IsRun two_lines asked_again }
     ensures fair { IsFairFrom two_lines asked_again 19502 100 }
@@ -61,15 +63,39 @@ pub fn what_was_dialled_is_out_after_an_outage()
     ensures held { of_telephone (endpoint_then connected_in_step).line.quarantined.events ≡ five ∷ six ∷ [] }
     ensures late { 19502 + gap_of 100 + two_lines.disconnected_wait + 2 * 100 ≡ (plain two_lines (took_first connected_in_step)).now }
     ensures asked { IsAskedWithin two_lines 1 (took_first connected_in_step) (took_between connected_in_step asked_again) 100 }
-    ensures over { (plain two_lines (took_first connected_in_step)).now + rounds_take 2 (2 * 100) 100 + 1 ≡ now_in two_lines (world asked_again) }
+    ensures over { (plain two_lines (took_first connected_in_step)).now + rounds_take 2 (2 * 100) 100 + 1
+        ≡ now_in two_lines (world asked_again) }
     ensures rests { done_in (course_from two_lines (plain two_lines (took_first connected_in_step)) 1
         (took_between connected_in_step asked_again)) ≡ [] }
     ensures one_left { of_telephone (endpoint_then asked_once).line.quarantined.events ≡ six ∷ [] }
     ensures none_left { of_telephone (endpoint_then asked_again).line.quarantined.events ≡ [] }
 {}
 
-/// Where no request comes nothing goes out, nor where an answer isn't handed over. Before the line has its agent again it waits for no answer,
-/// nor does one whose agent is elsewhere, nor one of a gateway that doesn't serve yet.
+/// Two events are quarantined as a notification begins later on: each is answered twice the network's time later, and no sooner, and 100 ms
+/// behind the answer the line is asked for the next. So after two rounds of both nothing is quarantined, and 1 ms sooner one event is.
+pub fn what_was_dialled_is_out_at_that_moment()
+    ensures run { IsRun two_lines none_to_go }
+    ensures fair { IsFairFrom two_lines none_to_go 19502 100 }
+    ensures room { AgentHasRoomFrom two_lines none_to_go 19502 }
+    ensures goes { (b : Begun) → IsOfLine two_lines (world none_to_go) 1 b → GoesToAgent two_lines (world none_to_go) b.text }
+    ensures split { (world none_to_go).gateway_took ≡ took_first pressed_since ++ took_between pressed_since none_to_go }
+    ensures serving { serves (plain two_lines (took_first pressed_since)).endpoints ≡ true }
+    ensures held { length (of_telephone (endpoint_then pressed_since).line.quarantined.events) ≡ 2 }
+    ensures late { 19502 + gap_of 100 + two_lines.disconnected_wait + 2 * 100 ≤ (plain two_lines (took_first pressed_since)).now }
+    ensures answered_no_sooner { ¬ IsAnsweredWithin two_lines 1 (took_first pressed_since) (took_between pressed_since none_to_go) 199 }
+    ensures asked { IsAskedWithin two_lines 1 (took_first pressed_since) (took_between pressed_since none_to_go) 100 }
+    ensures at_that_moment { (plain two_lines (took_first pressed_since)).now + rounds_take 2 (2 * 100) 100
+        ≡ now_in two_lines (world one_to_go) }
+    ensures one_left { length (of_telephone (endpoint_then one_to_go).line.quarantined.events) ≡ 1 }
+    ensures over { (plain two_lines (took_first pressed_since)).now + rounds_take 2 (2 * 100) 100 + 1
+        ≡ now_in two_lines (world none_to_go) }
+    ensures rests { done_in (course_from two_lines (plain two_lines (took_first pressed_since)) 1
+        (took_between pressed_since none_to_go)) ≡ [] }
+    ensures none_left { of_telephone (endpoint_then none_to_go).line.quarantined.events ≡ [] }
+{}
+
+/// Where no request comes nothing goes out, nor where an answer isn't handed over. Before the line has its agent again it waits for no
+/// answer, nor does one whose agent is elsewhere, nor one of a gateway that doesn't serve yet.
 pub fn what_is_wanting_leaves_a_quarantine()
     ensures fair { IsFairFrom two_lines never_asked 19502 100 }
     ensures unasked { ¬ IsAskedWithin two_lines 1 (took_first connected_in_step) (took_between connected_in_step never_asked) 100 }
@@ -80,7 +106,8 @@ pub fn what_is_wanting_leaves_a_quarantine()
     ensures fair_before { IsFairFrom two_lines all_lost 19502 300 }
     ensures too_soon { ¬ IsAnsweredWithin two_lines 1 (took_first all_lost) [] (2 * 300) }
     ensures fair_elsewhere { IsFairFrom two_lines given_up_elsewhere 14501 0 }
-    ensures late_elsewhere { 14501 + gap_of 0 + two_lines.disconnected_wait + 2 * 0 ≡ (plain two_lines (took_first given_up_elsewhere)).now }
+    ensures late_elsewhere { 14501 + gap_of 0 + two_lines.disconnected_wait + 2 * 0
+        ≡ (plain two_lines (took_first given_up_elsewhere)).now }
     ensures elsewhere { ¬ IsAnsweredWithin two_lines 1 (took_first given_up_elsewhere) [] 0 }
     ensures fair_unserved { IsFairFrom sluggish not_begun 1 0 }
     ensures late_unserved { 1 + gap_of 0 + sluggish.disconnected_wait + 2 * 0 ≡ now_in sluggish (plain_world sluggish not_begun) }

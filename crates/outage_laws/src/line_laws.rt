@@ -17,10 +17,10 @@ ghost use Rattle.delivery_laws.specs.OwnChances.{IsOfLine};
 ghost use Rattle.delivery_laws.specs.Rounds.{IsAnsweredWithin, IsAskedWithin, of_telephone, rounds_take};
 ghost use Rattle.outage_laws.specs.AfterOutage.{AgentHasRoomFrom, IsFairFrom, gap_of};
 
-/// A line that was disconnected when the network came back, or whose command is given up yet, has announced itself and was answered by then:
-/// that long behind it as a command is given up behind the last of its sends whose answer may still come in time, then the wait before
-/// it announces itself, and then twice the time of the network: 4,000 ms, the wait and twice that time, where twice that time is less than
-/// 4,000 ms (RFC 3435, 3.5.3, 4.3 and 4.4.7).
+/// A line that was disconnected when the network came back, or whose command is given up yet, has announced itself and was answered by
+/// then: that long behind it as a command is given up behind the last of its sends whose answer may still come in time, then the wait
+/// before it announces itself, and then twice the time of the network: 4,000 ms, the wait and twice that time, where twice that time is
+/// less than 4,000 ms (RFC 3435, 3.5.3, 4.3 and 4.4.7).
 pub fn a_line_has_its_agent_again_after_an_outage()
     ensures behind_the_last { (setup : Setup) (steps : List WorldStep) (since within line : ℕ) (endpoint : Endpoint) → IsRun setup steps →
         within ≤ oldest_packet → IsFairFrom setup steps since within → AgentHasRoomFrom setup steps since →

@@ -20,11 +20,11 @@ ghost use Rattle.delivery_laws.specs.Fairness.{GoesToAgent};
 ghost use Rattle.delivery_laws.specs.OwnChances.{IsOfLine};
 ghost use Rattle.delivery_laws.specs.Rounds.{IsAnsweredWithin, IsAskedWithin, rounds_take};
 ghost use Rattle.outage_laws.specs.AfterOutage.{AgentHasRoomFrom, IsFairFrom, gap_of};
-ghost use Rattle.outage_laws.specs.Example.{asked_again, connected_in_step, sluggish, unconnected};
+ghost use Rattle.outage_laws.specs.Example.{connected_in_step, sluggish};
 ghost use Rattle.outage_laws.specs.LinePremises.{announced_unheard, announced_unheard_yet, answered_as_given_up, answered_before};
 ghost use Rattle.outage_laws.specs.LinePremises.{answered_before_yet, answered_ever_later, back_at_once, back_yet, held_with, hung_up};
 ghost use Rattle.outage_laws.specs.LinePremises.{hung_up_elsewhere, hung_up_elsewhere_yet, hung_up_unserved, hung_up_unserved_yet};
-ghost use Rattle.outage_laws.specs.LinePremises.{hung_up_yet, long_winded, pressed_again, restart_with, waits_yet};
+ghost use Rattle.outage_laws.specs.LinePremises.{connected_soon, hung_up_yet, long_winded, pressed_again, restart_with, waits_yet};
 
 /// A line has not its agent again where the gateway isn't set up well, and what the line sends is longer than a datagram; nor where a step
 /// is refused, by which the clock is put back.
@@ -47,7 +47,7 @@ pub fn else_a_line_has_no_agent()
     ensures waits_then { restart_with two_lines answered_before_yet ≡ Announced }
 {}
 
-/// Nor where the network may take longer than a packet lasts; nor 3 ms sooner than such a one has it by.
+/// Nor where the network may take longer than a packet lasts; nor 1 ms sooner.
 pub fn else_a_line_is_given_up_again()
     ensures run { IsRun hasty answered_ever_later }
     ensures slow { oldest_packet < 13501 }
@@ -59,12 +59,12 @@ pub fn else_a_line_is_given_up_again()
     ensures late { 1 + gap_of 13501 + hasty.disconnected_wait + 2 * 13501 ≤ now_in hasty (hasty_world answered_ever_later) }
     ensures waits { restart_with hasty answered_ever_later ≡ Waiting 51601 }
     ensures unanswered { ¬ IsAnsweredWithin hasty 1 (hasty_took answered_ever_later) [] (2 * 13501) }
-    ensures run_yet { IsRun two_lines unconnected }
-    ensures fair_yet { IsFairFrom two_lines unconnected 19502 301 }
-    ensures room_yet { AgentHasRoomFrom two_lines unconnected 19502 }
-    ensures goes_yet { (b : Begun) → IsOfLine two_lines (world unconnected) 1 b → GoesToAgent two_lines (world unconnected) b.text }
-    ensures soon { now_in two_lines (world unconnected) + 1 < 19502 + gap_of 301 + two_lines.disconnected_wait + 2 * 301 }
-    ensures waits_yet { restart_with two_lines unconnected ≡ Announced }
+    ensures run_yet { IsRun two_lines connected_soon }
+    ensures fair_yet { IsFairFrom two_lines connected_soon 19502 300 }
+    ensures room_yet { AgentHasRoomFrom two_lines connected_soon 19502 }
+    ensures goes_yet { (b : Begun) → IsOfLine two_lines (world connected_soon) 1 b → GoesToAgent two_lines (world connected_soon) b.text }
+    ensures soon { 19502 + gap_of 300 + two_lines.disconnected_wait + 2 * 300 ≡ now_in two_lines (world connected_soon) + 2 }
+    ensures waits_yet { restart_with two_lines connected_soon ≡ Announced }
 {}
 
 /// Nor is it so behind a wait that isn't one of the eight, nor behind one whose answer comes as the command is given up.

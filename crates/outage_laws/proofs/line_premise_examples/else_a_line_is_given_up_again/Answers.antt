@@ -4,8 +4,7 @@ use Rattle.plain_machine.specs.Example.{two_lines}
 use Rattle.delivery_laws.specs.Example.{hasty, hasty_took}
 use Rattle.delivery_laws.proofs.ExampleLemmas.{to_agent, two_lines_set_up}
 use Rattle.delivery_laws.proofs.FrontLemmas.{agent_has_room, not_answered}
-use Rattle.outage_laws.specs.Example.{unconnected}
-use Rattle.outage_laws.specs.LinePremises.{answered_ever_later}
+use Rattle.outage_laws.specs.LinePremises.{answered_ever_later, connected_soon}
 use Rattle.outage_laws.proofs.Computing.{on_examples}
 use Rattle.outage_laws.proofs.FairFromExamples.{fair_from_is, room_from}
 use Rattle.outage_laws.proofs.line_premise_examples.else_a_line_is_given_up_again.Goals as goal
@@ -23,9 +22,9 @@ returns c = record {
   waits = refl;
   unanswered = not_answered hasty 1 (hasty_took answered_ever_later) [] [] [] 27002 refl refl;
   run_yet = (two_lines_set_up, refl);
-  fair_yet = fair_from_is two_lines unconnected 19502 301 refl;
-  room_yet = room_from two_lines unconnected 19502 (agent_has_room two_lines unconnected refl);
-  goes_yet = λ b of. to_agent two_lines unconnected b.text refl;
-  soon = ltb-true _ _ refl;
+  fair_yet = fair_from_is two_lines connected_soon 19502 300 refl;
+  room_yet = room_from two_lines connected_soon 19502 (agent_has_room two_lines connected_soon refl);
+  goes_yet = λ b of. to_agent two_lines connected_soon b.text refl;
+  soon = refl;
   waits_yet = refl;
 }
