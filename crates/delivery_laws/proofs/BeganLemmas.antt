@@ -59,7 +59,7 @@ pub record BeganAt (setup : Setup) (line : ℕ) (steps : List WorldStep) : Type 
   pub all : line_began setup line (some ++ step ∷ []) ≡ line_began setup line steps
 
 -- a beginning that is no shorter is the whole
-whole_front : (some more whole : List Begun) → whole ≡ some ++ more → length whole ≤ length some → some ≡ whole
+pub whole_front : (some more whole : List Begun) → whole ≡ some ++ more → length whole ≤ length some → some ≡ whole
 whole_front some [] whole is long = sym (is ∙ append-nil some)
 whole_front some (b ∷ more) whole is long = absurd (longer some b more (subst (λ (x : List Begun). length x ≤ length some) is long)) where
   longer : (some : List Begun) (b : Begun) (more : List Begun) → length (some ++ b ∷ more) ≤ length some → ⊥

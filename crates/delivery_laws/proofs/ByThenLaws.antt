@@ -38,7 +38,7 @@ use Rattle.delivery_laws.proofs.UnservedLemmas.{done_on}
 
 -- Where all is asked for, what happened of what is quarantined is the telephone's
 
-phone_is : (events : List Observed) → AreOfPhone events → of_telephone events ≡ happened_in events
+pub phone_is : (events : List Observed) → AreOfPhone events → of_telephone events ≡ happened_in events
 phone_is [] all = refl
 phone_is (Happened event ∷ events) all = by_test (is_of_phone event) all.0 (phone_is events all.1) where
   by_test : (b : Bool) → b ≡ true → of_telephone events ≡ happened_in events
@@ -47,7 +47,7 @@ phone_is (Happened event ∷ events) all = by_test (is_of_phone event) all.0 (ph
   by_test false is rest = absurd cc
 phone_is (Ended signal ∷ events) all = phone_is events all
 
-keeps_all : (setup : Setup) (line : ℕ) (before after : List GatewayEvent) (endpoint : Endpoint)
+pub keeps_all : (setup : Setup) (line : ℕ) (before after : List GatewayEvent) (endpoint : Endpoint)
     → endpoint_at (plain setup (before ++ after)).endpoints line ≡ Some endpoint
     → IsAskedForAll (course_of setup line before) (course_from setup (plain setup before) line after) endpoint.line → KeepsAll endpoint.line
 keeps_all setup line before after endpoint at asked =
@@ -74,7 +74,7 @@ keeps_all setup line before after endpoint at asked =
 -- What isn't quarantined was told
 
 -- where no more is left than came since, the others are the beginning
-begins_with : (told left done since : List Observed) → told ++ left ≡ done ++ since → length left ≤ length since → (rest : List Observed) × (told ≡ done ++ rest)
+pub begins_with : (told left done since : List Observed) → told ++ left ≡ done ++ since → length left ≤ length since → (rest : List Observed) × (told ≡ done ++ rest)
 begins_with told left [] since same few = (told, refl)
 begins_with [] left (event ∷ done) since same few =
     absurd (let long : length left ≡ length (event ∷ (done ++ since)) = ap (λ (x : List Observed). length x) same in
@@ -90,7 +90,7 @@ begins_with (other ∷ told) left (event ∷ done) since same few =
       behind x y xs ys same = cc
 
 -- what gave nothing up gave nothing up since
-none_since : (setup : Setup) (line : ℕ) (some later : List GatewayEvent) (post : Post) → has_given_up (of_line line (sent_of setup (some ++ later))) post ≡ false
+pub none_since : (setup : Setup) (line : ℕ) (some later : List GatewayEvent) (post : Post) → has_given_up (of_line line (sent_of setup (some ++ later))) post ≡ false
     → has_given_up (of_line line (sent_from setup (plain setup some) later)) post ≡ false
 none_since setup line some later post none = by_test (has_announced since) refl where
   since : List Sent

@@ -251,7 +251,7 @@ abbrev pub BeginsUntouched : Bool → List CourseStep → LineState → Type 0
 BeginsUntouched serving course line = done_in course ≡ [] → Begins course line
 
 -- nothing more is told of it
-told_none : (course : List CourseStep) (notice : Option Notice) → happened_in (told_along course) ≡ [] → happened_in (told_of notice) ≡ []
+pub told_none : (course : List CourseStep) (notice : Option Notice) → happened_in (told_along course) ≡ [] → happened_in (told_of notice) ≡ []
     → happened_in (told_along (course ++ steps_of notice)) ≡ []
 told_none course notice before now =
     ap happened_in (told_both course (steps_of notice)) ∙ ap (λ (x : List Observed). happened_in (told_along course ++ x)) (told_is notice)
@@ -327,7 +327,7 @@ calls_count = record {
 
 -- And from then on
 
-ask_front : (some more : List CourseStep) → AskForAll (some ++ more) → AskForAll some
+pub ask_front : (some more : List CourseStep) → AskForAll (some ++ more) → AskForAll some
 ask_front [] more all = tt
 ask_front (acts act ∷ some) more all = ask_front some more all
 ask_front (accepts request ∷ some) more all = (all.0, ask_front some more all.1)

@@ -96,7 +96,7 @@ module _ (setup : Setup) (Q : Bool → List CourseStep → LineState → Type 0)
   notice_line line moment endpoint None = refl
   notice_line line moment endpoint (Some notice) = refl
 
-  noted_goes : (serving : Bool) (course : List CourseStep) (line moment : ℕ) (endpoint : Endpoint) (done : LineDone) → TellsReadable done
+  pub noted_goes : (serving : Bool) (course : List CourseStep) (line moment : ℕ) (endpoint : Endpoint) (done : LineDone) → TellsReadable done
       → Q serving (course ++ steps_of done.notice) done.line → TurnGoes serving course (noted setup line moment endpoint done)
   unfolding noted
   noted_goes serving course line moment endpoint done tells holds =
@@ -155,7 +155,7 @@ module _ (setup : Setup) (Q : Bool → List CourseStep → LineState → Type 0)
           noted_goes serving course line moment (posted endpoint (replied (Answered agent) setup line moment response endpoint.post)).value (answered endpoint.line moment)
           (answered_readable endpoint.line moment goes.readable) (calls.answering serving course endpoint.line moment goes.holds)
 
-    resent_steps : (line moment : ℕ) (post : Post) → steps_in (resent_on setup line moment post).sent ≡ []
+    pub resent_steps : (line moment : ℕ) (post : Post) → steps_in (resent_on setup line moment post).sent ≡ []
     resent_steps line moment post = by_pending post.pending where
       by_repeat : (flight : InFlight) (repeat : Repeat) → steps_in (repeated_as repeat setup line moment post flight).sent ≡ []
       by_repeat flight SentAgain = refl
@@ -165,7 +165,7 @@ module _ (setup : Setup) (Q : Bool → List CourseStep → LineState → Type 0)
       by_pending None = refl
       by_pending (Some flight) = by_repeat flight (repeat_of flight moment)
 
-    announced_steps : (line moment : ℕ) (post : Post) → steps_in (announced_on setup line moment post).sent ≡ []
+    pub announced_steps : (line moment : ℕ) (post : Post) → steps_in (announced_on setup line moment post).sent ≡ []
     unfolding announced announcement
     announced_steps line moment post = by_restart post.restart where
       by_restart : (restart : Restart) → steps_in (announced_by restart setup line moment post).sent ≡ []
@@ -174,7 +174,7 @@ module _ (setup : Setup) (Q : Bool → List CourseStep → LineState → Type 0)
       by_restart Serving = refl
 
     -- what falls due of the line itself is what the line says
-    of_the_line : (line : ℕ) (endpoint : Endpoint) (item : DueItem) (due : LineDue) → due_on (line, endpoint) ≡ Some item → item.kind ≡ OfLine due
+    pub of_the_line : (line : ℕ) (endpoint : Endpoint) (item : DueItem) (due : LineDue) → due_on (line, endpoint) ≡ Some item → item.kind ≡ OfLine due
         → (at : ℕ) × (due_of endpoint.line ≡ Some (at, due))
     of_the_line line endpoint item due is kind = by_case (due_cases line endpoint item is) where
       of_post : OfItsCommand line endpoint.post item ⊎ OfItsAnnouncement line endpoint.post item → (at : ℕ) × (due_of endpoint.line ≡ Some (at, due))

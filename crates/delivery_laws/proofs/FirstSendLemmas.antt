@@ -110,7 +110,7 @@ step_says setup w (delivering number) holds = by_post (slice_get w.posted number
 
 -- Where a step began more, the last command is one of these
 
-last_new : (before new front : List Begun) (b : Begun) → before ++ new ≡ front ++ b ∷ [] → length before < length (before ++ new)
+pub last_new : (before new front : List Begun) (b : Begun) → before ++ new ≡ front ++ b ∷ [] → length before < length (before ++ new)
     → OneOf (λ (x : Begun). x ≡ b) new
 last_new [] new front b is more =
     subst (OneOf (λ (x : Begun). x ≡ b)) (sym is) (one_behind (λ (x : Begun). x ≡ b) front (b ∷ []) (inl refl))

@@ -67,7 +67,7 @@ pub record TookThem (setup : Setup) (w : World) (steps : List WorldStep) (events
   pub order : steps ≡ first ++ later
   pub took : (world_after setup w first).gateway_took ≡ events
 
-same_front : (xs : List GatewayEvent) (ys zs : List GatewayEvent) → xs ++ ys ≡ xs ++ zs → ys ≡ zs
+pub same_front : (xs : List GatewayEvent) (ys zs : List GatewayEvent) → xs ++ ys ≡ xs ++ zs → ys ≡ zs
 same_front [] ys zs same = same
 same_front (x ∷ xs) ys zs same = same_front xs ys zs (tails same) where
   tails : x ∷ (xs ++ ys) ≡ x ∷ (xs ++ zs) → xs ++ ys ≡ xs ++ zs

@@ -127,7 +127,7 @@ responded_at setup endpoints now response line endpoint of at =
 
 -- In a world
 
-response_alone : (setup : Setup) (m : Machine) (source : SocketAddrV4) (bytes text : List ℕ) (code id : ℕ) (params : List Param) (body : List ℕ) → texts_of bytes ≡ text ∷ []
+pub response_alone : (setup : Setup) (m : Machine) (source : SocketAddrV4) (bytes text : List ℕ) (code id : ℕ) (params : List Param) (body : List ℕ) → texts_of bytes ≡ text ∷ []
     → read_text text ≡ message (messages.Response code id params body)
     → (effect setup m (datagram source bytes)).value.endpoints ≡ (responded setup m.endpoints m.now (response_with setup id code params)).value
 unfolding effect took_all handled

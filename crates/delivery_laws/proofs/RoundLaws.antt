@@ -55,7 +55,7 @@ sent_on setup m (e ∷ es) fs =
     ap (λ (x : List Sent). (effect setup m e).sent ++ x) (sent_on setup (effect setup m e).value es fs)
     ∙ sym (append_assoc (effect setup m e).sent (sent_from setup (effect setup m e).value es) _)
 
-each_filtered : {X : Type 0} (P : X → Type 0) (p : X → Bool) (xs : List X) → Each P xs → Each P (filter p xs)
+pub each_filtered : {X : Type 0} (P : X → Type 0) (p : X → Bool) (xs : List X) → Each P xs → Each P (filter p xs)
 each_filtered P p [] all = tt
 each_filtered P p (x ∷ xs) all = by_test (p x) (each_filtered P p xs all.1) where
   by_test : (b : Bool) → Each P (filter p xs) → Each P (if b then x ∷ filter p xs else filter p xs)

@@ -42,7 +42,7 @@ calls_unasked = record {
   firing = λ serving course line at due moment is none closed. told_on course (fired line due moment).notice (none closed);
 }
 
-unserved_unasked : (setup : Setup) (line : ℕ) (events : List GatewayEvent) (s : Endpoint) → endpoint_at (plain setup events).endpoints line ≡ Some s
+pub unserved_unasked : (setup : Setup) (line : ℕ) (events : List GatewayEvent) (s : Endpoint) → endpoint_at (plain setup events).endpoints line ≡ Some s
     → serves (plain setup events).endpoints ≡ false → requests_in (course_of setup line events) ≡ []
 unserved_unasked setup line events s at closed =
     ((always setup Unasked calls_unasked line (place_of (plain setup events).endpoints line s at).0 (λ is. refl) events).holds s at).holds closed
@@ -53,7 +53,7 @@ pub none_before : (some more : List Observed) → some ++ more ≡ [] → some �
 none_before [] more none = refl
 none_before (event ∷ some) more none = absurd cc
 
-none_latest : (course : List CourseStep) → requests_in course ≡ [] → latest_from None course ≡ None
+pub none_latest : (course : List CourseStep) → requests_in course ≡ [] → latest_from None course ≡ None
 none_latest [] none = refl
 none_latest (acts act ∷ course) none = none_latest course none
 none_latest (accepts request ∷ course) none = absurd cc
@@ -65,7 +65,7 @@ first_same x y xs ys same = cc
 rest_same : (x y : GatewayEvent) (xs ys : List GatewayEvent) → x ∷ xs ≡ y ∷ ys → xs ≡ ys
 rest_same x y xs ys same = cc
 
-abbrev Begins : List GatewayEvent → List GatewayEvent → Type 0
+abbrev pub Begins : List GatewayEvent → List GatewayEvent → Type 0
 Begins front whole = (between : List GatewayEvent) × (whole ≡ front ++ between)
 
 begins_on : (x y : GatewayEvent) (front whole : List GatewayEvent) → x ≡ y → Begins front whole → Begins (x ∷ front) (y ∷ whole)
@@ -73,7 +73,7 @@ begins_on x y front whole same found =
     (found.0, ap (λ (z : GatewayEvent). z ∷ whole) (sym same) ∙ ap (λ (zs : List GatewayEvent). x ∷ zs) found.1)
 
 -- of two fronts of one list one begins the other
-fronts : (some more other rest : List GatewayEvent) → some ++ more ≡ other ++ rest → Begins some other ⊎ Begins other some
+pub fronts : (some more other rest : List GatewayEvent) → some ++ more ≡ other ++ rest → Begins some other ⊎ Begins other some
 fronts [] more other rest same = inl (other, refl)
 fronts (x ∷ some) more [] rest same = inr (x ∷ some, refl)
 fronts (x ∷ some) more (y ∷ other) rest same = on (fronts some more other rest (rest_same x y (some ++ more) (other ++ rest) same)) where

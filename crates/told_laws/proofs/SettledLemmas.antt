@@ -40,7 +40,7 @@ serving_is (Waiting until) is = absurd cc
 serving_is Announced is = absurd cc
 serving_is Serving is = refl
 
-given_both : (some more : List Sent) (post : Post) → has_announced some ≡ false → has_given_up more post ≡ false → has_given_up (some ++ more) post ≡ false
+pub given_both : (some more : List Sent) (post : Post) → has_announced some ≡ false → has_given_up more post ≡ false → has_given_up (some ++ more) post ≡ false
 given_both [] more post none nor = nor
 given_both (one ∷ some) more post none nor = by_test (announces one.said) none (λ (rest : has_announced some ≡ false). given_both some more post rest nor) where
   by_test : (b : Bool) → (b || has_announced some) ≡ false → (has_announced some ≡ false → has_given_up (some ++ more) post ≡ false)

@@ -41,7 +41,7 @@ course_begun setup line some set_up events endpoint at =
     course_tells setup line some events endpoint at
     ∙ begun_tell setup line (sent_of setup events) (each_from_all (IsWell setup) (sent_of setup events) (sent_well setup set_up events))
 
-told_then : (setup : Setup) (line : ℕ) → 1 ≤ line → IsSetUp setup → (took events : List GatewayEvent) (was is : Endpoint) → endpoint_at (plain setup took).endpoints line ≡ Some was
+pub told_then : (setup : Setup) (line : ℕ) → 1 ≤ line → IsSetUp setup → (took events : List GatewayEvent) (was is : Endpoint) → endpoint_at (plain setup took).endpoints line ≡ Some was
     → endpoint_at (plain setup (took ++ events)).endpoints line ≡ Some is
     → told_along (course_from setup (plain setup took) line events) ≡ flat_map told_by (began_at setup line took events)
 told_then setup line some set_up took events was is at_was at_is =
@@ -66,7 +66,7 @@ observed_is setup steps line set_up taken =
     (each_weaker Q (λ (one : Reached). OneOf (IsAsSent one) (own_in setup w)) (λ one any. one_from_any (IsAsSent one) (own_in setup w) any) (taken_in w)
     (each_from_all Q (taken_in w) (taken_as_sent setup steps set_up taken)))
 
-taken_then : (setup : Setup) (line : ℕ) (before all : List WorldStep) (more : List Reached) → IsSetUp setup → steps_are_taken setup world_opening before ≡ true
+pub taken_then : (setup : Setup) (line : ℕ) (before all : List WorldStep) (more : List Reached) → IsSetUp setup → steps_are_taken setup world_opening before ≡ true
     → steps_are_taken setup world_opening all ≡ true → taken_in (plain_world setup all) ≡ taken_in (plain_world setup before) ++ more
     → taken_meanwhile setup line (plain_world setup before) (plain_world setup all) ≡ flat_map told_taken (line_taken line more)
 taken_then setup line before all more set_up taken_before taken came =

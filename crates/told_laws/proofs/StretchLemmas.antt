@@ -388,7 +388,7 @@ module _ (setup : Setup) (line : ℕ) (some : 1 ≤ line) (first pause stretch :
       (line_taken line (taken_in u)) (stood setup line some up set_up taken_up).came)) there) here
 
   -- what was answered counts as taken
-  answered_taken : (s done after : List WorldStep) (events : List GatewayEvent) (more : List Reached) (settled : List Begun) (flies : Option InFlight) → s ++ after ≡ all
+  pub answered_taken : (s done after : List WorldStep) (events : List GatewayEvent) (more : List Reached) (settled : List Begun) (flies : Option InFlight) → s ++ after ≡ all
       → (plain_world setup s).gateway_took ≡ u.gateway_took ++ events → taken_in (plain_world setup s) ≡ taken_in u ++ more
       → flying pending ++ began_at setup line u.gateway_took events ≡ settled ++ flying flies
       → Each (λ (b : Begun). WasTaken (taken_in (plain_world setup s)) b.id) settled
@@ -566,7 +566,7 @@ module _ (setup : Setup) (line : ℕ) (some : 1 ≤ line) (first pause stretch :
   -- What they tell
 
   -- it is of the line that there is then
-  settled_last : Settles (WasTaken (taken_in w)) pending (began_at setup line u.gateway_took matched.events) is.post.pending
+  pub settled_last : Settles (WasTaken (taken_in w)) pending (began_at setup line u.gateway_took matched.events) is.post.pending
   settled_last =
       let at = settled_then all [] matched.events (append-nil all) matched.took in
       let there : IsThere setup line w.gateway_took at.0 = subst (λ (x : List GatewayEvent). IsThere setup line x at.0) (sym matched.took) at.1 in
@@ -574,16 +574,16 @@ module _ (setup : Setup) (line : ℕ) (some : 1 ≤ line) (first pause stretch :
       let same : at.0 ≡ is = cc in
       subst (λ (s : Endpoint). Settles (WasTaken (taken_in w)) pending (began_at setup line u.gateway_took matched.events) s.post.pending) same at.2
 
-  last_apart : Apart (since_ids setup line u pending matched.events)
+  pub last_apart : Apart (since_ids setup line u pending matched.events)
   last_apart = since_apart all [] matched.events (append-nil all) matched.took
 
-  last_came : Each (Came (late_begun pending (taken_in u) ++ began_at setup line u.gateway_took matched.events)) (line_taken line matched.more)
+  pub last_came : Each (Came (late_begun pending (taken_in u) ++ began_at setup line u.gateway_took matched.events)) (line_taken line matched.more)
   last_came =
       late_came line pending (taken_in u) (began_at setup line u.gateway_took matched.events) (line_taken line matched.more) flying_mine
       (came_there all stretch [] matched.events matched.more refl (append-nil all) matched.took matched.came)
 
   -- where one more began than was taken it is in flight
-  last_flies : (last : ℕ) → since_ids setup line u pending matched.events ≡ took_ids line u pending matched.more ++ last ∷ []
+  pub last_flies : (last : ℕ) → since_ids setup line u pending matched.events ≡ took_ids line u pending matched.more ++ last ∷ []
       → (flight : InFlight) × (is.post.pending ≡ Some flight)
       × ((settled : List Begun) × (flying pending ++ began_at setup line u.gateway_took matched.events ≡ settled ++ flying (Some flight)))
   last_flies last ends = by_pending is.post.pending refl settled_last where
