@@ -22,6 +22,12 @@ pub mod LineFrontLaws
 pub mod LineWindowLaws
 pub mod ServesFrontLaws
 pub mod YoungLemmas
+pub mod CalmTicks
+pub mod LostLemmas
+pub mod BeganEvents
+pub mod YoungFlightLaws
+pub mod ToldByLaws
+pub mod ToldLaterLaws
 pub mod Computing
 pub mod SentExamples
 pub mod FairFromExamples
@@ -30,3 +36,4 @@ pub mod FirstServes
 pub mod OldestServes
 pub mod ServesByThen
 pub mod WellLaws
+pub mod HadTimeExamples

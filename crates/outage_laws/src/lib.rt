@@ -15,3 +15,5 @@ pub mod premise_examples;
 pub mod since_laws;
 pub mod well_examples;
 pub mod well_laws;
+pub mod told_later_examples;
+pub mod told_later_laws;
