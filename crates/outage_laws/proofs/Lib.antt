@@ -28,6 +28,8 @@ pub mod BeganEvents
 pub mod YoungFlightLaws
 pub mod ToldByLaws
 pub mod ToldLaterLaws
+pub mod CalmStretches
+pub mod ToldSinceLaws
 pub mod Computing
 pub mod SentExamples
 pub mod FairFromExamples

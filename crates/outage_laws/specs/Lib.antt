@@ -2,6 +2,7 @@ pub mod Alone
 pub mod Carrying
 pub mod AfterOutage
 pub mod HadTime
+pub mod ToldSince
 pub mod Example
 pub mod Premises
 pub mod LinePremises

@@ -1,0 +1,23 @@
+-- What the agent is told of a line since a moment, whatever was given up before (RFC 3435, 3.5, 4.3 and 4.4.1).
+use Rattle.std.specs.Prelude.{◌≡◌, ℕ, ◌≤◌, IfSome, List, ◌++◌, Option}
+use Rattle.event_values.specs.declared.observed.Observed.{Observed}
+use Rattle.outbound.specs.Flight.{InFlight}
+use Rattle.plain_machine.specs.declared.setup.Setup.{Setup}
+use Rattle.agent_core.specs.World.{World}
+use Rattle.delivery_laws.specs.Fairness.{GoesToAgent}
+use Rattle.delivery_laws.specs.Keeping.{happened_in}
+use Rattle.told_laws.specs.Stretch.{IsOnItsWay}
+
+-- what a line has in flight, if anything, began at this moment or later, and goes to the agent
+abbrev pub FlightBeganSince : Setup → World → ℕ → Option InFlight → Type 0
+FlightBeganSince setup w since pending = IfSome pending (λ flight. (since ≤ flight.first) × GoesToAgent setup w flight.text)
+
+-- What the agent took since then is what was on its way at first, if it came, and then the rest; and what the line had told before, each
+-- notification at its first send, and that rest begin with what was done.
+pub record IsToldSince (first : Option InFlight) (told done taken : List Observed) : Type 0 where
+  pub late : List Observed
+  pub since : List Observed
+  pub late_is : IsOnItsWay first late
+  pub order : taken ≡ late ++ since
+  pub rest : List Observed
+  pub whole : happened_in told ++ happened_in since ≡ done ++ rest
