@@ -22,6 +22,7 @@ pub mod LineFrontLaws
 pub mod LineWindowLaws
 pub mod ServesFrontLaws
 pub mod YoungLemmas
+pub mod ResponseListLaws
 pub mod CalmTicks
 pub mod LostLemmas
 pub mod BeganEvents

@@ -1,0 +1,18 @@
+use Rattle.outage_laws.proofs.ResponseListLaws.{line_put_off, line_sent_later, own_put_off, own_sent_later}
+use Rattle.outage_laws.proofs.response_laws.what_is_put_off_is_sent_later.Goals as goal
+
+pub returns-clause-line : goal.returns-clause-line
+returns-clause-line c = λ setup events source bytes text code id params body line was flight alone reads at flies same provisional.
+    line_put_off setup events source bytes text code id params body alone reads line was flight at flies same provisional
+
+pub returns-clause-line_sent : goal.returns-clause-line_sent
+returns-clause-line_sent c = λ setup events after source bytes text code id params body line was is flight alone reads at flies same provisional again none there late.
+    line_sent_later setup events source bytes text code id params body alone reads line was flight at flies same provisional again after is none there late
+
+pub returns-clause-own : goal.returns-clause-own
+returns-clause-own c = λ setup events source bytes text code id params body flight alone reads flies same provisional.
+    own_put_off setup events source bytes text code id params body alone reads flight flies same provisional
+
+pub returns-clause-own_sent : goal.returns-clause-own_sent
+returns-clause-own_sent c = λ setup events after source bytes text code id params body flight alone reads flies same provisional again none late.
+    own_sent_later setup events source bytes text code id params body alone reads flight flies same provisional again after none late
