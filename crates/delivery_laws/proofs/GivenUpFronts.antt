@@ -55,7 +55,7 @@ module _ (setup : Setup) (line : ℕ) (one : 1 ≤ line) where
             absurd (none_comes setup line one some event next.0 none
             (ap (λ (m : Machine). endpoint_at m.endpoints line) (sym (machine_on setup (opening setup) some (event ∷ []))) ∙ next.1))
 
-  flew : (events : List GatewayEvent) (s : Endpoint) → IsAt events s → Flies AnyId (Unit {0}) (sent_by events) s
+  pub flew : (events : List GatewayEvent) (s : Endpoint) → IsAt events s → Flies AnyId (Unit {0}) (sent_by events) s
   flew events =
       (events_stand setup IsFinal (FliesBeside AnyId (Unit {0})) (flight_turns AnyId (Unit {0}) setup) line one (opening setup) [] [] 0
       events (hear_all setup IsFinal (λ response high. tt) (arrivals_of events)) (record {

@@ -147,7 +147,7 @@ module _ (setup : Setup) (first later : List WorldStep) (within line : ℕ) (end
 
 -- Something is in flight while a line of a gateway that serves waits
 
-has_flight : (setup : Setup) (line : ℕ) → 1 ≤ line → (events : List GatewayEvent) (s : Endpoint) → endpoint_at (plain setup events).endpoints line ≡ Some s → serves (plain setup events).endpoints ≡ true
+pub has_flight : (setup : Setup) (line : ℕ) → 1 ≤ line → (events : List GatewayEvent) (s : Endpoint) → endpoint_at (plain setup events).endpoints line ≡ Some s → serves (plain setup events).endpoints ≡ true
     → HasFlight s
 has_flight setup line one events s at serving =
     (events_stand setup AnyResponse HasOnceServing (has_turns setup) line one (opening setup) [] [] 0 events (hear_all setup AnyResponse (λ response. tt) (arrivals_of events)) (record {

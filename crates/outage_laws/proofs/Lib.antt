@@ -31,6 +31,8 @@ pub mod ToldByLaws
 pub mod ToldLaterLaws
 pub mod CalmStretches
 pub mod ToldSinceLaws
+pub mod AnsweredSinceLaws
+pub mod FairStretchLaws
 pub mod Computing
 pub mod SentExamples
 pub mod FairFromExamples

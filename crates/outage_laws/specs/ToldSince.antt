@@ -1,8 +1,12 @@
 -- What the agent is told of a line since a moment, whatever was given up before (RFC 3435, 3.5, 4.3 and 4.4.1).
-use Rattle.std.specs.Prelude.{◌≡◌, ℕ, ◌≤◌, IfSome, List, ◌++◌, Option}
+use Rattle.std.specs.Prelude.{◌≡◌, ℕ, ◌≤◌, IfSome, List, ◌++◌, Option, Some}
 use Rattle.event_values.specs.declared.observed.Observed.{Observed}
 use Rattle.outbound.specs.Flight.{InFlight}
+use Rattle.plain_machine.specs.declared.endpoint.Endpoint.{Endpoint}
 use Rattle.plain_machine.specs.declared.setup.Setup.{Setup}
+use Rattle.plain_machine.specs.Event.{GatewayEvent}
+use Rattle.plain_machine.specs.Lists.{plain}
+use Rattle.plain_machine.specs.Machine.{endpoint_at}
 use Rattle.agent_core.specs.World.{World}
 use Rattle.delivery_laws.specs.Fairness.{GoesToAgent}
 use Rattle.delivery_laws.specs.Keeping.{happened_in}
@@ -11,6 +15,13 @@ use Rattle.told_laws.specs.Stretch.{IsOnItsWay}
 -- what a line has in flight, if anything, began at this moment or later, and goes to the agent
 abbrev pub FlightBeganSince : Setup → World → ℕ → Option InFlight → Type 0
 FlightBeganSince setup w since pending = IfSome pending (λ flight. (since ≤ flight.first) × GoesToAgent setup w flight.text)
+
+-- Behind the events before, at no time of these, the line has in flight what began sooner than that.
+abbrev pub FlightsBeganSince : Setup → ℕ → List GatewayEvent → List GatewayEvent → ℕ → Type 0
+FlightsBeganSince setup line before events since =
+    (some later : List GatewayEvent) (endpoint : Endpoint) → events ≡ some ++ later
+    → endpoint_at (plain setup (before ++ some)).endpoints line ≡ Some endpoint
+    → IfSome endpoint.post.pending (λ flight. since ≤ flight.first)
 
 -- What the agent took since then is what was on its way at first, if it came, and then the rest; and what the line had told before, each
 -- notification at its first send, and that rest begin with what was done.

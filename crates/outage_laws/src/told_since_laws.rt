@@ -1,28 +1,35 @@
-//! The law of what is dialled over a stretch, whatever was given up before it.
-ghost use Rattle.std.specs.Prelude.{◌≡◌, ◌≤◌, ◌<◌, ◌+◌, ◌++◌, ℕ, List, Some, length, true};
+//! Laws of what is dialled over a stretch, whatever was given up before it.
+ghost use Rattle.std.specs.Prelude.{◌≡◌, ◌≤◌, ◌<◌, ◌+◌, ◌*◌, ◌++◌, ℕ, List, Some, length, false, true};
+ghost use Rattle.restart.specs.declared.restart.Restart.TheVariants.{Serving};
 ghost use Rattle.plain_machine.specs.declared.setup.Setup.{Setup};
 ghost use Rattle.plain_machine.specs.declared.endpoint.Endpoint.{Endpoint};
 ghost use Rattle.plain_machine.specs.Event.{GatewayEvent};
-ghost use Rattle.plain_machine.specs.Lists.{plain};
-ghost use Rattle.plain_machine.specs.Machine.{endpoint_at};
+ghost use Rattle.plain_machine.specs.Lists.{plain, sent_from};
+ghost use Rattle.plain_machine.specs.Machine.{endpoint_at, serves};
 ghost use Rattle.plain_machine.specs.Setup.{IsSetUp};
-ghost use Rattle.machine_laws.specs.Saying.{HasNumbersLeft};
+ghost use Rattle.machine_laws.specs.Belonging.{of_line};
+ghost use Rattle.machine_laws.specs.Saying.{Begun, HasNumbersLeft};
 ghost use Rattle.agent_core.specs.World.{WorldStep, gateway_in, now_in, plain_world, steps_are_taken, world_opening};
 ghost use Rattle.world_laws.specs.Reached.{own_in};
+ghost use Rattle.delivery_laws.specs.Copies.{IsRun};
 ghost use Rattle.delivery_laws.specs.Course.{course_from, course_of};
 ghost use Rattle.delivery_laws.specs.Dialled.{IsAskedForAll, done_in, told_along};
+ghost use Rattle.delivery_laws.specs.Fairness.{GoesToAgent};
+ghost use Rattle.delivery_laws.specs.GivenUp.{has_given_up};
+ghost use Rattle.delivery_laws.specs.OwnChances.{IsOfLine};
 ghost use Rattle.delivery_laws.specs.Rounds.{IsAnsweredWithin, IsAskedWithin, rounds_take};
 ghost use Rattle.told_laws.specs.Stretch.{GivesNothingUp, outliving, taken_meanwhile};
 ghost use Rattle.outage_laws.specs.AfterOutage.{AgentHasRoomFrom, IsFairFrom};
-ghost use Rattle.outage_laws.specs.ToldSince.{FlightBeganSince, IsToldSince};
+ghost use Rattle.outage_laws.specs.ToldSince.{FlightBeganSince, FlightsBeganSince, IsToldSince};
 
 /// Whatever was lost and given up before: over a stretch in which a line gives nothing up, nor in the 10,500 ms before it, and at the
 /// beginning of which, and of that time, it serves, and over a network that is fair from some moment on, what its telephone had done by a
 /// moment of the stretch the agent was told, so many rounds and once the network's time later, or it was told at its first send before the
 /// stretch. What is in flight at the end may be young, and is to have begun since the network is fair; what was on its way at the beginning
-/// may come, too. For that the line's numbers aren't used up (RFC 3435, 4.3 and 4.4.1).
+/// may come, too. For that the line's numbers aren't used up. Where all that the line sends since the network is fair goes to the agent,
+/// and the gateway serves, an answer takes twice the network's time at most (RFC 3435, 4.3 and 4.4.1).
 pub fn what_is_dialled_over_a_stretch_is_told()
-    ensures { (setup : Setup) (line since within answering asking : ℕ) (first pause stretch : List WorldStep)
+    ensures told { (setup : Setup) (line since within answering asking : ℕ) (first pause stretch : List WorldStep)
         (before after front later : List GatewayEvent) (once was is there : Endpoint) → IsSetUp setup →
         let up = first ++ pause in let steps = up ++ stretch in steps_are_taken setup world_opening steps ≡ true →
         let v = plain_world setup first in let u = plain_world setup up in let w = plain_world setup steps in
@@ -41,4 +48,40 @@ pub fn what_is_dialled_over_a_stretch_is_told()
         (plain setup took).now + rounds_take (length there.line.quarantined.events) answering asking + within ≤ now_in setup w →
         IsToldSince was.post.pending (told_along (course_of setup line u.gateway_took)) (done_in (course_of setup line took))
         (taken_meanwhile setup line u w) }
+    ensures fair { (setup : Setup) (line since within asking : ℕ) (first pause stretch : List WorldStep)
+        (before after front later : List GatewayEvent) (once was is there : Endpoint) → IsSetUp setup →
+        let up = first ++ pause in let steps = up ++ stretch in steps_are_taken setup world_opening steps ≡ true →
+        let v = plain_world setup first in let u = plain_world setup up in let w = plain_world setup steps in
+        HasNumbersLeft (own_in setup w) →
+        endpoint_at (gateway_in setup v).endpoints line ≡ Some once →
+        endpoint_at (gateway_in setup u).endpoints line ≡ Some was →
+        endpoint_at (gateway_in setup w).endpoints line ≡ Some is →
+        GivesNothingUp setup line v u once was → GivesNothingUp setup line u w was is → now_in setup v + outliving ≤ now_in setup u →
+        w.gateway_took ≡ before ++ after →
+        IsAskedForAll (course_of setup line before) (course_from setup (plain setup before) line after) is.line →
+        IsFairFrom setup steps since within → AgentHasRoomFrom setup steps since → serves (gateway_in setup u).endpoints ≡ true →
+        w.gateway_took ≡ (u.gateway_took ++ front) ++ later →
+        let took = u.gateway_took ++ front in endpoint_at (plain setup took).endpoints line ≡ Some there →
+        FlightsBeganSince setup line took later since →
+        ((b : Begun) → IsOfLine setup w line b → since ≤ b.moment → GoesToAgent setup w b.text) →
+        IsAskedWithin setup line took later asking →
+        (plain setup took).now + rounds_take (length there.line.quarantined.events) (2 * within) asking < now_in setup w →
+        (plain setup took).now + rounds_take (length there.line.quarantined.events) (2 * within) asking + within ≤ now_in setup w →
+        IsToldSince was.post.pending (told_along (course_of setup line u.gateway_took)) (done_in (course_of setup line took))
+        (taken_meanwhile setup line u w) }
+{}
+
+/// Over a network that is fair from some moment on, and whatever was given up before, a line that serves, of a gateway that does, waits for
+/// the answer to its command for twice the network's time at most over a stretch in which it gives nothing up, and has nothing in flight
+/// that began before the network was fair, where what began since goes to the agent, which has room (RFC 3435, 3.5 and 4.4.1).
+pub fn a_network_that_is_fair_since_answers_in_time()
+    ensures { (setup : Setup) (steps : List WorldStep) (since within line : ℕ) (some later : List GatewayEvent) (was is : Endpoint) →
+        IsRun setup steps → IsFairFrom setup steps since within → AgentHasRoomFrom setup steps since → let w = plain_world setup steps in
+        w.gateway_took ≡ some ++ later → serves (plain setup some).endpoints ≡ true →
+        endpoint_at (plain setup some).endpoints line ≡ Some was → was.post.restart ≡ Serving →
+        endpoint_at (gateway_in setup w).endpoints line ≡ Some is →
+        has_given_up (of_line line (sent_from setup (plain setup some) later)) is.post ≡ false →
+        FlightsBeganSince setup line some later since →
+        ((b : Begun) → IsOfLine setup w line b → since ≤ b.moment → GoesToAgent setup w b.text) →
+        IsAnsweredWithin setup line some later (2 * within) }
 {}

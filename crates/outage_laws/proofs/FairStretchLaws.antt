@@ -1,0 +1,126 @@
+-- The same over a network that is fair from a moment on, where each command that a line begins since goes to the agent: an answer takes twice the
+-- network's time at most.
+use Rattle.std.proofs.Common.{◌≡◌, ℕ, ◌+◌, ◌*◌, ◌<◌, ◌≤◌, true, false, List, [], ◌∷◌, ◌++◌, length, Option, Some, None, refl, sym, ◌∙◌, subst, append-nil, append_assoc}
+use Rattle.std.specs.Prelude.{IfSome}
+use Rattle.outbound.specs.Flight.{InFlight}
+use Rattle.restart.specs.declared.restart.Restart.TheVariants.{Serving}
+use Rattle.plain_machine.specs.declared.setup.Setup.{Setup}
+use Rattle.plain_machine.specs.declared.endpoint.Endpoint.{Endpoint}
+use Rattle.plain_machine.specs.Event.{GatewayEvent}
+use Rattle.plain_machine.specs.Lists.{plain}
+use Rattle.plain_machine.specs.Machine.{endpoint_at, serves}
+use Rattle.plain_machine.specs.Setup.{IsSetUp}
+use Rattle.machine_laws.proofs.AnnouncementLaws.{serving_lasts}
+use Rattle.machine_laws.proofs.EachLemmas.{any_from_one}
+use Rattle.machine_laws.specs.Saying.{Begun, HasNumbersLeft, OneOf}
+use Rattle.agent_core.specs.World.{World, WorldStep, gateway_in, now_in, plain_world, steps_are_taken, world_opening}
+use Rattle.world_laws.specs.Reached.{own_in}
+use Rattle.delivery_laws.specs.Course.{course_from, course_of}
+use Rattle.delivery_laws.specs.Dialled.{IsAskedForAll, done_in, told_along}
+use Rattle.delivery_laws.specs.Fairness.{GoesToAgent}
+use Rattle.delivery_laws.specs.GivenUp.{has_given_up}
+use Rattle.delivery_laws.specs.OwnChances.{IsOfLine}
+use Rattle.delivery_laws.specs.Rounds.{IsAnsweredWithin, IsAskedWithin, rounds_take}
+use Rattle.delivery_laws.proofs.PairedSteps.{stood}
+use Rattle.delivery_laws.proofs.StepLemmas.{taken_front}
+use Rattle.delivery_laws.proofs.WorldLemmas.{line_begun}
+use Rattle.told_laws.specs.Stretch.{GivesNothingUp, outliving, taken_meanwhile}
+use Rattle.told_laws.proofs.SettledLemmas.{IsThere, sent_at, serving_is, start}
+use Rattle.told_laws.proofs.StretchLemmas.{meanwhile_is}
+use Rattle.outage_laws.specs.AfterOutage.{AgentHasRoomFrom, IsFairFrom}
+use Rattle.outage_laws.specs.ToldSince.{FlightBeganSince, FlightsBeganSince, IsToldSince}
+use Rattle.outage_laws.proofs.AnsweredSinceLaws.{LastBegun, answered_since, last_begun, still_serves}
+use Rattle.outage_laws.proofs.BeganEvents.{last_among}
+use Rattle.outage_laws.proofs.CalmStretches.{calm_back, calm_front}
+use Rattle.outage_laws.proofs.ToldSinceLaws.{told_since}
+
+module _ (setup : Setup) (line : ℕ) (some : 1 ≤ line) (first pause stretch : List WorldStep) (once was is : Endpoint) (set_up : IsSetUp setup)
+    (taken : steps_are_taken setup world_opening ((first ++ pause) ++ stretch) ≡ true)
+    (few : HasNumbersLeft (own_in setup (plain_world setup ((first ++ pause) ++ stretch))))
+    (at_once : endpoint_at (gateway_in setup (plain_world setup first)).endpoints line ≡ Some once)
+    (at_was : endpoint_at (gateway_in setup (plain_world setup (first ++ pause))).endpoints line ≡ Some was)
+    (at_is : endpoint_at (gateway_in setup (plain_world setup ((first ++ pause) ++ stretch))).endpoints line ≡ Some is)
+    (calm_before : GivesNothingUp setup line (plain_world setup first) (plain_world setup (first ++ pause)) once was)
+    (calm_since : GivesNothingUp setup line (plain_world setup (first ++ pause)) (plain_world setup ((first ++ pause) ++ stretch)) was is)
+    (long : now_in setup (plain_world setup first) + outliving ≤ now_in setup (plain_world setup (first ++ pause)))
+    (since within asking : ℕ) (before after front later : List GatewayEvent) (there : Endpoint)
+    (fair : IsFairFrom setup ((first ++ pause) ++ stretch) since within) (roomy : AgentHasRoomFrom setup ((first ++ pause) ++ stretch) since)
+    (serves_then : serves (gateway_in setup (plain_world setup (first ++ pause))).endpoints ≡ true)
+    (began : FlightsBeganSince setup line ((plain_world setup (first ++ pause)).gateway_took ++ front) later since)
+    (reach : (b : Begun) → IsOfLine setup (plain_world setup ((first ++ pause) ++ stretch)) line b → since ≤ b.moment
+    → GoesToAgent setup (plain_world setup ((first ++ pause) ++ stretch)) b.text)
+    (took : (plain_world setup ((first ++ pause) ++ stretch)).gateway_took ≡ before ++ after)
+    (asked : IsAskedForAll (course_of setup line before) (course_from setup (plain setup before) line after) is.line)
+    (split : (plain_world setup ((first ++ pause) ++ stretch)).gateway_took ≡ ((plain_world setup (first ++ pause)).gateway_took ++ front) ++ later)
+    (at_there : endpoint_at (plain setup ((plain_world setup (first ++ pause)).gateway_took ++ front)).endpoints line ≡ Some there)
+    (is_asked : IsAskedWithin setup line ((plain_world setup (first ++ pause)).gateway_took ++ front) later asking)
+    (late : (plain setup ((plain_world setup (first ++ pause)).gateway_took ++ front)).now + rounds_take (length there.line.quarantined.events) (2 * within) asking
+    < now_in setup (plain_world setup ((first ++ pause) ++ stretch)))
+    (more : (plain setup ((plain_world setup (first ++ pause)).gateway_took ++ front)).now + rounds_take (length there.line.quarantined.events) (2 * within) asking + within
+    ≤ now_in setup (plain_world setup ((first ++ pause) ++ stretch))) where
+  abbrev up : List WorldStep
+  up = first ++ pause
+
+  abbrev all : List WorldStep
+  all = up ++ stretch
+
+  abbrev u : World
+  u = plain_world setup up
+
+  abbrev w : World
+  w = plain_world setup all
+
+  abbrev some_took : List GatewayEvent
+  some_took = u.gateway_took ++ front
+
+  taken_up : steps_are_taken setup world_opening up ≡ true
+  taken_up = taken_front setup world_opening up stretch taken
+
+  serving : was.post.restart ≡ Serving
+  serving = serving_is was.post.restart calm_since.0
+
+  whole : w.gateway_took ≡ u.gateway_took ++ (front ++ later)
+  whole = split ∙ append_assoc u.gateway_took front later
+
+  none : has_given_up (sent_at setup line u.gateway_took (front ++ later)) is.post ≡ false
+  none =
+      subst (λ (x : List GatewayEvent). has_given_up (sent_at setup line u.gateway_took x) is.post ≡ false) (meanwhile_is u w (front ++ later) whole) calm_since.1
+
+  -- the line serves at that moment, and at the end
+  there_serves : there.post.restart ≡ Serving
+  there_serves =
+      still_serves (sent_at setup line u.gateway_took front) there
+      (calm_front setup line some u.gateway_took front later was there is at_was at_there (subst (λ (x : List GatewayEvent). IsThere setup line x is) split at_is)
+      ((stood setup line some up set_up taken_up).flies was at_was).rests serving (start setup line some u.gateway_took was at_was serving) none)
+
+  calm : has_given_up (sent_at setup line some_took later) is.post ≡ false
+  calm = calm_back setup line u.gateway_took front later is.post none
+
+  answered : IsAnsweredWithin setup line some_took later (2 * within)
+  answered =
+      answered_since setup all since within line some_took later there is set_up taken fair roomy split (serving_lasts setup u.gateway_took front serves_then) at_there there_serves
+      at_is calm began reach
+
+  -- what is in flight at the end
+  flew : FlightBeganSince setup w since is.post.pending
+  flew = by_pending is.post.pending refl where
+    by_pending : (pending : Option InFlight) → is.post.pending ≡ pending → FlightBeganSince setup w since pending
+    by_pending None flies = tt
+    by_pending (Some flight) flies =
+        let b : Begun = record { id = flight.id; moment = flight.first; text = flight.text } in
+        let past : since ≤ flight.first =
+        subst (λ (pending : Option InFlight). IfSome pending (λ x. since ≤ x.first)) flies
+        (began later [] is (sym (append-nil later)) (subst (λ (x : List GatewayEvent). endpoint_at (plain setup x).endpoints line ≡ Some is) split at_is)) in
+        let l : LastBegun setup line w.gateway_took flight =
+        last_begun setup line some w.gateway_took is flight at_is (still_serves (sent_at setup line some_took later) is calm) flies in (
+          past,
+          reach b
+              (any_from_one (λ (x : Begun). x ≡ b) (line_begun setup line w.gateway_took)
+              (subst (OneOf (λ (x : Begun). x ≡ b)) (sym l.is) (last_among l.front b)))
+              past,
+        )
+
+  pub fair_told_since : IsToldSince was.post.pending (told_along (course_of setup line u.gateway_took)) (done_in (course_of setup line some_took)) (taken_meanwhile setup line u w)
+  fair_told_since =
+      told_since setup line some first pause stretch once was is set_up taken few at_once at_was at_is calm_before calm_since long since within (2 * within) asking before after front
+      later there fair roomy flew took asked split at_there answered is_asked late more
