@@ -7,3 +7,4 @@ pub mod Example
 pub mod Premises
 pub mod LinePremises
 pub mod ToldLaterExample
+pub mod ToldSinceExample

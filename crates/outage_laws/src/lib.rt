@@ -18,4 +18,5 @@ pub mod well_examples;
 pub mod well_laws;
 pub mod told_later_examples;
 pub mod told_later_laws;
+pub mod told_since_examples;
 pub mod told_since_laws;
