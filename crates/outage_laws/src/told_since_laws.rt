@@ -1,5 +1,5 @@
 //! Laws of what is dialled over a stretch, whatever was given up before it.
-ghost use Rattle.std.specs.Prelude.{◌≡◌, ◌≤◌, ◌<◌, ◌+◌, ◌*◌, ◌++◌, ℕ, List, Some, length, false, true};
+ghost use Rattle.std.specs.Prelude.{◌≡◌, ◌≤◌, ◌<◌, ◌+◌, ◌*◌, ◌++◌, [], ℕ, List, Some, length, false, true};
 ghost use Rattle.restart.specs.declared.restart.Restart.TheVariants.{Serving};
 ghost use Rattle.plain_machine.specs.declared.setup.Setup.{Setup};
 ghost use Rattle.plain_machine.specs.declared.endpoint.Endpoint.{Endpoint};
@@ -17,7 +17,7 @@ ghost use Rattle.delivery_laws.specs.Dialled.{IsAskedForAll, done_in, told_along
 ghost use Rattle.delivery_laws.specs.Fairness.{GoesToAgent};
 ghost use Rattle.delivery_laws.specs.GivenUp.{has_given_up};
 ghost use Rattle.delivery_laws.specs.OwnChances.{IsOfLine};
-ghost use Rattle.delivery_laws.specs.Rounds.{IsAnsweredWithin, IsAskedWithin, rounds_take};
+ghost use Rattle.delivery_laws.specs.Rounds.{IsAnsweredWithin, IsAskedWithin, of_telephone, rounds_take};
 ghost use Rattle.told_laws.specs.Stretch.{GivesNothingUp, outliving, taken_meanwhile};
 ghost use Rattle.outage_laws.specs.AfterOutage.{AgentHasRoomFrom, IsFairFrom};
 ghost use Rattle.outage_laws.specs.ToldSince.{FlightBeganSince, FlightsBeganSince, IsToldSince};
@@ -84,4 +84,31 @@ pub fn a_network_that_is_fair_since_answers_in_time()
         FlightsBeganSince setup line some later since →
         ((b : Begun) → IsOfLine setup w line b → since ≤ b.moment → GoesToAgent setup w b.text) →
         IsAnsweredWithin setup line some later (2 * within) }
+{}
+
+/// So, over a stretch like that, where the line waits for no request longer than so many ms, what was quarantined at its beginning is out
+/// after as many rounds as events were: no more of it than the telephone did since, and none where that rests (RFC 3435, 4.4.1).
+pub fn what_is_quarantined_goes_out_once_the_network_is_fair()
+    ensures out { (setup : Setup) (steps : List WorldStep) (since within asking line : ℕ) (some later : List GatewayEvent)
+        (was is : Endpoint) → IsRun setup steps → IsFairFrom setup steps since within → AgentHasRoomFrom setup steps since →
+        let w = plain_world setup steps in w.gateway_took ≡ some ++ later → serves (plain setup some).endpoints ≡ true →
+        endpoint_at (plain setup some).endpoints line ≡ Some was → was.post.restart ≡ Serving →
+        endpoint_at (gateway_in setup w).endpoints line ≡ Some is →
+        has_given_up (of_line line (sent_from setup (plain setup some) later)) is.post ≡ false →
+        FlightsBeganSince setup line some later since →
+        ((b : Begun) → IsOfLine setup w line b → since ≤ b.moment → GoesToAgent setup w b.text) →
+        IsAskedWithin setup line some later asking →
+        (plain setup some).now + rounds_take (length was.line.quarantined.events) (2 * within) asking < now_in setup w →
+        length (of_telephone is.line.quarantined.events) ≤ length (done_in (course_from setup (plain setup some) line later)) }
+    ensures rests { (setup : Setup) (steps : List WorldStep) (since within asking line : ℕ) (some later : List GatewayEvent)
+        (was is : Endpoint) → IsRun setup steps → IsFairFrom setup steps since within → AgentHasRoomFrom setup steps since →
+        let w = plain_world setup steps in w.gateway_took ≡ some ++ later → serves (plain setup some).endpoints ≡ true →
+        endpoint_at (plain setup some).endpoints line ≡ Some was → was.post.restart ≡ Serving →
+        endpoint_at (gateway_in setup w).endpoints line ≡ Some is →
+        has_given_up (of_line line (sent_from setup (plain setup some) later)) is.post ≡ false →
+        FlightsBeganSince setup line some later since →
+        ((b : Begun) → IsOfLine setup w line b → since ≤ b.moment → GoesToAgent setup w b.text) →
+        IsAskedWithin setup line some later asking →
+        (plain setup some).now + rounds_take (length was.line.quarantined.events) (2 * within) asking < now_in setup w →
+        done_in (course_from setup (plain setup some) line later) ≡ [] → of_telephone is.line.quarantined.events ≡ [] }
 {}
