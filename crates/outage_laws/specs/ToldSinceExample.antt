@@ -51,6 +51,10 @@ told_at_once = underway_since ++ ticking 41001 ∷ delivering 23 ∷ []
 abbrev pub kept_from_it : List WorldStep
 kept_from_it = underway_since ++ ticking 41301 ∷ []
 
+-- and 1 ms more passes
+abbrev pub kept_longer : List WorldStep
+kept_longer = kept_from_it ++ ticking 41302 ∷ []
+
 -- of line 1 behind the pause: that it gives nothing up up to some steps, what the agent took of it meanwhile, and the conclusion of the law
 abbrev pub GaveNothingUpSince : List WorldStep → List WorldStep → Type 0
 GaveNothingUpSince before steps = GivesNothingUp two_lines 1 (world before) (world steps) (endpoint_then before) (endpoint_then steps)

@@ -2,7 +2,7 @@
 //! missing and the sentence fails. That a line gives nothing up for 10,500 ms before, and in the stretch, has its examples in `told_laws`.
 #![tactic(auto, unfolding(crate::proofs::Computing::on_examples))]
 
-ghost use Rattle.std.specs.Prelude.{◌≡◌, ◌≤◌, ◌<◌, ◌+◌, ◌*◌, ◌++◌, [], ◌∷◌, true};
+ghost use Rattle.std.specs.Prelude.{◌≡◌, ◌≤◌, ◌<◌, ◌+◌, ◌*◌, ◌++◌, [], ◌∷◌, Some, true};
 ghost use Rattle.plain_machine.specs.Example.{two_lines};
 ghost use Rattle.plain_machine.specs.Lists.{plain, sent_of};
 ghost use Rattle.plain_machine.specs.Machine.{serves};
@@ -15,16 +15,16 @@ ghost use Rattle.delivery_laws.specs.Copies.{IsRun};
 ghost use Rattle.delivery_laws.specs.Course.{course_from, course_of};
 ghost use Rattle.delivery_laws.specs.Dialled.{IsAskedForAll};
 ghost use Rattle.delivery_laws.specs.DialledExample.{done_then, endpoint_then, told_then};
-ghost use Rattle.delivery_laws.specs.Example.{asked_in_step, took_between, took_first};
+ghost use Rattle.delivery_laws.specs.Example.{asked_in_step, flying_after, took_between, took_first};
 ghost use Rattle.delivery_laws.specs.Fairness.{GoesToAgent};
 ghost use Rattle.delivery_laws.specs.GivenUp.{has_given_up};
 ghost use Rattle.delivery_laws.specs.OnceExample.{five, hung_up, lifted as off_hook};
 ghost use Rattle.delivery_laws.specs.OwnChances.{IsOfLine};
-ghost use Rattle.delivery_laws.specs.Rounds.{IsAnsweredWithin, IsAskedWithin, rounds_take};
+ghost use Rattle.delivery_laws.specs.Rounds.{IsAnsweredWithin, IsAskedWithin, of_telephone, rounds_take};
 ghost use Rattle.told_laws.specs.Stretch.{outliving};
 ghost use Rattle.outage_laws.specs.AfterOutage.{AgentHasRoomFrom, IsFairFrom};
 ghost use Rattle.outage_laws.specs.ToldSince.{FlightBeganSince, FlightsBeganSince};
-ghost use Rattle.outage_laws.specs.ToldSinceExample.{GaveNothingUpSince, ToldSince, dialled_since, kept_from_it, rested_since};
+ghost use Rattle.outage_laws.specs.ToldSinceExample.{GaveNothingUpSince, ToldSince, dialled_since, kept_from_it, kept_longer, rested_since};
 ghost use Rattle.outage_laws.specs.ToldSinceExample.{taken_since, told_at_once, told_before_it, underway_since, well_since};
 
 /// A notification was lost, and given up; the network is there again from 28,502 on. The line is answered, and for 11 s it rests; what is
@@ -59,6 +59,7 @@ pub fn what_was_dialled_since_is_told()
     ensures told_first { told_before_it ≡ off_hook ∷ [] }
     ensures done { done_then dialled_since ≡ off_hook ∷ five ∷ hung_up ∷ [] }
     ensures taken { taken_since told_at_once ≡ five ∷ hung_up ∷ [] }
+    ensures none_left { of_telephone (endpoint_then told_at_once).line.quarantined.events ≡ [] }
     ensures in_all { told_then told_at_once ≡ five ∷ hung_up ∷ [] }
     ensures told { ToldSince told_at_once }
 {}
@@ -110,4 +111,22 @@ pub fn what_is_kept_from_the_agent_is_not_told()
         ≤ now_in two_lines (world kept_from_it) }
     ensures done { done_then dialled_since ≡ off_hook ∷ five ∷ hung_up ∷ [] }
     ensures taken { taken_since kept_from_it ≡ five ∷ [] }
+{}
+
+/// 1 ms later the line waits for longer than twice the network's time, though all else that the law asks for holds, where the network isn't
+/// fair to it, or what is in flight began before it was.
+pub fn who_is_kept_longer_waits_longer()
+    ensures steps { steps_are_taken two_lines world_opening kept_longer ≡ true }
+    ensures calm_since { GaveNothingUpSince rested_since kept_longer }
+    ensures not_fair { ¬ IsFairFrom two_lines kept_longer 28502 300 }
+    ensures began { FlightsBeganSince two_lines 1 (took_first dialled_since) (took_between dialled_since kept_longer) 28502 }
+    ensures fair_behind { IsFairFrom two_lines kept_longer 40702 300 }
+    ensures began_before { ¬ FlightsBeganSince two_lines 1 (took_first dialled_since) (took_between dialled_since kept_longer) 40702 }
+    ensures room { AgentHasRoomFrom two_lines kept_longer 28502 }
+    ensures serving { serves (plain two_lines (took_first dialled_since)).endpoints ≡ true }
+    ensures split { took_first kept_longer ≡ took_first dialled_since ++ took_between dialled_since kept_longer }
+    ensures reaches { (b : Begun) → IsOfLine two_lines (world kept_longer) 1 b → 28502 ≤ b.moment →
+        GoesToAgent two_lines (world kept_longer) b.text }
+    ensures not_answered { ¬ IsAnsweredWithin two_lines 1 (took_first dialled_since) (took_between dialled_since kept_longer) (2 * 300) }
+    ensures flies { flying_after kept_longer ≡ Some 10000003 }
 {}

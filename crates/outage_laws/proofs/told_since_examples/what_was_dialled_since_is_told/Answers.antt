@@ -108,6 +108,7 @@ returns c = record {
   told_first = told_first_is;
   done = done_is;
   taken = taken_is;
+  none_left = refl;
   in_all = refl;
   told = is_told;
 }
