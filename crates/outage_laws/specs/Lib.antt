@@ -6,5 +6,6 @@ pub mod ToldSince
 pub mod Example
 pub mod Premises
 pub mod LinePremises
+pub mod ResponseExample
 pub mod ToldLaterExample
 pub mod ToldSinceExample

@@ -12,6 +12,7 @@ pub mod line_examples;
 pub mod line_laws;
 pub mod line_premise_examples;
 pub mod premise_examples;
+pub mod response_examples;
 pub mod response_laws;
 pub mod since_laws;
 pub mod well_examples;

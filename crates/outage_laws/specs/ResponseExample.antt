@@ -1,0 +1,14 @@
+-- What the gateway of the worked examples has in flight behind a response: line 1 was lifted at 1,000, or it announced itself at 1.
+use Rattle.std.specs.Prelude.{ℕ, List, [], ◌∷◌, ◌++◌, Option, option_map}
+use Rattle.mg_line.specs.declared.phone.Act.TheVariants.{OffHook}
+use Rattle.plain_machine.specs.Event.{GatewayEvent, phone}
+use Rattle.plain_machine.specs.Example.{ready, two_lines}
+use Rattle.delivery_laws.specs.Example.{line_with}
+
+-- its gateway serves, and its notification is in flight
+abbrev pub lifted_at_once : List GatewayEvent
+lifted_at_once = ready ++ phone 1 OffHook ∷ []
+
+-- the id of what line 1 has in flight, and when that is due
+abbrev pub line_flies : List GatewayEvent → Option (ℕ × ℕ)
+line_flies events = option_map (λ flight. (flight.id, flight.due)) (line_with two_lines events).post.pending
