@@ -225,11 +225,11 @@ latest_both latest (acts act ∷ some) more = latest_both latest some more
 latest_both latest (accepts request ∷ some) more = latest_both (Some request) some more
 latest_both latest (notifies identifier observed ∷ some) more = latest_both latest some more
 
-none_done : (notice : Option Notice) → done_in (steps_of notice) ≡ []
+pub none_done : (notice : Option Notice) → done_in (steps_of notice) ≡ []
 none_done None = refl
 none_done (Some notice) = refl
 
-told_is : (notice : Option Notice) → told_along (steps_of notice) ≡ told_of notice
+pub told_is : (notice : Option Notice) → told_along (steps_of notice) ≡ told_of notice
 told_is None = refl
 told_is (Some notice) = append-nil notice.observed
 
@@ -333,7 +333,7 @@ ask_front (acts act ∷ some) more all = ask_front some more all
 ask_front (accepts request ∷ some) more all = (all.0, ask_front some more all.1)
 ask_front (notifies identifier observed ∷ some) more all = ask_front some more all
 
-ask_back : (some more : List CourseStep) → AskForAll (some ++ more) → AskForAll more
+pub ask_back : (some more : List CourseStep) → AskForAll (some ++ more) → AskForAll more
 ask_back [] more all = all
 ask_back (acts act ∷ some) more all = ask_back some more all
 ask_back (accepts request ∷ some) more all = ask_back some more all.1
@@ -348,7 +348,7 @@ pub record Told (serving : Bool) (course : List CourseStep) (line : LineState) :
   pub counted : line.quarantined.lost ≤ most_lost
   pub once : AskForAll course → line.quarantined.lost ≡ 0 → ToldOnce course line
 
-grown : (done told held new now left : List Observed) → done ≡ happened_in told ++ held → happened_in now ++ left ≡ held ++ new
+pub grown : (done told held new now left : List Observed) → done ≡ happened_in told ++ held → happened_in now ++ left ≡ held ++ new
     → done ++ new ≡ happened_in (told ++ now) ++ left
 grown done told held new now left whole conserves =
     ap (λ (x : List Observed). x ++ new) whole ∙ append_assoc (happened_in told) held new ∙ ap (λ (x : List Observed). happened_in told ++ x) (sym conserves)

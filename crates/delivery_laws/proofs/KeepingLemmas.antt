@@ -53,7 +53,7 @@ happened_both (Ended signal ∷ some) more = happened_both some more
 behind_none : (some : List Observed) (event : Observed) → happened_in some ≡ [] → happened_in (some ++ event ∷ []) ≡ happened_in (event ∷ [])
 behind_none some event none = happened_both some (event ∷ []) ∙ ap (λ xs. xs ++ happened_in (event ∷ [])) none
 
-phone_more : (some : List Observed) (event : LineEvent) → AreOfPhone some → is_of_phone event ≡ true → AreOfPhone (some ++ Happened event ∷ [])
+pub phone_more : (some : List Observed) (event : LineEvent) → AreOfPhone some → is_of_phone event ≡ true → AreOfPhone (some ++ Happened event ∷ [])
 phone_more [] event all is = (is, tt)
 phone_more (Happened x ∷ some) event all is = (all.0, phone_more some event all.1 is)
 phone_more (Ended signal ∷ some) event all is = phone_more some event all is
@@ -157,11 +157,11 @@ unfolding occurred acted
 is_notified line event moment all is =
     ap (λ (reaction : Reaction). acted reaction (signals_after (chosen line.requests.requested event) line) (Happened event) moment) (all.phone event is)
 
-record Tells (line : LineState) (event : LineEvent) (done : LineDone) : Type 0 where
-  keeps : KeepsAll done.line
-  told : happened_in (told_of done.notice) ≡ Happened event ∷ []
-  quarantined : done.line.quarantined ≡ line.quarantined
-  some : (next : LineState → LineDone) → unless_notified done.notice done next ≡ done
+pub record Tells (line : LineState) (event : LineEvent) (done : LineDone) : Type 0 where
+  pub keeps : KeepsAll done.line
+  pub told : happened_in (told_of done.notice) ≡ Happened event ∷ []
+  pub quarantined : done.line.quarantined ≡ line.quarantined
+  pub some : (next : LineState → LineDone) → unless_notified done.notice done next ≡ done
 
 notified_tells : (line : LineState) (event : LineEvent) → NotifiesAll line.requests.requested → happened_in line.accumulated ≡ [] → AreOfPhone line.quarantined.events
     → Tells line event (notified (hushed_for line event))
@@ -173,7 +173,7 @@ notified_tells line event all none phone = record {
   some = λ next. refl;
 }
 
-occurred_tells : (line : LineState) (event : LineEvent) (moment : ℕ) → NotifiesAll line.requests.requested → happened_in line.accumulated ≡ []
+pub occurred_tells : (line : LineState) (event : LineEvent) (moment : ℕ) → NotifiesAll line.requests.requested → happened_in line.accumulated ≡ []
     → AreOfPhone line.quarantined.events → is_of_phone event ≡ true → Tells line event (occurred line (Happened event) moment)
 occurred_tells line event moment all none phone is =
     subst (Tells line event) (sym (is_notified line event moment all is)) (notified_tells line event all none phone)
@@ -387,7 +387,7 @@ some_asked line event all is false false ea eb c =
     let clash : None ≡ (notified (hushed_for line event)).notice = ap (λ (done : LineDone). done.notice) (sym nothing ∙ is_notified line event 0 all is) in
     absurd cc
 
-phone_kept : (line : LineState) (event : LineEvent) → NotifiesAll line.requests.requested → is_of_phone event ≡ true → is_kept line.requests (Happened event) ≡ true
+pub phone_kept : (line : LineState) (event : LineEvent) → NotifiesAll line.requests.requested → is_of_phone event ≡ true → is_kept line.requests (Happened event) ≡ true
 unfolding is_kept
 phone_kept line event all is =
     some_asked line event all is (is_requested line.requests.requested event) (is_persistent event) refl refl (is_detected line.requests.detected event)
@@ -444,7 +444,7 @@ act_detected : (line : LineState) (event : LineEvent) (moment : ℕ) → is_of_p
 unfolding detected
 act_detected line event moment phone k none = act_detected_in line.state line event moment refl phone k none
 
-of_key : (key : OneKey) → is_of_phone (events.Letter (letter_at key)) ≡ true
+pub of_key : (key : OneKey) → is_of_phone (events.Letter (letter_at key)) ≡ true
 of_key keys.Zero = refl
 of_key keys.One = refl
 of_key keys.Two = refl
@@ -462,7 +462,7 @@ of_key keys.B = refl
 of_key keys.C = refl
 of_key keys.D = refl
 
-hooked_keeps : (line : LineState) (act : Act) → KeepsAll line → KeepsAll (hooked line act)
+pub hooked_keeps : (line : LineState) (act : Act) → KeepsAll line → KeepsAll (hooked line act)
 hooked_keeps line OffHook k = record { asked = k.asked; untimed = k.untimed; accumulated = k.accumulated; of_phone = k.of_phone; normal = k.normal }
 hooked_keeps line OnHook k = record { asked = k.asked; untimed = k.untimed; accumulated = k.accumulated; of_phone = k.of_phone; normal = k.normal }
 hooked_keeps line Flash k = k

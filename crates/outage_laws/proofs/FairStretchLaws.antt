@@ -19,6 +19,7 @@ use Rattle.delivery_laws.specs.Course.{course_from, course_of}
 use Rattle.delivery_laws.specs.Dialled.{IsAskedForAll, done_in, told_along}
 use Rattle.delivery_laws.specs.Fairness.{GoesToAgent}
 use Rattle.delivery_laws.specs.GivenUp.{has_given_up}
+use Rattle.delivery_laws.specs.Keeping.{happened_in}
 use Rattle.delivery_laws.specs.OwnChances.{IsOfLine}
 use Rattle.delivery_laws.specs.Rounds.{IsAnsweredWithin, IsAskedWithin, rounds_take}
 use Rattle.delivery_laws.proofs.PairedSteps.{stood}
@@ -28,36 +29,28 @@ use Rattle.told_laws.specs.Stretch.{GivesNothingUp, outliving, taken_meanwhile}
 use Rattle.told_laws.proofs.SettledLemmas.{IsThere, sent_at, serving_is, start}
 use Rattle.told_laws.proofs.StretchLemmas.{meanwhile_is}
 use Rattle.outage_laws.specs.AfterOutage.{AgentHasRoomFrom, IsFairFrom}
-use Rattle.outage_laws.specs.ToldSince.{FlightBeganSince, FlightsBeganSince, IsToldSince}
+use Rattle.outage_laws.specs.ToldSince.{FlightBeganSince, FlightsBeganSince, IsAskedForAllSince, IsToldFrom, IsToldSince}
 use Rattle.outage_laws.proofs.AnsweredSinceLaws.{LastBegun, answered_since, last_begun, still_serves}
 use Rattle.outage_laws.proofs.BeganEvents.{last_among}
 use Rattle.outage_laws.proofs.CalmStretches.{calm_back, calm_front}
+use Rattle.outage_laws.proofs.ToldFromLaws.{told_from}
 use Rattle.outage_laws.proofs.ToldSinceLaws.{told_since}
 
-module _ (setup : Setup) (line : ℕ) (some : 1 ≤ line) (first pause stretch : List WorldStep) (once was is : Endpoint) (set_up : IsSetUp setup)
+-- Its answers, and what is in flight at the end
+
+module _ (setup : Setup) (line : ℕ) (some : 1 ≤ line) (first pause stretch : List WorldStep) (was is : Endpoint) (set_up : IsSetUp setup)
     (taken : steps_are_taken setup world_opening ((first ++ pause) ++ stretch) ≡ true)
-    (few : HasNumbersLeft (own_in setup (plain_world setup ((first ++ pause) ++ stretch))))
-    (at_once : endpoint_at (gateway_in setup (plain_world setup first)).endpoints line ≡ Some once)
     (at_was : endpoint_at (gateway_in setup (plain_world setup (first ++ pause))).endpoints line ≡ Some was)
     (at_is : endpoint_at (gateway_in setup (plain_world setup ((first ++ pause) ++ stretch))).endpoints line ≡ Some is)
-    (calm_before : GivesNothingUp setup line (plain_world setup first) (plain_world setup (first ++ pause)) once was)
     (calm_since : GivesNothingUp setup line (plain_world setup (first ++ pause)) (plain_world setup ((first ++ pause) ++ stretch)) was is)
-    (long : now_in setup (plain_world setup first) + outliving ≤ now_in setup (plain_world setup (first ++ pause)))
-    (since within asking : ℕ) (before after front later : List GatewayEvent) (there : Endpoint)
+    (since within : ℕ) (front later : List GatewayEvent) (there : Endpoint)
     (fair : IsFairFrom setup ((first ++ pause) ++ stretch) since within) (roomy : AgentHasRoomFrom setup ((first ++ pause) ++ stretch) since)
     (serves_then : serves (gateway_in setup (plain_world setup (first ++ pause))).endpoints ≡ true)
     (began : FlightsBeganSince setup line ((plain_world setup (first ++ pause)).gateway_took ++ front) later since)
     (reach : (b : Begun) → IsOfLine setup (plain_world setup ((first ++ pause) ++ stretch)) line b → since ≤ b.moment
     → GoesToAgent setup (plain_world setup ((first ++ pause) ++ stretch)) b.text)
-    (took : (plain_world setup ((first ++ pause) ++ stretch)).gateway_took ≡ before ++ after)
-    (asked : IsAskedForAll (course_of setup line before) (course_from setup (plain setup before) line after) is.line)
     (split : (plain_world setup ((first ++ pause) ++ stretch)).gateway_took ≡ ((plain_world setup (first ++ pause)).gateway_took ++ front) ++ later)
-    (at_there : endpoint_at (plain setup ((plain_world setup (first ++ pause)).gateway_took ++ front)).endpoints line ≡ Some there)
-    (is_asked : IsAskedWithin setup line ((plain_world setup (first ++ pause)).gateway_took ++ front) later asking)
-    (late : (plain setup ((plain_world setup (first ++ pause)).gateway_took ++ front)).now + rounds_take (length there.line.quarantined.events) (2 * within) asking
-    < now_in setup (plain_world setup ((first ++ pause) ++ stretch)))
-    (more : (plain setup ((plain_world setup (first ++ pause)).gateway_took ++ front)).now + rounds_take (length there.line.quarantined.events) (2 * within) asking + within
-    ≤ now_in setup (plain_world setup ((first ++ pause) ++ stretch))) where
+    (at_there : endpoint_at (plain setup ((plain_world setup (first ++ pause)).gateway_took ++ front)).endpoints line ≡ Some there) where
   abbrev up : List WorldStep
   up = first ++ pause
 
@@ -96,14 +89,14 @@ module _ (setup : Setup) (line : ℕ) (some : 1 ≤ line) (first pause stretch :
   calm : has_given_up (sent_at setup line some_took later) is.post ≡ false
   calm = calm_back setup line u.gateway_took front later is.post none
 
-  answered : IsAnsweredWithin setup line some_took later (2 * within)
-  answered =
+  pub fair_answered : IsAnsweredWithin setup line some_took later (2 * within)
+  fair_answered =
       answered_since setup all since within line some_took later there is set_up taken fair roomy split (serving_lasts setup u.gateway_took front serves_then) at_there there_serves
       at_is calm began reach
 
   -- what is in flight at the end
-  flew : FlightBeganSince setup w since is.post.pending
-  flew = by_pending is.post.pending refl where
+  pub fair_flew : FlightBeganSince setup w since is.post.pending
+  fair_flew = by_pending is.post.pending refl where
     by_pending : (pending : Option InFlight) → is.post.pending ≡ pending → FlightBeganSince setup w since pending
     by_pending None flies = tt
     by_pending (Some flight) flies =
@@ -120,7 +113,73 @@ module _ (setup : Setup) (line : ℕ) (some : 1 ≤ line) (first pause stretch :
               past,
         )
 
-  pub fair_told_since : IsToldSince was.post.pending (told_along (course_of setup line u.gateway_took)) (done_in (course_of setup line some_took)) (taken_meanwhile setup line u w)
+-- What is told, where all was asked for in its whole life
+
+module _ (setup : Setup) (line : ℕ) (some : 1 ≤ line) (first pause stretch : List WorldStep) (once was is : Endpoint) (set_up : IsSetUp setup)
+    (taken : steps_are_taken setup world_opening ((first ++ pause) ++ stretch) ≡ true)
+    (few : HasNumbersLeft (own_in setup (plain_world setup ((first ++ pause) ++ stretch))))
+    (at_once : endpoint_at (gateway_in setup (plain_world setup first)).endpoints line ≡ Some once)
+    (at_was : endpoint_at (gateway_in setup (plain_world setup (first ++ pause))).endpoints line ≡ Some was)
+    (at_is : endpoint_at (gateway_in setup (plain_world setup ((first ++ pause) ++ stretch))).endpoints line ≡ Some is)
+    (calm_before : GivesNothingUp setup line (plain_world setup first) (plain_world setup (first ++ pause)) once was)
+    (calm_since : GivesNothingUp setup line (plain_world setup (first ++ pause)) (plain_world setup ((first ++ pause) ++ stretch)) was is)
+    (long : now_in setup (plain_world setup first) + outliving ≤ now_in setup (plain_world setup (first ++ pause)))
+    (since within asking : ℕ) (before after front later : List GatewayEvent) (there : Endpoint)
+    (fair : IsFairFrom setup ((first ++ pause) ++ stretch) since within) (roomy : AgentHasRoomFrom setup ((first ++ pause) ++ stretch) since)
+    (serves_then : serves (gateway_in setup (plain_world setup (first ++ pause))).endpoints ≡ true)
+    (began : FlightsBeganSince setup line ((plain_world setup (first ++ pause)).gateway_took ++ front) later since)
+    (reach : (b : Begun) → IsOfLine setup (plain_world setup ((first ++ pause) ++ stretch)) line b → since ≤ b.moment
+    → GoesToAgent setup (plain_world setup ((first ++ pause) ++ stretch)) b.text)
+    (took : (plain_world setup ((first ++ pause) ++ stretch)).gateway_took ≡ before ++ after)
+    (asked : IsAskedForAll (course_of setup line before) (course_from setup (plain setup before) line after) is.line)
+    (split : (plain_world setup ((first ++ pause) ++ stretch)).gateway_took ≡ ((plain_world setup (first ++ pause)).gateway_took ++ front) ++ later)
+    (at_there : endpoint_at (plain setup ((plain_world setup (first ++ pause)).gateway_took ++ front)).endpoints line ≡ Some there)
+    (is_asked : IsAskedWithin setup line ((plain_world setup (first ++ pause)).gateway_took ++ front) later asking)
+    (late : (plain setup ((plain_world setup (first ++ pause)).gateway_took ++ front)).now + rounds_take (length there.line.quarantined.events) (2 * within) asking
+    < now_in setup (plain_world setup ((first ++ pause) ++ stretch)))
+    (more : (plain setup ((plain_world setup (first ++ pause)).gateway_took ++ front)).now + rounds_take (length there.line.quarantined.events) (2 * within) asking + within
+    ≤ now_in setup (plain_world setup ((first ++ pause) ++ stretch))) where
+  pub fair_told_since : IsToldSince was.post.pending (told_along (course_of setup line (plain_world setup (first ++ pause)).gateway_took))
+      (done_in (course_of setup line ((plain_world setup (first ++ pause)).gateway_took ++ front))) (taken_meanwhile setup line (plain_world setup (first ++ pause)) (plain_world setup ((first ++ pause) ++ stretch)))
   fair_told_since =
       told_since setup line some first pause stretch once was is set_up taken few at_once at_was at_is calm_before calm_since long since within (2 * within) asking before after front
-      later there fair roomy flew took asked split at_there answered is_asked late more
+      later there fair roomy
+      (fair_flew setup line some first pause stretch was is set_up taken at_was at_is calm_since since within front later there fair roomy serves_then began reach split at_there)
+      took asked split at_there
+      (fair_answered setup line some first pause stretch was is set_up taken at_was at_is calm_since since within front later there fair roomy serves_then began reach split at_there)
+      is_asked late more
+
+-- and where all is asked for since
+
+module _ (setup : Setup) (line : ℕ) (some : 1 ≤ line) (first pause stretch : List WorldStep) (once was is : Endpoint) (set_up : IsSetUp setup)
+    (taken : steps_are_taken setup world_opening ((first ++ pause) ++ stretch) ≡ true)
+    (few : HasNumbersLeft (own_in setup (plain_world setup ((first ++ pause) ++ stretch))))
+    (at_once : endpoint_at (gateway_in setup (plain_world setup first)).endpoints line ≡ Some once)
+    (at_was : endpoint_at (gateway_in setup (plain_world setup (first ++ pause))).endpoints line ≡ Some was)
+    (at_is : endpoint_at (gateway_in setup (plain_world setup ((first ++ pause) ++ stretch))).endpoints line ≡ Some is)
+    (calm_before : GivesNothingUp setup line (plain_world setup first) (plain_world setup (first ++ pause)) once was)
+    (calm_since : GivesNothingUp setup line (plain_world setup (first ++ pause)) (plain_world setup ((first ++ pause) ++ stretch)) was is)
+    (long : now_in setup (plain_world setup first) + outliving ≤ now_in setup (plain_world setup (first ++ pause)))
+    (since within asking : ℕ) (front later : List GatewayEvent) (there : Endpoint)
+    (fair : IsFairFrom setup ((first ++ pause) ++ stretch) since within) (roomy : AgentHasRoomFrom setup ((first ++ pause) ++ stretch) since)
+    (serves_then : serves (gateway_in setup (plain_world setup (first ++ pause))).endpoints ≡ true)
+    (began : FlightsBeganSince setup line ((plain_world setup (first ++ pause)).gateway_took ++ front) later since)
+    (reach : (b : Begun) → IsOfLine setup (plain_world setup ((first ++ pause) ++ stretch)) line b → since ≤ b.moment
+    → GoesToAgent setup (plain_world setup ((first ++ pause) ++ stretch)) b.text)
+    (asked : IsAskedForAllSince was.line (course_from setup (plain setup (plain_world setup (first ++ pause)).gateway_took) line (front ++ later)) is.line)
+    (split : (plain_world setup ((first ++ pause) ++ stretch)).gateway_took ≡ ((plain_world setup (first ++ pause)).gateway_took ++ front) ++ later)
+    (at_there : endpoint_at (plain setup ((plain_world setup (first ++ pause)).gateway_took ++ front)).endpoints line ≡ Some there)
+    (is_asked : IsAskedWithin setup line ((plain_world setup (first ++ pause)).gateway_took ++ front) later asking)
+    (late : (plain setup ((plain_world setup (first ++ pause)).gateway_took ++ front)).now + rounds_take (length there.line.quarantined.events) (2 * within) asking
+    < now_in setup (plain_world setup ((first ++ pause) ++ stretch)))
+    (more : (plain setup ((plain_world setup (first ++ pause)).gateway_took ++ front)).now + rounds_take (length there.line.quarantined.events) (2 * within) asking + within
+    ≤ now_in setup (plain_world setup ((first ++ pause) ++ stretch))) where
+  pub fair_told_from : IsToldFrom was.post.pending (happened_in was.line.quarantined.events ++ done_in (course_from setup (plain setup (plain_world setup (first ++ pause)).gateway_took) line front))
+      (taken_meanwhile setup line (plain_world setup (first ++ pause)) (plain_world setup ((first ++ pause) ++ stretch)))
+  fair_told_from =
+      told_from setup line some first pause stretch once was is set_up taken few at_once at_was at_is calm_before calm_since long since within (2 * within) asking front later there fair
+      roomy
+      (fair_flew setup line some first pause stretch was is set_up taken at_was at_is calm_since since within front later there fair roomy serves_then began reach split at_there)
+      serves_then asked split at_there
+      (fair_answered setup line some first pause stretch was is set_up taken at_was at_is calm_since since within front later there fair roomy serves_then began reach split at_there)
+      is_asked late more

@@ -25,12 +25,17 @@ pub mod YoungLemmas
 pub mod ResponseListLaws
 pub mod CalmTicks
 pub mod LostLemmas
+pub mod KeepingSince
 pub mod BeganEvents
+pub mod YoungSinceLaws
 pub mod YoungFlightLaws
 pub mod ToldByLaws
 pub mod ToldLaterLaws
 pub mod CalmStretches
+pub mod CalmFronts
+pub mod ToldOutLaws
 pub mod ToldSinceLaws
+pub mod ToldFromLaws
 pub mod AnsweredSinceLaws
 pub mod FairStretchLaws
 pub mod Computing

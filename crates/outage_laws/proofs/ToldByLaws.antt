@@ -29,7 +29,8 @@ use Rattle.delivery_laws.proofs.NoneLeftLaws.{nothing_left}
 use Rattle.delivery_laws.proofs.PairLemmas.{Paired}
 use Rattle.delivery_laws.proofs.WorldLemmas.{line_begun, line_sent, line_taken}
 use Rattle.outage_laws.specs.HadTime.{HadItsTimeIfBefore}
-use Rattle.outage_laws.proofs.YoungFlightLaws.{left_few, no_more, parts, young_few}
+use Rattle.outage_laws.proofs.YoungFlightLaws.{left_few, parts, young_few}
+use Rattle.outage_laws.proofs.YoungSinceLaws.{no_more}
 
 is_none : {x : ℕ} → x ≡ 0 → x ≤ 0
 is_none same = omega (arith, same)

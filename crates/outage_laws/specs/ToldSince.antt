@@ -1,15 +1,19 @@
 -- What the agent is told of a line since a moment, whatever was given up before (RFC 3435, 3.5, 4.3 and 4.4.1).
-use Rattle.std.specs.Prelude.{◌≡◌, ℕ, ◌≤◌, IfSome, List, ◌++◌, Option, Some}
+use Rattle.std.specs.Prelude.{◌≡◌, ℕ, ◌≤◌, ◌<◌, IfSome, List, [], ◌++◌, Option, Some}
 use Rattle.event_values.specs.declared.observed.Observed.{Observed}
 use Rattle.outbound.specs.Flight.{InFlight}
+use Rattle.quarantine.specs.Held.{most_lost}
+use Rattle.mg_line.specs.Line.{LineState}
 use Rattle.plain_machine.specs.declared.endpoint.Endpoint.{Endpoint}
 use Rattle.plain_machine.specs.declared.setup.Setup.{Setup}
 use Rattle.plain_machine.specs.Event.{GatewayEvent}
 use Rattle.plain_machine.specs.Lists.{plain}
 use Rattle.plain_machine.specs.Machine.{endpoint_at}
 use Rattle.agent_core.specs.World.{World}
+use Rattle.delivery_laws.specs.Course.{CourseStep}
+use Rattle.delivery_laws.specs.Dialled.{AskForAll}
 use Rattle.delivery_laws.specs.Fairness.{GoesToAgent}
-use Rattle.delivery_laws.specs.Keeping.{happened_in}
+use Rattle.delivery_laws.specs.Keeping.{KeepsAll, happened_in}
 use Rattle.told_laws.specs.Stretch.{IsOnItsWay}
 
 -- what a line has in flight, if anything, began at this moment or later, and goes to the agent
@@ -32,3 +36,16 @@ pub record IsToldSince (first : Option InFlight) (told done taken : List Observe
   pub order : taken ≡ late ++ since
   pub rest : List Observed
   pub whole : happened_in told ++ happened_in since ≡ done ++ rest
+
+-- Of what the line had told before nothing is said: what the agent took since then is what was on its way at first, if it came, and
+-- then the rest; and that begins with what was quarantined at first and done since.
+abbrev pub IsToldFrom : Option InFlight → List Observed → List Observed → Type 0
+IsToldFrom first done taken = IsToldSince first [] done taken
+
+-- The condition: at first the line keeps all that its telephone does, each request that it accepts since asks for all, and nothing
+-- more is lost.
+pub record IsAskedForAllSince (was : LineState) (course : List CourseStep) (is : LineState) : Type 0 where
+  pub keeps : KeepsAll was
+  pub since : AskForAll course
+  pub none_lost : is.quarantined.lost ≡ was.quarantined.lost
+  pub counted : was.quarantined.lost < most_lost
