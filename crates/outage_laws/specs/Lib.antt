@@ -9,3 +9,4 @@ pub mod LinePremises
 pub mod ResponseExample
 pub mod ToldLaterExample
 pub mod ToldSinceExample
+pub mod SinceThenExample

@@ -17,6 +17,7 @@ pub mod response_laws;
 pub mod since_laws;
 pub mod well_examples;
 pub mod well_laws;
+pub mod since_then_examples;
 pub mod told_later_examples;
 pub mod told_later_laws;
 pub mod told_since_examples;

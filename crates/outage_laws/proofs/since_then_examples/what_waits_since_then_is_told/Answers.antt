@@ -1,0 +1,118 @@
+use Rattle.std.proofs.Common.{refl}
+use Rattle.std.proofs.lemmas.Bool.{leb-true, ltb-true}
+use Rattle.plain_machine.specs.Example.{two_lines}
+use Rattle.world_laws.specs.Example.{world}
+use Rattle.delivery_laws.specs.DialledExample.{endpoint_then}
+use Rattle.delivery_laws.specs.Example.{took_between, took_first}
+use Rattle.delivery_laws.specs.Rounds.{IsAnsweredWithin, IsAskedWithin}
+use Rattle.delivery_laws.proofs.AskingLemmas.{notifies_each}
+use Rattle.delivery_laws.proofs.ExampleLemmas.{to_agent, took_split}
+use Rattle.delivery_laws.proofs.FrontLemmas.{agent_has_room, answered_within, asked_within}
+use Rattle.outage_laws.specs.AfterOutage.{AgentHasRoomFrom, IsFairFrom}
+use Rattle.std.proofs.Common.{◌≡◌, ℕ, ◌<◌, [], ◌∷◌, length, sym, ap, ◌∙◌, subst, arith}
+use Rattle.std.proofs.Common.{List, ◌++◌}
+use Rattle.event_values.specs.declared.observed.Observed.{Observed}
+use Rattle.world_laws.specs.Reached.{own_in}
+use Rattle.quarantine.specs.Held.{most_lost}
+use Rattle.delivery_laws.specs.OnceExample.{hung_up, six}
+use Rattle.delivery_laws.proofs.DialledNumberLemmas.{few_are_begun}
+use Rattle.delivery_laws.proofs.ExampleLemmas.{two_lines_set_up}
+use Rattle.told_laws.specs.Stretch.{IsOnItsWay}
+use Rattle.outage_laws.specs.ToldSince.{FlightsBeganSince}
+use Rattle.outage_laws.specs.SinceThenExample.{ToldFrom, WasAskedForAllSince, done_between, hung_up_then, rested_then, taken_between, told_since_then}
+use Rattle.outage_laws.proofs.Computing.{on_examples}
+use Rattle.outage_laws.proofs.FairFromExamples.{fair_from_is, room_from}
+use Rattle.outage_laws.proofs.HadTimeExamples.{flight_since, flights_since}
+use Rattle.outage_laws.proofs.since_then_examples.what_waits_since_then_is_told.Goals as goal
+
+fair_then : IsFairFrom two_lines told_since_then 0 300
+unfolding on_examples
+fair_then = fair_from_is two_lines told_since_then 0 300 refl
+
+room_then : AgentHasRoomFrom two_lines told_since_then 0
+unfolding on_examples
+room_then = room_from two_lines told_since_then 0 (agent_has_room two_lines told_since_then refl)
+
+answered_then : IsAnsweredWithin two_lines 1 (took_first hung_up_then) (took_between hung_up_then told_since_then) 600
+unfolding on_examples
+answered_then = answered_within two_lines 1 (took_first hung_up_then) (took_between hung_up_then told_since_then) 600 refl
+
+asked_then : IsAskedWithin two_lines 1 (took_first hung_up_then) (took_between hung_up_then told_since_then) 100
+unfolding on_examples
+asked_then = asked_within two_lines 1 (took_first hung_up_then) (took_between hung_up_then told_since_then) 100 refl
+
+some_began : length (own_in two_lines (world told_since_then)) ≡ 5
+unfolding on_examples
+some_began = refl
+
+began_then : FlightsBeganSince two_lines 1 (took_first hung_up_then) (took_between hung_up_then told_since_then) 0
+unfolding on_examples
+began_then = flights_since two_lines 1 (took_first hung_up_then) (took_between hung_up_then told_since_then) 0 refl
+
+done_is : done_between rested_then hung_up_then ≡ six ∷ hung_up ∷ []
+unfolding on_examples
+done_is = refl
+
+taken_is : taken_between rested_then told_since_then ≡ six ∷ hung_up ∷ []
+unfolding on_examples
+taken_is = refl
+
+none_flew : IsOnItsWay (endpoint_then rested_then).post.pending []
+unfolding on_examples
+none_flew = refl
+
+lost_then : (endpoint_then told_since_then).line.quarantined.lost ≡ 0
+unfolding on_examples
+lost_then = refl
+
+lost_before : (endpoint_then rested_then).line.quarantined.lost ≡ 0
+unfolding on_examples
+lost_before = refl
+
+was_asked : WasAskedForAllSince rested_then hung_up_then told_since_then
+unfolding on_examples
+was_asked = record {
+  keeps = record { asked = notifies_each _ refl refl; untimed = refl; accumulated = refl; of_phone = (refl, tt); normal = λ is. absurd cc };
+  since = (record { requested = notifies_each _ refl refl; quarantined = refl }, (record { requested = notifies_each _ refl refl; quarantined = refl }, (record { requested = notifies_each _ refl refl; quarantined = refl }, tt)));
+  none_lost = lost_then ∙ sym lost_before;
+  counted = subst (λ (n : ℕ). n < most_lost) (sym lost_before) (omega arith);
+}
+
+is_told : ToldFrom rested_then hung_up_then told_since_then
+is_told = record {
+  late = [];
+  since = six ∷ hung_up ∷ [];
+  late_is = none_flew;
+  order = taken_is;
+  rest = [];
+  whole = ap (λ (x : List Observed). x ++ []) (sym done_is);
+}
+
+pub returns : goal.returns
+unfolding on_examples
+returns c = record {
+  run = (two_lines_set_up, refl);
+  numbers = few_are_begun (own_in two_lines (world told_since_then)) (subst (λ (n : ℕ). n < 9999999) (sym some_began) (omega arith));
+  calm_before = (refl, refl);
+  calm_since = (refl, refl);
+  long = leb-true _ _ refl;
+  asked = was_asked;
+  fair = fair_then;
+  room = room_then;
+  flew = flight_since two_lines (world told_since_then) 0 (endpoint_then told_since_then).post.pending (λ text. to_agent two_lines told_since_then text refl) refl;
+  serving = refl;
+  front = took_split two_lines rested_then hung_up_then refl;
+  split = took_split two_lines hung_up_then told_since_then refl;
+  began = began_then;
+  reaches = λ b of past. to_agent two_lines told_since_then b.text refl;
+  answered = answered_then;
+  asked_again = asked_then;
+  held = refl;
+  late = ltb-true _ _ refl;
+  more = refl;
+  done = done_is;
+  taken = taken_is;
+  told = is_told;
+  done_in_all = refl;
+  told_in_all = refl;
+}

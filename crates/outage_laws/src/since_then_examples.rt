@@ -1,0 +1,112 @@
+//! Worked examples of what is told since a moment, whatever was asked for before, as theorems: a world in which each premise holds, and
+//! worlds in which one alone is missing and the sentence fails.
+#![tactic(auto, unfolding(crate::proofs::Computing::on_examples))]
+
+ghost use Rattle.std.specs.Prelude.{◌≡◌, ◌≤◌, ◌<◌, ◌+◌, ◌*◌, ◌++◌, [], ◌∷◌, true};
+ghost use Rattle.plain_machine.specs.Example.{two_lines};
+ghost use Rattle.plain_machine.specs.Lists.{plain};
+ghost use Rattle.plain_machine.specs.Machine.{serves};
+ghost use Rattle.machine_laws.specs.Saying.{Begun, HasNumbersLeft};
+ghost use Rattle.agent_core.specs.World.{gateway_in, now_in, steps_are_taken, world_opening};
+ghost use Rattle.world_laws.specs.Reached.{own_in};
+ghost use Rattle.world_laws.specs.Example.{world};
+ghost use Rattle.delivery_laws.specs.Copies.{IsRun};
+ghost use Rattle.delivery_laws.specs.Course.{course_from};
+ghost use Rattle.delivery_laws.specs.Dialled.{AskForAll};
+ghost use Rattle.delivery_laws.specs.DialledExample.{done_then, endpoint_then, told_then};
+ghost use Rattle.delivery_laws.specs.Example.{took_between, took_first};
+ghost use Rattle.delivery_laws.specs.Fairness.{GoesToAgent};
+ghost use Rattle.delivery_laws.specs.Keeping.{KeepsAll};
+ghost use Rattle.delivery_laws.specs.OnceExample.{five, hung_up, lifted as off_hook, six};
+ghost use Rattle.delivery_laws.specs.OwnChances.{IsOfLine};
+ghost use Rattle.delivery_laws.specs.Rounds.{IsAnsweredWithin, IsAskedWithin, rounds_take};
+ghost use Rattle.told_laws.specs.Stretch.{outliving};
+ghost use Rattle.outage_laws.specs.AfterOutage.{AgentHasRoomFrom, IsFairFrom};
+ghost use Rattle.outage_laws.specs.SinceThenExample.{GaveNothingUpBetween, ToldFrom, WasAskedForAllSince};
+ghost use Rattle.outage_laws.specs.SinceThenExample.{asked_at_last, asked_no_more, done_between, hung_up_then, never_asked};
+ghost use Rattle.outage_laws.specs.SinceThenExample.{pressed_again, pressed_for_nobody, pressed_unasked, rested_asked, rested_then};
+ghost use Rattle.outage_laws.specs.SinceThenExample.{rested_unasked, six_waits, taken_between, told_since_then};
+ghost use Rattle.outage_laws.specs.ToldSince.{FlightBeganSince, FlightsBeganSince};
+
+/// A key for which nobody asked is never told; and what is quarantined behind 11 s, and done since, is told, so much later. All that the
+/// law asks for holds at once.
+pub fn what_waits_since_then_is_told()
+    ensures run { IsRun two_lines told_since_then }
+    ensures numbers { HasNumbersLeft (own_in two_lines (world told_since_then)) }
+    ensures calm_before { GaveNothingUpBetween six_waits rested_then }
+    ensures calm_since { GaveNothingUpBetween rested_then told_since_then }
+    ensures long { now_in two_lines (world six_waits) + outliving ≤ now_in two_lines (world rested_then) }
+    ensures asked { WasAskedForAllSince rested_then hung_up_then told_since_then }
+    ensures fair { IsFairFrom two_lines told_since_then 0 300 }
+    ensures room { AgentHasRoomFrom two_lines told_since_then 0 }
+    ensures flew { FlightBeganSince two_lines (world told_since_then) 0 (endpoint_then told_since_then).post.pending }
+    ensures serving { serves (gateway_in two_lines (world rested_then)).endpoints ≡ true }
+    ensures front { took_first hung_up_then ≡ took_first rested_then ++ took_between rested_then hung_up_then }
+    ensures split { took_first told_since_then ≡ took_first hung_up_then ++ took_between hung_up_then told_since_then }
+    ensures began { FlightsBeganSince two_lines 1 (took_first hung_up_then) (took_between hung_up_then told_since_then) 0 }
+    ensures reaches { (b : Begun) → IsOfLine two_lines (world told_since_then) 1 b → 0 ≤ b.moment →
+        GoesToAgent two_lines (world told_since_then) b.text }
+    ensures answered { IsAnsweredWithin two_lines 1 (took_first hung_up_then) (took_between hung_up_then told_since_then) (2 * 300) }
+    ensures asked_again { IsAskedWithin two_lines 1 (took_first hung_up_then) (took_between hung_up_then told_since_then) 100 }
+    ensures held { (endpoint_then hung_up_then).line.quarantined.events ≡ six ∷ hung_up ∷ [] }
+    ensures late { (plain two_lines (took_first hung_up_then)).now + rounds_take 2 (2 * 300) 100
+        < now_in two_lines (world told_since_then) }
+    ensures more { (plain two_lines (took_first hung_up_then)).now + rounds_take 2 (2 * 300) 100 + 300
+        ≡ now_in two_lines (world told_since_then) }
+    ensures done { done_between rested_then hung_up_then ≡ six ∷ hung_up ∷ [] }
+    ensures taken { taken_between rested_then told_since_then ≡ six ∷ hung_up ∷ [] }
+    ensures told { ToldFrom rested_then hung_up_then told_since_then }
+    ensures done_in_all { done_then told_since_then ≡ off_hook ∷ five ∷ five ∷ six ∷ hung_up ∷ [] }
+    ensures told_in_all { told_then told_since_then ≡ off_hook ∷ five ∷ six ∷ hung_up ∷ [] }
+{}
+
+/// Where the line doesn't keep all at first a key isn't told, though all else holds that the law asks for.
+pub fn what_nobody_asked_for_isnt_told()
+    ensures steps { steps_are_taken two_lines world_opening never_asked ≡ true }
+    ensures calm_before { GaveNothingUpBetween pressed_unasked rested_unasked }
+    ensures calm_since { GaveNothingUpBetween rested_unasked never_asked }
+    ensures long { now_in two_lines (world pressed_unasked) + outliving ≤ now_in two_lines (world rested_unasked) }
+    ensures keeps_not { ¬ KeepsAll (endpoint_then rested_unasked).line }
+    ensures since { AskForAll (course_from two_lines (gateway_in two_lines (world rested_unasked)) 1
+        (took_between rested_unasked pressed_again ++ took_between pressed_again never_asked)) }
+    ensures none_lost { (endpoint_then never_asked).line.quarantined.lost ≡ 0 }
+    ensures fair { IsFairFrom two_lines never_asked 0 300 }
+    ensures room { AgentHasRoomFrom two_lines never_asked 0 }
+    ensures flew { FlightBeganSince two_lines (world never_asked) 0 (endpoint_then never_asked).post.pending }
+    ensures serving { serves (gateway_in two_lines (world rested_unasked)).endpoints ≡ true }
+    ensures front { took_first pressed_again ≡ took_first rested_unasked ++ took_between rested_unasked pressed_again }
+    ensures split { took_first never_asked ≡ took_first pressed_again ++ took_between pressed_again never_asked }
+    ensures answered { IsAnsweredWithin two_lines 1 (took_first pressed_again) (took_between pressed_again never_asked) (2 * 300) }
+    ensures asked_again { IsAskedWithin two_lines 1 (took_first pressed_again) (took_between pressed_again never_asked) 1000 }
+    ensures held { (endpoint_then pressed_again).line.quarantined.events ≡ [] }
+    ensures more { (plain two_lines (took_first pressed_again)).now + rounds_take 0 (2 * 300) 1000 + 300
+        < now_in two_lines (world never_asked) }
+    ensures done { done_between rested_unasked pressed_again ≡ five ∷ [] }
+    ensures taken { taken_between rested_unasked never_asked ≡ [] }
+{}
+
+/// Nor is it where a request since doesn't ask for it.
+pub fn what_nobody_asks_for_since_isnt_told()
+    ensures steps { steps_are_taken two_lines world_opening asked_no_more ≡ true }
+    ensures calm_before { GaveNothingUpBetween asked_at_last rested_asked }
+    ensures calm_since { GaveNothingUpBetween rested_asked asked_no_more }
+    ensures long { now_in two_lines (world asked_at_last) + outliving ≤ now_in two_lines (world rested_asked) }
+    ensures keeps { KeepsAll (endpoint_then rested_asked).line }
+    ensures since_not { ¬ AskForAll (course_from two_lines (gateway_in two_lines (world rested_asked)) 1
+        (took_between rested_asked pressed_for_nobody ++ took_between pressed_for_nobody asked_no_more)) }
+    ensures none_lost { (endpoint_then asked_no_more).line.quarantined.lost ≡ 0 }
+    ensures fair { IsFairFrom two_lines asked_no_more 0 300 }
+    ensures room { AgentHasRoomFrom two_lines asked_no_more 0 }
+    ensures flew { FlightBeganSince two_lines (world asked_no_more) 0 (endpoint_then asked_no_more).post.pending }
+    ensures serving { serves (gateway_in two_lines (world rested_asked)).endpoints ≡ true }
+    ensures front { took_first pressed_for_nobody ≡ took_first rested_asked ++ took_between rested_asked pressed_for_nobody }
+    ensures split { took_first asked_no_more ≡ took_first pressed_for_nobody ++ took_between pressed_for_nobody asked_no_more }
+    ensures answered { IsAnsweredWithin two_lines 1 (took_first pressed_for_nobody)
+        (took_between pressed_for_nobody asked_no_more) (2 * 300) }
+    ensures asked_again { IsAskedWithin two_lines 1 (took_first pressed_for_nobody) (took_between pressed_for_nobody asked_no_more) 100 }
+    ensures held { (endpoint_then pressed_for_nobody).line.quarantined.events ≡ [] }
+    ensures more { (plain two_lines (took_first pressed_for_nobody)).now + rounds_take 0 (2 * 300) 100 + 300
+        < now_in two_lines (world asked_no_more) }
+    ensures done { done_between rested_asked pressed_for_nobody ≡ five ∷ [] }
+    ensures taken { taken_between rested_asked asked_no_more ≡ [] }
+{}
