@@ -1,21 +1,24 @@
 -- By the moment by which its announcements had their time a gateway serves, whatever comes behind that moment.
-use Rattle.std.proofs.Common.{◌≡◌, ℕ, ◌+◌, ◌-◌, ◌*◌, ◌<◌, ◌≤◌, true, List, ◌++◌, sym, ap, subst, arith}
+use Rattle.std.proofs.Common.{zero, suc, ◌≡◌, ℕ, ◌+◌, ◌-◌, ◌*◌, ◌<◌, ◌≤◌, true, List, ◌++◌, sym, ap, subst, arith}
 use Rattle.plain_machine.specs.declared.setup.Setup.{Setup}
 use Rattle.plain_machine.specs.Event.{GatewayEvent}
 use Rattle.plain_machine.specs.Lists.{plain}
 use Rattle.plain_machine.specs.Machine.{serves}
 use Rattle.plain_machine.specs.Setup.{IsSetUp}
 use Rattle.machine_laws.specs.Saying.{Begun, OneOf}
+use Rattle.machine_laws.proofs.EachLemmas.{one_of_each, one_to}
 use Rattle.agent_core.specs.World.{WorldStep, gateway_in, now_in, oldest_packet, plain_world, steps_are_taken, world_opening}
-use Rattle.delivery_laws.specs.Chances.{chances}
+use Rattle.delivery_laws.specs.Chances.{chances, last_chance}
 use Rattle.delivery_laws.specs.Copies.{answer_wait}
 use Rattle.delivery_laws.specs.Fairness.{GoesToAgent}
 use Rattle.delivery_laws.specs.OwnChances.{IsOfLine}
+use Rattle.delivery_laws.proofs.CarryLaws.{chances_low}
 use Rattle.delivery_laws.proofs.FrontSteps.{TookThem, took_them}
 use Rattle.delivery_laws.proofs.StepLemmas.{taken_front}
 use Rattle.outage_laws.specs.AfterOutage.{AgentHasRoomFrom, IsFairFrom, gap_of, last_in_time}
+use Rattle.outage_laws.proofs.FirstServes.{fair_on, first_serves_so, roomy_on}
 use Rattle.outage_laws.proofs.LineFrontLaws.{back}
-use Rattle.outage_laws.proofs.ServesLaws.{first_few, in_time, one_of_chances, serves_so}
+use Rattle.outage_laws.proofs.ServesLaws.{IsInTime, first_few, in_time, one_of_chances, serves_so}
 
 gap_behind : (since within restart before now last : ℕ) → last + 2 * within < answer_wait → since + (answer_wait - last) + restart + 2 * within ≤ before → before ≡ now
     → since + answer_wait + restart + 2 * within + 1 ≤ now + 1 + last
@@ -30,18 +33,53 @@ serves_at_front setup first later since within wait set_up taken some fair roomy
     serves_so setup first since within 1 wait set_up (taken_front setup world_opening first later taken) some
     (λ b one of past twice told. (back setup first later since within 0 set_up taken fair roomy reach b one of past twice told).is) among few (omega arith) late
 
-pub serves_before : (setup : Setup) (steps : List WorldStep) (since within : ℕ) (before after : List GatewayEvent) → IsSetUp setup → steps_are_taken setup world_opening steps ≡ true → 1 ≤ since
-    → within ≤ oldest_packet → IsFairFrom setup steps since within → AgentHasRoomFrom setup steps since
-    → ((b : Begun) → IsOfLine setup (plain_world setup steps) 0 b → GoesToAgent setup (plain_world setup steps) b.text) → (plain_world setup steps).gateway_took ≡ before ++ after
-    → since + gap_of within + setup.restart_wait + 2 * within ≤ (plain setup before).now → serves (plain setup before).endpoints ≡ true
-serves_before setup steps since within before after set_up taken some young fair roomy reach took late =
-    let t : TookThem setup world_opening steps before = took_them setup steps before after took in
-    let last = last_in_time within 0 chances in
-    let is = in_time within 0 chances (first_few within young) in
-    subst (λ (x : List GatewayEvent). serves (plain setup x).endpoints ≡ true) t.took
-    (serves_at_front setup t.first t.later since within last set_up (subst (λ (x : List WorldStep). steps_are_taken setup world_opening x ≡ true) t.order taken) some
-    (subst (λ (x : List WorldStep). IsFairFrom setup x since within) t.order fair) (subst (λ (x : List WorldStep). AgentHasRoomFrom setup x since) t.order roomy)
-    (subst (λ (x : List WorldStep). (b : Begun) → IsOfLine setup (plain_world setup x) 0 b → GoesToAgent setup (plain_world setup x) b.text) t.order reach)
-    (one_of_chances last is.among) is.few
-    (gap_behind since within setup.restart_wait (plain setup before).now (now_in setup (plain_world setup t.first)) last is.few late
-    (ap (λ (x : List GatewayEvent). (plain setup x).now) (sym t.took))))
+first_behind : (within restart before now last : ℕ) → last ≤ last_chance → 0 + (answer_wait - last) + restart + 2 * within ≤ before → before ≡ now → restart + 500 + 2 * within + 1 ≤ now
+first_behind within restart before now last low late same = omega (arith, low, late, same)
+
+next_few : (within : ℕ) → within ≤ oldest_packet → 500 + 2 * within < answer_wait
+next_few within young = omega (arith, young)
+
+module _ (setup : Setup) (steps : List WorldStep) (within : ℕ) (before after : List GatewayEvent) (set_up : IsSetUp setup) (taken : steps_are_taken setup world_opening steps ≡ true)
+    (young : within ≤ oldest_packet) (reach : (b : Begun) → IsOfLine setup (plain_world setup steps) 0 b → GoesToAgent setup (plain_world setup steps) b.text)
+    (took : (plain_world setup steps).gateway_took ≡ before ++ after) where
+  t : TookThem setup world_opening steps before
+  t = took_them setup steps before after took
+
+  abbrev last : ℕ
+  last = last_in_time within 0 chances
+
+  is : IsInTime within 0 chances last
+  is = in_time within 0 chances (first_few within young)
+
+  low : last ≤ last_chance
+  low =
+      one_to (λ (one : ℕ). (one ≤ last_chance) × (one ≡ last)) (last ≤ last_chance) (λ one both. subst (λ (n : ℕ). n ≤ last_chance) both.1 both.0) chances
+      (one_of_each (λ (one : ℕ). one ≤ last_chance) (λ (one : ℕ). one ≡ last) chances chances_low (one_of_chances last is.among))
+
+  whole_taken : steps_are_taken setup world_opening (t.first ++ t.later) ≡ true
+  whole_taken = subst (λ (x : List WorldStep). steps_are_taken setup world_opening x ≡ true) t.order taken
+
+  reach_whole : (b : Begun) → IsOfLine setup (plain_world setup (t.first ++ t.later)) 0 b → GoesToAgent setup (plain_world setup (t.first ++ t.later)) b.text
+  reach_whole = subst (λ (x : List WorldStep). (b : Begun) → IsOfLine setup (plain_world setup x) 0 b → GoesToAgent setup (plain_world setup x) b.text) t.order reach
+
+  same : (plain setup before).now ≡ now_in setup (plain_world setup t.first)
+  same = ap (λ (x : List GatewayEvent). (plain setup x).now) (sym t.took)
+
+  at_front : serves (gateway_in setup (plain_world setup t.first)).endpoints ≡ true → serves (plain setup before).endpoints ≡ true
+  at_front serving = subst (λ (x : List GatewayEvent). serves (plain setup x).endpoints ≡ true) t.took serving
+
+  pub serves_before : (since : ℕ) → IsFairFrom setup steps since within → AgentHasRoomFrom setup steps since
+      → since + gap_of within + setup.restart_wait + 2 * within ≤ (plain setup before).now → serves (plain setup before).endpoints ≡ true
+  serves_before zero fair roomy late =
+      let fair_whole : IsFairFrom setup (t.first ++ t.later) 0 within = subst (λ (x : List WorldStep). IsFairFrom setup x 0 within) t.order fair in
+      let roomy_whole : AgentHasRoomFrom setup (t.first ++ t.later) 0 = subst (λ (x : List WorldStep). AgentHasRoomFrom setup x 0) t.order roomy in
+      at_front (first_serves_so setup t.first within 1 set_up (taken_front setup world_opening t.first t.later whole_taken)
+      (λ b one of past twice told.
+      (back setup t.first t.later 1 within 0 set_up whole_taken (fair_on setup (t.first ++ t.later) within fair_whole) (roomy_on setup (t.first ++ t.later) roomy_whole) reach_whole b one of
+      past twice told).is) (next_few within young) (omega arith)
+      (first_behind within setup.restart_wait (plain setup before).now (now_in setup (plain_world setup t.first)) last low late same))
+  serves_before (suc since) fair roomy late =
+      at_front (serves_at_front setup t.first t.later (suc since) within last set_up whole_taken (omega arith)
+      (subst (λ (x : List WorldStep). IsFairFrom setup x (suc since) within) t.order fair) (subst (λ (x : List WorldStep). AgentHasRoomFrom setup x (suc since)) t.order roomy) reach_whole
+      (one_of_chances last is.among) is.few
+      (gap_behind (suc since) within setup.restart_wait (plain setup before).now (now_in setup (plain_world setup t.first)) last is.few late same))

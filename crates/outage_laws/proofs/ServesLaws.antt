@@ -197,7 +197,7 @@ module _ (setup : Setup) (steps : List WorldStep) (since within slack : ℕ) (se
     not_back = by_track (world_tracked setup set_up is.before before_taken closed_before)
 
   -- so none was
-  never_back : (j wait : ℕ) → OneOf (λ (one : Begun). one ≡ announcement_at setup j) (begun_in sent) → OneOf (SaysAt (announcement_at setup j).text (start_of setup j + wait)) sent
+  pub never_back : (j wait : ℕ) → OneOf (λ (one : Begun). one ≡ announcement_at setup j) (begun_in sent) → OneOf (SaysAt (announcement_at setup j).text (start_of setup j + wait)) sent
       → since ≤ start_of setup j + wait → start_of setup j + wait + 2 * within + slack ≤ now → wait + 2 * within < answer_wait → ⊥
   never_back j wait begun said late twice few = not_back j wait late few (back (announcement_at setup j) wait of late twice told) where
     of : IsOfLine setup w 0 (announcement_at setup j)
@@ -314,19 +314,10 @@ with_none since restart within now wait late = omega (arith, late)
 module _ (setup : Setup) (steps : List WorldStep) (since within : ℕ) (set_up : IsSetUp setup) (taken : steps_are_taken setup world_opening steps ≡ true) (some : 1 ≤ since)
     (fair : IsFairFrom setup steps since within) (roomy : AgentHasRoomFrom setup steps since)
     (reach : (b : Begun) → IsOfLine setup (plain_world setup steps) 0 b → GoesToAgent setup (plain_world setup steps) b.text) where
-  comes : (b : Begun) (wait : ℕ) → IsOfLine setup (plain_world setup steps) 0 b → since ≤ b.moment + wait → b.moment + wait + 2 * within + 0 ≤ now_in setup (plain_world setup steps)
+  pub comes : (b : Begun) (wait : ℕ) → IsOfLine setup (plain_world setup steps) 0 b → since ≤ b.moment + wait → b.moment + wait + 2 * within + 0 ≤ now_in setup (plain_world setup steps)
       → IsToldAfter setup (plain_world setup steps) b wait → IsBack setup steps within b wait
   comes b wait of late twice told =
       comes_in_time setup steps since within 0 b set_up taken fair roomy of (reach b of) wait told late (no_slack b.moment wait within (now_in setup (plain_world setup steps)) twice)
-
-  pub none_back : Closed setup (plain_world setup steps) → (j wait : ℕ) → let sent = of_line 0 (sent_of setup (plain_world setup steps).gateway_took) in
-      OneOf (λ (one : Begun). one ≡ announcement_at setup j) (begun_in sent) → OneOf (SaysAt (announcement_at setup j).text (start_of setup j + wait)) sent
-      → since ≤ start_of setup j + wait → start_of setup j + wait + 2 * within ≤ now_in setup (plain_world setup steps) → wait + 2 * within < answer_wait → ⊥
-  none_back closed j wait begun said late twice few =
-      never_back setup steps since within 0 set_up taken some comes closed j wait begun said late
-      (one_less (start_of setup j) wait within (now_in setup (plain_world setup steps)) twice) few where
-        one_less : (first wait within now : ℕ) → first + wait + 2 * within ≤ now → first + wait + 2 * within + 0 ≤ now
-        one_less first wait within now twice = omega (arith, twice)
 
 pub serves_by : (setup : Setup) (steps : List WorldStep) (since within wait : ℕ) → IsSetUp setup → steps_are_taken setup world_opening steps ≡ true → 1 ≤ since
     → IsFairFrom setup steps since within → AgentHasRoomFrom setup steps since → let w = plain_world setup steps in ((b : Begun) → IsOfLine setup w 0 b → GoesToAgent setup w b.text)

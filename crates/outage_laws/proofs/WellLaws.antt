@@ -101,11 +101,11 @@ module _ (setup : Setup) (steps : List WorldStep) (since within : ℕ) (set_up :
       announcements = own_done;
     }
 
-  module _ (some : 1 ≤ since) (line : ℕ) (before after : List GatewayEvent) (endpoint : Endpoint) (took : w.gateway_took ≡ before ++ after)
+  module _ (line : ℕ) (before after : List GatewayEvent) (endpoint : Endpoint) (took : w.gateway_took ≡ before ++ after)
       (there : endpoint_at (gateway_in setup w).endpoints line ≡ Some endpoint) (late : well_by setup since within ≤ (plain setup before).now) where
     serving : serves (plain setup before).endpoints ≡ true
     serving =
-        serves_before setup steps since within before after set_up taken some young fair roomy (reach 0) took
+        serves_before setup steps within before after set_up taken young (reach 0) took since fair roomy
         (shorter since (gap_of within) setup.restart_wait (longer_wait setup) within (plain setup before).now (both_waits setup.restart_wait setup.disconnected_wait).0 late)
 
     line_late : since + gap_of within + setup.disconnected_wait + 2 * within ≤ (plain setup before).now

@@ -25,13 +25,13 @@ pub fn all_is_well_after_an_outage()
         let w = plain_world setup steps in ((line : ℕ) (b : Begun) → IsOfLine setup w line b → GoesToAgent setup w b.text) →
         well_by setup since within ≤ now_in setup w + 1 → IsWell setup w since within }
     ensures answered { (setup : Setup) (steps : List WorldStep) (since within line : ℕ) (before after : List GatewayEvent)
-        (endpoint : Endpoint) → IsRun setup steps → 1 ≤ since → within ≤ oldest_packet → IsFairFrom setup steps since within →
+        (endpoint : Endpoint) → IsRun setup steps → within ≤ oldest_packet → IsFairFrom setup steps since within →
         AgentHasRoomFrom setup steps since → let w = plain_world setup steps in
         ((line : ℕ) (b : Begun) → IsOfLine setup w line b → GoesToAgent setup w b.text) → w.gateway_took ≡ before ++ after →
         endpoint_at (gateway_in setup w).endpoints line ≡ Some endpoint → well_by setup since within ≤ (plain setup before).now →
         IsAnsweredWithin setup line before after (2 * within) }
     ensures out { (setup : Setup) (steps : List WorldStep) (since within line asking : ℕ) (before after : List GatewayEvent)
-        (was endpoint : Endpoint) → IsRun setup steps → 1 ≤ since → within ≤ oldest_packet → IsFairFrom setup steps since within →
+        (was endpoint : Endpoint) → IsRun setup steps → within ≤ oldest_packet → IsFairFrom setup steps since within →
         AgentHasRoomFrom setup steps since → let w = plain_world setup steps in
         ((line : ℕ) (b : Begun) → IsOfLine setup w line b → GoesToAgent setup w b.text) → w.gateway_took ≡ before ++ after →
         endpoint_at (plain setup before).endpoints line ≡ Some was → endpoint_at (gateway_in setup w).endpoints line ≡ Some endpoint →
@@ -39,7 +39,7 @@ pub fn all_is_well_after_an_outage()
         (plain setup before).now + rounds_take (length was.line.quarantined.events) (2 * within) asking < now_in setup w →
         length (of_telephone endpoint.line.quarantined.events) ≤ length (done_in (course_from setup (plain setup before) line after)) }
     ensures rests { (setup : Setup) (steps : List WorldStep) (since within line asking : ℕ) (before after : List GatewayEvent)
-        (was endpoint : Endpoint) → IsRun setup steps → 1 ≤ since → within ≤ oldest_packet → IsFairFrom setup steps since within →
+        (was endpoint : Endpoint) → IsRun setup steps → within ≤ oldest_packet → IsFairFrom setup steps since within →
         AgentHasRoomFrom setup steps since → let w = plain_world setup steps in
         ((line : ℕ) (b : Begun) → IsOfLine setup w line b → GoesToAgent setup w b.text) → w.gateway_took ≡ before ++ after →
         endpoint_at (plain setup before).endpoints line ≡ Some was → endpoint_at (gateway_in setup w).endpoints line ≡ Some endpoint →
