@@ -33,6 +33,7 @@ use Rattle.outage_laws.specs.ToldSince.{FlightBeganSince, FlightsBeganSince, IsA
 use Rattle.outage_laws.proofs.AnsweredSinceLaws.{LastBegun, answered_since, last_begun, still_serves}
 use Rattle.outage_laws.proofs.BeganEvents.{last_among}
 use Rattle.outage_laws.proofs.CalmStretches.{calm_back, calm_front}
+use Rattle.outage_laws.proofs.KeepsServes.{keeps_serves}
 use Rattle.outage_laws.proofs.ToldFromLaws.{told_from}
 use Rattle.outage_laws.proofs.ToldSinceLaws.{told_since}
 
@@ -162,7 +163,6 @@ module _ (setup : Setup) (line : ℕ) (some : 1 ≤ line) (first pause stretch :
     (long : now_in setup (plain_world setup first) + outliving ≤ now_in setup (plain_world setup (first ++ pause)))
     (since within asking : ℕ) (front later : List GatewayEvent) (there : Endpoint)
     (fair : IsFairFrom setup ((first ++ pause) ++ stretch) since within) (roomy : AgentHasRoomFrom setup ((first ++ pause) ++ stretch) since)
-    (serves_then : serves (gateway_in setup (plain_world setup (first ++ pause))).endpoints ≡ true)
     (began : FlightsBeganSince setup line ((plain_world setup (first ++ pause)).gateway_took ++ front) later since)
     (reach : (b : Begun) → IsOfLine setup (plain_world setup ((first ++ pause) ++ stretch)) line b → since ≤ b.moment
     → GoesToAgent setup (plain_world setup ((first ++ pause) ++ stretch)) b.text)
@@ -174,12 +174,15 @@ module _ (setup : Setup) (line : ℕ) (some : 1 ≤ line) (first pause stretch :
     < now_in setup (plain_world setup ((first ++ pause) ++ stretch)))
     (more : (plain setup ((plain_world setup (first ++ pause)).gateway_took ++ front)).now + rounds_take (length there.line.quarantined.events) (2 * within) asking + within
     ≤ now_in setup (plain_world setup ((first ++ pause) ++ stretch))) where
+  serves_then : serves (gateway_in setup (plain_world setup (first ++ pause))).endpoints ≡ true
+  serves_then = keeps_serves setup line some (plain_world setup (first ++ pause)).gateway_took was at_was asked.keeps
+
   pub fair_told_from : IsToldFrom was.post.pending (happened_in was.line.quarantined.events ++ done_in (course_from setup (plain setup (plain_world setup (first ++ pause)).gateway_took) line front))
       (taken_meanwhile setup line (plain_world setup (first ++ pause)) (plain_world setup ((first ++ pause) ++ stretch)))
   fair_told_from =
       told_from setup line some first pause stretch once was is set_up taken few at_once at_was at_is calm_before calm_since long since within (2 * within) asking front later there fair
       roomy
       (fair_flew setup line some first pause stretch was is set_up taken at_was at_is calm_since since within front later there fair roomy serves_then began reach split at_there)
-      serves_then asked split at_there
+      asked split at_there
       (fair_answered setup line some first pause stretch was is set_up taken at_was at_is calm_since since within front later there fair roomy serves_then began reach split at_there)
       is_asked late more

@@ -26,6 +26,7 @@ pub mod ResponseListLaws
 pub mod CalmTicks
 pub mod LostLemmas
 pub mod KeepingSince
+pub mod KeepsServes
 pub mod BeganEvents
 pub mod YoungSinceLaws
 pub mod YoungFlightLaws

@@ -37,6 +37,7 @@ use Rattle.outage_laws.specs.ToldSince.{FlightBeganSince, IsAskedForAllSince, Is
 use Rattle.outage_laws.proofs.ToldOutLaws.{told_out}
 use Rattle.outage_laws.proofs.CalmFronts.{calm_fronts}
 use Rattle.outage_laws.proofs.KeepingSince.{Kept, kept_since}
+use Rattle.outage_laws.proofs.KeepsServes.{keeps_serves}
 use Rattle.outage_laws.proofs.LostLemmas.{lost_on}
 use Rattle.outage_laws.proofs.YoungSinceLaws.{left_few, young_few}
 
@@ -70,7 +71,6 @@ module _ (setup : Setup) (line : ℕ) (some : 1 ≤ line) (first pause stretch :
     (since within answering asking : ℕ) (front later : List GatewayEvent) (there : Endpoint)
     (fair : IsFairFrom setup ((first ++ pause) ++ stretch) since within) (roomy : AgentHasRoomFrom setup ((first ++ pause) ++ stretch) since)
     (flew : FlightBeganSince setup (plain_world setup ((first ++ pause) ++ stretch)) since is.post.pending)
-    (serves_then : serves (gateway_in setup (plain_world setup (first ++ pause))).endpoints ≡ true)
     (asked : IsAskedForAllSince was.line (course_from setup (plain setup (plain_world setup (first ++ pause)).gateway_took) line (front ++ later)) is.line)
     (split : (plain_world setup ((first ++ pause) ++ stretch)).gateway_took ≡ ((plain_world setup (first ++ pause)).gateway_took ++ front) ++ later)
     (at_there : endpoint_at (plain setup ((plain_world setup (first ++ pause)).gateway_took ++ front)).endpoints line ≡ Some there)
@@ -144,7 +144,7 @@ module _ (setup : Setup) (line : ℕ) (some : 1 ≤ line) (first pause stretch :
   keeps_at between rest s order here = (kept_at between rest s order here).keeps
 
   serving_at : (between : List GatewayEvent) (s : Endpoint) → There (base ++ between) s → serves (plain setup (base ++ between)).endpoints ≡ true
-  serving_at between s here = serving_lasts setup base between serves_then
+  serving_at between s here = serving_lasts setup base between (keeps_serves setup line some base was at_was asked.keeps)
 
   abbrev more_then : ℕ
   more_then = length held + length (happened_in (told_along (course_of setup line base)))

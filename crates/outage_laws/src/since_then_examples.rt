@@ -5,7 +5,6 @@
 ghost use Rattle.std.specs.Prelude.{◌≡◌, ◌≤◌, ◌<◌, ◌+◌, ◌*◌, ◌++◌, [], ◌∷◌, true};
 ghost use Rattle.plain_machine.specs.Example.{two_lines};
 ghost use Rattle.plain_machine.specs.Lists.{plain};
-ghost use Rattle.plain_machine.specs.Machine.{serves};
 ghost use Rattle.machine_laws.specs.Saying.{Begun, HasNumbersLeft};
 ghost use Rattle.agent_core.specs.World.{gateway_in, now_in, steps_are_taken, world_opening};
 ghost use Rattle.world_laws.specs.Reached.{own_in};
@@ -40,7 +39,6 @@ pub fn what_waits_since_then_is_told()
     ensures fair { IsFairFrom two_lines told_since_then 0 300 }
     ensures room { AgentHasRoomFrom two_lines told_since_then 0 }
     ensures flew { FlightBeganSince two_lines (world told_since_then) 0 (endpoint_then told_since_then).post.pending }
-    ensures serving { serves (gateway_in two_lines (world rested_then)).endpoints ≡ true }
     ensures front { took_first hung_up_then ≡ took_first rested_then ++ took_between rested_then hung_up_then }
     ensures split { took_first told_since_then ≡ took_first hung_up_then ++ took_between hung_up_then told_since_then }
     ensures began { FlightsBeganSince two_lines 1 (took_first hung_up_then) (took_between hung_up_then told_since_then) 0 }
@@ -73,7 +71,6 @@ pub fn what_nobody_asked_for_isnt_told()
     ensures fair { IsFairFrom two_lines never_asked 0 300 }
     ensures room { AgentHasRoomFrom two_lines never_asked 0 }
     ensures flew { FlightBeganSince two_lines (world never_asked) 0 (endpoint_then never_asked).post.pending }
-    ensures serving { serves (gateway_in two_lines (world rested_unasked)).endpoints ≡ true }
     ensures front { took_first pressed_again ≡ took_first rested_unasked ++ took_between rested_unasked pressed_again }
     ensures split { took_first never_asked ≡ took_first pressed_again ++ took_between pressed_again never_asked }
     ensures answered { IsAnsweredWithin two_lines 1 (took_first pressed_again) (took_between pressed_again never_asked) (2 * 300) }
@@ -98,7 +95,6 @@ pub fn what_nobody_asks_for_since_isnt_told()
     ensures fair { IsFairFrom two_lines asked_no_more 0 300 }
     ensures room { AgentHasRoomFrom two_lines asked_no_more 0 }
     ensures flew { FlightBeganSince two_lines (world asked_no_more) 0 (endpoint_then asked_no_more).post.pending }
-    ensures serving { serves (gateway_in two_lines (world rested_asked)).endpoints ≡ true }
     ensures front { took_first pressed_for_nobody ≡ took_first rested_asked ++ took_between rested_asked pressed_for_nobody }
     ensures split { took_first asked_no_more ≡ took_first pressed_for_nobody ++ took_between pressed_for_nobody asked_no_more }
     ensures answered { IsAnsweredWithin two_lines 1 (took_first pressed_for_nobody)

@@ -87,7 +87,6 @@ pub fn what_is_dialled_since_then_is_told()
         GivesNothingUp setup line v u once was → GivesNothingUp setup line u w was is → now_in setup v + outliving ≤ now_in setup u →
         IsAskedForAllSince was.line (course_from setup (gateway_in setup u) line (front ++ later)) is.line →
         IsFairFrom setup steps since within → AgentHasRoomFrom setup steps since → FlightBeganSince setup w since is.post.pending →
-        serves (gateway_in setup u).endpoints ≡ true →
         w.gateway_took ≡ (u.gateway_took ++ front) ++ later →
         let took = u.gateway_took ++ front in endpoint_at (plain setup took).endpoints line ≡ Some there →
         IsAnsweredWithin setup line took later answering → IsAskedWithin setup line took later asking →
@@ -106,7 +105,7 @@ pub fn what_is_dialled_since_then_is_told()
         endpoint_at (gateway_in setup w).endpoints line ≡ Some is →
         GivesNothingUp setup line v u once was → GivesNothingUp setup line u w was is → now_in setup v + outliving ≤ now_in setup u →
         IsAskedForAllSince was.line (course_from setup (gateway_in setup u) line (front ++ later)) is.line →
-        IsFairFrom setup steps since within → AgentHasRoomFrom setup steps since → serves (gateway_in setup u).endpoints ≡ true →
+        IsFairFrom setup steps since within → AgentHasRoomFrom setup steps since →
         w.gateway_took ≡ (u.gateway_took ++ front) ++ later →
         let took = u.gateway_took ++ front in endpoint_at (plain setup took).endpoints line ≡ Some there →
         FlightsBeganSince setup line took later since →

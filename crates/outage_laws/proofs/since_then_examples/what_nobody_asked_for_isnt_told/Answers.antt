@@ -52,7 +52,6 @@ returns c = record {
   fair = fair_then;
   room = room_then;
   flew = flight_since two_lines (world never_asked) 0 (endpoint_then never_asked).post.pending (λ text. to_agent two_lines never_asked text refl) refl;
-  serving = refl;
   front = took_split two_lines rested_unasked pressed_again refl;
   split = took_split two_lines pressed_again never_asked refl;
   answered = answered_then;

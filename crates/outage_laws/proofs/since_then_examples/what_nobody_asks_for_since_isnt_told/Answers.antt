@@ -55,7 +55,6 @@ returns c = record {
   fair = fair_then;
   room = room_then;
   flew = flight_since two_lines (world asked_no_more) 0 (endpoint_then asked_no_more).post.pending (λ text. to_agent two_lines asked_no_more text refl) refl;
-  serving = refl;
   front = took_split two_lines rested_asked pressed_for_nobody refl;
   split = took_split two_lines pressed_for_nobody asked_no_more refl;
   answered = answered_then;

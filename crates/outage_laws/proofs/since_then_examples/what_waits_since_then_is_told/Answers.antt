@@ -100,7 +100,6 @@ returns c = record {
   fair = fair_then;
   room = room_then;
   flew = flight_since two_lines (world told_since_then) 0 (endpoint_then told_since_then).post.pending (λ text. to_agent two_lines told_since_then text refl) refl;
-  serving = refl;
   front = took_split two_lines rested_then hung_up_then refl;
   split = took_split two_lines hung_up_then told_since_then refl;
   began = began_then;

@@ -7,12 +7,12 @@ use Rattle.outage_laws.proofs.told_since_laws.what_is_dialled_since_then_is_told
 
 pub returns-clause-told : goal.returns-clause-told
 returns-clause-told c = λ setup line since within answering asking first pause stretch front later once was is there set_up taken few at_once at_was at_is calm_before calm_since long
-    asked fair roomy flew serves_then split at_there is_answered is_asked late more.
+    asked fair roomy flew split at_there is_answered is_asked late more.
     told_from setup line (place_of (gateway_in setup (plain_world setup (first ++ pause))).endpoints line was at_was).0 first pause stretch once was is set_up taken few
-    at_once at_was at_is calm_before calm_since long since within answering asking front later there fair roomy flew serves_then asked split at_there is_answered is_asked late more
+    at_once at_was at_is calm_before calm_since long since within answering asking front later there fair roomy flew asked split at_there is_answered is_asked late more
 
 pub returns-clause-fair : goal.returns-clause-fair
 returns-clause-fair c = λ setup line since within asking first pause stretch front later once was is there set_up taken few at_once at_was at_is calm_before calm_since long
-    asked fair roomy serves_then split at_there began reach is_asked late more.
+    asked fair roomy split at_there began reach is_asked late more.
     fair_told_from setup line (place_of (gateway_in setup (plain_world setup (first ++ pause))).endpoints line was at_was).0 first pause stretch once was is set_up taken few
-    at_once at_was at_is calm_before calm_since long since within asking front later there fair roomy serves_then began reach asked split at_there is_asked late more
+    at_once at_was at_is calm_before calm_since long since within asking front later there fair roomy began reach asked split at_there is_asked late more
