@@ -1,6 +1,6 @@
 -- Over a stretch in which a line gives nothing up, nor for a while before, what was quarantined at its beginning, and what its telephone had done
 -- by a moment of it, the agent was told so many rounds, and the network's time, later: whatever was asked for, lost and given up before.
-use Rattle.std.proofs.Common.{◌≡◌, ℕ, ◌+◌, ◌<◌, ◌≤◌, true, false, List, [], ◌++◌, length, Some, sym, ap, ◌∙◌, subst, arith, append_assoc, append-nil}
+use Rattle.std.proofs.Common.{◌≡◌, ℕ, ◌+◌, ◌<◌, ◌≤◌, true, false, List, [], ◌∷◌, ◌++◌, length, Some, refl, sym, ap, ◌∙◌, subst, arith, append_assoc, append-nil}
 use Rattle.std.proofs.lemmas.List.{length-append}
 use Rattle.event_values.specs.declared.observed.Observed.{Observed}
 use Rattle.outbound.specs.Flight.{InFlight}
@@ -34,7 +34,7 @@ use Rattle.told_laws.specs.Stretch.{GivesNothingUp, outliving, taken_meanwhile}
 use Rattle.told_laws.proofs.SettledLemmas.{IsThere, began_at, begun_on, sent_at}
 use Rattle.outage_laws.specs.AfterOutage.{AgentHasRoomFrom, IsFairFrom}
 use Rattle.outage_laws.specs.ToldSince.{FlightBeganSince, IsAskedForAllSince, IsToldFrom}
-use Rattle.outage_laws.proofs.ToldOutLaws.{told_out}
+use Rattle.outage_laws.proofs.ToldOutLaws.{OutSince, told_out}
 use Rattle.outage_laws.proofs.CalmFronts.{calm_fronts}
 use Rattle.outage_laws.proofs.KeepingSince.{Kept, kept_since}
 use Rattle.outage_laws.proofs.KeepsServes.{keeps_serves}
@@ -53,6 +53,13 @@ between_both : (was s is : ℕ) → was ≤ s → s ≤ is → is ≡ was → s 
 between_both was s is low high same = omega (arith, low, high, same)
 
 -- of all that was done and told, and of what was since
+none_more : (n k d z m r : ℕ) → n + k ≡ d + z → z ≡ m → n ≡ d + r → r ≤ m
+none_more n k d z m r all none parts = omega (arith, all, none, parts)
+
+none_of : (events : List Observed) → length events ≤ 0 → events ≡ []
+none_of [] few = refl
+none_of (event ∷ events) few = absurd (omega (arith, few))
+
 from_first : (d b e h t a c q : ℕ) → d ≡ b + e → t ≡ a + c → h + e ≡ c + q → d + (h + a) ≡ (t + q) + b
 from_first d b e h t a c q done told kept = omega (arith, done, told, kept)
 
@@ -197,17 +204,42 @@ module _ (setup : Setup) (line : ℕ) (some : 1 ≤ line) (first pause stretch :
       ∙ ap (λ (m : Machine). done_in (course front) ++ done_in (course_from setup m line later)) (sym (machine_on setup (opening setup) base front)))
       ∙ sym (append_assoc held (done_in (course front)) done_since)
 
+  -- and all of it, where nothing was done since
+  abbrev Out : List Observed → Type 0
+  Out now = (rest : List Observed) × ((happened_in now ≡ (held ++ done_in (course front)) ++ rest) × (done_since ≡ [] → rest ≡ []))
+
   assembled : (events : List GatewayEvent) (now y : List Observed) → w.gateway_took ≡ base ++ events → told_along (course events) ≡ now ++ y
-      → length (happened_in y) + length left ≤ length done_since → (rest : List Observed) × (happened_in now ≡ (held ++ done_in (course front)) ++ rest)
-  assembled events now y same tells short =
-      begins_with (happened_in now) (happened_in y ++ left) (held ++ done_in (course front)) done_since
-      (sym (append_assoc (happened_in now) (happened_in y) left)
-      ∙ ap (λ (x : List Observed). x ++ left) (sym (happened_both now y) ∙ ap happened_in (sym tells))
-      ∙ ap (λ (x : List GatewayEvent). happened_in (told_along (course x)) ++ left) (same_front base events (front ++ later) (sym same ∙ whole))
-      ∙ sym (kept_at (front ++ later) [] is (sym (append-nil (front ++ later))) at_all).whole ∙ done_parts)
-      (subst (λ (n : ℕ). n ≤ length done_since) (sym (length-append (happened_in y) left)) short)
+      → length (happened_in y) + length left ≤ length done_since → Out now
+  assembled events now y same tells short = (
+    out.0,
+    (
+      out.1,
+      λ none. none_of out.0
+          (none_more _ _ _ _ _ _ (sym (length-append (happened_in now) (happened_in y ++ left)) ∙ ap (λ (x : List Observed). length x) all_of
+          ∙ length-append (held ++ done_in (course front)) done_since) (ap (λ (x : List Observed). length x) none)
+          (ap (λ (x : List Observed). length x) out.1 ∙ length-append (held ++ done_in (course front)) out.0)),
+    ),
+  ) where
+    all_of : happened_in now ++ (happened_in y ++ left) ≡ (held ++ done_in (course front)) ++ done_since
+    all_of =
+        sym (append_assoc (happened_in now) (happened_in y) left) ∙ ap (λ (x : List Observed). x ++ left) (sym (happened_both now y) ∙ ap happened_in (sym tells))
+        ∙ ap (λ (x : List GatewayEvent). happened_in (told_along (course x)) ++ left) (same_front base events (front ++ later) (sym same ∙ whole))
+        ∙ sym (kept_at (front ++ later) [] is (sym (append-nil (front ++ later))) at_all).whole ∙ done_parts
+
+    out : (rest : List Observed) × (happened_in now ≡ (held ++ done_in (course front)) ++ rest)
+    out =
+        begins_with (happened_in now) (happened_in y ++ left) (held ++ done_in (course front)) done_since all_of
+        (subst (λ (n : ℕ). n ≤ length done_since) (sym (length-append (happened_in y) left)) short)
+
+  is_out : OutSince was.post.pending Out (taken_meanwhile setup line u w)
+  is_out =
+      told_out setup line some first pause stretch once was is set_up taken few at_once at_was at_is calm_before calm_since long since within fair roomy flew rounds
+      (length done_since) more Out few_left young assembled
 
   pub told_from : IsToldFrom was.post.pending (held ++ done_in (course front)) (taken_meanwhile setup line u w)
   told_from =
-      told_out setup line some first pause stretch once was is set_up taken few at_once at_was at_is calm_before calm_since long since within fair roomy flew rounds
-      (length done_since) more [] (held ++ done_in (course front)) few_left young assembled
+      record { late = is_out.late; since = is_out.since; late_is = is_out.late_is; order = is_out.order; rest = is_out.out.0; whole = is_out.out.1.0 }
+
+  pub all_from : done_since ≡ [] → (told : IsToldFrom was.post.pending (held ++ done_in (course front)) (taken_meanwhile setup line u w)) × (told.rest ≡ [])
+  all_from none =
+      (record { late = is_out.late; since = is_out.since; late_is = is_out.late_is; order = is_out.order; rest = is_out.out.0; whole = is_out.out.1.0 }, is_out.out.1.1 none)

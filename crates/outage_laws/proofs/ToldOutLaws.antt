@@ -30,13 +30,13 @@ use Rattle.delivery_laws.proofs.OwnChanceLaws.{told_eight_times}
 use Rattle.delivery_laws.proofs.StepLemmas.{taken_front}
 use Rattle.delivery_laws.proofs.ToldLemmas.{told_by}
 use Rattle.delivery_laws.proofs.WorldLemmas.{WasTaken, begun_ids, line_begun, line_taken, taken_ids}
-use Rattle.told_laws.specs.Stretch.{GivesNothingUp, outliving, taken_meanwhile}
+use Rattle.told_laws.specs.Stretch.{GivesNothingUp, IsOnItsWay, outliving, taken_meanwhile}
 use Rattle.told_laws.proofs.LateLemmas.{all_tell, front_tells, ids_both, late_apart, late_begun, late_if, late_is, late_more, late_same, none_left}
 use Rattle.told_laws.proofs.SettledLemmas.{Settles, began_at, begun_on}
 use Rattle.told_laws.proofs.StretchCourses.{taken_then, told_then}
 use Rattle.told_laws.proofs.StretchLemmas.{Matched, answered_taken, last_apart, last_came, last_flies, matched, settled_last, since_ids, took_ids}
 use Rattle.outage_laws.specs.AfterOutage.{AgentHasRoomFrom, IsFairFrom}
-use Rattle.outage_laws.specs.ToldSince.{FlightBeganSince, IsToldSince}
+use Rattle.outage_laws.specs.ToldSince.{FlightBeganSince}
 use Rattle.outage_laws.proofs.BeganEvents.{last_among}
 use Rattle.outage_laws.proofs.PlainArrivals.{come_taken}
 use Rattle.outage_laws.proofs.SinceLaws.{taken_by}
@@ -85,6 +85,14 @@ short_front (Some flight) taken (b ∷ front) last same = absurd (by_test _ same
   by_test true e = cc
   by_test false e = none_behind front (let tail : [] ≡ front ++ last ∷ [] = cc in tail)
 
+-- What the agent took since then is what was on its way at first, if it came, and then the rest, of which this is so
+pub record OutSince (first : Option InFlight) (Out : List Observed → Type 0) (taken : List Observed) : Type 0 where
+  pub late : List Observed
+  pub since : List Observed
+  pub late_is : IsOnItsWay first late
+  pub order : taken ≡ late ++ since
+  pub out : Out since
+
 module _ (setup : Setup) (line : ℕ) (some : 1 ≤ line) (first pause stretch : List WorldStep) (once was is : Endpoint) (set_up : IsSetUp setup)
     (taken : steps_are_taken setup world_opening ((first ++ pause) ++ stretch) ≡ true)
     (few : HasNumbersLeft (own_in setup (plain_world setup ((first ++ pause) ++ stretch))))
@@ -97,7 +105,7 @@ module _ (setup : Setup) (line : ℕ) (some : 1 ≤ line) (first pause stretch :
     (since within : ℕ)
     (fair : IsFairFrom setup ((first ++ pause) ++ stretch) since within) (roomy : AgentHasRoomFrom setup ((first ++ pause) ++ stretch) since)
     (flew : FlightBeganSince setup (plain_world setup ((first ++ pause) ++ stretch)) since is.post.pending)
-    (rounds count : ℕ) (more : rounds + within ≤ now_in setup (plain_world setup ((first ++ pause) ++ stretch))) (told done : List Observed)
+    (rounds count : ℕ) (more : rounds + within ≤ now_in setup (plain_world setup ((first ++ pause) ++ stretch))) (Out : List Observed → Type 0)
     (few_left : length (happened_in is.line.quarantined.events) ≤ count)
     (young_few : (events : List GatewayEvent) (flight : InFlight) (front : List Begun)
     → (plain_world setup ((first ++ pause) ++ stretch)).gateway_took ≡ (plain_world setup (first ++ pause)).gateway_took ++ events
@@ -107,7 +115,7 @@ module _ (setup : Setup) (line : ℕ) (some : 1 ≤ line) (first pause stretch :
     → (plain_world setup ((first ++ pause) ++ stretch)).gateway_took ≡ (plain_world setup (first ++ pause)).gateway_took ++ events
     → told_along (course_from setup (plain setup (plain_world setup (first ++ pause)).gateway_took) line events) ≡ now ++ y
     → length (happened_in y) + length (happened_in is.line.quarantined.events) ≤ count
-    → (rest : List Observed) × (happened_in told ++ happened_in now ≡ done ++ rest)) where
+    → Out now) where
   abbrev up : List WorldStep
   up = first ++ pause
 
@@ -156,7 +164,7 @@ module _ (setup : Setup) (line : ℕ) (some : 1 ≤ line) (first pause stretch :
   now_is = taken_then setup line up all m.more set_up taken_up taken m.came
 
   abbrev IsIt : Type 0
-  IsIt = IsToldSince was.post.pending told done taken_now
+  IsIt = OutSince was.post.pending Out taken_now
 
   all_apart : Apart (since_ids setup line u was.post.pending m.events)
   all_apart = last_apart setup line some first pause stretch once was is set_up taken few at_once at_was at_is calm_before calm_since long
@@ -175,10 +183,9 @@ module _ (setup : Setup) (line : ℕ) (some : 1 ≤ line) (first pause stretch :
     since = flat_map told_by new;
     late_is = late_is was.post.pending (taken_in u);
     order = now_is ∙ sym (all_tell (early ++ new) of (late_same was.post.pending (taken_in u) new (taken_ids of) same) apart came_all) ∙ flat_map-append told_by early new;
-    rest = a.0;
-    whole = a.1;
+    out = a;
   } where
-    a : (rest : List Observed) × (happened_in told ++ happened_in (flat_map told_by new) ≡ done ++ rest)
+    a : Out (flat_map told_by new)
     a = assembled m.events (flat_map told_by new) [] m.took (new_is ∙ sym (append-nil (flat_map told_by new))) (no_more nothing few_left)
 
   -- Where the last of it wasn't
@@ -194,14 +201,14 @@ module _ (setup : Setup) (line : ℕ) (some : 1 ≤ line) (first pause stretch :
 
     -- it was in flight at first
     if_none : new ≡ [] → IsIt
-    if_none none = record { late = []; since = []; late_is = none_left was.post.pending; order = order; rest = a.0; whole = a.1 } where
+    if_none none = record { late = []; since = []; late_is = none_left was.post.pending; order = order; out = a } where
       front_none : l.front ≡ []
       front_none = short_front was.post.pending (taken_in u) l.front l.last (ap (λ (x : List Begun). early ++ x) (sym none) ∙ l.is)
 
       order : taken_now ≡ []
       order = now_is ∙ sym fronts_told ∙ ap (flat_map told_by) front_none
 
-      a : (rest : List Observed) × (happened_in told ++ [] ≡ done ++ rest)
+      a : Out []
       a = assembled m.events [] [] m.took (new_is ∙ ap (flat_map told_by) none) (no_more nothing few_left)
 
     -- or it began since
@@ -294,15 +301,14 @@ module _ (setup : Setup) (line : ℕ) (some : 1 ≤ line) (first pause stretch :
         since = flat_map told_by e.front;
         late_is = late_is was.post.pending (taken_in u);
         order = now_is ∙ sym fronts_told ∙ ap (flat_map told_by) front_is ∙ flat_map-append told_by early e.front;
-        rest = a.0;
-        whole = a.1;
+        out = a;
       } where
         tells : told_new ≡ flat_map told_by e.front ++ told_by b
         tells =
             new_is ∙ ap (flat_map told_by) new_ends ∙ flat_map-append told_by e.front (b ∷ [])
             ∙ ap (λ (x : List Observed). flat_map told_by e.front ++ x) (append-nil (told_by b))
 
-        a : (rest : List Observed) × (happened_in told ++ happened_in (flat_map told_by e.front) ≡ done ++ rest)
+        a : Out (flat_map told_by e.front)
         a = assembled m.events (flat_map told_by e.front) (told_by b) m.took tells short
 
     if_last : IsIt

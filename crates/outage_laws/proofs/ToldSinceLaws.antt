@@ -32,7 +32,7 @@ use Rattle.told_laws.proofs.SettledLemmas.{IsThere, began_at, begun_on, sent_at}
 use Rattle.outage_laws.specs.AfterOutage.{AgentHasRoomFrom, IsFairFrom}
 use Rattle.outage_laws.specs.ToldSince.{FlightBeganSince, IsToldSince}
 use Rattle.outage_laws.proofs.CalmFronts.{calm_fronts}
-use Rattle.outage_laws.proofs.ToldOutLaws.{told_out}
+use Rattle.outage_laws.proofs.ToldOutLaws.{OutSince, told_out}
 use Rattle.outage_laws.proofs.YoungFlightLaws.{left_few, parts, young_few}
 
 -- Numbers
@@ -150,7 +150,13 @@ module _ (setup : Setup) (line : ℕ) (some : 1 ≤ line) (first pause stretch :
       (ap (line_begun setup line) whole ∙ begun_on setup line u.gateway_took events
       ∙ ap (λ (x : List Begun). line_begun setup line u.gateway_took ++ x) ends ∙ sym (append_assoc (line_begun setup line u.gateway_took) begun (flying (Some flight)))) began
 
-  pub told_since : IsToldSince was.post.pending told_before done_some (taken_meanwhile setup line u w)
-  told_since =
+  abbrev Out : List Observed → Type 0
+  Out now = (rest : List Observed) × (happened_in told_before ++ happened_in now ≡ done_some ++ rest)
+
+  out : OutSince was.post.pending Out (taken_meanwhile setup line u w)
+  out =
       told_out setup line some first pause stretch once was is set_up taken few at_once at_was at_is calm_before calm_since long since within fair roomy flew rounds
-      (length done_since) more told_before done_some few_left young assembled
+      (length done_since) more Out few_left young assembled
+
+  pub told_since : IsToldSince was.post.pending told_before done_some (taken_meanwhile setup line u w)
+  told_since = record { late = out.late; since = out.since; late_is = out.late_is; order = out.order; rest = out.out.0; whole = out.out.1 }

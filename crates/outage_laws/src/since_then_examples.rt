@@ -11,7 +11,7 @@ ghost use Rattle.world_laws.specs.Reached.{own_in};
 ghost use Rattle.world_laws.specs.Example.{world};
 ghost use Rattle.delivery_laws.specs.Copies.{IsRun};
 ghost use Rattle.delivery_laws.specs.Course.{course_from};
-ghost use Rattle.delivery_laws.specs.Dialled.{AskForAll};
+ghost use Rattle.delivery_laws.specs.Dialled.{AskForAll, done_in};
 ghost use Rattle.delivery_laws.specs.DialledExample.{done_then, endpoint_then, told_then};
 ghost use Rattle.delivery_laws.specs.Example.{took_between, took_first};
 ghost use Rattle.delivery_laws.specs.Fairness.{GoesToAgent};
@@ -54,6 +54,8 @@ pub fn what_waits_since_then_is_told()
     ensures done { done_between rested_then hung_up_then ≡ six ∷ hung_up ∷ [] }
     ensures taken { taken_between rested_then told_since_then ≡ six ∷ hung_up ∷ [] }
     ensures told { ToldFrom rested_then hung_up_then told_since_then }
+    ensures rests { done_in (course_from two_lines (plain two_lines (took_first hung_up_then)) 1
+        (took_between hung_up_then told_since_then)) ≡ [] }
     ensures done_in_all { done_then told_since_then ≡ off_hook ∷ five ∷ five ∷ six ∷ hung_up ∷ [] }
     ensures told_in_all { told_then told_since_then ≡ off_hook ∷ five ∷ six ∷ hung_up ∷ [] }
 {}

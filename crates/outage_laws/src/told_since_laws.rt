@@ -74,7 +74,8 @@ pub fn what_is_dialled_over_a_stretch_is_told()
 
 /// And over a stretch like that, whatever was asked for and lost before, too: where at its beginning the line keeps all that its telephone
 /// does, is asked for all since, and loses nothing more, what was quarantined at the beginning and what its telephone had done since by a
-/// moment of the stretch the agent was told since, so much later (RFC 3435, 4.3 and 4.4.1).
+/// moment of the stretch the agent was told since, so much later; and that is all, where the telephone rests from that moment on (RFC 3435,
+/// 4.3 and 4.4.1).
 pub fn what_is_dialled_since_then_is_told()
     ensures told { (setup : Setup) (line since within answering asking : ℕ) (first pause stretch : List WorldStep)
         (front later : List GatewayEvent) (once was is there : Endpoint) → IsSetUp setup →
@@ -95,6 +96,26 @@ pub fn what_is_dialled_since_then_is_told()
         IsToldFrom was.post.pending
         (happened_in was.line.quarantined.events ++ done_in (course_from setup (gateway_in setup u) line front))
         (taken_meanwhile setup line u w) }
+    ensures rests { (setup : Setup) (line since within answering asking : ℕ) (first pause stretch : List WorldStep)
+        (front later : List GatewayEvent) (once was is there : Endpoint) → IsSetUp setup →
+        let up = first ++ pause in let steps = up ++ stretch in steps_are_taken setup world_opening steps ≡ true →
+        let v = plain_world setup first in let u = plain_world setup up in let w = plain_world setup steps in
+        HasNumbersLeft (own_in setup w) →
+        endpoint_at (gateway_in setup v).endpoints line ≡ Some once →
+        endpoint_at (gateway_in setup u).endpoints line ≡ Some was →
+        endpoint_at (gateway_in setup w).endpoints line ≡ Some is →
+        GivesNothingUp setup line v u once was → GivesNothingUp setup line u w was is → now_in setup v + outliving ≤ now_in setup u →
+        IsAskedForAllSince was.line (course_from setup (gateway_in setup u) line (front ++ later)) is.line →
+        IsFairFrom setup steps since within → AgentHasRoomFrom setup steps since → FlightBeganSince setup w since is.post.pending →
+        w.gateway_took ≡ (u.gateway_took ++ front) ++ later →
+        let took = u.gateway_took ++ front in endpoint_at (plain setup took).endpoints line ≡ Some there →
+        IsAnsweredWithin setup line took later answering → IsAskedWithin setup line took later asking →
+        (plain setup took).now + rounds_take (length there.line.quarantined.events) answering asking < now_in setup w →
+        (plain setup took).now + rounds_take (length there.line.quarantined.events) answering asking + within ≤ now_in setup w →
+        done_in (course_from setup (plain setup took) line later) ≡ [] →
+        (told : IsToldFrom was.post.pending
+        (happened_in was.line.quarantined.events ++ done_in (course_from setup (gateway_in setup u) line front))
+        (taken_meanwhile setup line u w)) × (told.rest ≡ []) }
     ensures fair { (setup : Setup) (line since within asking : ℕ) (first pause stretch : List WorldStep)
         (front later : List GatewayEvent) (once was is there : Endpoint) → IsSetUp setup →
         let up = first ++ pause in let steps = up ++ stretch in steps_are_taken setup world_opening steps ≡ true →
@@ -116,6 +137,28 @@ pub fn what_is_dialled_since_then_is_told()
         IsToldFrom was.post.pending
         (happened_in was.line.quarantined.events ++ done_in (course_from setup (gateway_in setup u) line front))
         (taken_meanwhile setup line u w) }
+    ensures fair_rests { (setup : Setup) (line since within asking : ℕ) (first pause stretch : List WorldStep)
+        (front later : List GatewayEvent) (once was is there : Endpoint) → IsSetUp setup →
+        let up = first ++ pause in let steps = up ++ stretch in steps_are_taken setup world_opening steps ≡ true →
+        let v = plain_world setup first in let u = plain_world setup up in let w = plain_world setup steps in
+        HasNumbersLeft (own_in setup w) →
+        endpoint_at (gateway_in setup v).endpoints line ≡ Some once →
+        endpoint_at (gateway_in setup u).endpoints line ≡ Some was →
+        endpoint_at (gateway_in setup w).endpoints line ≡ Some is →
+        GivesNothingUp setup line v u once was → GivesNothingUp setup line u w was is → now_in setup v + outliving ≤ now_in setup u →
+        IsAskedForAllSince was.line (course_from setup (gateway_in setup u) line (front ++ later)) is.line →
+        IsFairFrom setup steps since within → AgentHasRoomFrom setup steps since →
+        w.gateway_took ≡ (u.gateway_took ++ front) ++ later →
+        let took = u.gateway_took ++ front in endpoint_at (plain setup took).endpoints line ≡ Some there →
+        FlightsBeganSince setup line took later since →
+        ((b : Begun) → IsOfLine setup w line b → since ≤ b.moment → GoesToAgent setup w b.text) →
+        IsAskedWithin setup line took later asking →
+        (plain setup took).now + rounds_take (length there.line.quarantined.events) (2 * within) asking < now_in setup w →
+        (plain setup took).now + rounds_take (length there.line.quarantined.events) (2 * within) asking + within ≤ now_in setup w →
+        done_in (course_from setup (plain setup took) line later) ≡ [] →
+        (told : IsToldFrom was.post.pending
+        (happened_in was.line.quarantined.events ++ done_in (course_from setup (gateway_in setup u) line front))
+        (taken_meanwhile setup line u w)) × (told.rest ≡ []) }
 {}
 
 /// Over a network that is fair from some moment on, and whatever was given up before, a line that serves, of a gateway that does, waits for

@@ -112,6 +112,7 @@ returns c = record {
   done = done_is;
   taken = taken_is;
   told = is_told;
+  rests = refl;
   done_in_all = refl;
   told_in_all = refl;
 }
