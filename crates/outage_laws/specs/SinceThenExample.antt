@@ -55,6 +55,11 @@ all_told =
 abbrev pub told_since_then : List WorldStep
 told_since_then = all_told ++ ticking 12201 ∷ asks_for_the_next ∷ delivering 16 ∷ delivering 17 ∷ ticking 12701 ∷ []
 
+-- Nobody asks for the next
+
+abbrev pub never_asked_again : List WorldStep
+never_asked_again = rested_then ++ ticking 12001 ∷ []
+
 -- Nobody asks
 
 abbrev pub rested_unasked : List WorldStep

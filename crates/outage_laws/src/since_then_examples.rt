@@ -23,6 +23,7 @@ ghost use Rattle.told_laws.specs.Stretch.{outliving};
 ghost use Rattle.outage_laws.specs.AfterOutage.{AgentHasRoomFrom, IsFairFrom};
 ghost use Rattle.outage_laws.specs.SinceThenExample.{GaveNothingUpBetween, ToldFrom, WasAskedForAllSince};
 ghost use Rattle.outage_laws.specs.SinceThenExample.{asked_at_last, asked_no_more, done_between, hung_up_then, never_asked};
+ghost use Rattle.outage_laws.specs.SinceThenExample.{never_asked_again};
 ghost use Rattle.outage_laws.specs.SinceThenExample.{pressed_again, pressed_for_nobody, pressed_unasked, rested_asked, rested_then};
 ghost use Rattle.outage_laws.specs.SinceThenExample.{rested_unasked, six_waits, taken_between, told_since_then};
 ghost use Rattle.outage_laws.specs.ToldSince.{FlightBeganSince, FlightsBeganSince};
@@ -107,4 +108,27 @@ pub fn what_nobody_asks_for_since_isnt_told()
         < now_in two_lines (world asked_no_more) }
     ensures done { done_between rested_asked pressed_for_nobody ≡ five ∷ [] }
     ensures taken { taken_between rested_asked asked_no_more ≡ [] }
+{}
+
+/// Nor is what waits for a request told where none comes.
+pub fn what_waits_for_a_request_isnt_told()
+    ensures steps { steps_are_taken two_lines world_opening never_asked_again ≡ true }
+    ensures calm_before { GaveNothingUpBetween six_waits rested_then }
+    ensures calm_since { GaveNothingUpBetween rested_then never_asked_again }
+    ensures long { now_in two_lines (world six_waits) + outliving ≤ now_in two_lines (world rested_then) }
+    ensures asked { WasAskedForAllSince rested_then rested_then never_asked_again }
+    ensures fair { IsFairFrom two_lines never_asked_again 0 300 }
+    ensures room { AgentHasRoomFrom two_lines never_asked_again 0 }
+    ensures flew { FlightBeganSince two_lines (world never_asked_again) 0 (endpoint_then never_asked_again).post.pending }
+    ensures front { took_first rested_then ≡ took_first rested_then ++ took_between rested_then rested_then }
+    ensures split { took_first never_asked_again ≡ took_first rested_then ++ took_between rested_then never_asked_again }
+    ensures answered { IsAnsweredWithin two_lines 1 (took_first rested_then) (took_between rested_then never_asked_again) (2 * 300) }
+    ensures not_asked_again { ¬ IsAskedWithin two_lines 1 (took_first rested_then) (took_between rested_then never_asked_again) 100 }
+    ensures held { (endpoint_then rested_then).line.quarantined.events ≡ six ∷ [] }
+    ensures late { (plain two_lines (took_first rested_then)).now + rounds_take 1 (2 * 300) 100
+        < now_in two_lines (world never_asked_again) }
+    ensures more { (plain two_lines (took_first rested_then)).now + rounds_take 1 (2 * 300) 100 + 300
+        ≡ now_in two_lines (world never_asked_again) }
+    ensures done { done_between rested_then rested_then ≡ six ∷ [] }
+    ensures taken { taken_between rested_then never_asked_again ≡ [] }
 {}
