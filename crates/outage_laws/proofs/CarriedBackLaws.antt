@@ -24,6 +24,7 @@ use Rattle.delivery_laws.proofs.OwnChanceLaws.{told_eight_times}
 use Rattle.delivery_laws.proofs.PlaceLemmas.{each_two}
 use Rattle.outage_laws.specs.Carrying.{IsCarriedBack, IsHandedBack}
 use Rattle.outage_laws.proofs.OwnCopyLemmas.{comes_back, own_of, stays_taken, take_copy, told_copy}
+use Rattle.outage_laws.proofs.OwnReaches.{own_reaches}
 use Rattle.outage_laws.proofs.PlainArrivals.{come_taken}
 
 -- The numbers of the eight
@@ -122,9 +123,8 @@ line_served setup steps line endpoint b lost set_up taken at of reach late few c
     served setup steps line b lost set_up taken of reach late few carries (told_eight_times setup steps line endpoint b set_up taken at of)
 
 pub own_served : (setup : Setup) (steps : List WorldStep) (b : Begun) (lost : List ℕ) → IsSetUp setup → steps_are_taken setup world_opening steps ≡ true
-    → let w = plain_world setup steps in IsOfLine setup w 0 b → GoesToAgent setup w b.text
-    → b.moment + last_chance ≤ now_in setup w → length lost ≤ most_repeats
+    → let w = plain_world setup steps in IsOfLine setup w 0 b → b.moment + last_chance ≤ now_in setup w → length lost ≤ most_repeats
     → ((number : ℕ) → IsCopy setup w gateway_end b.text number → (Any (λ (n : ℕ). n ≡ number) lost → ⊥) → IsCarriedBack setup steps b number)
     → Any (λ (one : Reached). one.asked.id ≡ b.id) (taken_in w) × HasCome w b.id
-own_served setup steps b lost set_up taken of reach late few carries =
-    served setup steps 0 b lost set_up taken of reach late few carries (announced_eight_times setup steps b set_up taken of)
+own_served setup steps b lost set_up taken of late few carries =
+    served setup steps 0 b lost set_up taken of (own_reaches setup set_up steps b taken of) late few carries (announced_eight_times setup steps b set_up taken of)

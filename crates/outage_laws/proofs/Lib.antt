@@ -48,3 +48,7 @@ pub mod OldestServes
 pub mod ServesByThen
 pub mod WellLaws
 pub mod HadTimeExamples
+pub mod LineTexts
+pub mod RouteLemmas
+pub mod OwnRoutes
+pub mod OwnReaches

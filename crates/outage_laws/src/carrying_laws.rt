@@ -23,7 +23,7 @@ pub fn one_copy_of_eight_of_its_own_is_enough()
         ((number : ℕ) → IsCopy setup w GatewayEnd b.text number → ¬ Any (λ (n : ℕ). n ≡ number) lost →
         IsCarriedBack setup steps b number) → Any (λ (one : Reached). one.asked.id ≡ b.id) (taken_in w) × HasCome w b.id }
     ensures own { (setup : Setup) (steps : List WorldStep) (b : Begun) (lost : List ℕ) → IsRun setup steps →
-        let w = plain_world setup steps in IsOfLine setup w 0 b → GoesToAgent setup w b.text → b.moment + last_chance ≤ now_in setup w →
+        let w = plain_world setup steps in IsOfLine setup w 0 b → b.moment + last_chance ≤ now_in setup w →
         length lost ≤ most_repeats → ((number : ℕ) → IsCopy setup w GatewayEnd b.text number → ¬ Any (λ (n : ℕ). n ≡ number) lost →
         IsCarriedBack setup steps b number) → Any (λ (one : Reached). one.asked.id ≡ b.id) (taken_in w) × HasCome w b.id }
 {}

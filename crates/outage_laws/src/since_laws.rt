@@ -36,7 +36,7 @@ pub fn what_is_in_flight_is_taken_after_an_outage()
     ensures own_taken { (setup : Setup) (steps : List WorldStep) (since within : ℕ) (b : Begun) →
         IsRun setup steps → IsFairFrom setup steps since within → AgentHasRoomFrom setup steps since →
         let w = plain_world setup steps in
-        IsOfLine setup w 0 b → GoesToAgent setup w b.text → since ≤ b.moment + last_chance → b.moment + within ≤ now_in setup w →
+        IsOfLine setup w 0 b → since ≤ b.moment + last_chance → b.moment + within ≤ now_in setup w →
         since + longest_pause + within ≤ now_in setup w + 1 → Any (λ (one : Reached). one.asked.id ≡ b.id) (taken_in w) }
     ensures line_answered { (setup : Setup) (steps : List WorldStep) (since within line : ℕ) (endpoint : Endpoint) (b : Begun) →
         IsRun setup steps → IsFairFrom setup steps since within → AgentHasRoomFrom setup steps since →
@@ -46,7 +46,7 @@ pub fn what_is_in_flight_is_taken_after_an_outage()
     ensures own_answered { (setup : Setup) (steps : List WorldStep) (since within : ℕ) (b : Begun) →
         IsRun setup steps → IsFairFrom setup steps since within → AgentHasRoomFrom setup steps since →
         let w = plain_world setup steps in
-        IsOfLine setup w 0 b → GoesToAgent setup w b.text → since ≤ b.moment + last_chance → b.moment + 2 * within ≤ now_in setup w →
+        IsOfLine setup w 0 b → since ≤ b.moment + last_chance → b.moment + 2 * within ≤ now_in setup w →
         since + longest_pause + 2 * within ≤ now_in setup w + 1 → HasCome w b.id }
 {}
 
@@ -56,12 +56,11 @@ pub fn what_is_in_flight_is_taken_after_an_outage()
 pub fn a_gateway_serves_after_an_outage()
     ensures behind_the_last { (setup : Setup) (steps : List WorldStep) (since within : ℕ) → IsRun setup steps →
         IsFairFrom setup steps since within → AgentHasRoomFrom setup steps since →
-        let w = plain_world setup steps in ((b : Begun) → IsOfLine setup w 0 b → GoesToAgent setup w b.text) →
-        since + gap_of within + setup.restart_wait + 2 * within ≤ now_in setup w + 1 → serves (gateway_in setup w).endpoints ≡ true }
+        let w = plain_world setup steps in since + gap_of within + setup.restart_wait + 2 * within ≤ now_in setup w + 1 →
+        serves (gateway_in setup w).endpoints ≡ true }
     ensures behind_any { (setup : Setup) (steps : List WorldStep) (since within wait : ℕ) → IsRun setup steps →
         IsFairFrom setup steps since within → AgentHasRoomFrom setup steps since → let w = plain_world setup steps in
-        ((b : Begun) → IsOfLine setup w 0 b → GoesToAgent setup w b.text) → Any (λ (one : ℕ). one ≡ wait) chances →
-        wait + 2 * within < answer_wait → since + answer_wait + setup.restart_wait + 2 * within ≤ now_in setup w + 1 + wait →
+        Any (λ (one : ℕ). one ≡ wait) chances → wait + 2 * within < answer_wait → since + answer_wait + setup.restart_wait + 2 * within ≤ now_in setup w + 1 + wait →
         serves (gateway_in setup w).endpoints ≡ true }
 {}
 

@@ -1,0 +1,281 @@
+-- In a world all that a gateway announces of itself goes to its agent: no response there redirects it.
+use Rattle.std.proofs.Common.{◌≡◌, ℕ, Bool, true, false, ◌==◌, ◌&&◌, if◌then◌else◌, List, [], ◌∷◌, ◌++◌, map, flat_map, Option, Some, None, inl, inr, refl, sym, ap, ◌∙◌, subst, append-nil, append_assoc}
+use Rattle.std.specs.Prelude.{◌⊎◌, IfSome, slice_get}
+use Rattle.std.specs.Str.{bytes_eq}
+use Rattle.std.proofs.lemmas.Bool.{and_from, and_parts, eq-eqb, eqb-true}
+use Rattle.std.proofs.lemmas.Slice.Eq.{bytes_eq-Decides}
+use Rattle.std.specs.declared.net.socket_addr.SocketAddrV4.{SocketAddrV4}
+use Rattle.mgcp_text.specs.declared.message.Message.TheVariants as messages
+use Rattle.mgcp_text.specs.Reading.{Outcome, message, no_header, bad_version, bad_body, read_text}
+use Rattle.mgcp_text.proofs.RoundLaws.{read_again}
+use Rattle.endpoint_names.specs.declared.route.Route.{Route}
+use Rattle.endpoint_names.specs.Route.{at}
+use Rattle.outbound.specs.Issued.{is_command_as}
+use Rattle.transmission.specs.declared.output.OutDatagram.{OutDatagram}
+use Rattle.transmission.specs.Packing.{messages_in, packed, same_address}
+use Rattle.transmission.specs.Texts.{texts_of}
+use Rattle.transmission.proofs.PackingLaws.{IsMessage, packed_messages}
+use Rattle.plain_machine.specs.declared.setup.Setup.{Setup}
+use Rattle.plain_machine.specs.Effect.{Effect}
+use Rattle.plain_machine.specs.Event.{GatewayEvent, datagram, phone, tick}
+use Rattle.plain_machine.specs.Happening.{effect}
+use Rattle.plain_machine.specs.Lists.{machine_after, sent_of}
+use Rattle.plain_machine.specs.Machine.{Machine, opening}
+use Rattle.plain_machine.specs.Message.{Owner, Said, Sent, acknowledgement, again, answer, command, datagram_of, datagrams_of, own_of, resent, text_of}
+use Rattle.plain_machine.specs.Packing.{put_out}
+use Rattle.plain_machine.specs.Posting.{line_of_id}
+use Rattle.plain_machine.specs.Setup.{IsSetUp}
+use Rattle.plain_machine.proofs.ListLaws.{machine_on}
+use Rattle.machine_laws.specs.Belonging.{is_of, of_line}
+use Rattle.machine_laws.specs.Saying.{Begun, OneOf, begun_at, begun_by, begun_in}
+use Rattle.machine_laws.proofs.CommandLaws.{IsOut}
+use Rattle.machine_laws.proofs.EachLemmas.{Each, all_from_each, each_at, each_both, each_from_all, each_mapped, each_unflat, each_unmapped, each_weaker, one_from_any, one_of_each, one_to}
+use Rattle.machine_laws.proofs.MessageLaws.{event_goes}
+use Rattle.call_agent.specs.Hearing.{AgentEvent, agent_effect, hears, issues}
+use Rattle.agent_core.specs.declared.packet.End.{End}
+use Rattle.agent_core.specs.declared.packet.End.TheVariants.{AgentEnd as agent_end, GatewayEnd as gateway_end}
+use Rattle.agent_core.specs.declared.packet.Packet.{Packet}
+use Rattle.agent_core.specs.declared.packet.Posted.{Posted}
+use Rattle.agent_core.specs.World.{World, WorldStep, agent_in, agent_of, delivered, delivered_from, delivering, dialling, gateway_address, gateway_in, is_among, issuing, plain_world, posted_as, steps_are_taken, ticking, to_agent, to_gateway, went, world_after, world_opening}
+use Rattle.world_laws.proofs.AgentLaws.{Goes}
+use Rattle.world_laws.proofs.LinkLaws.{Linked, world_linked}
+use Rattle.world_laws.proofs.WorldLaws.{gateway_alone, texts_hold}
+use Rattle.delivery_laws.specs.Fairness.{GoesToAgent}
+use Rattle.delivery_laws.specs.OwnChances.{IsOfLine}
+use Rattle.delivery_laws.proofs.PlaceLemmas.{one_parted}
+use Rattle.delivery_laws.proofs.SenderLemmas.{agent_sender, first_among}
+use Rattle.delivery_laws.proofs.StepLemmas.{step_more, taken_front}
+use Rattle.delivery_laws.proofs.WellLemmas.{IsWell, SaysWell, sent_well}
+use Rattle.outage_laws.proofs.LineTexts.{IsLines, IsLinesOr, IsTextOf, act_lines, datagram_or, plain_stands, tick_lines}
+use Rattle.outage_laws.proofs.OwnRoutes.{IsAmong, OwnFits, OwnGoes, act_goes, datagram_goes, each_goes, tick_goes}
+use Rattle.outage_laws.proofs.PlainArrivals.{plain_texts}
+
+-- a command's id is that under which it is read
+one_id : (id other : ℕ) (name next : List ℕ) (outcome : Outcome) → is_command_as id name outcome ≡ true → is_command_as other next outcome ≡ true → id ≡ other
+one_id id other name next no_header is so = absurd cc
+one_id id other name next (bad_version x) is so = absurd cc
+one_id id other name next (bad_body x) is so = absurd cc
+one_id id other name next (message (messages.Response code x params body)) is so = absurd cc
+one_id id other name next (message (messages.Command verb x of params body)) is so =
+    sym (eqb-true x id (and_parts (x == id) (bytes_eq of name) is).0) ∙ eqb-true x other (and_parts (x == other) (bytes_eq of next) so).0
+
+same_command : (id : ℕ) (name : List ℕ) → (id == id && bytes_eq name name) ≡ true
+same_command id name = and_from (id == id) (bytes_eq name name) (eq-eqb id id refl) ((bytes_eq-Decides name name).1 refl)
+
+module _ (agent : Route SocketAddrV4) where
+  -- the text of a command of the gateway itself goes to the agent
+  abbrev pub TextGoes : SocketAddrV4 → List ℕ → Type 0
+  TextGoes to text = (id : ℕ) (name : List ℕ) → is_command_as id name (read_text text) ≡ true → line_of_id id ≡ 0 → IsAmong agent to
+
+  sent_goes : (one : Sent) → IsLines one ⊎ IsAmong agent one.to → OwnGoes agent one → TextGoes one.to (text_of one.said)
+  sent_goes one (inr among) goes = λ id name reads own. among
+  sent_goes one (inl lines) goes = λ id name reads own.
+      goes (lines.owned ∙ ap own_of (sym lines.says.of ∙ ap line_of_id (one_id lines.says.id id lines.says.name name (read_text (text_of one.said)) lines.says.reads reads) ∙ own))
+
+  abbrev OutGoes : OutDatagram → Type 0
+  OutGoes out = TextGoes out.to out.bytes
+
+  -- packed, each text still does
+  packed_go : (messages : List OutDatagram) → Each (λ (out : OutDatagram). Goes out.bytes) messages → Each OutGoes messages
+      → Each (λ (out : OutDatagram). Each (TextGoes out.to) (texts_of out.bytes)) (packed messages)
+  packed_go messages goes says =
+      let apart : flat_map messages_in (packed messages) ≡ messages = packed_messages messages (all_from_each IsMessage messages goes) in
+      let inside : Each OutGoes (flat_map messages_in (packed messages)) = subst (Each OutGoes) (sym apart) says in
+      each_weaker (λ (out : OutDatagram). Each OutGoes (messages_in out)) (λ (out : OutDatagram). Each (TextGoes out.to) (texts_of out.bytes))
+      (λ out each. texts_hold (TextGoes out.to) out.bytes (each_unmapped OutGoes (λ text. record out { bytes = text }) _ each))
+      (packed messages) (each_unflat OutGoes messages_in (packed messages) inside)
+
+  abbrev PostGoes : End → Packet → Type 0
+  PostGoes gateway_end packet = Each (TextGoes packet.to) (texts_of packet.bytes)
+  PostGoes agent_end packet = Unit {0}
+
+  abbrev pub Reaches : Posted → Type 0
+  Reaches post = PostGoes post.end post.packet
+
+  agent_reaches : (from : SocketAddrV4) (outs : List OutDatagram) → Each Reaches (map (posted_as agent_end from) outs)
+  agent_reaches from [] = tt
+  agent_reaches from (out ∷ outs) = (tt, agent_reaches from outs)
+
+-- A world
+
+pub record AllReach (setup : Setup) (w : World) : Type 0 where
+  pub fits : OwnFits setup.agent.route (gateway_in setup w).endpoints.own
+  pub posted : Each (Reaches setup.agent.route) w.posted
+
+abbrev EventGoes : Setup → Effect Machine → Type 0
+EventGoes setup is = OwnFits setup.agent.route is.value.endpoints.own × Each (OwnGoes setup.agent.route) (of_line 0 is.sent)
+
+abbrev SaysSo : Setup → Sent → Type 0
+SaysSo setup one = IsLines one ⊎ IsAmong setup.agent.route one.to
+
+to_agent_reaches : (setup : Setup) (w : World) (event : AgentEvent) → AllReach setup w → AllReach setup (to_agent setup w event)
+to_agent_reaches setup w event all = record {
+  fits = all.fits;
+  posted = each_both (Reaches setup.agent.route) w.posted _ all.posted
+      (agent_reaches setup.agent.route (at setup.agent.route 0) (packed (agent_effect (agent_of setup) (agent_in setup w) event).sent));
+}
+
+to_gateway_reaches : (setup : Setup) (w : World) (event : GatewayEvent) → Linked setup w → EventGoes setup (effect setup (gateway_in setup w) event)
+    → Each (SaysSo setup) (effect setup (gateway_in setup w) event).sent → AllReach setup w → AllReach setup (to_gateway setup w event)
+to_gateway_reaches setup w event l goes says all = record {
+  fits = subst (λ (m : Machine). OwnFits route m.endpoints.own) (sym (machine_on setup (opening setup) w.gateway_took (event ∷ []) ∙ gateway_alone setup g event)) goes.0;
+  posted = each_both (Reaches route) w.posted _ all.posted
+      (each_mapped (Reaches route) (posted_as gateway_end (gateway_address setup)) (put_out sent)
+      (packed_go route (datagrams_of sent)
+      (each_mapped (λ (out : OutDatagram). Goes out.bytes) datagram_of sent (each_from_all IsOut sent (event_goes setup g event l.links.gateway.fits l.links.gateway.kept).sent))
+      (each_mapped (λ (out : OutDatagram). TextGoes route out.to out.bytes) datagram_of sent (each_go sent says (each_goes route sent goes.1)))));
+} where
+  route : Route SocketAddrV4
+  route = setup.agent.route
+
+  g : Machine
+  g = gateway_in setup w
+
+  sent : List Sent
+  sent = (effect setup g event).sent
+
+  each_go : (some : List Sent) → Each (SaysSo setup) some → Each (OwnGoes route) some → Each (λ (one : Sent). TextGoes route one.to (text_of one.said)) some
+  each_go [] says goes = tt
+  each_go (one ∷ some) says goes = (sent_goes route one says.0 goes.0, each_go some says.1 goes.1)
+
+module _ (setup : Setup) (set_up : IsSetUp setup) where
+  abbrev route : Route SocketAddrV4
+  route = setup.agent.route
+
+  by_lines : (sent : List Sent) → Each IsLines sent → Each (SaysSo setup) sent
+  by_lines sent all = each_weaker IsLines (SaysSo setup) (λ one is. inl is) sent all
+
+  by_source : (source : SocketAddrV4) (sent : List Sent) → IsAmong route source → Each (IsLinesOr setup set_up source) sent → Each (SaysSo setup) sent
+  by_source source sent among all = each_weaker (IsLinesOr setup set_up source) (SaysSo setup) one_so sent all where
+    one_so : (one : Sent) → IsLinesOr setup set_up source one → SaysSo setup one
+    one_so one (inl is) = inl is
+    one_so one (inr same) = inr (subst (IsAmong route) (sym same) among)
+
+  delivered_reaches : (steps : List WorldStep) (number : ℕ) (post : Posted) → steps_are_taken setup world_opening steps ≡ true
+      → slice_get (plain_world setup steps).posted number ≡ Some post → AllReach setup (plain_world setup steps)
+      → AllReach setup (delivered_from post.end setup (plain_world setup steps) post.packet)
+  delivered_reaches steps number post taken found all = by_end post.end refl where
+    w : World
+    w = plain_world setup steps
+
+    g : Machine
+    g = gateway_in setup w
+
+    source : SocketAddrV4
+    source = post.packet.sender
+
+    event : GatewayEvent
+    event = datagram post.packet.sender post.packet.bytes
+
+    by_gateway : (b : Bool) → post.end ≡ agent_end → AllReach setup (if b then to_gateway setup w event else w)
+    by_gateway true from =
+        to_gateway_reaches setup w event (world_linked setup steps set_up taken)
+        (datagram_goes route setup g source post.packet.bytes (plain_texts setup set_up steps number post taken found from) all.fits)
+        (by_source source (effect setup g event).sent
+        (subst (IsAmong route) (sym (agent_sender setup steps number post found from)) (first_among route))
+        (each_from_all (IsLinesOr setup set_up source) (effect setup g event).sent (datagram_or setup set_up g source post.packet.bytes (plain_stands setup set_up w.gateway_took)))) all
+    by_gateway false from = all
+
+    by_agent : (b : Bool) → AllReach setup (if b then to_agent setup w (hears (datagram post.packet.sender post.packet.bytes)) else w)
+    by_agent true = to_agent_reaches setup w (hears (datagram post.packet.sender post.packet.bytes)) all
+    by_agent false = all
+
+    by_end : (end : End) → post.end ≡ end → AllReach setup (delivered_from end setup w post.packet)
+    by_end agent_end from = by_gateway (same_address post.packet.to (gateway_address setup)) from
+    by_end gateway_end from = by_agent (is_among setup.agent.route post.packet.to)
+
+  step_reaches : (steps : List WorldStep) (step : WorldStep) → steps_are_taken setup world_opening steps ≡ true → AllReach setup (plain_world setup steps)
+      → AllReach setup (went setup (plain_world setup steps) step)
+  unfolding went
+  step_reaches steps (issuing verb name rest) taken all = to_agent_reaches setup (plain_world setup steps) (issues verb name rest) all
+  step_reaches steps (dialling line act) taken all =
+      let w = plain_world setup steps in
+      let g = gateway_in setup w in
+      to_gateway_reaches setup w (phone line act) (world_linked setup steps set_up taken) (act_goes route setup g line act all.fits)
+      (by_lines (effect setup g (phone line act)).sent
+      (each_from_all IsLines (effect setup g (phone line act)).sent (act_lines setup set_up g line act (plain_stands setup set_up w.gateway_took)))) all
+  step_reaches steps (ticking moment) taken all =
+      let w = plain_world setup steps in
+      let g = gateway_in setup w in
+      to_agent_reaches setup (to_gateway setup w (tick moment)) (hears (tick moment))
+      (to_gateway_reaches setup w (tick moment) (world_linked setup steps set_up taken) (tick_goes route setup g moment all.fits)
+      (by_lines (effect setup g (tick moment)).sent
+      (each_from_all IsLines (effect setup g (tick moment)).sent (tick_lines setup set_up g moment (plain_stands setup set_up w.gateway_took)))) all)
+  step_reaches steps (delivering number) taken all = by_post (slice_get (plain_world setup steps).posted number) refl where
+    by_post : (found : Option Posted) → slice_get (plain_world setup steps).posted number ≡ found → AllReach setup (delivered found setup (plain_world setup steps))
+    by_post None none = all
+    by_post (Some post) found = delivered_reaches steps number post taken found all
+
+  steps_reach : (before rest : List WorldStep) → steps_are_taken setup world_opening (before ++ rest) ≡ true → AllReach setup (plain_world setup before)
+      → AllReach setup (plain_world setup (before ++ rest))
+  steps_reach before [] taken all = subst (λ (s : List WorldStep). AllReach setup (plain_world setup s)) (sym (append-nil before)) all
+  steps_reach before (step ∷ rest) taken all =
+      let order : (before ++ step ∷ []) ++ rest ≡ before ++ step ∷ rest = append_assoc before (step ∷ []) rest in
+      subst (λ (s : List WorldStep). AllReach setup (plain_world setup s)) order
+      (steps_reach (before ++ step ∷ []) rest (subst (λ (s : List WorldStep). steps_are_taken setup world_opening s ≡ true) (sym order) taken)
+      (subst (AllReach setup) (sym (step_more setup before step)) (step_reaches before step (taken_front setup world_opening before (step ∷ rest) taken) all)))
+
+  opening_reaches : AllReach setup (plain_world setup [])
+  unfolding world_after machine_after
+  opening_reaches = record { fits = record { free = λ serving. refl; flight = tt; entity = λ none. refl }; posted = tt }
+
+  -- What begins of the gateway itself
+
+  module _ (b : Begun) where
+    own_said : (owner : Owner) (said : Said) (moment : ℕ) → is_of 0 owner ≡ true → SaysWell setup owner said → OneOf (λ (x : Begun). x ≡ b) (begun_by moment said) → IsTextOf 0 b.text
+    own_said owner (command (messages.Command verb id name params body)) moment mine well (inl is) =
+        subst (λ (x : Begun). IsTextOf 0 x.text) is (record {
+          id = id;
+          name = name;
+          reads = ap (is_command_as id name) (read_again (messages.Command verb id name params body) well.writable) ∙ same_command id name;
+          of = well.id_of ∙ eqb-true well.line 0 (sym (ap (is_of 0) well.owned) ∙ mine);
+        })
+    own_said owner (command (messages.Command verb id name params body)) moment mine well (inr none) = absurd none
+    own_said owner (command (messages.Response code id params body)) moment mine well none = absurd none
+    own_said owner (answer response) moment mine well none = absurd none
+    own_said owner (again id text) moment mine well none = absurd none
+    own_said owner (resent flight) moment mine well none = absurd none
+    own_said owner (acknowledgement response) moment mine well none = absurd none
+
+    own_text : (sent : List Sent) → Each (IsWell setup) sent → OneOf (λ (x : Begun). x ≡ b) (begun_in (of_line 0 sent)) → IsTextOf 0 b.text
+    own_text [] well began = absurd began
+    own_text (one ∷ sent) well began = by_test (is_of 0 one.owner) refl began (λ there. own_text sent well.1 there) where
+      by_part : is_of 0 one.owner ≡ true → OneOf (λ (x : Begun). x ≡ b) (begun_at one) ⊎ OneOf (λ (x : Begun). x ≡ b) (begun_in (of_line 0 sent))
+          → (OneOf (λ (x : Begun). x ≡ b) (begun_in (of_line 0 sent)) → IsTextOf 0 b.text) → IsTextOf 0 b.text
+      by_part mine (inl here) on = own_said one.owner one.said one.moment mine well.0 here
+      by_part mine (inr there) on = on there
+
+      by_test : (t : Bool) → is_of 0 one.owner ≡ t → OneOf (λ (x : Begun). x ≡ b) (begun_in (if t then one ∷ of_line 0 sent else of_line 0 sent))
+          → (OneOf (λ (x : Begun). x ≡ b) (begun_in (of_line 0 sent)) → IsTextOf 0 b.text) → IsTextOf 0 b.text
+      by_test true mine some on = by_part mine (one_parted (λ (x : Begun). x ≡ b) (begun_at one) (begun_in (of_line 0 sent)) some) on
+      by_test false not some on = on some
+
+  -- so it goes to the agent, each time
+  pub own_reaches : (steps : List WorldStep) (b : Begun) → steps_are_taken setup world_opening steps ≡ true → IsOfLine setup (plain_world setup steps) 0 b
+      → GoesToAgent setup (plain_world setup steps) b.text
+  own_reaches steps b taken of number post found from inside = by_text (texts_of post.packet.bytes) goes inside_one where
+    w : World
+    w = plain_world setup steps
+
+    all : AllReach setup w
+    all = steps_reach [] steps taken opening_reaches
+
+    here : Reaches route post
+    here = subst (λ (o : Option Posted). IfSome o (Reaches route)) found (each_at (Reaches route) w.posted number all.posted)
+
+    goes : Each (TextGoes route post.packet.to) (texts_of post.packet.bytes)
+    goes = subst (λ (end : End). PostGoes route end post.packet) from here
+
+    inside_one : OneOf (λ (one : List ℕ). one ≡ b.text) (texts_of post.packet.bytes)
+    inside_one = one_from_any (λ (one : List ℕ). one ≡ b.text) (texts_of post.packet.bytes) inside
+
+    is : IsTextOf 0 b.text
+    is =
+        own_text b (sent_of setup w.gateway_took) (each_from_all (IsWell setup) (sent_of setup w.gateway_took) (sent_well setup set_up w.gateway_took))
+        (one_from_any (λ (one : Begun). one ≡ b) (begun_in (of_line 0 (sent_of setup w.gateway_took))) of)
+
+    by_text : (texts : List (List ℕ)) → Each (TextGoes route post.packet.to) texts → OneOf (λ (one : List ℕ). one ≡ b.text) texts → is_among route post.packet.to ≡ true
+    by_text texts each one =
+        one_to (λ (text : List ℕ). TextGoes route post.packet.to text × (text ≡ b.text)) (is_among route post.packet.to ≡ true)
+        (λ text both. both.0 is.id is.name (ap (λ (t : List ℕ). is_command_as is.id is.name (read_text t)) both.1 ∙ is.reads) is.of) texts
+        (one_of_each (TextGoes route post.packet.to) (λ (text : List ℕ). text ≡ b.text) texts each one)
