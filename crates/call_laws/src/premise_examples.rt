@@ -10,8 +10,8 @@ ghost use Rattle.call_routing.specs.Exchange.{phase_of, line_of, answered, due};
 ghost use Rattle.call_routing.specs.declared.line.Line.{Line};
 ghost use Rattle.call_laws.specs.Turns.{tells, sends, after, is_in_flight, is_coded, is_settled, count_turns, leaves_alone, is_asked_on};
 ghost use Rattle.call_laws.specs.Turns.{is_bare, is_request, is_creation, accepts, ends, AreQuietFor};
-ghost use Rattle.call_laws.specs.Example.{opened, all_sent, driven, coded, accepted, created_first, created_second, ready, dial, ring};
-ghost use Rattle.call_laws.specs.Example.{pick_up, connect, then_is, phase_then};
+ghost use Rattle.call_laws.specs.Example.{opened, driven, accepted, created_first, created_second, ready, dial, ring};
+ghost use Rattle.call_laws.specs.Example.{connect, then_is, phase_then};
 ghost use Rattle.call_laws.specs.Premises.{being_created, flashing, put_off_each_time, to_be_created};
 
 use call_routing::{Asked, Cause, Command, Leg, Outcome, Phase, Side, Told, Tone};

@@ -3,7 +3,7 @@
 
 ghost use Rattle.std.specs.Prelude.{◌≡◌, ◌++◌, ◌∷◌, [], false, true, None, Some, option_map, slice_get};
 ghost use Rattle.live_agent.specs.declared.care.Care.{Care};
-ghost use Rattle.live_agent.specs.declared.care.Duty.TheVariants.{Clear, Audit, Route};
+ghost use Rattle.live_agent.specs.declared.care.Duty.TheVariants.{Clear};
 ghost use Rattle.live_agent.specs.Wakes.{first_woken};
 ghost use Rattle.desk_laws.specs.Desk.{StandsAmong, announces, answers, begins, happens, ticks, wakes_next};
 ghost use Rattle.desk_laws.specs.Example.{again_then, both_put_off, desk_then, due_again, once, put_off_at_500, wakes_then};

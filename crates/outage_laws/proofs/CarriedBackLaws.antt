@@ -2,15 +2,13 @@
 use Rattle.std.proofs.Common.{◌≡◌, ◌≢◌, ℕ, suc, ◌+◌, ◌≤◌, true, List, [], ◌∷◌, ◌++◌, length, Option, Some, inl, inr, refl, sym, ap, ◌∙◌, arith, append_assoc}
 use Rattle.std.specs.Prelude.{◌⊎◌, All, Any, slice_get, unwrap_or}
 use Rattle.outbound.specs.Sends.{most_repeats}
-use Rattle.plain_machine.specs.declared.endpoint.Endpoint.{Endpoint}
 use Rattle.plain_machine.specs.declared.setup.Setup.{Setup}
-use Rattle.plain_machine.specs.Machine.{endpoint_at}
 use Rattle.plain_machine.specs.Setup.{IsSetUp}
 use Rattle.machine_laws.specs.Saying.{Begun}
 use Rattle.machine_laws.proofs.EachLemmas.{Each, each_from_all, each_weaker, one_from_any}
 use Rattle.agent_core.specs.declared.packet.End.TheVariants.{GatewayEnd as gateway_end}
 use Rattle.agent_core.specs.declared.packet.Posted.{Posted}
-use Rattle.agent_core.specs.World.{World, WorldStep, delivering, gateway_in, now_in, plain_world, steps_are_taken, world_opening}
+use Rattle.agent_core.specs.World.{World, WorldStep, delivering, now_in, plain_world, steps_are_taken, world_opening}
 use Rattle.world_laws.specs.Reached.{Reached, taken_in}
 use Rattle.delivery_laws.specs.Chances.{chances, last_chance}
 use Rattle.delivery_laws.specs.Copies.{IsCopy}
@@ -20,10 +18,10 @@ use Rattle.delivery_laws.specs.Taking.{IsTaken}
 use Rattle.delivery_laws.proofs.CarryLaws.{AreApart, chances_apart, chances_low, one_spared}
 use Rattle.delivery_laws.proofs.FairLaws.{stays_found}
 use Rattle.delivery_laws.proofs.GatewayChanceLaws.{announced_eight_times}
-use Rattle.delivery_laws.proofs.OwnChanceLaws.{told_eight_times}
 use Rattle.delivery_laws.proofs.PlaceLemmas.{each_two}
 use Rattle.outage_laws.specs.Carrying.{IsCarriedBack, IsHandedBack}
 use Rattle.outage_laws.proofs.OwnCopyLemmas.{comes_back, own_of, stays_taken, take_copy, told_copy}
+use Rattle.outage_laws.proofs.EachLine.{each_told}
 use Rattle.outage_laws.proofs.OwnReaches.{own_reaches}
 use Rattle.outage_laws.proofs.PlainArrivals.{come_taken}
 
@@ -114,13 +112,13 @@ module _ (setup : Setup) (steps : List WorldStep) (line : ℕ) (b : Begun) (lost
       let spared = one_spared (IsCopy setup w gateway_end b.text) lost (numbers setup w b chances all) (all_apart setup w b chances all chances_apart) (omega (arith, few, many)) copies in
       carried spared.0 (carries spared.0 spared.1 (λ any. spared.2 (one_from_any (λ (n : ℕ). n ≡ spared.0) lost any)))
 
-pub line_served : (setup : Setup) (steps : List WorldStep) (line : ℕ) (endpoint : Endpoint) (b : Begun) (lost : List ℕ) → IsSetUp setup → steps_are_taken setup world_opening steps ≡ true
-    → let w = plain_world setup steps in endpoint_at (gateway_in setup w).endpoints line ≡ Some endpoint → IsOfLine setup w line b → GoesToAgent setup w b.text
+pub line_served : (setup : Setup) (steps : List WorldStep) (line : ℕ) (b : Begun) (lost : List ℕ) → IsSetUp setup → steps_are_taken setup world_opening steps ≡ true
+    → let w = plain_world setup steps in IsOfLine setup w line b → GoesToAgent setup w b.text
     → b.moment + last_chance ≤ now_in setup w → length lost ≤ most_repeats
     → ((number : ℕ) → IsCopy setup w gateway_end b.text number → (Any (λ (n : ℕ). n ≡ number) lost → ⊥) → IsCarriedBack setup steps b number)
     → Any (λ (one : Reached). one.asked.id ≡ b.id) (taken_in w) × HasCome w b.id
-line_served setup steps line endpoint b lost set_up taken at of reach late few carries =
-    served setup steps line b lost set_up taken of reach late few carries (told_eight_times setup steps line endpoint b set_up taken at of)
+line_served setup steps line b lost set_up taken of reach late few carries =
+    served setup steps line b lost set_up taken of reach late few carries (each_told setup steps line b set_up taken of)
 
 pub own_served : (setup : Setup) (steps : List WorldStep) (b : Begun) (lost : List ℕ) → IsSetUp setup → steps_are_taken setup world_opening steps ≡ true
     → let w = plain_world setup steps in IsOfLine setup w 0 b → b.moment + last_chance ≤ now_in setup w → length lost ≤ most_repeats

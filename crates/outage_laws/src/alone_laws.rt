@@ -28,8 +28,7 @@ ghost use Rattle.outage_laws.specs.Alone.{HasBegun, HasResponse, HasResponseSinc
 /// which is line 0, is sent 0, 500, 1,500, 3,500, 7,500, 11,500, 15,500 and 19,500 ms after its first send, each once the clock is so late;
 /// and 23,500 ms after it, it isn't in flight any more (RFC 3435, 3.5.3 and 4.3). It is so at whatever came, from whomever.
 pub fn a_command_of_its_own_is_sent_eight_times()
-    ensures line { (setup : Setup) (events : List GatewayEvent) (line : ℕ) (endpoint : Endpoint) (b : Begun) →
-        endpoint_at (plain setup events).endpoints line ≡ Some endpoint → HasBegun setup events line b →
+    ensures line { (setup : Setup) (events : List GatewayEvent) (line : ℕ) (b : Begun) → HasBegun setup events line b →
         HasResponse events b.id ⊎ All (λ (wait : ℕ). b.moment + wait ≤ (plain setup events).now →
         IsSentAt setup events line b.text (b.moment + wait)) chances }
     ensures own { (setup : Setup) (events : List GatewayEvent) (b : Begun) → HasBegun setup events 0 b →
@@ -46,11 +45,10 @@ pub fn a_command_of_its_own_is_sent_eight_times()
 /// What is in flight is sent as it falls due, where it may be sent again then and no response to it comes until then: so 5,000 ms behind
 /// the last provisional one (RFC 3435, 3.5.3 and 3.5.6).
 pub fn what_is_in_flight_is_sent_as_it_falls_due()
-    ensures line { (setup : Setup) (before after : List GatewayEvent) (line : ℕ) (was is : Endpoint) (flight : InFlight) →
+    ensures line { (setup : Setup) (before after : List GatewayEvent) (line : ℕ) (was : Endpoint) (flight : InFlight) →
         endpoint_at (plain setup before).endpoints line ≡ Some was → was.post.pending ≡ Some flight →
         (plain setup before).now < flight.due → repeat_of flight flight.due ≡ SentAgain → ¬ HasResponseSince setup before after flight.id →
-        endpoint_at (plain setup (before ++ after)).endpoints line ≡ Some is → flight.due ≤ (plain setup (before ++ after)).now →
-        IsSentSince setup before after line flight.text flight.due }
+        flight.due ≤ (plain setup (before ++ after)).now → IsSentSince setup before after line flight.text flight.due }
     ensures own { (setup : Setup) (before after : List GatewayEvent) (flight : InFlight) →
         (plain setup before).endpoints.own.pending ≡ Some flight →
         (plain setup before).now < flight.due → repeat_of flight flight.due ≡ SentAgain → ¬ HasResponseSince setup before after flight.id →

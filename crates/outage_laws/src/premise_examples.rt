@@ -1,7 +1,7 @@
 //! Worked examples in which one premise alone of a law is missing, and what the law says doesn't hold.
 #![tactic(auto, unfolding(crate::proofs::Computing::on_examples))]
 
-ghost use Rattle.std.specs.Prelude.{◌≡◌, ◌≤◌, ◌<◌, ◌+◌, ◌*◌, ◌++◌, ◌∷◌, [], ℕ, Any, List, None, Some, false, length, map, true};
+ghost use Rattle.std.specs.Prelude.{◌≡◌, ◌≤◌, ◌<◌, ◌+◌, ◌*◌, ◌∷◌, [], ℕ, Any, List, None, Some, false, length, map, true};
 ghost use Rattle.history.specs.Arrival.{Arrival};
 ghost use Rattle.history.specs.Firsts.{young_of};
 ghost use Rattle.history.specs.Memory.{memory_time};
@@ -15,15 +15,14 @@ ghost use Rattle.plain_machine.specs.Example.{other_entity, response, two_lines}
 ghost use Rattle.plain_machine.specs.Falling.{announcement_item, post_due};
 ghost use Rattle.plain_machine.specs.Lists.{plain};
 ghost use Rattle.plain_machine.specs.Machine.{serves};
-ghost use Rattle.plain_machine.specs.declared.setup.Setup.{Setup};
 ghost use Rattle.plain_machine.specs.Setup.{IsSetUp};
 ghost use Rattle.machine_laws.specs.Saying.{Begun};
 ghost use Rattle.agent_core.specs.declared.packet.End.TheVariants.{GatewayEnd};
-ghost use Rattle.agent_core.specs.World.{WorldStep, gateway_in, now_in, oldest_packet, plain_world, steps_are_taken, world_opening};
+ghost use Rattle.agent_core.specs.World.{gateway_in, now_in, plain_world, steps_are_taken, world_opening};
 ghost use Rattle.world_laws.specs.Reached.{key_reached, taken_in};
 ghost use Rattle.world_laws.specs.Example.{seconds, world};
 ghost use Rattle.delivery_laws.specs.Chances.{chances, last_chance};
-ghost use Rattle.delivery_laws.specs.Copies.{IsCopy, IsRun, answer_wait};
+ghost use Rattle.delivery_laws.specs.Copies.{IsCopy, answer_wait};
 ghost use Rattle.delivery_laws.specs.Example.{dotted, endless, ids_come, lifted, notification, notified};
 ghost use Rattle.delivery_laws.specs.Fairness.{GoesToAgent};
 ghost use Rattle.delivery_laws.specs.OwnChances.{IsOfLine};

@@ -1,11 +1,10 @@
 //! Laws of a network that was down and came back.
-ghost use Rattle.std.specs.Prelude.{◌≡◌, ◌≤◌, ◌<◌, ◌+◌, ◌*◌, ℕ, List, All, Any, [], Some, length, true};
+ghost use Rattle.std.specs.Prelude.{◌≡◌, ◌≤◌, ◌<◌, ◌+◌, ◌*◌, ℕ, List, All, Any, [], length, true};
 ghost use Rattle.history.specs.Arrival.{Arrival};
 ghost use Rattle.history.specs.Firsts.{young_of};
 ghost use Rattle.history.specs.Memory.{memory_time};
-ghost use Rattle.plain_machine.specs.declared.endpoint.Endpoint.{Endpoint};
 ghost use Rattle.plain_machine.specs.declared.setup.Setup.{Setup};
-ghost use Rattle.plain_machine.specs.Machine.{endpoint_at, serves};
+ghost use Rattle.plain_machine.specs.Machine.{serves};
 ghost use Rattle.machine_laws.specs.Saying.{Begun};
 ghost use Rattle.agent_core.specs.World.{WorldStep, gateway_in, now_in, plain_world};
 ghost use Rattle.world_laws.specs.Reached.{Reached, taken_in};
@@ -28,9 +27,9 @@ pub fn a_fair_network_is_fair_from_any_moment_on()
 /// network behind that moment at the latest, or that time behind its first send; and a response to it comes by twice that time: unless the
 /// last of its eight sends was before (RFC 3435, 3.5.3).
 pub fn what_is_in_flight_is_taken_after_an_outage()
-    ensures line_taken { (setup : Setup) (steps : List WorldStep) (since within line : ℕ) (endpoint : Endpoint) (b : Begun) →
+    ensures line_taken { (setup : Setup) (steps : List WorldStep) (since within line : ℕ) (b : Begun) →
         IsRun setup steps → IsFairFrom setup steps since within → AgentHasRoomFrom setup steps since →
-        let w = plain_world setup steps in endpoint_at (gateway_in setup w).endpoints line ≡ Some endpoint →
+        let w = plain_world setup steps in
         IsOfLine setup w line b → GoesToAgent setup w b.text → since ≤ b.moment + last_chance → b.moment + within ≤ now_in setup w →
         since + longest_pause + within ≤ now_in setup w + 1 → Any (λ (one : Reached). one.asked.id ≡ b.id) (taken_in w) }
     ensures own_taken { (setup : Setup) (steps : List WorldStep) (since within : ℕ) (b : Begun) →
@@ -38,9 +37,9 @@ pub fn what_is_in_flight_is_taken_after_an_outage()
         let w = plain_world setup steps in
         IsOfLine setup w 0 b → since ≤ b.moment + last_chance → b.moment + within ≤ now_in setup w →
         since + longest_pause + within ≤ now_in setup w + 1 → Any (λ (one : Reached). one.asked.id ≡ b.id) (taken_in w) }
-    ensures line_answered { (setup : Setup) (steps : List WorldStep) (since within line : ℕ) (endpoint : Endpoint) (b : Begun) →
+    ensures line_answered { (setup : Setup) (steps : List WorldStep) (since within line : ℕ) (b : Begun) →
         IsRun setup steps → IsFairFrom setup steps since within → AgentHasRoomFrom setup steps since →
-        let w = plain_world setup steps in endpoint_at (gateway_in setup w).endpoints line ≡ Some endpoint →
+        let w = plain_world setup steps in
         IsOfLine setup w line b → GoesToAgent setup w b.text → since ≤ b.moment + last_chance → b.moment + 2 * within ≤ now_in setup w →
         since + longest_pause + 2 * within ≤ now_in setup w + 1 → HasCome w b.id }
     ensures own_answered { (setup : Setup) (steps : List WorldStep) (since within : ℕ) (b : Begun) →

@@ -1,7 +1,7 @@
 //! Worlds, as worked examples, in which one premise alone of a law is missing, and what the law says doesn't hold.
 #![tactic(auto, unfolding(crate::proofs::WorldComputing::on_examples))]
 
-ghost use Rattle.std.specs.Prelude.{◌≡◌, ◌+◌, ◌≤◌, ◌<◌, List, [], ◌∷◌, ◌++◌, true, false};
+ghost use Rattle.std.specs.Prelude.{◌≡◌, ◌+◌, ◌≤◌, List, [], ◌∷◌, ◌++◌, true, false};
 ghost use Rattle.restart.specs.Restarting.{is_serving};
 ghost use Rattle.plain_machine.specs.declared.post.Post.{Post};
 ghost use Rattle.plain_machine.specs.Example.{two_lines};

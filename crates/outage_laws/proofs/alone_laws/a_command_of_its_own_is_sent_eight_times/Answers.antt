@@ -1,8 +1,9 @@
-use Rattle.outage_laws.proofs.OwnSendLaws.{line_eight, line_young, own_eight, own_young}
+use Rattle.outage_laws.proofs.EachLine.{each_eight}
+use Rattle.outage_laws.proofs.OwnSendLaws.{line_young, own_eight, own_young}
 use Rattle.outage_laws.proofs.alone_laws.a_command_of_its_own_is_sent_eight_times.Goals as goal
 
 pub returns-clause-line : goal.returns-clause-line
-returns-clause-line c = λ setup events line endpoint b at begun. line_eight setup events line endpoint at b begun
+returns-clause-line c = λ setup events line b begun. each_eight setup events line b begun
 
 pub returns-clause-own : goal.returns-clause-own
 returns-clause-own c = λ setup events b begun. own_eight setup events b begun
