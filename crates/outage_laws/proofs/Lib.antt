@@ -54,3 +54,4 @@ pub mod OwnRoutes
 pub mod OwnReaches
 pub mod LineBounds
 pub mod EachLine
+pub mod NextDue

@@ -68,17 +68,17 @@ use Rattle.outage_laws.proofs.RouteLemmas.{at_among}
 -- What lines do
 
 -- the gateway's own post stays, and sends nothing
-record IsStill (endpoints : Endpoints) (is : Effect Endpoints) : Type 0 where
-  own : is.value.own ≡ endpoints.own
-  silent : of_line 0 is.sent ≡ []
+pub record IsStill (endpoints : Endpoints) (is : Effect Endpoints) : Type 0 where
+  pub own : is.value.own ≡ endpoints.own
+  pub silent : of_line 0 is.sent ≡ []
 
-silent_still : (endpoints : Endpoints) → IsStill endpoints (silently endpoints)
+pub silent_still : (endpoints : Endpoints) → IsStill endpoints (silently endpoints)
 silent_still endpoints = record { own = refl; silent = refl }
 
-line_still : (endpoints : Endpoints) (n : ℕ) (turn : Endpoint → Effect Endpoint) → ((s : Endpoint) → OwnedBy n (turn s).sent) → IsStill endpoints (on_line endpoints n turn)
+pub line_still : (endpoints : Endpoints) (n : ℕ) (turn : Endpoint → Effect Endpoint) → ((s : Endpoint) → OwnedBy n (turn s).sent) → IsStill endpoints (on_line endpoints n turn)
 line_still endpoints n turn owned = record { own = own_stays_on endpoints n turn; silent = (on_one_line endpoints 0 n turn owned).sent }
 
-told_still : (setup : Setup) (moment : ℕ) (endpoints : Endpoints) (heard : Heard) → IsStill endpoints (lines_told heard setup moment endpoints)
+pub told_still : (setup : Setup) (moment : ℕ) (endpoints : Endpoints) (heard : Heard) → IsStill endpoints (lines_told heard setup moment endpoints)
 told_still setup moment endpoints Nothing = silent_still endpoints
 told_still setup moment endpoints PutOff = silent_still endpoints
 told_still setup moment endpoints (Redirected agent) = record {
@@ -108,7 +108,7 @@ target_still setup endpoints Any deed moment = by_place (line_with_place endpoin
   by_place None = silent_still endpoints
   by_place (Some n) = deed_still setup endpoints (One n) _ deed moment
 
-asks_still : (asks : Result Asks ℕ) (setup : Setup) (endpoints : Endpoints) (moment id : ℕ) → IsStill endpoints (done_by asks setup endpoints moment id).told
+pub asks_still : (asks : Result Asks ℕ) (setup : Setup) (endpoints : Endpoints) (moment id : ℕ) → IsStill endpoints (done_by asks setup endpoints moment id).told
 asks_still (Err code) setup endpoints moment id = silent_still endpoints
 asks_still (Ok (Reports target audit)) setup endpoints moment id = silent_still endpoints
 asks_still (Ok (Does target deed)) setup endpoints moment id = target_still setup endpoints target deed moment

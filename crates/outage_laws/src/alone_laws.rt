@@ -47,11 +47,11 @@ pub fn a_command_of_its_own_is_sent_eight_times()
 pub fn what_is_in_flight_is_sent_as_it_falls_due()
     ensures line { (setup : Setup) (before after : List GatewayEvent) (line : ℕ) (was : Endpoint) (flight : InFlight) →
         endpoint_at (plain setup before).endpoints line ≡ Some was → was.post.pending ≡ Some flight →
-        (plain setup before).now < flight.due → repeat_of flight flight.due ≡ SentAgain → ¬ HasResponseSince setup before after flight.id →
+        repeat_of flight flight.due ≡ SentAgain → ¬ HasResponseSince setup before after flight.id →
         flight.due ≤ (plain setup (before ++ after)).now → IsSentSince setup before after line flight.text flight.due }
     ensures own { (setup : Setup) (before after : List GatewayEvent) (flight : InFlight) →
         (plain setup before).endpoints.own.pending ≡ Some flight →
-        (plain setup before).now < flight.due → repeat_of flight flight.due ≡ SentAgain → ¬ HasResponseSince setup before after flight.id →
+        repeat_of flight flight.due ≡ SentAgain → ¬ HasResponseSince setup before after flight.id →
         flight.due ≤ (plain setup (before ++ after)).now → IsSentSince setup before after 0 flight.text flight.due }
 {}
 
