@@ -1,9 +1,15 @@
 -- What the worked examples speak of: a gateway with two lines.
-use Rattle.std.specs.Prelude.{ℕ, false, List, [], ◌∷◌, ◌++◌, Option, None, slice_get, option_map}
+use Rattle.std.specs.Prelude.{ℕ, false, List, [], ◌∷◌, ◌++◌, Option, None, Some, slice_get, option_map}
 use Rattle.call_routing.specs.declared.fate.Cause.TheVariants as causes
 use Rattle.call_routing.specs.declared.fate.PutOff.{PutOff}
+use Rattle.call_routing.specs.declared.told.Told.TheVariants.{Flash}
+use Rattle.call_routing.specs.Exchange.{ExchangeState}
+use Rattle.call_laws.specs.Turns.{after, sends, tells}
+use Rattle.call_laws.specs.Example.{opened}
 use Rattle.live_agent.specs.declared.care.Care.{Care}
+use Rattle.live_agent.specs.declared.care.Duty.TheVariants.{Route}
 use Rattle.live_agent.specs.declared.gateway.Wake.{Wake}
+use Rattle.live_agent.specs.Duties.{new_care}
 use Rattle.desk_laws.specs.Desk.{Desk, DeskTurn, after_turns, answers, begins, happens, opening_desk, ticks}
 
 abbrev pub desk_then : List DeskTurn → Desk
@@ -31,3 +37,19 @@ due_again = both_put_off ++ ticks 1500 ∷ ticks 1700 ∷ []
 -- a command of the exchange's, that was put off once
 abbrev pub once : PutOff
 once = record { cause = causes.Request; times = 1 }
+
+-- What is kept of a line to which the exchange's command is next, and of one to which one is sent again at this moment
+
+abbrev pub routed_care : Care
+routed_care = record new_care { next = Route }
+
+abbrev pub held_care : ℕ → Care
+held_care moment = record routed_care { again = Some moment }
+
+-- a desk at 500 with such a line, and these to which a command is sent again
+abbrev pub desk_with : Care → List Wake → Desk
+desk_with care wakes = record { now = 500; cares = care ∷ []; wakes = wakes }
+
+-- line 0 is asked for what it tells while that is in flight to it: nothing is to be sent, and it isn't asked yet
+abbrev pub asked_meanwhile : ExchangeState
+asked_meanwhile = after opened (sends 0 ∷ tells 0 Flash ∷ [])
