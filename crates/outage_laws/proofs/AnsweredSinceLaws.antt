@@ -1,6 +1,6 @@
 -- Over a network that is fair from a moment on a line that serves, and gives nothing up of what it begins, waits for an answer for twice the
 -- network's time at most, whatever was given up before.
-use Rattle.std.proofs.Common.{◌≡◌, ℕ, ◌+◌, ◌*◌, ◌<◌, ◌≤◌, Bool, true, false, List, [], ◌∷◌, ◌++◌, length, Option, Some, None, inl, inr, refl, sym, ap, ◌∙◌, subst, arith, append-nil, append_assoc}
+use Rattle.std.proofs.Common.{◌≡◌, ℕ, ◌+◌, ◌*◌, ◌<◌, ◌≤◌, Bool, true, false, List, [], ◌∷◌, ◌++◌, length, Option, Some, None, inl, inr, refl, sym, ap, ◌∙◌, subst, arith, append_assoc}
 use Rattle.std.specs.Prelude.{◌⊎◌, ◌||◌, Any, IfSome, nat_le, not, slice_get}
 use Rattle.std.proofs.lemmas.Bool.{leb-true, leb-false}
 use Rattle.std.proofs.lemmas.List.{length-append}
@@ -26,8 +26,8 @@ use Rattle.machine_laws.proofs.LineLemmas.{place_of}
 use Rattle.machine_laws.proofs.PostLogs.{InLog}
 use Rattle.machine_laws.proofs.TurnLemmas.{of_line as of_the_line}
 use Rattle.machine_laws.specs.Belonging.{of_line}
-use Rattle.machine_laws.specs.Saying.{Begun, IsAnswerTo, OneOf, begun_in}
-use Rattle.agent_core.specs.declared.packet.End.TheVariants.{AgentEnd as agent_end, GatewayEnd as gateway_end}
+use Rattle.machine_laws.specs.Saying.{Begun, OneOf, begun_in}
+use Rattle.agent_core.specs.declared.packet.End.TheVariants.{GatewayEnd as gateway_end}
 use Rattle.agent_core.specs.declared.packet.Posted.{Posted}
 use Rattle.agent_core.specs.World.{World, WorldStep, delivering, gateway_in, now_in, plain_world, steps_are_taken, world_opening}
 use Rattle.world_laws.specs.Reached.{own_in}
@@ -35,7 +35,6 @@ use Rattle.world_laws.proofs.LinkLaws.{world_linked}
 use Rattle.delivery_laws.specs.Copies.{IsCopy}
 use Rattle.delivery_laws.specs.Fairness.{GoesToAgent, IsHandedOver}
 use Rattle.delivery_laws.specs.GivenUp.{has_given_up}
-use Rattle.delivery_laws.specs.GoingOn.{IsPlainAnswer}
 use Rattle.delivery_laws.specs.OwnChances.{IsOfLine}
 use Rattle.delivery_laws.specs.Rounds.{IsAnsweredWithin, IsAwaited}
 use Rattle.delivery_laws.specs.Taking.{IsOwn, IsTaken, agent_history}
@@ -46,10 +45,8 @@ use Rattle.delivery_laws.proofs.FairLaws.{IsBefore, later_before, one_first, sta
 use Rattle.delivery_laws.proofs.FirstBroughtLaws.{own_of_line}
 use Rattle.delivery_laws.proofs.FirstSendLemmas.{PostedThen, handed_behind, posted_then}
 use Rattle.delivery_laws.proofs.FrontSteps.{TookThem, took_them}
-use Rattle.delivery_laws.proofs.GivenUpFronts.{flew, was_there}
+use Rattle.delivery_laws.proofs.GivenUpFronts.{flew}
 use Rattle.delivery_laws.proofs.InTimeLaws.{has_flight}
-use Rattle.delivery_laws.proofs.LineLaws.{of_its_line}
-use Rattle.delivery_laws.proofs.PlaceLemmas.{one_parted}
 use Rattle.delivery_laws.proofs.ReturnedLaws.{IsReturned, plain_so, reads_so}
 use Rattle.delivery_laws.proofs.RestLemmas.{begun_both}
 use Rattle.delivery_laws.proofs.StepLemmas.{taken_front}

@@ -1,5 +1,5 @@
 -- A line that gives nothing up over a stretch gives nothing up from any moment of it to any later one.
-use Rattle.std.proofs.Common.{◌≡◌, ℕ, ◌+◌, ◌≤◌, true, false, List, ◌++◌, Some, sym, ap, ◌∙◌, subst, append_assoc}
+use Rattle.std.proofs.Common.{◌≡◌, ℕ, ◌≤◌, true, false, List, ◌++◌, Some, sym, ap, ◌∙◌, subst, append_assoc}
 use Rattle.restart.specs.declared.restart.Restart.TheVariants.{Serving}
 use Rattle.plain_machine.specs.declared.setup.Setup.{Setup}
 use Rattle.plain_machine.specs.declared.endpoint.Endpoint.{Endpoint}

@@ -1,6 +1,6 @@
 -- The same over a network that is fair from a moment on, where each command that a line begins since goes to the agent: an answer takes twice the
 -- network's time at most.
-use Rattle.std.proofs.Common.{◌≡◌, ℕ, ◌+◌, ◌*◌, ◌<◌, ◌≤◌, true, false, List, [], ◌∷◌, ◌++◌, length, Option, Some, None, refl, sym, ◌∙◌, subst, append-nil, append_assoc}
+use Rattle.std.proofs.Common.{◌≡◌, ℕ, ◌+◌, ◌*◌, ◌<◌, ◌≤◌, true, false, List, [], ◌++◌, length, Option, Some, None, refl, sym, ◌∙◌, subst, append-nil, append_assoc}
 use Rattle.std.specs.Prelude.{IfSome}
 use Rattle.outbound.specs.Flight.{InFlight}
 use Rattle.restart.specs.declared.restart.Restart.TheVariants.{Serving}

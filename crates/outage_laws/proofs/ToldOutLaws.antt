@@ -40,7 +40,6 @@ use Rattle.outage_laws.specs.ToldSince.{FlightBeganSince}
 use Rattle.outage_laws.proofs.BeganEvents.{last_among}
 use Rattle.outage_laws.proofs.PlainArrivals.{come_taken}
 use Rattle.outage_laws.proofs.SinceLaws.{taken_by}
-use Rattle.outage_laws.proofs.YoungFlightLaws.{young_few}
 use Rattle.outage_laws.proofs.YoungSinceLaws.{no_more}
 
 -- Numbers

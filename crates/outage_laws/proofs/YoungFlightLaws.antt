@@ -1,6 +1,6 @@
 -- What a command in flight tells that began behind so many rounds, and what is quarantined then, is no more than was done since: where a line
 -- was asked for all before its telephone did anything, and nothing was lost; whatever was given up before.
-use Rattle.std.proofs.Common.{◌≡◌, ℕ, ◌+◌, ◌<◌, ◌≤◌, Bool, true, false, List, [], ◌∷◌, ◌++◌, length, Some, None, refl, sym, ap, ◌∙◌, subst, arith, append_assoc}
+use Rattle.std.proofs.Common.{◌≡◌, ℕ, ◌+◌, ◌<◌, ◌≤◌, Bool, true, false, List, [], ◌++◌, length, Some, None, refl, sym, ap, ◌∙◌, subst, arith, append_assoc}
 use Rattle.std.specs.Prelude.{flat_map}
 use Rattle.std.proofs.lemmas.List.{length-append}
 use Rattle.event_values.specs.declared.observed.Observed.{Observed}

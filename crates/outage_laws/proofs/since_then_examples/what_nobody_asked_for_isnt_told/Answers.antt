@@ -5,7 +5,6 @@ use Rattle.world_laws.specs.Example.{world}
 use Rattle.delivery_laws.specs.DialledExample.{endpoint_then}
 use Rattle.delivery_laws.specs.Example.{took_between, took_first}
 use Rattle.delivery_laws.specs.Rounds.{IsAnsweredWithin, IsAskedWithin}
-use Rattle.delivery_laws.proofs.AskingLemmas.{notifies_each}
 use Rattle.delivery_laws.proofs.ExampleLemmas.{to_agent, took_split}
 use Rattle.delivery_laws.proofs.FrontLemmas.{agent_has_room, answered_within, asked_within}
 use Rattle.outage_laws.specs.AfterOutage.{AgentHasRoomFrom, IsFairFrom}

@@ -9,7 +9,7 @@ use Rattle.delivery_laws.proofs.AskingLemmas.{notifies_each}
 use Rattle.delivery_laws.proofs.ExampleLemmas.{to_agent, took_split}
 use Rattle.delivery_laws.proofs.FrontLemmas.{agent_has_room, answered_within, asked_within}
 use Rattle.outage_laws.specs.AfterOutage.{AgentHasRoomFrom, IsFairFrom}
-use Rattle.std.proofs.Common.{◌≡◌, ◌++◌}
+use Rattle.std.proofs.Common.{◌++◌}
 use Rattle.mg_line.specs.declared.phone.Key.TheVariants.{Five}
 use Rattle.mg_line.specs.Acting.{letter_at}
 use Rattle.mg_packages.specs.declared.event.LineEvent.TheVariants as events

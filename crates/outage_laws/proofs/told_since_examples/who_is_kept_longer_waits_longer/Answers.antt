@@ -1,4 +1,4 @@
-use Rattle.std.proofs.Common.{◌++◌, [], refl, append-nil, sym}
+use Rattle.std.proofs.Common.{[], refl, append-nil, sym}
 use Rattle.plain_machine.specs.Example.{two_lines}
 use Rattle.delivery_laws.specs.Example.{took_between, took_first}
 use Rattle.delivery_laws.specs.Rounds.{IsAnsweredWithin}
