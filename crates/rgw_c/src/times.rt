@@ -1,5 +1,5 @@
 //! The clock of a gateway, and when something falls due.
-ghost use Rattle.std.specs.Prelude.{◌≡◌, ◌≢◌, List, IfSome, option_map, Some, None};
+ghost use Rattle.std.specs.Prelude.{◌≡◌, ◌≢◌, ◌<◌, ◌^◌, List, IfSome, option_map, Some, None};
 ghost use Rattle.plain_machine.specs.Event.{GatewayEvent};
 ghost use Rattle.plain_machine.specs.Falling.{first_due};
 ghost use Rattle.plain_machine.specs.Lists.{plain};
@@ -17,6 +17,7 @@ pub extern "C" fn rgw_now_nonnull(alloc: Global, handle: &mut Handle, moment: &m
     ensures number { result ≡ open_number handle.old.held }
     ensures now { IfSome handle.old.held (λ is. (events : List GatewayEvent) → Stands is.gateway events →
         moment.new ≡ (plain is.gateway.setup events).now) }
+    ensures below { result ≡ OK → moment.new < 2 ^ 62 }
     ensures left { result ≢ OK → moment.new ≡ moment.old }
     ensures kept { handle.new.held ≡ handle.old.held }
 {
