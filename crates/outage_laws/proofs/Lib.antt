@@ -47,6 +47,7 @@ pub mod FirstServes
 pub mod OldestServes
 pub mod ServesByThen
 pub mod WellLaws
+pub mod ToldBehindLaws
 pub mod HadTimeExamples
 pub mod LineTexts
 pub mod RouteLemmas

@@ -31,13 +31,13 @@ use Rattle.outage_laws.proofs.SinceLaws.{answered_since, taken_since}
 
 -- Numbers
 
-both_waits : (restart disconnected : ℕ) → let longer = if nat_lt restart disconnected then disconnected else restart in (restart ≤ longer) × (disconnected ≤ longer)
+pub both_waits : (restart disconnected : ℕ) → let longer = if nat_lt restart disconnected then disconnected else restart in (restart ≤ longer) × (disconnected ≤ longer)
 both_waits restart disconnected = by_test (nat_lt restart disconnected) refl where
   by_test : (b : Bool) → nat_lt restart disconnected ≡ b → let longer = if b then disconnected else restart in (restart ≤ longer) × (disconnected ≤ longer)
   by_test true less = (let low : restart < disconnected = ltb-true restart disconnected less in omega (arith, low), omega arith)
   by_test false more = (omega arith, let high : disconnected ≤ restart = ltb-false restart disconnected more in omega (arith, high))
 
-shorter : (since gap wait longer within now : ℕ) → wait ≤ longer → since + gap + longer + 2 * within ≤ now → since + gap + wait + 2 * within ≤ now
+pub shorter : (since gap wait longer within now : ℕ) → wait ≤ longer → since + gap + longer + 2 * within ≤ now → since + gap + wait + 2 * within ≤ now
 shorter since gap wait longer within now less late = omega (arith, less, late)
 
 -- a command is given up a longest pause behind one of its sends at least

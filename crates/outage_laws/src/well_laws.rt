@@ -5,15 +5,19 @@ ghost use Rattle.plain_machine.specs.declared.setup.Setup.{Setup};
 ghost use Rattle.plain_machine.specs.Event.{GatewayEvent};
 ghost use Rattle.plain_machine.specs.Lists.{plain};
 ghost use Rattle.plain_machine.specs.Machine.{endpoint_at};
-ghost use Rattle.machine_laws.specs.Saying.{Begun};
+ghost use Rattle.machine_laws.specs.Saying.{Begun, HasNumbersLeft};
 ghost use Rattle.agent_core.specs.World.{WorldStep, gateway_in, now_in, oldest_packet, plain_world};
+ghost use Rattle.world_laws.specs.Reached.{own_in};
 ghost use Rattle.delivery_laws.specs.Copies.{IsRun};
 ghost use Rattle.delivery_laws.specs.Course.{course_from};
 ghost use Rattle.delivery_laws.specs.Dialled.{done_in};
 ghost use Rattle.delivery_laws.specs.Fairness.{GoesToAgent};
+ghost use Rattle.delivery_laws.specs.Keeping.{happened_in};
 ghost use Rattle.delivery_laws.specs.OwnChances.{IsOfLine};
 ghost use Rattle.delivery_laws.specs.Rounds.{IsAnsweredWithin, IsAskedWithin, of_telephone, rounds_take};
+ghost use Rattle.told_laws.specs.Stretch.{outliving, taken_meanwhile};
 ghost use Rattle.outage_laws.specs.AfterOutage.{AgentHasRoomFrom, IsFairFrom, IsWell, well_by};
+ghost use Rattle.outage_laws.specs.ToldSince.{IsAskedForAllSince, IsToldFrom};
 
 /// Behind an outage of any length all is well by then: the gateway serves, each line has its agent, and each command of them is done. From
 /// 1 ms later on a line waits for the answer to its command for twice the time of the network at most; so where it isn't left without a
@@ -46,4 +50,45 @@ pub fn all_is_well_after_an_outage()
         well_by setup since within ≤ (plain setup before).now → IsAskedWithin setup line before after asking →
         (plain setup before).now + rounds_take (length was.line.quarantined.events) (2 * within) asking < now_in setup w →
         done_in (course_from setup (plain setup before) line after) ≡ [] → of_telephone endpoint.line.quarantined.events ≡ [] }
+{}
+
+/// And from 10,500 ms later on all that a telephone does is told, whatever was asked for, lost and given up before: where the line keeps
+/// all that its telephone does, is asked for all since, loses nothing more, and isn't left without a request for longer than so many ms,
+/// what was quarantined at that moment, and what its telephone had done since by a later one, the agent was told since, as many rounds
+/// later as there were events in its quarantine, and once the time of the network; and that is all, where the telephone rests from that
+/// moment on. For that the line's numbers aren't used up (RFC 3435, 3.5, 4.3 and 4.4).
+pub fn what_is_dialled_behind_an_outage_is_told()
+    ensures told { (setup : Setup) (line since within asking : ℕ) (first pause stretch : List WorldStep)
+        (front later : List GatewayEvent) (was is there : Endpoint) → let up = first ++ pause in let steps = up ++ stretch in
+        IsRun setup steps → within ≤ oldest_packet → IsFairFrom setup steps since within → AgentHasRoomFrom setup steps since →
+        let v = plain_world setup first in let u = plain_world setup up in let w = plain_world setup steps in
+        ((line : ℕ) (b : Begun) → IsOfLine setup w line b → GoesToAgent setup w b.text) → HasNumbersLeft (own_in setup w) →
+        endpoint_at (gateway_in setup u).endpoints line ≡ Some was → endpoint_at (gateway_in setup w).endpoints line ≡ Some is →
+        well_by setup since within ≤ now_in setup v → now_in setup v + outliving ≤ now_in setup u →
+        IsAskedForAllSince was.line (course_from setup (gateway_in setup u) line (front ++ later)) is.line →
+        w.gateway_took ≡ (u.gateway_took ++ front) ++ later →
+        let took = u.gateway_took ++ front in endpoint_at (plain setup took).endpoints line ≡ Some there →
+        IsAskedWithin setup line took later asking →
+        (plain setup took).now + rounds_take (length there.line.quarantined.events) (2 * within) asking < now_in setup w →
+        (plain setup took).now + rounds_take (length there.line.quarantined.events) (2 * within) asking + within ≤ now_in setup w →
+        IsToldFrom was.post.pending
+        (happened_in was.line.quarantined.events ++ done_in (course_from setup (gateway_in setup u) line front))
+        (taken_meanwhile setup line u w) }
+    ensures rests { (setup : Setup) (line since within asking : ℕ) (first pause stretch : List WorldStep)
+        (front later : List GatewayEvent) (was is there : Endpoint) → let up = first ++ pause in let steps = up ++ stretch in
+        IsRun setup steps → within ≤ oldest_packet → IsFairFrom setup steps since within → AgentHasRoomFrom setup steps since →
+        let v = plain_world setup first in let u = plain_world setup up in let w = plain_world setup steps in
+        ((line : ℕ) (b : Begun) → IsOfLine setup w line b → GoesToAgent setup w b.text) → HasNumbersLeft (own_in setup w) →
+        endpoint_at (gateway_in setup u).endpoints line ≡ Some was → endpoint_at (gateway_in setup w).endpoints line ≡ Some is →
+        well_by setup since within ≤ now_in setup v → now_in setup v + outliving ≤ now_in setup u →
+        IsAskedForAllSince was.line (course_from setup (gateway_in setup u) line (front ++ later)) is.line →
+        w.gateway_took ≡ (u.gateway_took ++ front) ++ later →
+        let took = u.gateway_took ++ front in endpoint_at (plain setup took).endpoints line ≡ Some there →
+        IsAskedWithin setup line took later asking →
+        (plain setup took).now + rounds_take (length there.line.quarantined.events) (2 * within) asking < now_in setup w →
+        (plain setup took).now + rounds_take (length there.line.quarantined.events) (2 * within) asking + within ≤ now_in setup w →
+        done_in (course_from setup (plain setup took) line later) ≡ [] →
+        (told : IsToldFrom was.post.pending
+        (happened_in was.line.quarantined.events ++ done_in (course_from setup (gateway_in setup u) line front))
+        (taken_meanwhile setup line u w)) × (told.rest ≡ []) }
 {}
