@@ -6,6 +6,7 @@ pub mod ToldSince
 pub mod Example
 pub mod Premises
 pub mod LinePremises
+pub mod ToldBehindExample
 pub mod ResponseExample
 pub mod ToldLaterExample
 pub mod ToldSinceExample

@@ -16,6 +16,7 @@ pub mod response_examples;
 pub mod response_laws;
 pub mod since_laws;
 pub mod since_then_examples;
+pub mod told_behind_examples;
 pub mod told_later_examples;
 pub mod told_later_laws;
 pub mod told_since_examples;

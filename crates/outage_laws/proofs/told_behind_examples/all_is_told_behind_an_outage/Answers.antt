@@ -1,0 +1,84 @@
+use Rattle.std.proofs.Common.{◌≡◌, ℕ, ◌<◌, List, [], ◌∷◌, ◌++◌, length, refl, sym, ap, ◌∙◌, subst, arith}
+use Rattle.event_values.specs.declared.observed.Observed.{Observed}
+use Rattle.quarantine.specs.Held.{most_lost}
+use Rattle.plain_machine.specs.Example.{two_lines}
+use Rattle.world_laws.specs.Example.{world}
+use Rattle.world_laws.specs.Reached.{own_in}
+use Rattle.delivery_laws.specs.DialledExample.{endpoint_then}
+use Rattle.delivery_laws.specs.Example.{took_between, took_first}
+use Rattle.delivery_laws.specs.OnceExample.{five, hung_up, six}
+use Rattle.delivery_laws.proofs.AskingLemmas.{notifies_each}
+use Rattle.delivery_laws.proofs.DialledNumberLemmas.{few_are_begun}
+use Rattle.delivery_laws.proofs.ExampleLemmas.{to_agent, took_split, two_lines_set_up}
+use Rattle.delivery_laws.proofs.FrontLemmas.{agent_has_room, asked_within}
+use Rattle.told_laws.specs.Stretch.{IsOnItsWay}
+use Rattle.outage_laws.specs.SinceThenExample.{ToldFrom, WasAskedForAllSince, done_between, taken_between}
+use Rattle.outage_laws.specs.ToldBehindExample.{all_told_in_step, put_back_in_step, rested_in_step}
+use Rattle.outage_laws.proofs.Computing.{on_examples}
+use Rattle.outage_laws.proofs.FairFromExamples.{fair_from_is, room_from}
+use Rattle.outage_laws.proofs.told_behind_examples.all_is_told_behind_an_outage.Goals as goal
+
+some_began : length (own_in two_lines (world all_told_in_step)) ≡ 6
+unfolding on_examples
+some_began = refl
+
+done_is : done_between rested_in_step put_back_in_step ≡ five ∷ six ∷ hung_up ∷ []
+unfolding on_examples
+done_is = refl
+
+taken_is : taken_between rested_in_step all_told_in_step ≡ five ∷ six ∷ hung_up ∷ []
+unfolding on_examples
+taken_is = refl
+
+none_flew : IsOnItsWay (endpoint_then rested_in_step).post.pending []
+unfolding on_examples
+none_flew = refl
+
+lost_then : (endpoint_then all_told_in_step).line.quarantined.lost ≡ 0
+unfolding on_examples
+lost_then = refl
+
+lost_before : (endpoint_then rested_in_step).line.quarantined.lost ≡ 0
+unfolding on_examples
+lost_before = refl
+
+was_asked : WasAskedForAllSince rested_in_step put_back_in_step all_told_in_step
+unfolding on_examples
+was_asked = record {
+  keeps = record { asked = notifies_each _ refl refl; untimed = refl; accumulated = refl; of_phone = (refl, (refl, tt)); normal = λ is. absurd cc };
+  since = (record { requested = notifies_each _ refl refl; quarantined = refl }, (record { requested = notifies_each _ refl refl; quarantined = refl }, (record { requested = notifies_each _ refl refl; quarantined = refl }, (record { requested = notifies_each _ refl refl; quarantined = refl }, tt))));
+  none_lost = lost_then ∙ sym lost_before;
+  counted = subst (λ (n : ℕ). n < most_lost) (sym lost_before) (omega arith);
+}
+
+is_told : ToldFrom rested_in_step put_back_in_step all_told_in_step
+is_told = record {
+  late = [];
+  since = five ∷ six ∷ hung_up ∷ [];
+  late_is = none_flew;
+  order = taken_is;
+  rest = [];
+  whole = ap (λ (x : List Observed). x ++ []) (sym done_is);
+}
+
+pub returns : goal.returns
+unfolding on_examples
+returns c = record {
+  run = (two_lines_set_up, refl);
+  fair = fair_from_is two_lines all_told_in_step 19502 100 refl;
+  room = room_from two_lines all_told_in_step 19502 (agent_has_room two_lines all_told_in_step refl);
+  goes = λ line b of. to_agent two_lines all_told_in_step b.text refl;
+  numbers = few_are_begun (own_in two_lines (world all_told_in_step)) (subst (λ (n : ℕ). n < 9999999) (sym some_began) (omega arith));
+  well = refl;
+  long = refl;
+  asked = was_asked;
+  front = took_split two_lines rested_in_step put_back_in_step refl;
+  split = took_split two_lines put_back_in_step all_told_in_step refl;
+  asked_again = asked_within two_lines 1 (took_first put_back_in_step) (took_between put_back_in_step all_told_in_step) 100 refl;
+  held = refl;
+  more = refl;
+  done = done_is;
+  taken = taken_is;
+  told = is_told;
+  rests = refl;
+}
