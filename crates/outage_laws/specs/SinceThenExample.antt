@@ -86,6 +86,14 @@ pressed_for_nobody =
 abbrev pub asked_no_more : List WorldStep
 asked_no_more = pressed_for_nobody ++ ticking 12001 ∷ []
 
+-- The gateway announced itself, and nothing came: a line is lifted, and a second passes
+
+abbrev pub lifted_early : List WorldStep
+lifted_early = ticking 1 ∷ dialling 1 OffHook ∷ []
+
+abbrev pub not_served_yet : List WorldStep
+not_served_yet = lifted_early ++ ticking 1001 ∷ []
+
 -- of line 1: that it gives nothing up between some steps and others, that it is asked for all since, and what the agent took meanwhile
 abbrev pub GaveNothingUpBetween : List WorldStep → List WorldStep → Type 0
 GaveNothingUpBetween before steps = GivesNothingUp two_lines 1 (world before) (world steps) (endpoint_then before) (endpoint_then steps)

@@ -37,6 +37,10 @@ dialled_since = rested_since ++ dialling 1 (Key Five) ∷ dialling 1 OnHook ∷ 
 abbrev pub answered_since : List WorldStep
 answered_since = dialled_since ++ ticking 40301 ∷ delivering 18 ∷ ticking 40501 ∷ ticking 40601 ∷ delivering 19 ∷ []
 
+-- at 40,701 the handset is quarantined yet
+abbrev pub waiting_since : List WorldStep
+waiting_since = answered_since ++ ticking 40701 ∷ []
+
 -- at 40,701 the line is asked for the next event, packet 21, and tells that, packet 23, with its answer; before that packet 20 comes, and
 -- is answered, packet 22. Packet 22 comes, and packet 23 doesn't yet
 abbrev pub underway_since : List WorldStep

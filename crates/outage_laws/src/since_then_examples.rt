@@ -2,9 +2,12 @@
 //! worlds in which one alone is missing and the sentence fails.
 #![tactic(auto, unfolding(crate::proofs::Computing::on_examples))]
 
-ghost use Rattle.std.specs.Prelude.{◌≡◌, ◌≤◌, ◌<◌, ◌+◌, ◌*◌, ◌++◌, [], ◌∷◌, true};
+ghost use Rattle.std.specs.Prelude.{◌≡◌, ◌≤◌, ◌<◌, ◌+◌, ◌*◌, ◌++◌, [], ◌∷◌, false, true};
 ghost use Rattle.plain_machine.specs.Example.{two_lines};
-ghost use Rattle.plain_machine.specs.Lists.{plain};
+ghost use Rattle.restart.specs.declared.restart.Restart.TheVariants.{Serving};
+ghost use Rattle.plain_machine.specs.Lists.{plain, sent_from};
+ghost use Rattle.plain_machine.specs.Machine.{serves};
+ghost use Rattle.machine_laws.specs.Belonging.{of_line};
 ghost use Rattle.machine_laws.specs.Saying.{Begun, HasNumbersLeft};
 ghost use Rattle.agent_core.specs.World.{gateway_in, now_in, steps_are_taken, world_opening};
 ghost use Rattle.world_laws.specs.Reached.{own_in};
@@ -15,15 +18,16 @@ ghost use Rattle.delivery_laws.specs.Dialled.{AskForAll, done_in};
 ghost use Rattle.delivery_laws.specs.DialledExample.{done_then, endpoint_then, told_then};
 ghost use Rattle.delivery_laws.specs.Example.{took_between, took_first};
 ghost use Rattle.delivery_laws.specs.Fairness.{GoesToAgent};
+ghost use Rattle.delivery_laws.specs.GivenUp.{has_given_up};
 ghost use Rattle.delivery_laws.specs.Keeping.{KeepsAll};
 ghost use Rattle.delivery_laws.specs.OnceExample.{five, hung_up, lifted as off_hook, six};
 ghost use Rattle.delivery_laws.specs.OwnChances.{IsOfLine};
-ghost use Rattle.delivery_laws.specs.Rounds.{IsAnsweredWithin, IsAskedWithin, rounds_take};
+ghost use Rattle.delivery_laws.specs.Rounds.{IsAnsweredWithin, IsAskedWithin, of_telephone, rounds_take};
 ghost use Rattle.told_laws.specs.Stretch.{outliving};
 ghost use Rattle.outage_laws.specs.AfterOutage.{AgentHasRoomFrom, IsFairFrom};
 ghost use Rattle.outage_laws.specs.SinceThenExample.{GaveNothingUpBetween, ToldFrom, WasAskedForAllSince};
 ghost use Rattle.outage_laws.specs.SinceThenExample.{asked_at_last, asked_no_more, done_between, hung_up_then, never_asked};
-ghost use Rattle.outage_laws.specs.SinceThenExample.{never_asked_again};
+ghost use Rattle.outage_laws.specs.SinceThenExample.{lifted_early, never_asked_again, not_served_yet};
 ghost use Rattle.outage_laws.specs.SinceThenExample.{pressed_again, pressed_for_nobody, pressed_unasked, rested_asked, rested_then};
 ghost use Rattle.outage_laws.specs.SinceThenExample.{rested_unasked, six_waits, taken_between, told_since_then};
 ghost use Rattle.outage_laws.specs.ToldSince.{FlightBeganSince, FlightsBeganSince};
@@ -131,4 +135,35 @@ pub fn what_waits_for_a_request_isnt_told()
         ≡ now_in two_lines (world never_asked_again) }
     ensures done { done_between rested_then rested_then ≡ six ∷ [] }
     ensures taken { taken_between rested_then never_asked_again ≡ [] }
+    ensures serving { serves (plain two_lines (took_first rested_then)).endpoints ≡ true }
+    ensures line_serves { (endpoint_then rested_then).post.restart ≡ Serving }
+    ensures began { FlightsBeganSince two_lines 1 (took_first rested_then) (took_between rested_then never_asked_again) 0 }
+    ensures reaches { (b : Begun) → IsOfLine two_lines (world never_asked_again) 1 b → 0 ≤ b.moment →
+        GoesToAgent two_lines (world never_asked_again) b.text }
+    ensures rests { done_in (course_from two_lines (plain two_lines (took_first rested_then)) 1
+        (took_between rested_then never_asked_again)) ≡ [] }
+    ensures left { of_telephone (endpoint_then never_asked_again).line.quarantined.events ≡ six ∷ [] }
+{}
+
+/// A line of a gateway that doesn't serve yet waits on, and what is quarantined stays, though all else holds that the laws of an answer in
+/// time, and of what is quarantined then, ask for.
+pub fn what_waits_for_its_gateway_stays()
+    ensures run { IsRun two_lines not_served_yet }
+    ensures fair { IsFairFrom two_lines not_served_yet 1002 300 }
+    ensures room { AgentHasRoomFrom two_lines not_served_yet 1002 }
+    ensures split { took_first not_served_yet ≡ took_first lifted_early ++ took_between lifted_early not_served_yet }
+    ensures closed { serves (plain two_lines (took_first lifted_early)).endpoints ≡ false }
+    ensures line_serves { (endpoint_then lifted_early).post.restart ≡ Serving }
+    ensures calm { has_given_up (of_line 1 (sent_from two_lines (plain two_lines (took_first lifted_early))
+        (took_between lifted_early not_served_yet))) (endpoint_then not_served_yet).post ≡ false }
+    ensures began { FlightsBeganSince two_lines 1 (took_first lifted_early) (took_between lifted_early not_served_yet) 1002 }
+    ensures reaches { (b : Begun) → IsOfLine two_lines (world not_served_yet) 1 b → 1002 ≤ b.moment →
+        GoesToAgent two_lines (world not_served_yet) b.text }
+    ensures asked_again { IsAskedWithin two_lines 1 (took_first lifted_early) (took_between lifted_early not_served_yet) 100 }
+    ensures held { (endpoint_then lifted_early).line.quarantined.events ≡ off_hook ∷ [] }
+    ensures late { (plain two_lines (took_first lifted_early)).now + rounds_take 1 (2 * 300) 100 < now_in two_lines (world not_served_yet) }
+    ensures not_answered { ¬ IsAnsweredWithin two_lines 1 (took_first lifted_early) (took_between lifted_early not_served_yet) (2 * 300) }
+    ensures rests { done_in (course_from two_lines (plain two_lines (took_first lifted_early)) 1
+        (took_between lifted_early not_served_yet)) ≡ [] }
+    ensures left { of_telephone (endpoint_then not_served_yet).line.quarantined.events ≡ off_hook ∷ [] }
 {}

@@ -2,9 +2,10 @@
 //! missing and the sentence fails. That a line gives nothing up for 10,500 ms before, and in the stretch, has its examples in `told_laws`.
 #![tactic(auto, unfolding(crate::proofs::Computing::on_examples))]
 
-ghost use Rattle.std.specs.Prelude.{◌≡◌, ◌≤◌, ◌<◌, ◌+◌, ◌*◌, ◌++◌, [], ◌∷◌, Some, true};
+ghost use Rattle.std.specs.Prelude.{◌≡◌, ◌≤◌, ◌<◌, ◌+◌, ◌*◌, ◌++◌, [], ◌∷◌, Some, false, true};
+ghost use Rattle.restart.specs.declared.restart.Restart.TheVariants.{Serving};
 ghost use Rattle.plain_machine.specs.Example.{two_lines};
-ghost use Rattle.plain_machine.specs.Lists.{plain, sent_of};
+ghost use Rattle.plain_machine.specs.Lists.{plain, sent_from, sent_of};
 ghost use Rattle.plain_machine.specs.Machine.{serves};
 ghost use Rattle.machine_laws.specs.Belonging.{of_line};
 ghost use Rattle.machine_laws.specs.Saying.{Begun, HasNumbersLeft};
@@ -13,7 +14,7 @@ ghost use Rattle.world_laws.specs.Reached.{own_in};
 ghost use Rattle.world_laws.specs.Example.{world};
 ghost use Rattle.delivery_laws.specs.Copies.{IsRun};
 ghost use Rattle.delivery_laws.specs.Course.{course_from, course_of};
-ghost use Rattle.delivery_laws.specs.Dialled.{IsAskedForAll};
+ghost use Rattle.delivery_laws.specs.Dialled.{IsAskedForAll, done_in};
 ghost use Rattle.delivery_laws.specs.DialledExample.{done_then, endpoint_then, told_then};
 ghost use Rattle.delivery_laws.specs.Example.{asked_in_step, flying_after, took_between, took_first};
 ghost use Rattle.delivery_laws.specs.Fairness.{GoesToAgent};
@@ -26,6 +27,7 @@ ghost use Rattle.outage_laws.specs.AfterOutage.{AgentHasRoomFrom, IsFairFrom};
 ghost use Rattle.outage_laws.specs.SinceThenExample.{WasAskedForAllSince, done_between};
 ghost use Rattle.outage_laws.specs.ToldSince.{FlightBeganSince, FlightsBeganSince};
 ghost use Rattle.outage_laws.specs.ToldSinceExample.{GaveNothingUpSince, ToldSince, dialled_since, kept_from_it, kept_longer, rested_since};
+ghost use Rattle.outage_laws.specs.ToldSinceExample.{waiting_since};
 ghost use Rattle.outage_laws.specs.ToldSinceExample.{taken_since, told_at_once, told_before_it, underway_since, well_since};
 
 /// A notification was lost, and given up; the network is there again from 28,502 on. The line is answered, and for 11 s it rests; what is
@@ -134,4 +136,26 @@ pub fn who_is_kept_longer_waits_longer()
         GoesToAgent two_lines (world kept_longer) b.text }
     ensures not_answered { ¬ IsAnsweredWithin two_lines 1 (took_first dialled_since) (took_between dialled_since kept_longer) (2 * 300) }
     ensures flies { flying_after kept_longer ≡ Some 10000003 }
+{}
+
+/// So long the handset is quarantined, and not shorter, though all else holds that the law of what is quarantined then asks for.
+pub fn what_is_quarantined_stays_so_long()
+    ensures steps { steps_are_taken two_lines world_opening waiting_since ≡ true }
+    ensures fair { IsFairFrom two_lines waiting_since 28502 300 }
+    ensures room { AgentHasRoomFrom two_lines waiting_since 28502 }
+    ensures split { took_first waiting_since ≡ took_first dialled_since ++ took_between dialled_since waiting_since }
+    ensures serving { serves (plain two_lines (took_first dialled_since)).endpoints ≡ true }
+    ensures line_serves { (endpoint_then dialled_since).post.restart ≡ Serving }
+    ensures calm { has_given_up (of_line 1 (sent_from two_lines (plain two_lines (took_first dialled_since))
+        (took_between dialled_since waiting_since))) (endpoint_then waiting_since).post ≡ false }
+    ensures began { FlightsBeganSince two_lines 1 (took_first dialled_since) (took_between dialled_since waiting_since) 28502 }
+    ensures reaches { (b : Begun) → IsOfLine two_lines (world waiting_since) 1 b → 28502 ≤ b.moment →
+        GoesToAgent two_lines (world waiting_since) b.text }
+    ensures asked_again { IsAskedWithin two_lines 1 (took_first dialled_since) (took_between dialled_since waiting_since) 100 }
+    ensures held { (endpoint_then dialled_since).line.quarantined.events ≡ hung_up ∷ [] }
+    ensures rounds { (plain two_lines (took_first dialled_since)).now + rounds_take 1 (2 * 300) 100
+        ≡ now_in two_lines (world waiting_since) }
+    ensures rests { done_in (course_from two_lines (plain two_lines (took_first dialled_since)) 1
+        (took_between dialled_since waiting_since)) ≡ [] }
+    ensures left { of_telephone (endpoint_then waiting_since).line.quarantined.events ≡ hung_up ∷ [] }
 {}

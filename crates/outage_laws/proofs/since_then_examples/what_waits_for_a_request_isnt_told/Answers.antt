@@ -12,9 +12,10 @@ use Rattle.delivery_laws.proofs.ExampleLemmas.{to_agent, took_split}
 use Rattle.delivery_laws.proofs.FrontLemmas.{agent_has_room, answered_within}
 use Rattle.outage_laws.specs.AfterOutage.{AgentHasRoomFrom, IsFairFrom}
 use Rattle.outage_laws.specs.SinceThenExample.{WasAskedForAllSince, never_asked_again, rested_then}
+use Rattle.outage_laws.specs.ToldSince.{FlightsBeganSince}
 use Rattle.outage_laws.proofs.Computing.{on_examples}
 use Rattle.outage_laws.proofs.FairFromExamples.{fair_from_is, room_from}
-use Rattle.outage_laws.proofs.HadTimeExamples.{flight_since}
+use Rattle.outage_laws.proofs.HadTimeExamples.{flight_since, flights_since}
 use Rattle.outage_laws.proofs.since_then_examples.what_waits_for_a_request_isnt_told.Goals as goal
 
 fair_then : IsFairFrom two_lines never_asked_again 0 300
@@ -32,6 +33,10 @@ answered_then = answered_within two_lines 1 (took_first rested_then) (took_betwe
 unasked_then : IsAskedWithin two_lines 1 (took_first rested_then) (took_between rested_then never_asked_again) 100 → ⊥
 unfolding on_examples
 unasked_then asked = asked [] (tick 12001 ∷ []) [] _ refl refl refl (ltb-true _ _ refl) refl
+
+began_then : FlightsBeganSince two_lines 1 (took_first rested_then) (took_between rested_then never_asked_again) 0
+unfolding on_examples
+began_then = flights_since two_lines 1 (took_first rested_then) (took_between rested_then never_asked_again) 0 refl
 
 lost_then : (endpoint_then never_asked_again).line.quarantined.lost ≡ 0
 unfolding on_examples
@@ -70,4 +75,10 @@ returns c = record {
   more = refl;
   done = refl;
   taken = refl;
+  serving = refl;
+  line_serves = refl;
+  began = began_then;
+  reaches = λ b of past. to_agent two_lines never_asked_again b.text refl;
+  rests = refl;
+  left = refl;
 }
