@@ -12,6 +12,7 @@ pub mod AskedCourses
 pub mod TimerLemmas
 pub mod PhoneLemmas
 pub mod LastTurns
+pub mod SettlingLemmas
 pub mod SettledLemmas
 pub mod OverLemmas
 pub mod LaterTakes

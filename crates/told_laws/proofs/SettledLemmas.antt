@@ -30,9 +30,10 @@ use Rattle.world_laws.proofs.TakenLaws.{heard_was_taken}
 use Rattle.world_laws.proofs.WorldLaws.{gateway_alone}
 use Rattle.delivery_laws.specs.GivenUp.{announces, has_given_up}
 use Rattle.delivery_laws.proofs.CourseLemmas.{AllHear, Hears, events_stand, hear_all}
-use Rattle.delivery_laws.proofs.DialledFlightLemmas.{Fine, Flies, FliesBeside, Gone, flight_turns, flying, has_announced, stays_gone}
+use Rattle.delivery_laws.proofs.DialledFlightLemmas.{Flies as GivesUp, FliesBeside as GivesUpBeside, Gone, flight_turns as given_up_turns, flying, has_announced, stays_gone}
 use Rattle.delivery_laws.proofs.RestLemmas.{Rests, begun_both}
 use Rattle.delivery_laws.proofs.WorldLemmas.{IsFinal, WasTaken, hear_finals, line_begun, sent_on}
+use Rattle.told_laws.proofs.SettlingLemmas.{Fine, Flies, FliesBeside, flight_turns}
 use Rattle.told_laws.proofs.LastTurns.{LastOf, line_last}
 
 pub serving_is : (restart : Restart) → is_serving restart ≡ true → restart ≡ Serving
@@ -151,52 +152,47 @@ module _ (setup : Setup) (line : ℕ) (some : 1 ≤ line) where
         by_pending (Some flight) flies l =
             record { front = l.front; back = l.back; order = l.is; begins = l.begins ∙ sym (ap flying flies); calm = l.calm }
 
-  -- as long as nothing is given up
+  -- As long as nothing is given up, whatever is in flight at first: an announcement too, which was answered if the line serves at last.
   pub settles : (A : ℕ → Type 0) (took events later : List GatewayEvent) (s next last : Endpoint) → IsThere setup line took s → IsThere setup line (took ++ events) next
-      → IsThere setup line ((took ++ events) ++ later) last → s.post.restart ≡ Serving → Rests s.post.restart s.post.pending s.line.state → Start setup line took s
+      → IsThere setup line ((took ++ events) ++ later) last → Rests s.post.restart s.post.pending s.line.state
       → AllHear setup (IsFinal A) (arrivals_from (plain setup took).now events) → has_given_up (sent_at setup line took (events ++ later)) last.post ≡ false
       → Settles A s.post.pending (began_at setup line took events) next.post.pending
-  settles A took events later s next last here there at_last serving rests st hears none = by_either flies.either where
+  settles A took events later s next last here there at_last rests hears none = by_either flies.either where
+    pre : List Begun
+    pre = flying s.post.pending
+
     new : List Sent
     new = sent_at setup line took events
 
     after : List Sent
     after = sent_at setup line (took ++ events) later
 
-    begin : Flies A (Unit {0}) st.back s
-    begin = record { rests = rests; either = inl (record { still = tt; serving = serving; settled = []; split = st.begins; answered = tt }) }
+    begin : Flies A pre [] s
+    begin = record { rests = rests; either = inl (record { settled = []; split = append-nil pre; answered = tt }) }
 
-    flies : Flies A (Unit {0}) (st.back ++ new) next
+    flies : Flies A pre new next
     flies =
-        (events_stand setup (IsFinal A) (FliesBeside A (Unit {0})) (flight_turns A (Unit {0}) setup) line some (plain setup took) [] st.back (plain setup took).now events hears
+        (events_stand setup (IsFinal A) (FliesBeside A pre) (flight_turns A pre setup) line some (plain setup took) [] [] (plain setup took).now events hears
         (record {
           order = events_wait setup took;
-          holds = λ x at. subst (Flies A (Unit {0}) st.back) (let both : Some s ≡ Some x = sym here ∙ at in (let same : s ≡ x = cc in same)) begin;
+          holds = λ x at. subst (Flies A pre []) (let both : Some s ≡ Some x = sym here ∙ at in (let same : s ≡ x = cc in same)) begin;
         })).holds next (ap (λ (m : Machine). endpoint_at m.endpoints line) (sym (machine_on setup (opening setup) took events)) ∙ there)
 
-    gone_then : Gone (st.back ++ new) next.post.restart → has_given_up ((st.back ++ new) ++ after) last.post ≡ true
+    gone_then : Gone new next.post.restart → has_given_up (new ++ after) last.post ≡ true
     gone_then gone =
-        stays_gone ((st.back ++ new) ++ after) last
-        ((events_stand setup (IsFinal AnyId) (FliesBeside AnyId ⊥) (flight_turns AnyId ⊥ setup) line some (plain setup (took ++ events)) [] (st.back ++ new) 0 later
+        stays_gone (new ++ after) last
+        ((events_stand setup (IsFinal AnyId) (GivesUpBeside AnyId ⊥) (given_up_turns AnyId ⊥ setup) line some (plain setup (took ++ events)) [] new 0 later
         (hear_all setup (IsFinal AnyId) (λ response high. tt) (arrivals_from 0 later))
         (record {
           order = events_wait setup (took ++ events);
           holds = λ x at.
-              subst (Flies AnyId ⊥ (st.back ++ new)) (let both : Some next ≡ Some x = sym there ∙ at in (let same : next ≡ x = cc in same))
+              subst (GivesUp AnyId ⊥ new) (let both : Some next ≡ Some x = sym there ∙ at in (let same : next ≡ x = cc in same))
               (record { rests = flies.rests; either = inr gone });
         })).holds last (ap (λ (m : Machine). endpoint_at m.endpoints line) (sym (machine_on setup (opening setup) (took ++ events) later)) ∙ at_last))
 
-    nothing : has_given_up ((st.back ++ new) ++ after) last.post ≡ false
-    nothing =
-        ap (λ (x : List Sent). has_given_up x last.post)
-        (append_assoc st.back new after ∙ ap (λ (x : List Sent). st.back ++ x) (sym (sent_both setup line took events later)))
-        ∙ given_both st.back (sent_at setup line took (events ++ later)) last.post st.calm none
+    nothing : has_given_up (new ++ after) last.post ≡ false
+    nothing = ap (λ (x : List Sent). has_given_up x last.post) (sym (sent_both setup line took events later)) ∙ none
 
-    by_either : Fine A (Unit {0}) (st.back ++ new) next.post.restart next.post.pending ⊎ Gone (st.back ++ new) next.post.restart
-        → Settles A s.post.pending (began_at setup line took events) next.post.pending
-    by_either (inl fine) = record {
-      settled = fine.settled;
-      split = sym (begun_both st.back new ∙ ap (λ (x : List Begun). x ++ begun_in new) st.begins) ∙ fine.split;
-      answered = fine.answered;
-    }
+    by_either : Fine A pre new next.post.pending ⊎ Gone new next.post.restart → Settles A s.post.pending (began_at setup line took events) next.post.pending
+    by_either (inl fine) = record { settled = fine.settled; split = fine.split; answered = fine.answered }
     by_either (inr gone) = absurd (let clash : true ≡ false = sym (gone_then gone) ∙ nothing in cc)

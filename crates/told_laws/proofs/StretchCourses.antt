@@ -1,16 +1,21 @@
 -- What a line told over a stretch, and what the agent took of it meanwhile.
-use Rattle.std.proofs.Common.{◌≡◌, ℕ, ◌+◌, ◌≤◌, true, List, ◌++◌, length, drop, Some, sym, ap, ◌∙◌, subst}
-use Rattle.std.specs.Prelude.{Any, flat_map}
+use Rattle.std.proofs.Common.{◌≡◌, ℕ, ◌+◌, ◌≤◌, Bool, true, false, ◌||◌, List, ◌++◌, length, drop, Some, refl, sym, ap, ◌∙◌, subst}
+use Rattle.std.specs.Prelude.{Any, flat_map, not}
+use Rattle.std.specs.List.{list_any}
 use Rattle.std.proofs.Math.Seq.{drop-append_seam}
 use Rattle.std.proofs.lemmas.Grind.{flat_map-append}
 use Rattle.mgcp_text.specs.Reading.{read_text}
 use Rattle.event_values.specs.declared.observed.Observed.{Observed}
 use Rattle.plain_machine.specs.declared.setup.Setup.{Setup}
 use Rattle.plain_machine.specs.declared.endpoint.Endpoint.{Endpoint}
+use Rattle.plain_machine.specs.declared.post.Post.{Post}
+use Rattle.plain_machine.specs.Message.{Sent}
+use Rattle.restart.specs.Restarting.{is_serving}
 use Rattle.plain_machine.specs.Event.{GatewayEvent}
-use Rattle.plain_machine.specs.Lists.{plain, sent_of}
+use Rattle.plain_machine.specs.Lists.{plain, sent_from, sent_of}
 use Rattle.plain_machine.specs.Machine.{endpoint_at, opening}
 use Rattle.plain_machine.specs.Setup.{IsSetUp}
+use Rattle.machine_laws.specs.Belonging.{of_line}
 use Rattle.machine_laws.specs.Saying.{HasNumbersLeft, Begun, OneOf}
 use Rattle.machine_laws.proofs.EachLemmas.{each_from_all, each_weaker, one_from_any}
 use Rattle.machine_laws.proofs.LineLemmas.{place_of}
@@ -20,18 +25,20 @@ use Rattle.world_laws.specs.Reached.{Reached, own_in, taken_in}
 use Rattle.world_laws.proofs.LinkLaws.{taken_as_sent}
 use Rattle.world_laws.proofs.ToldLaws.{told_is}
 use Rattle.delivery_laws.specs.Course.{course_from, course_of}
+use Rattle.delivery_laws.specs.GivenUp.{announces, has_given_up}
 use Rattle.delivery_laws.specs.Dialled.{told_along}
 use Rattle.delivery_laws.proofs.DialledLemmas.{told_both}
 use Rattle.delivery_laws.proofs.DialledTakenLemmas.{IsAsSent, taken_tells, told_taken}
+use Rattle.delivery_laws.proofs.GivenUpFronts.{was_there}
 use Rattle.delivery_laws.proofs.StepLemmas.{taken_front}
 use Rattle.delivery_laws.proofs.ToldLemmas.{begun_tell, course_tells, told_by}
 use Rattle.delivery_laws.proofs.WellLemmas.{IsWell, sent_well}
 use Rattle.delivery_laws.proofs.WorldLemmas.{line_begun, line_taken}
-use Rattle.told_laws.specs.Stretch.{GivesNothingUp, IsWhole, course_meanwhile, outliving, taken_meanwhile}
+use Rattle.told_laws.specs.Stretch.{AnnouncesNothing, GivesNothingUp, IsWhole, course_meanwhile, outliving, taken_meanwhile, took_meanwhile}
 use Rattle.told_laws.proofs.AskedCourses.{course_on}
 use Rattle.told_laws.proofs.LateLemmas.{cancel, line_both}
 use Rattle.told_laws.proofs.SettledLemmas.{began_at, begun_on}
-use Rattle.told_laws.proofs.StretchLemmas.{matched, meanwhile_is, whole_of}
+use Rattle.told_laws.proofs.StretchLemmas.{events_behind, matched, meanwhile_is, whole_of}
 
 -- what the course of a line tells is what the commands tell that it began
 
@@ -80,25 +87,37 @@ taken_then setup line before all more set_up taken_before taken came =
     ∙ ap (λ (x : List Observed). x ++ flat_map told_taken (line_taken line more)) (sym (observed_is setup before line set_up taken_before)) in
     ap (drop (length was)) grown ∙ drop-append_seam was (flat_map told_taken (line_taken line more))
 
-pub stretch_whole : (setup : Setup) (line : ℕ) (first pause stretch : List WorldStep) (before was is : Endpoint) → IsSetUp setup
+-- a line that gave nothing up by then serves
+serves_then : (sent : List Sent) (post : Post) → has_given_up sent post ≡ false → is_serving post.restart ≡ true
+serves_then sent post none = by_both (list_any (λ one. announces one.said) sent) (is_serving post.restart) none where
+  by_both : (b serving : Bool) → (b || not serving) ≡ false → serving ≡ true
+  by_both b true none = refl
+  by_both true false none = absurd cc
+  by_both false false none = absurd cc
+
+pub stretch_whole : (setup : Setup) (line : ℕ) (first pause stretch : List WorldStep) (was is : Endpoint) → IsSetUp setup
     → steps_are_taken setup world_opening ((first ++ pause) ++ stretch) ≡ true
     → HasNumbersLeft (own_in setup (plain_world setup ((first ++ pause) ++ stretch)))
-    → endpoint_at (gateway_in setup (plain_world setup first)).endpoints line ≡ Some before
     → endpoint_at (gateway_in setup (plain_world setup (first ++ pause))).endpoints line ≡ Some was
     → endpoint_at (gateway_in setup (plain_world setup ((first ++ pause) ++ stretch))).endpoints line ≡ Some is
-    → GivesNothingUp setup line (plain_world setup first) (plain_world setup (first ++ pause)) before was
-    → GivesNothingUp setup line (plain_world setup (first ++ pause)) (plain_world setup ((first ++ pause) ++ stretch)) was is
+    → AnnouncesNothing setup line (plain_world setup first) (plain_world setup (first ++ pause)) was
+    → AnnouncesNothing setup line (plain_world setup (first ++ pause)) (plain_world setup ((first ++ pause) ++ stretch)) is
     → now_in setup (plain_world setup first) + outliving ≤ now_in setup (plain_world setup (first ++ pause))
     → IsWhole was.post.pending is.post.pending
     (told_along (course_meanwhile setup line (plain_world setup (first ++ pause)) (plain_world setup ((first ++ pause) ++ stretch))))
     (taken_meanwhile setup line (plain_world setup (first ++ pause)) (plain_world setup ((first ++ pause) ++ stretch)))
-stretch_whole setup line first pause stretch before was is set_up taken few at_before at_was at_is calm_before calm_since long =
+stretch_whole setup line first pause stretch was is set_up taken few at_was at_is calm_before calm long =
     let up : List WorldStep = first ++ pause in
+    let v = plain_world setup first in
     let u = plain_world setup up in
     let w = plain_world setup (up ++ stretch) in
     let some = (place_of (gateway_in setup u).endpoints line was at_was).0 in
-    let m = matched setup line some first pause stretch before was is set_up taken few at_before at_was at_is calm_before calm_since long in
-    whole_of setup line some first pause stretch before was is set_up taken few at_before at_was at_is calm_before calm_since long
+    let calm_since : GivesNothingUp setup line u w was is = (serves_then (of_line line (sent_from setup (gateway_in setup v) (took_meanwhile v u))) was.post calm_before, calm) in
+    let paused = events_behind setup first pause in
+    let before = was_there setup line some (plain_world setup first).gateway_took paused.0 was
+    (subst (λ (events : List GatewayEvent). endpoint_at (plain setup events).endpoints line ≡ Some was) paused.1 at_was) in
+    let m = matched setup line some first pause stretch before.0 was is set_up taken few before.1 at_was at_is calm_before calm_since long in
+    whole_of setup line some first pause stretch before.0 was is set_up taken few before.1 at_was at_is calm_before calm_since long
     (told_along (course_meanwhile setup line u w)) (taken_meanwhile setup line u w)
     (ap (λ (events : List GatewayEvent). told_along (course_from setup (gateway_in setup u) line events)) (meanwhile_is u w m.events m.took)
     ∙ told_then setup line some set_up u.gateway_took m.events was is at_was

@@ -5,7 +5,6 @@ use Rattle.std.proofs.Math.Seq.{drop-append_seam}
 use Rattle.std.proofs.lemmas.Grind.{flat_map-append}
 use Rattle.event_values.specs.declared.observed.Observed.{Observed}
 use Rattle.outbound.specs.Flight.{InFlight}
-use Rattle.restart.specs.declared.restart.Restart.TheVariants.{Serving}
 use Rattle.plain_machine.specs.declared.setup.Setup.{Setup}
 use Rattle.plain_machine.specs.declared.endpoint.Endpoint.{Endpoint}
 use Rattle.plain_machine.specs.Event.{GatewayEvent}
@@ -33,7 +32,7 @@ use Rattle.delivery_laws.proofs.StandsTakenLemmas.{front_takes, line_took}
 use Rattle.delivery_laws.proofs.StepLemmas.{steps_more, taken_front}
 use Rattle.delivery_laws.proofs.ToldLemmas.{told_by}
 use Rattle.delivery_laws.proofs.WorldLemmas.{Known, WasTaken, begun_ids, known, line_begun, line_taken, settled_taken, taken_ids, taken_mine, world_one}
-use Rattle.told_laws.specs.Stretch.{GivesNothingUp, IsOnItsWay, IsWhole, outliving, took_meanwhile}
+use Rattle.told_laws.specs.Stretch.{AnnouncesNothing, GivesNothingUp, IsOnItsWay, IsWhole, outliving, took_meanwhile}
 use Rattle.told_laws.proofs.LaterTakes.{TakesFrom, takes_since}
 use Rattle.told_laws.proofs.OverLemmas.{over_then}
 use Rattle.told_laws.proofs.SettledLemmas.{IsThere, Settles, Start, began_at, began_both, begun_on, begun_then, finals_since, sent_at, serving_is, settles, start}
@@ -55,7 +54,7 @@ pub record Matched (setup : Setup) (line : ℕ) (from : World) (pending : Option
   pub matches : Matches (since_ids setup line from pending events) (took_ids line from pending more)
 
 -- what the gateway took of some steps behind others
-events_behind : (setup : Setup) (some more : List WorldStep)
+pub events_behind : (setup : Setup) (some more : List WorldStep)
     → (events : List GatewayEvent) × ((plain_world setup (some ++ more)).gateway_took ≡ (plain_world setup some).gateway_took ++ events)
 events_behind setup some more =
     let m = took_more setup (plain_world setup some) more in
@@ -74,7 +73,7 @@ module _ (setup : Setup) (line : ℕ) (some : 1 ≤ line) (first pause stretch :
     (at_before : endpoint_at (gateway_in setup (plain_world setup first)).endpoints line ≡ Some before)
     (at_was : endpoint_at (gateway_in setup (plain_world setup (first ++ pause))).endpoints line ≡ Some was)
     (at_is : endpoint_at (gateway_in setup (plain_world setup ((first ++ pause) ++ stretch))).endpoints line ≡ Some is)
-    (calm_before : GivesNothingUp setup line (plain_world setup first) (plain_world setup (first ++ pause)) before was)
+    (calm_before : AnnouncesNothing setup line (plain_world setup first) (plain_world setup (first ++ pause)) was)
     (calm_since : GivesNothingUp setup line (plain_world setup (first ++ pause)) (plain_world setup ((first ++ pause) ++ stretch)) was is)
     (long : now_in setup (plain_world setup first) + outliving ≤ now_in setup (plain_world setup (first ++ pause))) where
   -- the steps up to the stretch and to its end, and the worlds at its beginning, so long before, and at its end
@@ -107,72 +106,105 @@ module _ (setup : Setup) (line : ℕ) (some : 1 ≤ line) (first pause stretch :
   paused : (events : List GatewayEvent) × (u.gateway_took ≡ v.gateway_took ++ events)
   paused = events_behind setup first pause
 
-  start_first : Start setup line v.gateway_took before
-  start_first = start setup line some v.gateway_took before at_before (serving_is before.post.restart calm_before.0)
-
   there_up : IsThere setup line (v.gateway_took ++ paused.0) was
   there_up = subst (λ (x : List GatewayEvent). IsThere setup line x was) paused.1 at_was
 
   none_up : has_given_up (sent_at setup line v.gateway_took (paused.0 ++ [])) was.post ≡ false
   none_up =
       subst (λ (x : List GatewayEvent). has_given_up (sent_at setup line v.gateway_took x) was.post ≡ false)
-      (meanwhile_is v u paused.0 paused.1 ∙ sym (append-nil paused.0)) calm_before.1
+      (meanwhile_is v u paused.0 paused.1 ∙ sym (append-nil paused.0)) calm_before
 
   settled_up : Settles (WasTaken (taken_in u)) before.post.pending (began_at setup line v.gateway_took paused.0) was.post.pending
   settled_up =
       settles setup line some (WasTaken (taken_in u)) v.gateway_took paused.0 [] before was was at_before there_up
       (subst (λ (x : List GatewayEvent). IsThere setup line x was) (sym (append-nil (v.gateway_took ++ paused.0))) there_up)
-      (serving_is before.post.restart calm_before.0) ((stood setup line some first set_up taken_first).flies before at_before).rests start_first
-      (finals_since setup up v.gateway_took paused.0 set_up taken_up paused.1) none_up
+      ((stood setup line some first set_up taken_first).flies before at_before).rests (finals_since setup up v.gateway_took paused.0 set_up taken_up paused.1) none_up
+
+  start_up : Start setup line u.gateway_took was
+  start_up = start setup line some u.gateway_took was at_was (serving_is was.post.restart calm_since.0)
 
   abbrev old : List Begun
-  old = begun_in start_first.front
+  old = begun_in start_up.front
 
-  -- it began long ago, or was answered, or is in flight
-  begun_up : line_begun setup line u.gateway_took ≡ old ++ (settled_up.settled ++ flying was.post.pending)
-  begun_up =
-      ap (line_begun setup line) paused.1
-      ∙ begun_on setup line v.gateway_took paused.0
-      ∙ ap (λ (x : List Begun). x ++ began_at setup line v.gateway_took paused.0) (begun_then setup line v.gateway_took before start_first)
-      ∙ append_assoc old (flying before.post.pending) (began_at setup line v.gateway_took paused.0)
-      ∙ ap (λ (x : List Begun). old ++ x) settled_up.split
+  abbrev Mine : Begun → Type 0
+  Mine b = line_of_id b.id ≡ line
 
-  old_mine : Each (λ (b : Begun). line_of_id b.id ≡ line) old
-  old_mine =
-      each_front (λ (b : Begun). line_of_id b.id ≡ line) old (flying before.post.pending)
-      (subst (Each (λ (b : Begun). line_of_id b.id ≡ line)) (begun_then setup line v.gateway_took before start_first)
-      (stood setup line some first set_up taken_first).mine)
+  -- it began before, or is in flight
+  begun_up : line_begun setup line u.gateway_took ≡ old ++ flying was.post.pending
+  begun_up = begun_then setup line u.gateway_took was start_up
 
-  first_apart : Apart (begun_ids old ++ begun_ids (flying before.post.pending))
-  first_apart =
-      let later = began_more setup line first (pause ++ stretch) in
-      let order : line_begun setup line w.gateway_took ≡ line_began setup line first ++ later.0 =
-      ap (line_began setup line) (append_assoc first pause stretch) ∙ later.1 in
-      subst Apart (ap begun_ids (begun_then setup line v.gateway_took before start_first) ∙ ids_both old (flying before.post.pending))
-      (apart_front (begun_ids (line_began setup line first)) (begun_ids later.0)
-      (subst Apart (ap begun_ids order ∙ ids_both (line_began setup line first) later.0) meant.apart))
+  up_mine : Each Mine (old ++ flying was.post.pending)
+  up_mine = subst (Each Mine) begun_up (stood setup line some up set_up taken_up).mine
 
-  -- it was taken by then, or sent last
+  up_apart : Apart (begun_ids old ++ begun_ids (flying was.post.pending))
+  up_apart =
+      let later = began_more setup line up stretch in
+      subst Apart (ap begun_ids begun_up ∙ ids_both old (flying was.post.pending))
+      (apart_front (begun_ids (line_began setup line up)) (begun_ids later.0)
+      (subst Apart (ap begun_ids later.1 ∙ ids_both (line_began setup line up) later.0) meant.apart))
+
+  -- it was taken by then, or sent last long before
   abbrev IsOld : Begun → Type 0
-  IsOld b = WasTaken (taken_in v) b.id ⊎ (b.moment + last_chance ≤ now_in setup v)
+  IsOld b = WasTaken (taken_in u) b.id ⊎ (b.moment + last_chance ≤ now_in setup v)
+
+  abbrev FliesNow : ℕ → Type 0
+  FliesNow id = In id (begun_ids (flying was.post.pending))
+
+  -- what was in flight so long before, and what began since, was taken, or is in flight
+  abbrev TakenOrFlies : ℕ → Type 0
+  TakenOrFlies id = WasTaken (taken_in u) id ⊎ FliesNow id
+
+  meanwhile_taken : Each (λ (b : Begun). TakenOrFlies b.id) (flying before.post.pending ++ began_at setup line v.gateway_took paused.0)
+  meanwhile_taken =
+      subst (Each (λ (b : Begun). TakenOrFlies b.id)) (sym settled_up.split)
+      (each_both (λ (b : Begun). TakenOrFlies b.id) settled_up.settled (flying was.post.pending)
+      (each_weaker (λ (b : Begun). WasTaken (taken_in u) b.id) (λ (b : Begun). TakenOrFlies b.id) (λ b was. inl was) settled_up.settled settled_up.answered)
+      (each_weaker (λ (b : Begun). FliesNow b.id) (λ (b : Begun). TakenOrFlies b.id) (λ b flies. inr flies) (flying was.post.pending)
+      (each_in (λ (b : Begun). b.id) (flying was.post.pending))))
+
+  first_taken : (flight : InFlight) → before.post.pending ≡ Some flight → TakenOrFlies flight.id
+  first_taken flight flies =
+      (subst (λ (p : Option InFlight). Each (λ (b : Begun). TakenOrFlies b.id) (flying p)) flies
+      (each_front (λ (b : Begun). TakenOrFlies b.id) (flying before.post.pending) (began_at setup line v.gateway_took paused.0) meanwhile_taken)).0
+
+  still_taken : (id : ℕ) → WasTaken (taken_in v) id → WasTaken (taken_in u) id
+  still_taken id was =
+      let since = takes_since setup first pause set_up taken_up in
+      subst (λ (x : List Reached). WasTaken x id) (sym since.grown) (one_before (λ (x : Reached). x.asked.id ≡ id) (taken_in v) since.more was)
+
+  abbrev IsOldOrFlies : Begun → Type 0
+  IsOldOrFlies b = IsOld b ⊎ FliesNow b.id
+
+  then_old : (b : Begun) → WasTaken (taken_in v) b.id ⊎ ((b.moment + last_chance ≤ now_in setup v) ⊎ FliesIn (WasTaken (taken_in v)) before.post.pending b) → IsOldOrFlies b
+  then_old b (inl was) = inl (inl (still_taken b.id was))
+  then_old b (inr (inl low)) = inl (inr low)
+  then_old b (inr (inr (flight, flies, it))) = by_taken (subst TakenOrFlies it.id (first_taken flight flies)) where
+    by_taken : TakenOrFlies b.id → IsOldOrFlies b
+    by_taken (inl was) = inl (inl was)
+    by_taken (inr now) = inr now
+
+  since_old : (b : Begun) → TakenOrFlies b.id → IsOldOrFlies b
+  since_old b (inl was) = inl (inl was)
+  since_old b (inr now) = inr now
+
+  all_old : Each IsOldOrFlies (line_begun setup line u.gateway_took)
+  all_old =
+      subst (Each IsOldOrFlies) (sym (ap (line_begun setup line) paused.1 ∙ begun_on setup line v.gateway_took paused.0))
+      (each_both IsOldOrFlies (line_begun setup line v.gateway_took) (began_at setup line v.gateway_took paused.0)
+      (each_weaker (λ (b : Begun). WasTaken (taken_in v) b.id ⊎ ((b.moment + last_chance ≤ now_in setup v) ⊎ FliesIn (WasTaken (taken_in v)) before.post.pending b))
+      IsOldOrFlies then_old (line_begun setup line v.gateway_took) (over_then setup line some first set_up taken_first before at_before))
+      (each_weaker (λ (b : Begun). TakenOrFlies b.id) IsOldOrFlies since_old (began_at setup line v.gateway_took paused.0)
+      (each_back (λ (b : Begun). TakenOrFlies b.id) (flying before.post.pending) (began_at setup line v.gateway_took paused.0) meanwhile_taken)))
 
   old_is : Each IsOld old
   old_is =
-      each_weaker (λ (b : Begun). Then b × In b.id (begun_ids old)) IsOld (λ b is. by_case b is.1 is.0) old
-      (each_two Then (λ (b : Begun). In b.id (begun_ids old)) old
-      (each_front Then old (flying before.post.pending)
-      (subst (Each Then) (begun_then setup line v.gateway_took before start_first) (over_then setup line some first set_up taken_first before at_before)))
+      each_weaker (λ (b : Begun). IsOldOrFlies b × In b.id (begun_ids old)) IsOld (λ b is. by_case b is.1 is.0) old
+      (each_two IsOldOrFlies (λ (b : Begun). In b.id (begun_ids old)) old
+      (each_front IsOldOrFlies old (flying was.post.pending) (subst (Each IsOldOrFlies) begun_up all_old))
       (each_in (λ (b : Begun). b.id) old)) where
-        Then : Begun → Type 0
-        Then b = WasTaken (taken_in v) b.id ⊎ ((b.moment + last_chance ≤ now_in setup v) ⊎ FliesIn (WasTaken (taken_in v)) before.post.pending b)
-
-        by_case : (b : Begun) → In b.id (begun_ids old)
-            → WasTaken (taken_in v) b.id ⊎ ((b.moment + last_chance ≤ now_in setup v) ⊎ FliesIn (WasTaken (taken_in v)) before.post.pending b) → IsOld b
-        by_case b inside (inl was) = inl was
-        by_case b inside (inr (inl low)) = inr low
-        by_case b inside (inr (inr (flight, flies, it))) =
-            absurd (apart_clash (begun_ids old) (begun_ids (flying before.post.pending)) b.id first_apart inside
-            (subst (λ (p : Option InFlight). In b.id (begun_ids (flying p))) (sym flies) (inl it.id)))
+        by_case : (b : Begun) → In b.id (begun_ids old) → IsOld b ⊎ FliesNow b.id → IsOld b
+        by_case b inside (inl is) = is
+        by_case b inside (inr now) = absurd (apart_clash (begun_ids old) (begun_ids (flying was.post.pending)) b.id up_apart inside now)
 
   -- Behind some steps of the stretch
 
@@ -195,13 +227,12 @@ module _ (setup : Setup) (line : ℕ) (some : 1 ≤ line) (first pause stretch :
 
   -- and those that it began
   begun_since : (s : List WorldStep) (events : List GatewayEvent) → (plain_world setup s).gateway_took ≡ u.gateway_took ++ events
-      → line_began setup line s ≡ (old ++ settled_up.settled) ++ (flying pending ++ began_at setup line u.gateway_took events)
+      → line_began setup line s ≡ old ++ (flying pending ++ began_at setup line u.gateway_took events)
   begun_since s events took =
       ap (line_begun setup line) took
       ∙ begun_on setup line u.gateway_took events
-      ∙ ap (λ (x : List Begun). x ++ began_at setup line u.gateway_took events)
-      (begun_up ∙ sym (append_assoc old settled_up.settled (flying pending)))
-      ∙ append_assoc (old ++ settled_up.settled) (flying pending) (began_at setup line u.gateway_took events)
+      ∙ ap (λ (x : List Begun). x ++ began_at setup line u.gateway_took events) begun_up
+      ∙ append_assoc old (flying pending) (began_at setup line u.gateway_took events)
 
   begun_apart : (s after : List WorldStep) (events : List GatewayEvent) → s ++ after ≡ all
       → (plain_world setup s).gateway_took ≡ u.gateway_took ++ events → Apart (begun_ids (line_began setup line s))
@@ -214,17 +245,9 @@ module _ (setup : Setup) (line : ℕ) (some : 1 ≤ line) (first pause stretch :
   since_apart : (s after : List WorldStep) (events : List GatewayEvent) → s ++ after ≡ all
       → (plain_world setup s).gateway_took ≡ u.gateway_took ++ events → Apart (since_ids setup line u pending events)
   since_apart s after events whole took =
-      apart_back (begun_ids (old ++ settled_up.settled)) (since_ids setup line u pending events)
-      (subst Apart (ap begun_ids (begun_since s events took) ∙ ids_both (old ++ settled_up.settled) (flying pending ++ began_at setup line u.gateway_took events))
+      apart_back (begun_ids old) (since_ids setup line u pending events)
+      (subst Apart (ap begun_ids (begun_since s events took) ∙ ids_both old (flying pending ++ began_at setup line u.gateway_took events))
       (begun_apart s after events whole took))
-
-  -- what was answered before was taken before
-  settled_in_u : Each In_u (begun_ids settled_up.settled)
-  settled_in_u =
-      settled_taken line (taken_in u) settled_up.settled settled_up.answered
-      (each_front (λ (b : Begun). line_of_id b.id ≡ line) settled_up.settled (flying pending)
-      (each_back (λ (b : Begun). line_of_id b.id ≡ line) old (settled_up.settled ++ flying pending)
-      (subst (Each (λ (b : Begun). line_of_id b.id ≡ line)) begun_up (stood setup line some up set_up taken_up).mine)))
 
   -- What is taken in the stretch began in it, or was in flight at first.
 
@@ -232,36 +255,22 @@ module _ (setup : Setup) (line : ℕ) (some : 1 ≤ line) (first pause stretch :
       → Came (line_began setup line s) one → now_in setup u ≤ one.asked.moment → (In_u one.asked.id → ⊥)
       → Came (flying pending ++ began_at setup line u.gateway_took events) one
   from_there s events one took came late never =
-      by_place (one_of_both (Comes one) (old ++ settled_up.settled) new (subst (OneOf (Comes one)) (begun_since s events took) came)) where
+      by_place (one_of_both (Comes one) old new (subst (OneOf (Comes one)) (begun_since s events took) came)) where
         new : List Begun
         new = flying pending ++ began_at setup line u.gateway_took events
 
         by_old : (b : Begun) → IsOld b → line_of_id b.id ≡ line → Comes one b → ⊥
-        by_old b (inl was) mine comes =
-            let since = takes_since setup first pause set_up taken_up in
-            let now_taken : WasTaken (taken_in u) b.id =
-            subst (λ (x : List Reached). WasTaken x b.id) (sym since.grown) (one_before (λ (x : Reached). x.asked.id ≡ b.id) (taken_in v) since.more was) in
-            never (subst In_u comes.id (taken_mine line b.id (taken_in u) mine now_taken))
+        by_old b (inl was) mine comes = never (subst In_u comes.id (taken_mine line b.id (taken_in u) mine was))
         by_old b (inr low) mine comes = too_old b one (now_in setup v) (now_in setup u) comes low long late
 
         in_old : OneOf (Comes one) old → ⊥
         in_old comes =
-            one_to (λ (b : Begun). (IsOld b × (line_of_id b.id ≡ line)) × Comes one b) ⊥ (λ b both. by_old b both.0.0 both.0.1 both.1) old
-            (one_of_each (λ (b : Begun). IsOld b × (line_of_id b.id ≡ line)) (Comes one) old
-            (each_two IsOld (λ (b : Begun). line_of_id b.id ≡ line) old old_is old_mine) comes)
+            one_to (λ (b : Begun). (IsOld b × Mine b) × Comes one b) ⊥ (λ b both. by_old b both.0.0 both.0.1 both.1) old
+            (one_of_each (λ (b : Begun). IsOld b × Mine b) (Comes one) old
+            (each_two IsOld Mine old old_is (each_front Mine old (flying was.post.pending) up_mine)) comes)
 
-        in_settled : OneOf (Comes one) settled_up.settled → ⊥
-        in_settled comes =
-            never (in_of_each In_u one.asked.id (begun_ids settled_up.settled) settled_in_u
-            (in_mapped (λ (b : Begun). b.id) one.asked.id settled_up.settled
-            (one_weaker (Comes one) (λ (b : Begun). b.id ≡ one.asked.id) (λ b c. c.id) settled_up.settled comes)))
-
-        in_either : OneOf (Comes one) old ⊎ OneOf (Comes one) settled_up.settled → ⊥
-        in_either (inl comes) = in_old comes
-        in_either (inr comes) = in_settled comes
-
-        by_place : OneOf (Comes one) (old ++ settled_up.settled) ⊎ OneOf (Comes one) new → Came new one
-        by_place (inl comes) = absurd (in_either (one_of_both (Comes one) old settled_up.settled comes))
+        by_place : OneOf (Comes one) old ⊎ OneOf (Comes one) new → Came new one
+        by_place (inl comes) = absurd (in_old comes)
         by_place (inr comes) = comes
 
   -- each of them
@@ -315,11 +324,8 @@ module _ (setup : Setup) (line : ℕ) (some : 1 ≤ line) (first pause stretch :
       (one_weaker (Comes one) (λ (b : Begun). b.id ≡ one.asked.id) (λ b c. c.id) new is.0)) (line_taken line more)
       (came_there s done after events more is_up whole took came))
 
-  flying_mine : Each (λ (b : Begun). line_of_id b.id ≡ line) (flying pending)
-  flying_mine =
-      each_back (λ (b : Begun). line_of_id b.id ≡ line) (old ++ settled_up.settled) (flying pending)
-      (subst (Each (λ (b : Begun). line_of_id b.id ≡ line)) (begun_up ∙ sym (append_assoc old settled_up.settled (flying pending)))
-      (stood setup line some up set_up taken_up).mine)
+  flying_mine : Each Mine (flying pending)
+  flying_mine = each_back Mine old (flying pending) up_mine
 
   early_in_u : Each In_u (early_of pending (taken_in u))
   early_in_u = early_taken line pending (taken_in u) flying_mine
@@ -399,9 +405,6 @@ module _ (setup : Setup) (line : ℕ) (some : 1 ≤ line) (first pause stretch :
         new : List Begun
         new = began_at setup line u.gateway_took events
 
-        Mine : Begun → Type 0
-        Mine b = line_of_id b.id ≡ line
-
         taken_s : steps_are_taken setup world_opening s ≡ true
         taken_s = taken_front setup world_opening s after (ap (steps_are_taken setup world_opening) whole ∙ taken)
 
@@ -409,7 +412,7 @@ module _ (setup : Setup) (line : ℕ) (some : 1 ≤ line) (first pause stretch :
         mine =
             each_front Mine settled (flying flies)
             (subst (Each Mine) split
-            (each_back Mine (old ++ settled_up.settled) (flying pending ++ new)
+            (each_back Mine old (flying pending ++ new)
             (subst (Each Mine) (begun_since s events took) (stood setup line some s set_up taken_s).mine)))
 
         Both : ℕ → Type 0
@@ -446,7 +449,7 @@ module _ (setup : Setup) (line : ℕ) (some : 1 ≤ line) (first pause stretch :
   settled_then : (s after : List WorldStep) (events : List GatewayEvent) → s ++ after ≡ all → (plain_world setup s).gateway_took ≡ u.gateway_took ++ events
       → (next : Endpoint) × IsThere setup line (u.gateway_took ++ events) next
       × Settles (WasTaken (taken_in (plain_world setup s))) pending (began_at setup line u.gateway_took events) next.post.pending
-  settled_then s after events whole took = (next.0, next.1, (settles setup line some (WasTaken (taken_in (plain_world setup s))) u.gateway_took events rest.0 was next.0 is at_was next.1 last serving (stood_up.flies was at_was).rests start_up (finals_since setup s u.gateway_took events set_up taken_s took) none)) where
+  settled_then s after events whole took = (next.0, next.1, (settles setup line some (WasTaken (taken_in (plain_world setup s))) u.gateway_took events rest.0 was next.0 is at_was next.1 last (stood_up.flies was at_was).rests (finals_since setup s u.gateway_took events set_up taken_s took) none)) where
     taken_s : steps_are_taken setup world_opening s ≡ true
     taken_s = taken_front setup world_opening s after (ap (steps_are_taken setup world_opening) whole ∙ taken)
 
@@ -463,14 +466,8 @@ module _ (setup : Setup) (line : ℕ) (some : 1 ≤ line) (first pause stretch :
     next : (s' : Endpoint) × IsThere setup line (u.gateway_took ++ events) s'
     next = was_there setup line some (u.gateway_took ++ events) rest.0 is last
 
-    serving : was.post.restart ≡ Serving
-    serving = serving_is was.post.restart calm_since.0
-
     stood_up : Stood setup line u
     stood_up = stood setup line some up set_up taken_up
-
-    start_up : Start setup line u.gateway_took was
-    start_up = start setup line some u.gateway_took was at_was serving
 
     none : has_given_up (sent_at setup line u.gateway_took (events ++ rest.0)) is.post ≡ false
     none =

@@ -30,11 +30,14 @@ course_meanwhile setup line was is = course_from setup (gateway_in setup was) li
 abbrev pub taken_meanwhile : Setup → ℕ → World → World → List Observed
 taken_meanwhile setup line was is = drop (length (observed_on line (agent_in setup was))) (observed_on line (agent_in setup is))
 
--- the line served at first, and gave nothing up since: it didn't announce itself, nor is it to do so
+-- the line gave nothing up meanwhile: it didn't announce itself, nor is it to do so
+abbrev pub AnnouncesNothing : Setup → ℕ → World → World → Endpoint → Type 0
+AnnouncesNothing setup line was is last =
+    has_given_up (of_line line (sent_from setup (gateway_in setup was) (took_meanwhile was is))) last.post ≡ false
+
+-- and it served at first
 abbrev pub GivesNothingUp : Setup → ℕ → World → World → Endpoint → Endpoint → Type 0
-GivesNothingUp setup line was is first last =
-    (is_serving first.post.restart ≡ true)
-    × (has_given_up (of_line line (sent_from setup (gateway_in setup was) (took_meanwhile was is))) last.post ≡ false)
+GivesNothingUp setup line was is first last = (is_serving first.post.restart ≡ true) × AnnouncesNothing setup line was is last
 
 -- so many ms after its last send no copy of a command comes any more
 abbrev pub outliving : ℕ

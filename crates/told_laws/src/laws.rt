@@ -19,7 +19,7 @@ ghost use Rattle.delivery_laws.specs.Course.{CourseStep, accepts, notifies, cour
 ghost use Rattle.delivery_laws.specs.Rounds.{of_telephone};
 ghost use Rattle.told_laws.specs.Among.{AreAmong, IsToldInOrder};
 ghost use Rattle.delivery_laws.specs.Dialled.{done_in, told_along, latest_from, IsAskedForAll, IsToldOnce};
-ghost use Rattle.told_laws.specs.Stretch.{GivesNothingUp, IsWhole, course_meanwhile, outliving, taken_meanwhile};
+ghost use Rattle.told_laws.specs.Stretch.{AnnouncesNothing, IsWhole, course_meanwhile, outliving, taken_meanwhile};
 ghost use Rattle.told_laws.specs.Walking.{nothing_asked, EmbedsNone, Walks, Stays, WalksButLost, AreActs, TellsAFront, TellsWhatWasKept};
 
 /// Whatever is asked of a line, and by whatever requests: what its notifications told, each at its first send, joined, and then what it
@@ -99,18 +99,17 @@ pub fn what_the_agent_took_was_done_in_that_order()
         (done_in (course_of setup line (plain_world setup steps).gateway_took)) }
 {}
 
-/// So over a stretch, whatever was before it: where the line gives nothing up in it, nor in the 10,500 ms before it, and it served already
-/// at their beginning, what the agent took of it in the stretch is what the line told in it, each once and in that order: but first what
-/// was on its way at its beginning, if it came, and without what is on its way at its end. For that the line's numbers aren't used up.
+/// So over a stretch, whatever was before it: where the line gives nothing up in it, nor in the 10,500 ms before it, what the agent took of
+/// it in the stretch is what the line told in it, each once and in that order: but first what was on its way at its beginning, if it came,
+/// and without what is on its way at its end. For that the line's numbers aren't used up.
 pub fn what_the_agent_took_over_a_stretch_is_whole()
-    ensures { (setup : Setup) (line : ℕ) (first pause stretch : List WorldStep) (before was is : Endpoint) → IsSetUp setup →
+    ensures { (setup : Setup) (line : ℕ) (first pause stretch : List WorldStep) (was is : Endpoint) → IsSetUp setup →
         steps_are_taken setup world_opening ((first ++ pause) ++ stretch) ≡ true →
         HasNumbersLeft (own_in setup (plain_world setup ((first ++ pause) ++ stretch))) →
-        endpoint_at (gateway_in setup (plain_world setup first)).endpoints line ≡ Some before →
         endpoint_at (gateway_in setup (plain_world setup (first ++ pause))).endpoints line ≡ Some was →
         endpoint_at (gateway_in setup (plain_world setup ((first ++ pause) ++ stretch))).endpoints line ≡ Some is →
-        GivesNothingUp setup line (plain_world setup first) (plain_world setup (first ++ pause)) before was →
-        GivesNothingUp setup line (plain_world setup (first ++ pause)) (plain_world setup ((first ++ pause) ++ stretch)) was is →
+        AnnouncesNothing setup line (plain_world setup first) (plain_world setup (first ++ pause)) was →
+        AnnouncesNothing setup line (plain_world setup (first ++ pause)) (plain_world setup ((first ++ pause) ++ stretch)) is →
         now_in setup (plain_world setup first) + outliving ≤ now_in setup (plain_world setup (first ++ pause)) →
         IsWhole was.post.pending is.post.pending
         (told_along (course_meanwhile setup line (plain_world setup (first ++ pause)) (plain_world setup ((first ++ pause) ++ stretch))))
