@@ -25,7 +25,7 @@ use Rattle.delivery_laws.specs.Rounds.{IsAnsweredWithin, IsAskedWithin, rounds_t
 use Rattle.delivery_laws.proofs.PairedSteps.{stood}
 use Rattle.delivery_laws.proofs.StepLemmas.{taken_front}
 use Rattle.delivery_laws.proofs.WorldLemmas.{line_begun}
-use Rattle.told_laws.specs.Stretch.{GivesNothingUp, outliving, taken_meanwhile}
+use Rattle.told_laws.specs.Stretch.{AnnouncesNothing, GivesNothingUp, outliving, taken_meanwhile}
 use Rattle.told_laws.proofs.SettledLemmas.{IsThere, sent_at, serving_is, start}
 use Rattle.told_laws.proofs.StretchLemmas.{meanwhile_is}
 use Rattle.outage_laws.specs.AfterOutage.{AgentHasRoomFrom, IsFairFrom}
@@ -122,7 +122,7 @@ module _ (setup : Setup) (line : ℕ) (some : 1 ≤ line) (first pause stretch :
     (at_once : endpoint_at (gateway_in setup (plain_world setup first)).endpoints line ≡ Some once)
     (at_was : endpoint_at (gateway_in setup (plain_world setup (first ++ pause))).endpoints line ≡ Some was)
     (at_is : endpoint_at (gateway_in setup (plain_world setup ((first ++ pause) ++ stretch))).endpoints line ≡ Some is)
-    (calm_before : GivesNothingUp setup line (plain_world setup first) (plain_world setup (first ++ pause)) once was)
+    (calm_before : AnnouncesNothing setup line (plain_world setup first) (plain_world setup (first ++ pause)) was)
     (calm_since : GivesNothingUp setup line (plain_world setup (first ++ pause)) (plain_world setup ((first ++ pause) ++ stretch)) was is)
     (long : now_in setup (plain_world setup first) + outliving ≤ now_in setup (plain_world setup (first ++ pause)))
     (since within asking : ℕ) (before after front later : List GatewayEvent) (there : Endpoint)
@@ -158,7 +158,7 @@ module _ (setup : Setup) (line : ℕ) (some : 1 ≤ line) (first pause stretch :
     (at_once : endpoint_at (gateway_in setup (plain_world setup first)).endpoints line ≡ Some once)
     (at_was : endpoint_at (gateway_in setup (plain_world setup (first ++ pause))).endpoints line ≡ Some was)
     (at_is : endpoint_at (gateway_in setup (plain_world setup ((first ++ pause) ++ stretch))).endpoints line ≡ Some is)
-    (calm_before : GivesNothingUp setup line (plain_world setup first) (plain_world setup (first ++ pause)) once was)
+    (calm_before : AnnouncesNothing setup line (plain_world setup first) (plain_world setup (first ++ pause)) was)
     (calm_since : GivesNothingUp setup line (plain_world setup (first ++ pause)) (plain_world setup ((first ++ pause) ++ stretch)) was is)
     (long : now_in setup (plain_world setup first) + outliving ≤ now_in setup (plain_world setup (first ++ pause)))
     (since within asking : ℕ) (front later : List GatewayEvent) (there : Endpoint)

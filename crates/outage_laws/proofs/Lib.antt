@@ -35,6 +35,7 @@ pub mod ToldLaterLaws
 pub mod CalmStretches
 pub mod CalmFronts
 pub mod ToldOutLaws
+pub mod StretchStarts
 pub mod ToldSinceLaws
 pub mod ToldFromLaws
 pub mod AnsweredSinceLaws

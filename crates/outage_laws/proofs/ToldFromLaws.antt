@@ -30,7 +30,7 @@ use Rattle.delivery_laws.proofs.ToldLemmas.{told_by}
 use Rattle.delivery_laws.proofs.WorldLemmas.{line_begun}
 use Rattle.delivery_laws.proofs.FrontSteps.{same_front}
 use Rattle.delivery_laws.proofs.UnservedLemmas.{done_on}
-use Rattle.told_laws.specs.Stretch.{GivesNothingUp, outliving, taken_meanwhile}
+use Rattle.told_laws.specs.Stretch.{AnnouncesNothing, GivesNothingUp, outliving, taken_meanwhile}
 use Rattle.told_laws.proofs.SettledLemmas.{IsThere, began_at, begun_on, sent_at}
 use Rattle.outage_laws.specs.AfterOutage.{AgentHasRoomFrom, IsFairFrom}
 use Rattle.outage_laws.specs.ToldSince.{FlightBeganSince, IsAskedForAllSince, IsToldFrom}
@@ -72,7 +72,7 @@ module _ (setup : Setup) (line : ℕ) (some : 1 ≤ line) (first pause stretch :
     (at_once : endpoint_at (gateway_in setup (plain_world setup first)).endpoints line ≡ Some once)
     (at_was : endpoint_at (gateway_in setup (plain_world setup (first ++ pause))).endpoints line ≡ Some was)
     (at_is : endpoint_at (gateway_in setup (plain_world setup ((first ++ pause) ++ stretch))).endpoints line ≡ Some is)
-    (calm_before : GivesNothingUp setup line (plain_world setup first) (plain_world setup (first ++ pause)) once was)
+    (calm_before : AnnouncesNothing setup line (plain_world setup first) (plain_world setup (first ++ pause)) was)
     (calm_since : GivesNothingUp setup line (plain_world setup (first ++ pause)) (plain_world setup ((first ++ pause) ++ stretch)) was is)
     (long : now_in setup (plain_world setup first) + outliving ≤ now_in setup (plain_world setup (first ++ pause)))
     (since within answering asking : ℕ) (front later : List GatewayEvent) (there : Endpoint)

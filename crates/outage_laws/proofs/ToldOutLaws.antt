@@ -30,7 +30,7 @@ use Rattle.delivery_laws.proofs.OwnChanceLaws.{told_eight_times}
 use Rattle.delivery_laws.proofs.StepLemmas.{taken_front}
 use Rattle.delivery_laws.proofs.ToldLemmas.{told_by}
 use Rattle.delivery_laws.proofs.WorldLemmas.{WasTaken, begun_ids, line_begun, line_taken, taken_ids}
-use Rattle.told_laws.specs.Stretch.{GivesNothingUp, IsOnItsWay, outliving, taken_meanwhile}
+use Rattle.told_laws.specs.Stretch.{AnnouncesNothing, GivesNothingUp, IsOnItsWay, outliving, taken_meanwhile}
 use Rattle.told_laws.proofs.LateLemmas.{all_tell, front_tells, ids_both, late_apart, late_begun, late_if, late_is, late_more, late_same, none_left}
 use Rattle.told_laws.proofs.SettledLemmas.{Settles, began_at, begun_on}
 use Rattle.told_laws.proofs.StretchCourses.{taken_then, told_then}
@@ -98,7 +98,7 @@ module _ (setup : Setup) (line : ℕ) (some : 1 ≤ line) (first pause stretch :
     (at_once : endpoint_at (gateway_in setup (plain_world setup first)).endpoints line ≡ Some once)
     (at_was : endpoint_at (gateway_in setup (plain_world setup (first ++ pause))).endpoints line ≡ Some was)
     (at_is : endpoint_at (gateway_in setup (plain_world setup ((first ++ pause) ++ stretch))).endpoints line ≡ Some is)
-    (calm_before : GivesNothingUp setup line (plain_world setup first) (plain_world setup (first ++ pause)) once was)
+    (calm_before : AnnouncesNothing setup line (plain_world setup first) (plain_world setup (first ++ pause)) was)
     (calm_since : GivesNothingUp setup line (plain_world setup (first ++ pause)) (plain_world setup ((first ++ pause) ++ stretch)) was is)
     (long : now_in setup (plain_world setup first) + outliving ≤ now_in setup (plain_world setup (first ++ pause)))
     (since within : ℕ)
@@ -136,7 +136,7 @@ module _ (setup : Setup) (line : ℕ) (some : 1 ≤ line) (first pause stretch :
   -- What the line told, and what the agent took
 
   abbrev m : Matched setup line u was.post.pending w
-  m = matched setup line some first pause stretch once was is set_up taken few at_once at_was at_is calm_before.1 calm_since long
+  m = matched setup line some first pause stretch once was is set_up taken few at_once at_was at_is calm_before calm_since long
 
   abbrev new : List Begun
   new = began_at setup line u.gateway_took m.events
@@ -166,13 +166,13 @@ module _ (setup : Setup) (line : ℕ) (some : 1 ≤ line) (first pause stretch :
   IsIt = OutSince was.post.pending Out taken_now
 
   all_apart : Apart (since_ids setup line u was.post.pending m.events)
-  all_apart = last_apart setup line some first pause stretch once was is set_up taken few at_once at_was at_is calm_before.1 calm_since long
+  all_apart = last_apart setup line some first pause stretch once was is set_up taken few at_once at_was at_is calm_before calm_since long
 
   apart : Apart (begun_ids (early ++ new))
   apart = late_apart was.post.pending (taken_in u) new all_apart
 
   came_all : Each (Came (early ++ new)) of
-  came_all = last_came setup line some first pause stretch once was is set_up taken few at_once at_was at_is calm_before.1 calm_since long
+  came_all = last_came setup line some first pause stretch once was is set_up taken few at_once at_was at_is calm_before calm_since long
 
   -- Where all of it was taken
 
@@ -214,7 +214,7 @@ module _ (setup : Setup) (line : ℕ) (some : 1 ≤ line) (first pause stretch :
     module _ (e : Ending new) where
       flies : (flight : InFlight) × (is.post.pending ≡ Some flight)
           × ((settled : List Begun) × (flying was.post.pending ++ new ≡ settled ++ flying (Some flight)))
-      flies = last_flies setup line some first pause stretch once was is set_up taken few at_once at_was at_is calm_before.1 calm_since long one.last one.is
+      flies = last_flies setup line some first pause stretch once was is set_up taken few at_once at_was at_is calm_before calm_since long one.last one.is
 
       abbrev flight : InFlight
       flight = flies.0
@@ -264,7 +264,7 @@ module _ (setup : Setup) (line : ℕ) (some : 1 ≤ line) (first pause stretch :
                 ((each_from_all Chance chances told).0 (at_first_send b.moment within (now_in setup w) old)) (from_first_send since b.moment began_since.0) old
 
       st : Settles (WasTaken (taken_in w)) was.post.pending new is.post.pending
-      st = settled_last setup line some first pause stretch once was is set_up taken few at_once at_was at_is calm_before.1 calm_since long
+      st = settled_last setup line some first pause stretch once was is set_up taken few at_once at_was at_is calm_before calm_since long
 
       untaken : WasTaken (taken_in w) b.id → ⊥
       untaken was_taken =
@@ -276,7 +276,7 @@ module _ (setup : Setup) (line : ℕ) (some : 1 ≤ line) (first pause stretch :
             inside : In flight.id (took_ids line u was.post.pending m.more)
             inside =
                 in_of_each (λ (id : ℕ). In id (took_ids line u was.post.pending m.more)) flight.id (begun_ids (st.settled ++ b ∷ []))
-                (answered_taken setup line some first pause stretch once was is set_up taken few at_once at_was at_is calm_before.1 calm_since long all stretch [] m.events m.more
+                (answered_taken setup line some first pause stretch once was is set_up taken few at_once at_was at_is calm_before calm_since long all stretch [] m.events m.more
                 (st.settled ++ b ∷ []) None (append-nil all) m.took m.came both
                 (each_push (λ (x : Begun). WasTaken (taken_in w) x.id) st.settled b st.answered was_taken))
                 (subst (In flight.id) (sym (ids_both st.settled (b ∷ []))) (last_in (begun_ids st.settled) flight.id))

@@ -19,26 +19,25 @@ ghost use Rattle.delivery_laws.specs.GivenUp.{has_given_up};
 ghost use Rattle.delivery_laws.specs.Keeping.{happened_in};
 ghost use Rattle.delivery_laws.specs.OwnChances.{IsOfLine};
 ghost use Rattle.delivery_laws.specs.Rounds.{IsAnsweredWithin, IsAskedWithin, of_telephone, rounds_take};
-ghost use Rattle.told_laws.specs.Stretch.{GivesNothingUp, outliving, taken_meanwhile};
+ghost use Rattle.told_laws.specs.Stretch.{AnnouncesNothing, outliving, taken_meanwhile};
 ghost use Rattle.outage_laws.specs.AfterOutage.{AgentHasRoomFrom, IsFairFrom};
 ghost use Rattle.outage_laws.specs.ToldSince.{FlightBeganSince, FlightsBeganSince, IsAskedForAllSince, IsToldFrom, IsToldSince};
 
-/// Whatever was lost and given up before: over a stretch in which a line gives nothing up, nor in the 10,500 ms before it, and at the
-/// beginning of which, and of that time, it serves, and over a network that is fair from some moment on, what its telephone had done by a
-/// moment of the stretch the agent was told, so many rounds and once the network's time later, or it was told at its first send before the
-/// stretch. What is in flight at the end may be young, and is to have begun since the network is fair; what was on its way at the beginning
-/// may come, too. For that the line's numbers aren't used up. Where all that the line sends since the network is fair goes to the agent,
-/// and the gateway serves, an answer takes twice the network's time at most (RFC 3435, 4.3 and 4.4.1).
+/// Whatever was lost and given up before: over a stretch in which a line gives nothing up, nor in the 10,500 ms before it, and over a
+/// network that is fair from some moment on, what its telephone had done by a moment of the stretch the agent was told, so many rounds and
+/// once the network's time later, or it was told at its first send before the stretch. What is in flight at the end may be young, and is to
+/// have begun since the network is fair; what was on its way at the beginning may come, too. For that the line's numbers aren't used up.
+/// Where all that the line sends since the network is fair goes to the agent, and the gateway serves, an answer takes twice the network's
+/// time at most (RFC 3435, 4.3 and 4.4.1).
 pub fn what_is_dialled_over_a_stretch_is_told()
     ensures told { (setup : Setup) (line since within answering asking : ℕ) (first pause stretch : List WorldStep)
-        (before after front later : List GatewayEvent) (once was is there : Endpoint) → IsSetUp setup →
+        (before after front later : List GatewayEvent) (was is there : Endpoint) → IsSetUp setup →
         let up = first ++ pause in let steps = up ++ stretch in steps_are_taken setup world_opening steps ≡ true →
         let v = plain_world setup first in let u = plain_world setup up in let w = plain_world setup steps in
         HasNumbersLeft (own_in setup w) →
-        endpoint_at (gateway_in setup v).endpoints line ≡ Some once →
         endpoint_at (gateway_in setup u).endpoints line ≡ Some was →
         endpoint_at (gateway_in setup w).endpoints line ≡ Some is →
-        GivesNothingUp setup line v u once was → GivesNothingUp setup line u w was is → now_in setup v + outliving ≤ now_in setup u →
+        AnnouncesNothing setup line v u was → AnnouncesNothing setup line u w is → now_in setup v + outliving ≤ now_in setup u →
         w.gateway_took ≡ before ++ after →
         IsAskedForAll (course_of setup line before) (course_from setup (plain setup before) line after) is.line →
         IsFairFrom setup steps since within → AgentHasRoomFrom setup steps since → FlightBeganSince setup w since is.post.pending →
@@ -50,14 +49,13 @@ pub fn what_is_dialled_over_a_stretch_is_told()
         IsToldSince was.post.pending (told_along (course_of setup line u.gateway_took)) (done_in (course_of setup line took))
         (taken_meanwhile setup line u w) }
     ensures fair { (setup : Setup) (line since within asking : ℕ) (first pause stretch : List WorldStep)
-        (before after front later : List GatewayEvent) (once was is there : Endpoint) → IsSetUp setup →
+        (before after front later : List GatewayEvent) (was is there : Endpoint) → IsSetUp setup →
         let up = first ++ pause in let steps = up ++ stretch in steps_are_taken setup world_opening steps ≡ true →
         let v = plain_world setup first in let u = plain_world setup up in let w = plain_world setup steps in
         HasNumbersLeft (own_in setup w) →
-        endpoint_at (gateway_in setup v).endpoints line ≡ Some once →
         endpoint_at (gateway_in setup u).endpoints line ≡ Some was →
         endpoint_at (gateway_in setup w).endpoints line ≡ Some is →
-        GivesNothingUp setup line v u once was → GivesNothingUp setup line u w was is → now_in setup v + outliving ≤ now_in setup u →
+        AnnouncesNothing setup line v u was → AnnouncesNothing setup line u w is → now_in setup v + outliving ≤ now_in setup u →
         w.gateway_took ≡ before ++ after →
         IsAskedForAll (course_of setup line before) (course_from setup (plain setup before) line after) is.line →
         IsFairFrom setup steps since within → AgentHasRoomFrom setup steps since → serves (gateway_in setup u).endpoints ≡ true →
@@ -78,14 +76,13 @@ pub fn what_is_dialled_over_a_stretch_is_told()
 /// 4.3 and 4.4.1).
 pub fn what_is_dialled_since_then_is_told()
     ensures told { (setup : Setup) (line since within answering asking : ℕ) (first pause stretch : List WorldStep)
-        (front later : List GatewayEvent) (once was is there : Endpoint) → IsSetUp setup →
+        (front later : List GatewayEvent) (was is there : Endpoint) → IsSetUp setup →
         let up = first ++ pause in let steps = up ++ stretch in steps_are_taken setup world_opening steps ≡ true →
         let v = plain_world setup first in let u = plain_world setup up in let w = plain_world setup steps in
         HasNumbersLeft (own_in setup w) →
-        endpoint_at (gateway_in setup v).endpoints line ≡ Some once →
         endpoint_at (gateway_in setup u).endpoints line ≡ Some was →
         endpoint_at (gateway_in setup w).endpoints line ≡ Some is →
-        GivesNothingUp setup line v u once was → GivesNothingUp setup line u w was is → now_in setup v + outliving ≤ now_in setup u →
+        AnnouncesNothing setup line v u was → AnnouncesNothing setup line u w is → now_in setup v + outliving ≤ now_in setup u →
         IsAskedForAllSince was.line (course_from setup (gateway_in setup u) line (front ++ later)) is.line →
         IsFairFrom setup steps since within → AgentHasRoomFrom setup steps since → FlightBeganSince setup w since is.post.pending →
         w.gateway_took ≡ (u.gateway_took ++ front) ++ later →
@@ -97,14 +94,13 @@ pub fn what_is_dialled_since_then_is_told()
         (happened_in was.line.quarantined.events ++ done_in (course_from setup (gateway_in setup u) line front))
         (taken_meanwhile setup line u w) }
     ensures rests { (setup : Setup) (line since within answering asking : ℕ) (first pause stretch : List WorldStep)
-        (front later : List GatewayEvent) (once was is there : Endpoint) → IsSetUp setup →
+        (front later : List GatewayEvent) (was is there : Endpoint) → IsSetUp setup →
         let up = first ++ pause in let steps = up ++ stretch in steps_are_taken setup world_opening steps ≡ true →
         let v = plain_world setup first in let u = plain_world setup up in let w = plain_world setup steps in
         HasNumbersLeft (own_in setup w) →
-        endpoint_at (gateway_in setup v).endpoints line ≡ Some once →
         endpoint_at (gateway_in setup u).endpoints line ≡ Some was →
         endpoint_at (gateway_in setup w).endpoints line ≡ Some is →
-        GivesNothingUp setup line v u once was → GivesNothingUp setup line u w was is → now_in setup v + outliving ≤ now_in setup u →
+        AnnouncesNothing setup line v u was → AnnouncesNothing setup line u w is → now_in setup v + outliving ≤ now_in setup u →
         IsAskedForAllSince was.line (course_from setup (gateway_in setup u) line (front ++ later)) is.line →
         IsFairFrom setup steps since within → AgentHasRoomFrom setup steps since → FlightBeganSince setup w since is.post.pending →
         w.gateway_took ≡ (u.gateway_took ++ front) ++ later →
@@ -117,14 +113,13 @@ pub fn what_is_dialled_since_then_is_told()
         (happened_in was.line.quarantined.events ++ done_in (course_from setup (gateway_in setup u) line front))
         (taken_meanwhile setup line u w)) × (told.rest ≡ []) }
     ensures fair { (setup : Setup) (line since within asking : ℕ) (first pause stretch : List WorldStep)
-        (front later : List GatewayEvent) (once was is there : Endpoint) → IsSetUp setup →
+        (front later : List GatewayEvent) (was is there : Endpoint) → IsSetUp setup →
         let up = first ++ pause in let steps = up ++ stretch in steps_are_taken setup world_opening steps ≡ true →
         let v = plain_world setup first in let u = plain_world setup up in let w = plain_world setup steps in
         HasNumbersLeft (own_in setup w) →
-        endpoint_at (gateway_in setup v).endpoints line ≡ Some once →
         endpoint_at (gateway_in setup u).endpoints line ≡ Some was →
         endpoint_at (gateway_in setup w).endpoints line ≡ Some is →
-        GivesNothingUp setup line v u once was → GivesNothingUp setup line u w was is → now_in setup v + outliving ≤ now_in setup u →
+        AnnouncesNothing setup line v u was → AnnouncesNothing setup line u w is → now_in setup v + outliving ≤ now_in setup u →
         IsAskedForAllSince was.line (course_from setup (gateway_in setup u) line (front ++ later)) is.line →
         IsFairFrom setup steps since within → AgentHasRoomFrom setup steps since →
         w.gateway_took ≡ (u.gateway_took ++ front) ++ later →
@@ -138,14 +133,13 @@ pub fn what_is_dialled_since_then_is_told()
         (happened_in was.line.quarantined.events ++ done_in (course_from setup (gateway_in setup u) line front))
         (taken_meanwhile setup line u w) }
     ensures fair_rests { (setup : Setup) (line since within asking : ℕ) (first pause stretch : List WorldStep)
-        (front later : List GatewayEvent) (once was is there : Endpoint) → IsSetUp setup →
+        (front later : List GatewayEvent) (was is there : Endpoint) → IsSetUp setup →
         let up = first ++ pause in let steps = up ++ stretch in steps_are_taken setup world_opening steps ≡ true →
         let v = plain_world setup first in let u = plain_world setup up in let w = plain_world setup steps in
         HasNumbersLeft (own_in setup w) →
-        endpoint_at (gateway_in setup v).endpoints line ≡ Some once →
         endpoint_at (gateway_in setup u).endpoints line ≡ Some was →
         endpoint_at (gateway_in setup w).endpoints line ≡ Some is →
-        GivesNothingUp setup line v u once was → GivesNothingUp setup line u w was is → now_in setup v + outliving ≤ now_in setup u →
+        AnnouncesNothing setup line v u was → AnnouncesNothing setup line u w is → now_in setup v + outliving ≤ now_in setup u →
         IsAskedForAllSince was.line (course_from setup (gateway_in setup u) line (front ++ later)) is.line →
         IsFairFrom setup steps since within → AgentHasRoomFrom setup steps since →
         w.gateway_took ≡ (u.gateway_took ++ front) ++ later →

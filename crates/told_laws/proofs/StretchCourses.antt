@@ -88,7 +88,7 @@ taken_then setup line before all more set_up taken_before taken came =
     ap (drop (length was)) grown ∙ drop-append_seam was (flat_map told_taken (line_taken line more))
 
 -- a line that gave nothing up by then serves
-serves_then : (sent : List Sent) (post : Post) → has_given_up sent post ≡ false → is_serving post.restart ≡ true
+pub serves_then : (sent : List Sent) (post : Post) → has_given_up sent post ≡ false → is_serving post.restart ≡ true
 serves_then sent post none = by_both (list_any (λ one. announces one.said) sent) (is_serving post.restart) none where
   by_both : (b serving : Bool) → (b || not serving) ≡ false → serving ≡ true
   by_both b true none = refl
