@@ -23,7 +23,7 @@ use Rattle.delivery_laws.specs.Rounds.{IsAskedWithin, rounds_take}
 use Rattle.delivery_laws.proofs.FrontSteps.{took_more}
 use Rattle.delivery_laws.proofs.GivenUpFronts.{was_there}
 use Rattle.delivery_laws.proofs.StepLemmas.{steps_more}
-use Rattle.told_laws.specs.Stretch.{GivesNothingUp, outliving, taken_meanwhile}
+use Rattle.told_laws.specs.Stretch.{AnnouncesNothing, GivesNothingUp, outliving, taken_meanwhile}
 use Rattle.told_laws.proofs.StretchLemmas.{meanwhile_is}
 use Rattle.outage_laws.specs.AfterOutage.{AgentHasRoomFrom, IsFairFrom, gap_of, longer_wait, well_by}
 use Rattle.outage_laws.specs.ToldSince.{FlightsBeganSince, IsAskedForAllSince, IsToldFrom}
@@ -111,12 +111,10 @@ module _ (setup : Setup) (line : ℕ) (first pause stretch : List WorldStep) (wa
   once : (s : Endpoint) × (endpoint_at (plain setup v.gateway_took).endpoints line ≡ Some s)
   once = was_there setup line one v.gateway_took paused was was_at
 
-  calm_before : GivesNothingUp setup line v u once.0 was
-  calm_before = (
-    serves_so [] behind once.0 refl (subst (λ (x : List GatewayEvent). endpoint_at (plain setup x).endpoints line ≡ Some once.0) (sym (append-nil v.gateway_took)) once.1),
-    subst (λ (x : List GatewayEvent). has_given_up (of_line line (sent_from setup (plain setup v.gateway_took) x)) was.post ≡ false) (sym (meanwhile_is v u paused up_took))
-        (calm_so paused (front ++ later) was refl was_at),
-  )
+  calm_before : AnnouncesNothing setup line v u was
+  calm_before =
+      subst (λ (x : List GatewayEvent). has_given_up (of_line line (sent_from setup (plain setup v.gateway_took) x)) was.post ≡ false) (sym (meanwhile_is v u paused up_took))
+      (calm_so paused (front ++ later) was refl was_at)
 
   since_took : w.gateway_took ≡ u.gateway_took ++ (front ++ later)
   since_took = split ∙ append_assoc u.gateway_took front later
