@@ -16,7 +16,7 @@ use Rattle.call_routing.specs.declared.fate.Fate.{Fate}
 use Rattle.call_routing.specs.declared.fate.Fate.TheVariants.{Done, Again, Refused, Open}
 use Rattle.call_routing.specs.declared.line.Line.{Line}
 use Rattle.call_routing.specs.Phases.{is_in, is_in_call}
-use Rattle.call_routing.specs.Calls.{cut_off, failed, found}
+use Rattle.call_routing.specs.Calls.{cut_off, failed}
 use Rattle.call_routing.specs.Fates.{is_success, is_deleted, may_pass, passes, most_put_off, times_of, refusal_fate, request_cause, is_wanted, request_fate, deletion_fate, refused_by, put_off_then}
 use Rattle.call_routing.specs.Line.{landed, landed_as, left_then, failing}
 use Rattle.call_routing.specs.Exchange.{ExchangeState, phase_of, line_of, flight_in, found_by, fate_with, fate_in, fate_at, answered}
