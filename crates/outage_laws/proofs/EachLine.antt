@@ -11,7 +11,7 @@ use Rattle.delivery_laws.specs.OwnChances.{HasCome, IsOfLine, IsToldAfter}
 use Rattle.delivery_laws.proofs.GatewayChanceLaws.{announced_eight_times}
 use Rattle.delivery_laws.proofs.OwnChanceLaws.{told_eight_times}
 use Rattle.outage_laws.specs.Alone.{HasBegun}
-use Rattle.outage_laws.proofs.LineBounds.{who_began_is_there}
+use Rattle.told_laws.proofs.LineBounds.{who_began_is_there}
 use Rattle.outage_laws.proofs.OwnSendLaws.{IsDone, line_eight, own_eight}
 
 pub each_eight : (setup : Setup) (events : List GatewayEvent) (line : ℕ) (b : Begun) → HasBegun setup events line b → IsDone setup events line b

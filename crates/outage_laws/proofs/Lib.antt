@@ -54,6 +54,5 @@ pub mod LineTexts
 pub mod RouteLemmas
 pub mod OwnRoutes
 pub mod OwnReaches
-pub mod LineBounds
 pub mod EachLine
 pub mod NextDue

@@ -5,6 +5,7 @@ pub mod WalkLemmas
 pub mod WalkCourses
 pub mod WalkFrontLemmas
 pub mod AskedLemmas
+pub mod LineBounds
 pub mod ToldCourses
 pub mod TakenCourses
 pub mod ExampleLemmas

@@ -37,4 +37,4 @@ taken_in_order setup steps line endpoint set_up taken at none =
     among_pass (of_telephone observed) (of_telephone told) (done_in (course_of setup line w.gateway_took))
     (front_among observed (left_in setup steps line set_up taken endpoint at none (paired setup steps line set_up taken endpoint at none)) told
     (told_on setup steps line set_up taken endpoint at none))
-    (told_in_order setup line w.gateway_took endpoint at)
+    (told_in_order setup line w.gateway_took)

@@ -1,5 +1,6 @@
 -- What lines tell, for whole courses from the opening on.
-use Rattle.std.proofs.Common.{◌≡◌, ℕ, ◌≤◌, min, false, List, [], ◌∷◌, ◌++◌, Some, None, subst, arith}
+use Rattle.std.proofs.Common.{◌≡◌, ℕ, ◌≤◌, min, false, List, [], ◌∷◌, ◌++◌, Some, None, inl, inr, sym, subst, arith}
+use Rattle.std.specs.Prelude.{◌⊎◌}
 use Rattle.event_values.specs.declared.observed.Observed.{Observed}
 use Rattle.event_requests.specs.declared.request.Request.{Request}
 use Rattle.quarantine.specs.Held.{most_lost}
@@ -15,7 +16,8 @@ use Rattle.delivery_laws.specs.Dialled.{done_in, told_along, latest_from}
 use Rattle.delivery_laws.specs.Rounds.{of_telephone}
 use Rattle.told_laws.specs.Among.{AreAmong, IsToldInOrder}
 use Rattle.told_laws.specs.Walking.{nothing_asked, EmbedsNone, Walks, Stays, WalksButLost, AreActs, TellsAFront, TellsWhatWasKept}
-use Rattle.told_laws.proofs.AmongLemmas.{ToldInOrder, calls_in_order, opening_in_order, told_alone}
+use Rattle.told_laws.proofs.AmongLemmas.{ToldInOrder, among_front, calls_in_order, opening_in_order, told_alone}
+use Rattle.told_laws.proofs.LineBounds.{Exists, there_or_quiet}
 use Rattle.told_laws.proofs.WalkLemmas.{At, walks_map}
 use Rattle.told_laws.proofs.WalkCourses.{Walked, calls_walk, none_lost, opening_walks, stays}
 use Rattle.told_laws.proofs.WalkFrontLemmas.{tells_a_front, tells_what_was_kept}
@@ -33,9 +35,14 @@ course_in_order setup line events endpoint at =
     let all = always setup ToldInOrder calls_in_order line (numbered setup line events endpoint at) opening_in_order events in
     (all.holds endpoint at).holds.among
 
-pub told_in_order : (setup : Setup) (line : ℕ) (events : List GatewayEvent) (endpoint : Endpoint) → endpoint_at (plain setup events).endpoints line ≡ Some endpoint
-    → AreAmong (of_telephone (told_along (course_of setup line events))) (done_in (course_of setup line events))
-told_in_order setup line events endpoint at = told_alone (course_of setup line events) endpoint.line (course_in_order setup line events endpoint at)
+pub told_in_order : (setup : Setup) (line : ℕ) (events : List GatewayEvent) → AreAmong (of_telephone (told_along (course_of setup line events))) (done_in (course_of setup line events))
+told_in_order setup line events = by_line (there_or_quiet setup line events) where
+  Told : List Observed → Type 0
+  Told told = AreAmong (of_telephone told) (done_in (course_of setup line events))
+
+  by_line : Exists setup events line ⊎ (told_along (course_of setup line events) ≡ []) → Told (told_along (course_of setup line events))
+  by_line (inl there) = told_alone (course_of setup line events) there.0.line (course_in_order setup line events there.0 there.1)
+  by_line (inr none) = subst Told (sym none) (among_front [] (done_in (course_of setup line events)))
 
 -- How that walks through what was done
 

@@ -25,8 +25,7 @@ ghost use Rattle.told_laws.specs.Walking.{nothing_asked, EmbedsNone, Walks, Stay
 /// Whatever is asked of a line, and by whatever requests: what its notifications told, each at its first send, joined, and then what it
 /// keeps to tell it, was done at its telephone, in that order, and nothing of it twice, but for the ends of signals and of timer T.
 pub fn what_is_told_was_done_in_that_order()
-    ensures told { (setup : Setup) (line : ℕ) (events : List GatewayEvent) (endpoint : Endpoint) →
-        endpoint_at (plain setup events).endpoints line ≡ Some endpoint →
+    ensures told { (setup : Setup) (line : ℕ) (events : List GatewayEvent) →
         AreAmong (of_telephone (told_along (course_of setup line events))) (done_in (course_of setup line events)) }
     ensures kept { (setup : Setup) (line : ℕ) (events : List GatewayEvent) (endpoint : Endpoint) →
         endpoint_at (plain setup events).endpoints line ≡ Some endpoint →

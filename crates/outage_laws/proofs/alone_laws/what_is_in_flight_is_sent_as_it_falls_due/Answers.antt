@@ -1,5 +1,5 @@
 use Rattle.outage_laws.proofs.NextDue.{line_due_later, own_due_later}
-use Rattle.outage_laws.proofs.LineBounds.{who_is_there_stays}
+use Rattle.told_laws.proofs.LineBounds.{who_is_there_stays}
 use Rattle.outage_laws.proofs.NextOwnLaws.{own_sent}
 use Rattle.outage_laws.proofs.NextTurns.{line_sent}
 use Rattle.outage_laws.proofs.alone_laws.what_is_in_flight_is_sent_as_it_falls_due.Goals as goal
