@@ -56,3 +56,5 @@ pub mod OwnRoutes
 pub mod OwnReaches
 pub mod EachLine
 pub mod NextDue
+mod RoomlessRounds
+mod RoomlessLast

@@ -150,7 +150,7 @@ handed_young setup before number post taken sent =
   by_test true old none = absurd (none-some packet_too_old (sym none))
   by_test false young none = young_by (now_in setup (plain_world setup before)) post.packet.moment young
 
-of_stays : (setup : Setup) (some more : List WorldStep) (line : ℕ) (b : Begun) → IsOfLine setup (plain_world setup some) line b → IsOfLine setup (plain_world setup (some ++ more)) line b
+pub of_stays : (setup : Setup) (some more : List WorldStep) (line : ℕ) (b : Begun) → IsOfLine setup (plain_world setup some) line b → IsOfLine setup (plain_world setup (some ++ more)) line b
 of_stays setup some more line b of =
     any_from_one (λ (one : Begun). one ≡ b) (begun_in (of_line line (sent_of setup (plain_world setup (some ++ more)).gateway_took)))
     (subst (OneOf (λ (one : Begun). one ≡ b)) (sym is)

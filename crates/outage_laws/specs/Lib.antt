@@ -11,3 +11,4 @@ pub mod ResponseExample
 pub mod ToldLaterExample
 pub mod ToldSinceExample
 pub mod SinceThenExample
+pub mod Roomless
