@@ -20,7 +20,8 @@ use Rattle.delivery_laws.specs.Example.{brought}
 -- line 1 is lifted, tells that, and is asked for each key from then on, packet 4; it accepts that, packet 5
 abbrev pub asked_for_keys : List WorldStep
 asked_for_keys =
-    brought ++ issuing (codes "RQNT") (codes "aaln/1@rgw.example.net") (codes "X: C2\r\nR: D/[0-9*#](N)\r\nQ: loop\r\n") ∷ delivering 4 ∷ delivering 5 ∷ []
+    brought ++ issuing (codes "RQNT") (codes "aaln/1@rgw.example.net") (codes "X: C2\r\nR: D/[0-9*#](N)\r\nQ: loop\r\n")
+    ∷ delivering 4 ∷ delivering 5 ∷ []
 
 -- so many keys, each with its notification, which is handed over at once, as its answer is
 unfoldable pub keys : ℕ → List WorldStep
@@ -53,7 +54,8 @@ key_message number =
 abbrev pub key_begun : ℕ → Begun
 key_begun number = record { id = id_on 1 number; moment = 1; text = written (key_message number) }
 
--- the agent has taken 4,096 commands then; the next key's notification is sent at 1, 501, 1,501 and 3,501, the last three handed over at once
+-- the agent has taken 4,096 commands then; the next key's notification is sent at 1, 501, 1,501 and 3,501,
+-- the last three handed over at once
 abbrev pub last_key : List WorldStep
 last_key =
     dialling 1 (Key Five) ∷ ticking 501 ∷ delivering 8195 ∷ ticking 1501 ∷ delivering 8196 ∷ ticking 2501 ∷ ticking 3501 ∷ delivering 8197

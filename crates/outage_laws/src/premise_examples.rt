@@ -71,7 +71,8 @@ pub fn else_a_response_does_otherwise()
     ensures was_answered { (replied_on two_lines 0 5 (responding 200 (Some other_entity)) (post_in Announced)).sent ≡ [] }
     ensures named_nobody { (replied_on two_lines 0 5 (responding 521 None) (post_in Announced)).sent ≡ [] }
     ensures announced { length (replied_on two_lines 0 5 (responding 521 (Some other_entity)) (post_in Announced)).sent ≡ 1 }
-    ensures named_somebody { (replied_on two_lines 0 5 (responding 200 (Some other_entity)) (post_in Announced)).value.entity ≡ other_entity }
+    ensures named_somebody { (replied_on two_lines 0 5 (responding 200 (Some other_entity)) (post_in Announced)).value.entity
+        ≡ other_entity }
     ensures still_flies { (replied_on two_lines 0 5 (responding 100 None) (post_in Serving)).value.pending
         ≡ Some (record in_flight { due = 5005 }) }
 {}
@@ -298,8 +299,8 @@ pub fn else_a_first_makes_no_room()
     ensures young_still { length (young_of 30000 came_at_1_and_2) ≡ 2 }
     ensures old_before { young_of 40000 came_at_1_and_2 ≡ [] }
     ensures came_later { length (young_of 69999 came_later) ≡ 1 }
-    ensures goes_on { (firsts : List Arrival) (now later : ℕ) (first : Arrival) → Any (λ (one : Arrival). one ≡ first) (young_of now firsts) →
-        first.moment + memory_time ≤ later → now ≤ later }
+    ensures goes_on { (firsts : List Arrival) (now later : ℕ) (first : Arrival) →
+        Any (λ (one : Arrival). one ≡ first) (young_of now firsts) → first.moment + memory_time ≤ later → now ≤ later }
 {}
 
 /// Where the agent has no room: 4,096 commands are young there, taken one behind the other, and the next notification isn't taken, though
