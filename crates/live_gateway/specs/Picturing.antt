@@ -1,8 +1,9 @@
 -- What the page is shown of what was counted.
-use Rattle.std.specs.Prelude.{ℕ, ◌+◌, ◌++◌, nat_lt, min, if◌then◌else◌, List, [], ◌∷◌, slice_index}
+use Rattle.std.specs.Prelude.{ℕ, ◌+◌, ◌++◌, ◌==◌, nat_lt, min, if◌then◌else◌, codes, List, [], ◌∷◌, length, map, slice_index}
 use Rattle.mgcp_text.specs.declared.message.Verb.TheVariants.{Ntfy, Rsip}
 use Rattle.page_answers.specs.declared.counts.CodeCount.{CodeCount}
 use Rattle.page_answers.specs.declared.counts.Counts.{Counts}
+use Rattle.page_answers.specs.declared.counts.FileCount.{FileCount}
 use Rattle.page_answers.specs.declared.counts.VerbCount.{VerbCount}
 use Rattle.live_journal.specs.SentCounting.{place_of}
 use Rattle.live_journal.specs.declared.journal.Journal.{Journal}
@@ -47,6 +48,19 @@ with_faults counts faults journal = record counts {
 abbrev pub with_numbers : Counts → Journal → Faults → Counts
 with_numbers counts journal faults =
     with_faults (with_own (with_traffic counts journal.tally.value) journal.tally.value) faults journal
+
+-- how often each file couldn't be written
+abbrev pub by_name : List FileCount → List (List ℕ × ℕ)
+by_name files = map (λ file. (file.file.items, file.number)) files
+
+-- so is a capture, by its name, if there is one
+abbrev pub capture_written : List ℕ → ℕ → List (List ℕ × ℕ)
+capture_written name number = if length name == 0 then [] else (name, number) ∷ []
+
+abbrev pub files_written : Journal → List (List ℕ × ℕ)
+files_written journal =
+    (codes "standard output", journal.written.output) ∷ (codes "standard error", journal.written.error)
+    ∷ capture_written journal.capture.value.name journal.written.capture
 
 -- how many commands came with each verb, from the one at this place on
 unfoldable pub verbs_from : ℕ → List ℕ → List VerbCount

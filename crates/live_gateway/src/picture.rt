@@ -1,11 +1,11 @@
 //! What the page is shown of the gateway.
-ghost use Rattle.std.specs.Prelude.{◌≡◌, ◌≤◌, ◌++◌, false, List, Ok, IfOk, OnOk};
+ghost use Rattle.std.specs.Prelude.{◌≡◌, ◌≤◌, ◌++◌, false, List, [], ◌∷◌, Ok, IfOk, OnOk};
 ghost use Rattle.plain_machine.specs.Event.{GatewayEvent};
 ghost use Rattle.plain_machine.specs.Lists.{plain};
 ghost use Rattle.plain_machine.specs.Machine.{serves};
 ghost use Rattle.gateway_core.specs.Remembering.{remembered};
 ghost use Rattle.gateway_core.specs.Stands.{Stands};
-ghost use Rattle.live_gateway.specs.Picturing.{with_traffic, with_own, with_faults, with_numbers, verbs_from, codes_at, codes_from};
+ghost use Rattle.live_gateway.specs.Picturing.{with_traffic, with_own, with_faults, with_numbers, by_name, capture_written, files_written, verbs_from, codes_at, codes_from};
 
 use crate::seeing::seen_line;
 use connections::{Connection, mode_text};
@@ -36,7 +36,10 @@ struct Gathering {
 }
 
 impl Gathering {
-    fn push<V: Drop>(&mut self, views: &mut Vec<V>, view: V) {
+    fn push<V: Drop>(&mut self, views: &mut Vec<V>, view: V)
+        ensures { self.new.is_refused ≡ false
+            → (self.old.is_refused ≡ false) × (views.new.items ≡ views.old.items ++ (view ∷ [])) }
+    {
         match views.push(view) {
             Ok(()) => {}
             Err(_) => self.is_refused = true,
@@ -56,7 +59,9 @@ impl Gathering {
         }
     }
 
-    fn copied(&mut self, text: &[u8]) -> Vec<u8> {
+    fn copied(&mut self, text: &[u8]) -> Vec<u8>
+        ensures { self.new.is_refused ≡ false → (self.old.is_refused ≡ false) × (result.items ≡ text.now) }
+    {
         match Vec::from_slice(self.alloc, text) {
             Ok(text) => text,
             Err(_) => {
@@ -212,20 +217,39 @@ fn codes_of(alloc: Global, tally: &MessageTally) -> Result<Vec<CodeCount>, OutOf
     Ok(views)
 }
 
-fn put_file(gathering: &mut Gathering, views: &mut Vec<FileCount>, file: &[u8], number: u64) {
+// How often a file couldn't be written.
+fn put_file(gathering: &mut Gathering, views: &mut Vec<FileCount>, file: &[u8], number: u64)
+    ensures { gathering.new.is_refused ≡ false → (gathering.old.is_refused ≡ false)
+        × (by_name views.new.items ≡ by_name views.old.items ++ ((file.now, number) ∷ [])) }
+{
     let file = gathering.copied(file);
     gathering.push(views, FileCount { file, number });
 }
 
+// How often a capture couldn't be written, if there is one.
+fn put_capture(gathering: &mut Gathering, views: &mut Vec<FileCount>, name: &[u8], number: u64)
+    ensures { gathering.new.is_refused ≡ false → (gathering.old.is_refused ≡ false)
+        × (by_name views.new.items ≡ by_name views.old.items ++ capture_written name.now number) }
+{
+    if !name.is_empty() {
+        put_file(gathering, views, name, number);
+    }
+}
+
 // What couldn't be written, by its name.
-fn put_written(gathering: &mut Gathering, views: &mut Vec<FileCount>, journal: &Journal) {
+fn put_written(gathering: &mut Gathering, views: &mut Vec<FileCount>, journal: &Journal)
+    ensures { gathering.new.is_refused ≡ false → (gathering.old.is_refused ≡ false)
+        × (by_name views.new.items ≡ by_name views.old.items ++ files_written journal.now) }
+{
     let written = journal.written;
     put_file(gathering, views, b"standard output", written.output);
     put_file(gathering, views, b"standard error", written.error);
-    let capture = journal.capture.name.as_bytes();
-    if !capture.is_empty() {
-        put_file(gathering, views, capture, written.capture);
-    }
+    put_capture(
+        gathering,
+        views,
+        journal.capture.name.as_bytes(),
+        written.capture,
+    );
 }
 
 // What came, and what answers were sent before.
@@ -281,6 +305,8 @@ fn put_lines(gathering: &mut Gathering, views: &mut Vec<LineView>, gateway: &Gat
 
 // What there are several of, by reference: a picture is large.
 fn put_lists(gathering: &mut Gathering, picture: &mut Picture, gateway: &Gateway, journal: &Journal)
+    ensures files { gathering.new.is_refused ≡ false → by_name picture.new.counts.write_faults.items
+        ≡ by_name picture.old.counts.write_faults.items ++ files_written journal.now }
     ensures commands { gathering.new.is_refused ≡ false
         → picture.new.counts.commands.items ≡ verbs_from 0 journal.now.tally.value.texts.commands }
     ensures answers { gathering.new.is_refused ≡ false
@@ -310,6 +336,7 @@ pub fn picture_of(
         → IfOk result (λ picture. picture.is_serving ≡ serves (plain gateway.now.setup events).endpoints) }
     ensures unanswered { IfOk result (λ picture. picture.unanswered_since ≡ journal.now.tally.value.unanswered_since) }
     ensures first { IfOk result (λ picture. picture.first ≡ gateway.now.setup.first) }
+    ensures files { IfOk result (λ picture. by_name picture.counts.write_faults.items ≡ files_written journal.now) }
     ensures commands { IfOk result (λ picture.
         picture.counts.commands.items ≡ verbs_from 0 journal.now.tally.value.texts.commands) }
     ensures answers { IfOk result (λ picture.
