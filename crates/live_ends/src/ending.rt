@@ -211,6 +211,7 @@ impl CommonEnding {
 pub fn address_in(word: AddressWord, text: &str) -> Result<SocketAddrV4, CommonEnding>
     ensures address { IfOk result (λ address. IsSocketV4Text text.now address) }
     ensures other { IfErr result (λ ending. ending ≡ CommonEnding.BadAddress word) }
+    ensures none { IfErr result (λ _. (address : SocketAddrV4) → ¬ (IsSocketV4Text text.now address)) }
 {
     match text.parse::<SocketAddrV4>() {
         Ok(address) => Ok(address),
