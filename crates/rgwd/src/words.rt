@@ -1,5 +1,5 @@
 //! Reads the words of the command line.
-ghost use Rattle.std.specs.Prelude.{◌≡◌, ◌≢◌, ◌⊎◌, Some, IfOk, IfErr, codes, option_map};
+ghost use Rattle.std.specs.Prelude.{◌≡◌, ◌≢◌, ◌⊎◌, Some, None, IfOk, IfErr, codes, option_map};
 ghost use Rattle.clap.specs.Matches.{found_of, first_value};
 ghost use Rattle.live_page.specs.Naming.{names_in, names_of};
 ghost use Rattle.surroundings.specs.Speaking.{admitted_by, admitted_in};
@@ -172,7 +172,9 @@ fn site_in(alloc: Global, matches: &ArgMatches<'_>) -> Result<Option<SocketAddrV
 
 /// Who may speak, as this text says it.
 pub fn speakers_in(alloc: Global, text: &str) -> Result<Speakers, ListFault>
-    ensures { IfOk result (λ speakers. admitted_in text.now ≡ Some (admitted_by speakers)) }
+    ensures read { IfOk result (λ speakers. admitted_in text.now ≡ Some (admitted_by speakers)) }
+    ensures refused { IfErr result (λ fault. (fault ≡ ListFault.OutOfMemory)
+        ⊎ ((fault ≡ ListFault.BadAgents) × (admitted_in text.now ≡ None))) }
 {
     let Ok(read) = Speakers::read(alloc, text.as_bytes()) else {
         return Err(ListFault::OutOfMemory);
@@ -185,7 +187,9 @@ pub fn speakers_in(alloc: Global, text: &str) -> Result<Speakers, ListFault>
 
 /// The names that this text says.
 pub fn hosts_in(alloc: Global, text: &str) -> Result<HostNames, ListFault>
-    ensures { IfOk result (λ names. names_in text.now ≡ Some (names_of names)) }
+    ensures read { IfOk result (λ names. names_in text.now ≡ Some (names_of names)) }
+    ensures refused { IfErr result (λ fault. (fault ≡ ListFault.OutOfMemory)
+        ⊎ ((fault ≡ ListFault.BadHosts) × (names_in text.now ≡ None))) }
 {
     let Ok(read) = HostNames::read(alloc, text.as_bytes()) else {
         return Err(ListFault::OutOfMemory);
