@@ -27,4 +27,6 @@ is_stop (piece ∷ pieces) = bytes_eq (line_of piece) (codes "stop")
 
 -- so does the line that is answered next, and it came from this machine
 abbrev pub AsksForEnd : Lines → Type 0
-AsksForEnd lines = (is_stop (left_of lines) ≡ true) × IsSomeAnd lines.sender (λ sender. MatchIp (socket_ip sender) IsLoopbackV4 IsLoopbackV6)
+AsksForEnd lines =
+    (is_stop (left_of lines) ≡ true)
+    × IsSomeAnd lines.sender (λ sender. MatchIp (socket_ip sender) IsLoopbackV4 IsLoopbackV6)

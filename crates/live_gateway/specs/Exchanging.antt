@@ -72,7 +72,8 @@ faults_at (Ok found) faults = faults
 faults_at (Err fault) faults = with_unreceived faults
 
 -- it was looked for a datagram of the socket, and what that gave is counted, once
-pub record LooksOnce {S : Type 0} (receives : S → Result (Option (SocketAddrV4 × ℕ)) Fault → List ℕ → S → Type 0) (was is : Exchange S) : Type 0 where
+pub record LooksOnce {S : Type 0}
+    (receives : S → Result (Option (SocketAddrV4 × ℕ)) Fault → List ℕ → S → Type 0) (was is : Exchange S) : Type 0 where
   pub before : S
   pub outcome : Result (Option (SocketAddrV4 × ℕ)) Fault
   pub room : List ℕ
@@ -82,5 +83,7 @@ pub record LooksOnce {S : Type 0} (receives : S → Result (Option (SocketAddrV4
   pub faults : is.faults ≡ faults_at outcome was.faults
 
 -- a bad network handed a datagram over, and nothing is counted; or it was looked for one
-abbrev pub CountsReceived : {S : Type 0} → (S → Result (Option (SocketAddrV4 × ℕ)) Fault → List ℕ → S → Type 0) → Exchange S → Option (SocketAddrV4 × ℕ) → Exchange S → Type 0
+abbrev pub CountsReceived :
+    {S : Type 0} → (S → Result (Option (SocketAddrV4 × ℕ)) Fault → List ℕ → S → Type 0)
+    → Exchange S → Option (SocketAddrV4 × ℕ) → Exchange S → Type 0
 CountsReceived receives was given is = (IsSome given × (is.read ≡ was.read) × (is.faults ≡ was.faults)) ⊎ LooksOnce receives was is

@@ -59,7 +59,9 @@ DoesLine was is =
     ⊎ ((text : List ℕ) × (line : ℕ) × (line_in (words text) ≡ Some (Whole (Show line))) × Asks text line was is))
 
 -- what a turn of this kind does
-abbrev pub Does : {S : Type 0} → (S → Result (Option (SocketAddrV4 × ℕ)) Fault → List ℕ → S → Type 0) → Admission → Turn → Standing → Standing → Type 0
+abbrev pub Does :
+    {S : Type 0} → (S → Result (Option (SocketAddrV4 × ℕ)) Fault → List ℕ → S → Type 0)
+    → Admission → Turn → Standing → Standing → Type 0
 Does receives admission End was is = is ≡ was
 Does receives admission Look was is = is ≡ was
 Does receives admission (Wait until) was is = is ≡ was
@@ -70,6 +72,8 @@ Does receives admission Visit was is = is ≡ was
 Does receives admission (Note pause) was is = is ≡ was
 
 -- it does what comes next by this schedule, as things stand
-abbrev pub DoesNext : {S : Type 0} → (S → Result (Option (SocketAddrV4 × ℕ)) Fault → List ℕ → S → Type 0) → Schedule → Admission → Standing → Standing → Type 0
+abbrev pub DoesNext :
+    {S : Type 0} → (S → Result (Option (SocketAddrV4 × ℕ)) Fault → List ℕ → S → Type 0)
+    → Schedule → Admission → Standing → Standing → Type 0
 DoesNext receives schedule admission was is =
     (at : Situation) × (turn : Turn) × (next : Schedule) × ((turn, next) ≡ next_of schedule at) × Does receives admission turn was is

@@ -326,7 +326,8 @@ impl<S: Surroundings + Drop, T: Teller + Drop> Desk<S, T> {
     pub fn turn<V: Visitors<S>>(&mut self, visitors: &mut Option<Box<V>>) -> bool
         ensures play { GoesOn T.told S.traffic self.old self.new }
         ensures end { EndsAt self.old.end self.old.play.gateway.value (not result) }
-        ensures does { DoesNext S.receives self.old.schedule self.old.admission (at_desk T.told S.traffic self.old) (at_desk T.told S.traffic self.new) }
+        ensures does { DoesNext S.receives self.old.schedule self.old.admission
+            (at_desk T.told S.traffic self.old) (at_desk T.told S.traffic self.new) }
         ensures over { result ≡ false → (self.new.play ≡ self.old.play) × (self.new.end ≡ self.old.end) }
     {
         let ticked = self.play.gateway.now();

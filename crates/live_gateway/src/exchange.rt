@@ -191,7 +191,8 @@ impl<S: Surroundings + Drop> Exchange<S> {
 
     /// Waits until something comes, but no longer than this, in ms, nor than until what waits to be taken is offered again.
     pub fn wait(&mut self, longest: u64)
-        ensures handed { handed_by self.new.network (S.traffic self.new.around).sent ≡ handed_by self.old.network (S.traffic self.old.around).sent }
+        ensures handed { handed_by self.new.network (S.traffic self.new.around).sent
+            ≡ handed_by self.old.network (S.traffic self.old.around).sent }
         ensures faults { (self.new.faults ≡ self.old.faults) ⊎ (self.new.faults ≡ with_unreceived self.old.faults) }
         ensures received { received_by self.new.network (S.traffic self.new.around).received
             ≡ received_by self.old.network (S.traffic self.old.around).received }
@@ -221,7 +222,8 @@ impl<S: Surroundings + Drop> Exchange<S> {
         ensures read { self.new.read ≡ self.old.read }
         ensures turn { IsSameTurn self.old self.new }
         ensures spoilt { is_some self.new.network ≡ is_some self.old.network }
-        ensures handed { handed_by self.new.network (S.traffic self.new.around).sent ≡ handed_by self.old.network (S.traffic self.old.around).sent }
+        ensures handed { handed_by self.new.network (S.traffic self.new.around).sent
+            ≡ handed_by self.old.network (S.traffic self.old.around).sent }
         ensures behind { IfSome result (λ _. (sent : Option (List Sent)) →
             handed_by self.new.network sent ≡ handed_by self.old.network (S.traffic self.old.around).sent) }
         ensures came { Grows (received_by self.old.network (S.traffic self.old.around).received) (brought result room.new)
@@ -303,12 +305,14 @@ impl<S: Surroundings + Drop> Exchange<S> {
         ensures length { length room.new ≡ length room.old }
         ensures within { IfSome result (λ p. p.1 ≤ length room.new) }
         ensures admitted { IfSome result (λ p. is_heard admission.now p.0 ≡ true) }
-        ensures handed { handed_by self.new.network (S.traffic self.new.around).sent ≡ handed_by self.old.network (S.traffic self.old.around).sent }
+        ensures handed { handed_by self.new.network (S.traffic self.new.around).sent
+            ≡ handed_by self.old.network (S.traffic self.old.around).sent }
         ensures faults { self.new.faults ≡ self.old.faults }
         ensures read { self.new.read ≡ self.old.read }
         ensures turn { IsSameTurn self.old self.new }
         ensures spoilt { is_some self.new.network ≡ is_some self.old.network }
-        ensures came { HeardSince admission.now (received_by self.old.network (S.traffic self.old.around).received) (found_by result room.new)
+        ensures came { HeardSince admission.now
+            (received_by self.old.network (S.traffic self.old.around).received) (found_by result room.new)
             (received_by self.new.network (S.traffic self.new.around).received) }
     {
         for _ in 0..u16::MAX {
@@ -330,7 +334,8 @@ impl<S: Surroundings + Drop> Exchange<S> {
     fn is_lost(&mut self, source: SocketAddrV4, bytes: &[u8]) -> bool
         ensures received { received_by self.new.network (S.traffic self.new.around).received
             ≡ received_by self.old.network (S.traffic self.old.around).received }
-        ensures handed { handed_by self.new.network (S.traffic self.new.around).sent ≡ handed_by self.old.network (S.traffic self.old.around).sent }
+        ensures handed { handed_by self.new.network (S.traffic self.new.around).sent
+            ≡ handed_by self.old.network (S.traffic self.old.around).sent }
         ensures faults { self.new.faults ≡ self.old.faults }
         ensures read { self.new.read ≡ self.old.read }
         ensures turn { IsSameTurn self.old self.new }
@@ -359,12 +364,14 @@ impl<S: Surroundings + Drop> Exchange<S> {
         ensures length { length room.new ≡ length room.old }
         ensures within { IfSome result (λ p. p.1 ≤ length room.new) }
         ensures admitted { IfSome result (λ p. is_heard admission.now p.0 ≡ true) }
-        ensures handed { handed_by self.new.network (S.traffic self.new.around).sent ≡ handed_by self.old.network (S.traffic self.old.around).sent }
+        ensures handed { handed_by self.new.network (S.traffic self.new.around).sent
+            ≡ handed_by self.old.network (S.traffic self.old.around).sent }
         ensures faults { self.new.faults ≡ self.old.faults }
         ensures read { self.new.read ≡ self.old.read }
         ensures turn { IsSameTurn self.old self.new }
         ensures spoilt { is_some self.new.network ≡ is_some self.old.network }
-        ensures came { HeardSince admission.now (received_by self.old.network (S.traffic self.old.around).received) (found_by result room.new)
+        ensures came { HeardSince admission.now
+            (received_by self.old.network (S.traffic self.old.around).received) (found_by result room.new)
             (received_by self.new.network (S.traffic self.new.around).received) }
     {
         if self.is_lost(source, &room[..len]) {
@@ -409,11 +416,13 @@ impl<S: Surroundings + Drop> Exchange<S> {
         ensures length { length room.new ≡ length room.old }
         ensures within { IfSome result (λ p. p.1 ≤ length room.new) }
         ensures admitted { IfSome result (λ p. is_heard admission.now p.0 ≡ true) }
-        ensures handed { handed_by self.new.network (S.traffic self.new.around).sent ≡ handed_by self.old.network (S.traffic self.old.around).sent }
+        ensures handed { handed_by self.new.network (S.traffic self.new.around).sent
+            ≡ handed_by self.old.network (S.traffic self.old.around).sent }
         ensures refused { self.new.faults.refused ≡ self.old.faults.refused }
         ensures counts { LooksOnce S.receives self.old self.new }
         ensures turn { IsSameTurn self.old self.new }
-        ensures came { HeardSince admission.now (received_by self.old.network (S.traffic self.old.around).received) (found_by result room.new)
+        ensures came { HeardSince admission.now
+            (received_by self.old.network (S.traffic self.old.around).received) (found_by result room.new)
             (received_by self.new.network (S.traffic self.new.around).received) }
     {
         let (source, len) = self.read_socket(room)?;
@@ -434,11 +443,13 @@ impl<S: Surroundings + Drop> Exchange<S> {
         ensures length { length room.new ≡ length room.old }
         ensures within { IfSome result (λ p. p.1 ≤ length room.new) }
         ensures admitted { IfSome result (λ p. is_heard admission.now p.0 ≡ true) }
-        ensures handed { handed_by self.new.network (S.traffic self.new.around).sent ≡ handed_by self.old.network (S.traffic self.old.around).sent }
+        ensures handed { handed_by self.new.network (S.traffic self.new.around).sent
+            ≡ handed_by self.old.network (S.traffic self.old.around).sent }
         ensures refused { self.new.faults.refused ≡ self.old.faults.refused }
         ensures counts { CountsReceived S.receives self.old result self.new }
         ensures turn { IsSameTurn self.old self.new }
-        ensures came { HeardSince admission.now (received_by self.old.network (S.traffic self.old.around).received) (found_by result room.new)
+        ensures came { HeardSince admission.now
+            (received_by self.old.network (S.traffic self.old.around).received) (found_by result room.new)
             (received_by self.new.network (S.traffic self.new.around).received) }
     {
         if let Some(found) = self.handed_over(admission, room) {
@@ -463,11 +474,13 @@ impl<S: Surroundings + Drop> Exchange<S> {
         ensures length { length room.new ≡ length room.old }
         ensures within { IfSome result (λ p. p.1 ≤ length room.new) }
         ensures admitted { IfSome result (λ p. is_heard admission.now p.0 ≡ true) }
-        ensures handed { handed_by self.new.network (S.traffic self.new.around).sent ≡ handed_by self.old.network (S.traffic self.old.around).sent }
+        ensures handed { handed_by self.new.network (S.traffic self.new.around).sent
+            ≡ handed_by self.old.network (S.traffic self.old.around).sent }
         ensures refused { self.new.faults.refused ≡ self.old.faults.refused }
         ensures counts { CountsReceived S.receives self.old result self.new }
         ensures turn { IsSameTurn self.old self.new }
-        ensures came { HeardSince admission.now (received_by self.old.network (S.traffic self.old.around).received) (found_by result room.new)
+        ensures came { HeardSince admission.now
+            (received_by self.old.network (S.traffic self.old.around).received) (found_by result room.new)
             (received_by self.new.network (S.traffic self.new.around).received) }
     {
         if self.network.is_some() {

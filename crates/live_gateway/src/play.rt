@@ -153,7 +153,8 @@ impl<T: Teller + Drop> LivePlay<T> {
             (live self.new.gateway.value self.new.script (T.told self.new.teller) (O.handed out.new)) }
         ensures came { O.came out.new ≡ O.came out.old }
         ensures taken { OnOk result (Takes
-            (live self.old.gateway.value self.old.script (T.told self.old.teller) (O.handed out.old)) (arrived source bytes.now) (datagram source bytes.now)
+            (live self.old.gateway.value self.old.script (T.told self.old.teller) (O.handed out.old))
+            (arrived source bytes.now) (datagram source bytes.now)
             (live self.new.gateway.value self.new.script (T.told self.new.teller) (O.handed out.new))) }
         ensures refused { OnErr result (Ran
             (live self.old.gateway.value self.old.script (T.told self.old.teller) (O.handed out.old)) []
@@ -197,7 +198,8 @@ impl<T: Teller + Drop> LivePlay<T> {
             (live self.old.gateway.value self.old.script (T.told self.old.teller) (O.handed out.old)) (typed text.now) (phone line act)
             (live self.new.gateway.value self.new.script (T.told self.new.teller) (O.handed out.new))) }
         ensures refused { IfErr result (λ refusal. Refuses
-            (live self.old.gateway.value self.old.script (T.told self.old.teller) (O.handed out.old)) text.now (phone line act) refusal self.new.printed.items
+            (live self.old.gateway.value self.old.script (T.told self.old.teller) (O.handed out.old))
+            text.now (phone line act) refusal self.new.printed.items
             (live self.new.gateway.value self.new.script (T.told self.new.teller) (O.handed out.new))) }
         ensures ends { (before : List GatewayEvent) → Stands self.old.gateway.value before
             → refusal_of (plain self.old.gateway.value.setup before) (phone line act) ≡ None

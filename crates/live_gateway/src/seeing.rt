@@ -12,7 +12,8 @@ use mg_bytes::OutOfMemory;
 use plain_machine::Setup;
 use std::alloc::Global;
 
-// The port at which the first connection of a line is received. A gateway has one for each of its lines; for others, where it is no port, 0.
+// The port at which the first connection of a line is received. A gateway has one for each of its lines; for others, where it is no
+// port, 0.
 fn first_port(setup: &Setup, line: u16) -> u16
     requires low { 1 ≤ line }
     ensures { port_of setup.now line ≤ highest_port → result ≡ port_of setup.now line }

@@ -117,7 +117,8 @@ fn watch_in(line: &[u8]) -> Option<u64>
 // What a line asks for that is no word alone.
 fn watch_or(alloc: Global, line: &[u8]) -> TelephoneRequest
     ensures said { AsksFor result (line_in (words_of line.now)) }
-    ensures request { (result ≡ watch_or (watch_in (words_of line.now)) (request_by (line_in (words_of line.now)))) ⊎ (result ≡ OutOfMemory) }
+    ensures request { (result ≡ watch_or (watch_in (words_of line.now)) (request_by (line_in (words_of line.now))))
+        ⊎ (result ≡ OutOfMemory) }
 {
     match watch_in(line) {
         Some(seconds) => TelephoneRequest::Watch { seconds },
