@@ -119,7 +119,8 @@ pub(crate) fn check_text(
     due: &str,
     came: &[Vec<u8>],
 ) -> Result<String, OutOfMemory>
-    ensures { IfOk result (λ text. (lines messages : Data) × IsInOrder (string_bytes text) (check_data check.now verdict due.now lines messages)) }
+    ensures { IfOk result (λ text. (lines messages : Data)
+        × IsInOrder (string_bytes text) (check_data check.now verdict due.now lines messages)) }
 {
     let said = said_value(alloc, said)?;
     let came = came_value(alloc, came)?;

@@ -239,7 +239,8 @@ impl<S: Surroundings + Drop> Wire<S> {
 
     // Puts a datagram onto the machine's network. One that doesn't leave is counted, and noted in the log.
     fn transmit(&mut self, to: SocketAddrV4, bytes: &[u8])
-        ensures sent { Grows (S.traffic self.old.around).sent (record { to = to; bytes = bytes.now } ∷ []) (S.traffic self.new.around).sent }
+        ensures sent { Grows (S.traffic self.old.around).sent (record { to = to; bytes = bytes.now } ∷ [])
+            (S.traffic self.new.around).sent }
         ensures received { (S.traffic self.new.around).received ≡ (S.traffic self.old.around).received }
     {
         if self.around.send(to, bytes).is_ok() {
