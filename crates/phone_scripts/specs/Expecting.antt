@@ -1,6 +1,6 @@
 -- What an expectation means. It begins at a moment of its gateway, which that told, and has a last moment. It is met where the telephone
--- is as is expected when it begins, or becomes so by a change that its gateway tells for a moment no later than the last. So it rests on the
--- gateway's clock alone: how late what is told comes doesn't matter, nor this machine's clock.
+-- is as is expected when it begins, or becomes so by a change that its gateway tells for a moment no later than the last. So it rests on
+-- the gateway's clock alone: how late what is told comes doesn't matter, nor this machine's clock.
 use Rattle.std.specs.Prelude.{ℕ, Bool, true, false, ◌+◌, ◌-◌, ◌^◌, min, ◌&&◌, ◌||◌, nat_le, nat_lt, bytes_eq, if◌then◌else◌, List, [], ◌∷◌}
 use Rattle.std.specs.List.{list_any}
 use Rattle.connections.specs.declared.mode.Mode.{Mode}

@@ -141,8 +141,8 @@ impl Player {
         }
     }
 
-    // A telephone changes so, at this moment. It is told before what changes then that its gateway has come there: so what a failure tells is what
-    // was there when the time was over.
+    // A telephone changes so, at this moment. It is told before what changes then that its gateway has come there: so what a failure
+    // tells is what was there when the time was over.
     fn change(&mut self, gateway: u16, telling: Telling) {
         let Telling {
             number: _,
