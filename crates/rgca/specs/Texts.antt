@@ -51,7 +51,8 @@ ending_text about named BadGateway = joined (named.gateway.now ∷ codes ": want
 ending_text about named (BadNumber number) = joined (number_text number ∷ [])
 ending_text about named (Untold address) = untold_text address
 ending_text about named NoLines = joined (codes "fewer than two lines are at rest\n" ∷ [])
-ending_text about named (BadLine is_other) = joined (line_word is_other ∷ codes ": not the name of one line, as aaln/1: 1 to 64 characters, no blank, *, $ or @\n" ∷ [])
+ending_text about named (BadLine is_other) =
+    joined (line_word is_other ∷ codes ": not the name of one line, as aaln/1: 1 to 64 characters, no blank, *, $ or @\n" ∷ [])
 ending_text about named SameLine = joined (codes "--more-lines: the same line as --line\n" ∷ [])
 ending_text about named NoCheck = joined (codes "--only: no check has this name; rgca check --list has them\n" ∷ [])
 ending_text about named (Config line) = named.files.read_from.now ++ (codes ": " ++ (line.items ++ codes "\n"))

@@ -99,7 +99,8 @@ pub fn further_sentences_have_examples()
     ensures an_ending_says_why_silent { (about : Abouts) (named : Named) (address : SocketAddrV4) →
         ending_text about named (NoAnswer address) ≡ socket_v4_text address ++ codes ": no answer\n" }
     ensures an_ending_says_why_unserved { (about : Abouts) (named : Named) (address : SocketAddrV4) →
-        ending_text about named (NotServing address) ≡ socket_v4_text address ++ codes ": 405, it waits for its call agent (--own answers for that)\n" }
+        ending_text about named (NotServing address)
+        ≡ socket_v4_text address ++ codes ": 405, it waits for its call agent (--own answers for that)\n" }
     ensures an_ending_says_why_no_line { (about : Abouts) (named : Named) → ending_text about named (NoSuchLine false)
         ≡ codes "--line: 500, no such line there, or not in --domain\n" }
     ensures an_ending_says_why_in_use { (about : Abouts) (named : Named) → ending_text about named (InUse true)
