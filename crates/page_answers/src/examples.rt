@@ -1,7 +1,7 @@
 //! Worked examples of the definitions, as theorems: each sentence of a definition has one that a slip in it breaks.
 #![tactic(auto, unfolding(crate::proofs::Computing::on_examples))]
 
-ghost use Rattle.std.specs.Prelude.{◌≡◌, codes, true, false, map, length, replicate, [], ◌∷◌, Some, None};
+ghost use Rattle.std.specs.Prelude.{◌≡◌, codes, true, false, map, length, replicate, [], ◌∷◌, ◌++◌, Some, None};
 ghost use Rattle.serde_json.specs.Data.{number, unsigned, boolean, object, member, no_members, null};
 ghost use Rattle.serde_json.specs.Written.{compact_text};
 ghost use Rattle.page_answers.specs.Acting.{act_named, act_line, queued_in, asked_by};
@@ -53,7 +53,8 @@ pub fn each_sentence_has_an_example()
         ≡ codes "{\"at\":5000,\"hex\":\"70686f6e652031206f6666\",\"kind\":\"act\",\"n\":7,\"peer\":\"192.168.1.5:2727\"}" }
     ensures kinds { map kind_word (Received ∷ Sent ∷ Act ∷ Told ∷ []) ≡ codes "in" ∷ codes "out" ∷ codes "act" ∷ codes "told" ∷ [] }
     ensures what_is_told_is_json_some { events_text (ring_at 8 (lifted ∷ [])) 0 3 2000
-        ≡ codes "{\"clock\":2000,\"events\":[{\"at\":5000,\"hex\":\"70686f6e652031206f6666\",\"kind\":\"act\",\"n\":7,\"peer\":\"192.168.1.5:2727\"}],\"first\":7,\"more\":true,\"next\":7,\"version\":3}" }
+        ≡ codes "{\"clock\":2000,\"events\":[{\"at\":5000,\"hex\":\"70686f6e652031206f6666\",\"kind\":\"act\",\"n\":7,\"peer\":"
+        ++ codes "\"192.168.1.5:2727\"}],\"first\":7,\"more\":true,\"next\":7,\"version\":3}" }
     ensures what_is_told_is_json_none { events_text nothing_yet 0 3 2000
         ≡ codes "{\"clock\":2000,\"events\":[],\"first\":1,\"more\":false,\"next\":0,\"version\":3}" }
 {}
