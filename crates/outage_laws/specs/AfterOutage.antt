@@ -58,8 +58,11 @@ IsDone w id = Any (λ (one : Reached). one.asked.id ≡ id) (taken_in w) × HasC
 -- time ago, unless the last of its sends was before
 pub record IsWell (setup : Setup) (w : World) (since within : ℕ) : Type 0 where
   pub serving : serves (gateway_in setup w).endpoints ≡ true
-  pub lines : (line : ℕ) (endpoint : Endpoint) → endpoint_at (gateway_in setup w).endpoints line ≡ Some endpoint → endpoint.post.restart ≡ Serving
+  pub lines :
+      (line : ℕ) (endpoint : Endpoint) → endpoint_at (gateway_in setup w).endpoints line ≡ Some endpoint
+      → endpoint.post.restart ≡ Serving
   pub commands :
-      (line : ℕ) (endpoint : Endpoint) (b : Begun) → endpoint_at (gateway_in setup w).endpoints line ≡ Some endpoint → IsOfLine setup w line b
-      → since ≤ b.moment + last_chance → b.moment + 2 * within ≤ now_in setup w → IsDone w b.id
-  pub announcements : (b : Begun) → IsOfLine setup w 0 b → since ≤ b.moment + last_chance → b.moment + 2 * within ≤ now_in setup w → IsDone w b.id
+      (line : ℕ) (endpoint : Endpoint) (b : Begun) → endpoint_at (gateway_in setup w).endpoints line ≡ Some endpoint
+      → IsOfLine setup w line b → since ≤ b.moment + last_chance → b.moment + 2 * within ≤ now_in setup w → IsDone w b.id
+  pub announcements :
+      (b : Begun) → IsOfLine setup w 0 b → since ≤ b.moment + last_chance → b.moment + 2 * within ≤ now_in setup w → IsDone w b.id

@@ -100,7 +100,8 @@ serving_late = unserved ++ delivering 9 ∷ []
 -- 300 ms later; and so is its answer, packet 11, while the announcement goes out again, packet 12
 abbrev pub unconnected : List WorldStep
 unconnected =
-    all_lost ++ ticking 24001 ∷ ticking 25001 ∷ ticking 26001 ∷ ticking 27001 ∷ ticking 28001 ∷ ticking 28501 ∷ ticking 28801 ∷ delivering 10 ∷ ticking 29101 ∷ []
+    all_lost ++ ticking 24001 ∷ ticking 25001 ∷ ticking 26001 ∷ ticking 27001 ∷ ticking 28001 ∷ ticking 28501 ∷ ticking 28801
+    ∷ delivering 10 ∷ ticking 29101 ∷ []
 
 abbrev pub connected_late : List WorldStep
 connected_late = unconnected ++ delivering 11 ∷ []
@@ -119,12 +120,13 @@ given_up_elsewhere =
     redirected ++ up_to 15 ++ ticking 15501 ∷ delivering 10 ∷ ticking 16501 ∷ ticking 17501 ∷ ticking 18501 ∷ ticking 19501 ∷ delivering 11
     ∷ ticking 20501 ∷ ticking 21501 ∷ ticking 22501 ∷ ticking 23501 ∷ []
 
--- Line 1 is in step and lifted, and dials 5 and 6 meanwhile; its notification, packets 4 to 11, is lost. A packet takes 100 ms from then on:
--- its announcement, packet 12, goes out at 28,501, and is answered at 28,701.
+-- Line 1 is in step and lifted, and dials 5 and 6 meanwhile; its notification, packets 4 to 11, is lost. A packet takes 100 ms from then
+-- on: its announcement, packet 12, goes out at 28,501, and is answered at 28,701.
 abbrev pub connected_in_step : List WorldStep
 connected_in_step =
-    asked_in_step ++ dialling 1 OffHook ∷ dialling 1 (Key Five) ∷ dialling 1 (Key Six) ∷ up_to 23 ++ ticking 23501 ∷ ticking 24001 ∷ ticking 25001
-    ∷ ticking 26001 ∷ ticking 27001 ∷ ticking 28001 ∷ ticking 28501 ∷ ticking 28601 ∷ delivering 12 ∷ ticking 28701 ∷ delivering 13 ∷ ticking 28702 ∷ []
+    asked_in_step ++ dialling 1 OffHook ∷ dialling 1 (Key Five) ∷ dialling 1 (Key Six) ∷ up_to 23
+    ++ ticking 23501 ∷ ticking 24001 ∷ ticking 25001 ∷ ticking 26001 ∷ ticking 27001 ∷ ticking 28001 ∷ ticking 28501
+    ∷ ticking 28601 ∷ delivering 12 ∷ ticking 28701 ∷ delivering 13 ∷ ticking 28702 ∷ []
 
 -- the agent asks for the next
 abbrev pub asks_in_step : WorldStep
@@ -139,7 +141,9 @@ asked_once = notified_since ++ ticking 29002 ∷ delivering 16 ∷ []
 
 -- the same of 6, in packets 17 to 19
 abbrev pub asked_again : List WorldStep
-asked_again = asked_once ++ asks_in_step ∷ ticking 29102 ∷ delivering 17 ∷ ticking 29202 ∷ delivering 18 ∷ ticking 29302 ∷ delivering 19 ∷ ticking 29303 ∷ []
+asked_again =
+    asked_once ++ asks_in_step ∷ ticking 29102 ∷ delivering 17 ∷ ticking 29202 ∷ delivering 18 ∷ ticking 29302
+    ∷ delivering 19 ∷ ticking 29303 ∷ []
 
 -- or 7 is dialled as that of 5 begins: each is answered 200 ms later, and behind each answer the request for the next takes 100 ms, in
 -- packets 17 and 20
@@ -148,8 +152,8 @@ pressed_since = connected_in_step ++ asks_in_step ∷ ticking 28802 ∷ deliveri
 
 abbrev pub one_to_go : List WorldStep
 one_to_go =
-    pressed_since ++ ticking 28902 ∷ delivering 15 ∷ ticking 29002 ∷ delivering 16 ∷ asks_in_step ∷ ticking 29102 ∷ delivering 17 ∷ ticking 29202
-    ∷ delivering 18 ∷ ticking 29302 ∷ delivering 19 ∷ asks_in_step ∷ ticking 29402 ∷ []
+    pressed_since ++ ticking 28902 ∷ delivering 15 ∷ ticking 29002 ∷ delivering 16 ∷ asks_in_step ∷ ticking 29102 ∷ delivering 17
+    ∷ ticking 29202 ∷ delivering 18 ∷ ticking 29302 ∷ delivering 19 ∷ asks_in_step ∷ ticking 29402 ∷ []
 
 abbrev pub none_to_go : List WorldStep
 none_to_go = one_to_go ++ delivering 20 ∷ ticking 29403 ∷ []

@@ -83,8 +83,8 @@ answered_as_given_up =
 -- over at once, and at 23,501 it is given up; a ms passes
 abbrev pub hung_up_elsewhere : List WorldStep
 hung_up_elsewhere =
-    redirected ++ dialling 1 OnHook ∷ up_to 15 ++ ticking 15501 ∷ delivering 10 ∷ ticking 16501 ∷ ticking 17501 ∷ ticking 18501 ∷ ticking 19501
-    ∷ delivering 11 ∷ ticking 20501 ∷ ticking 21501 ∷ ticking 22501 ∷ ticking 23501 ∷ []
+    redirected ++ dialling 1 OnHook ∷ up_to 15 ++ ticking 15501 ∷ delivering 10 ∷ ticking 16501 ∷ ticking 17501 ∷ ticking 18501
+    ∷ ticking 19501 ∷ delivering 11 ∷ ticking 20501 ∷ ticking 21501 ∷ ticking 22501 ∷ ticking 23501 ∷ []
 
 abbrev pub hung_up_elsewhere_yet : List WorldStep
 hung_up_elsewhere_yet = hung_up_elsewhere ++ ticking 23502 ∷ []

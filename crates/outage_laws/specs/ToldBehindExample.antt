@@ -34,7 +34,8 @@ kept_in_step = six_told_in_step ++ asks_in_step ∷ ticking 39902 ∷ delivering
 abbrev pub unasked_in_step : List WorldStep
 unasked_in_step = put_back_in_step ++ ticking 40202 ∷ []
 
--- or it is asked for nothing any more: the keys are dropped, and the handset alone is told, in packet 15, and that is answered, in packet 16
+-- or it is asked for nothing any more: the keys are dropped, and the handset alone is told, in packet 15, and that is answered, in
+-- packet 16
 abbrev pub asked_for_nothing : List WorldStep
 asked_for_nothing =
     put_back_in_step ++ issuing (codes "RQNT") (codes "aaln/1@rgw.example.net") (codes "X: C2\r\n") ∷ ticking 39302 ∷ delivering 14

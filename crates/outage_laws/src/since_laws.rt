@@ -59,7 +59,8 @@ pub fn a_gateway_serves_after_an_outage()
         serves (gateway_in setup w).endpoints ≡ true }
     ensures behind_any { (setup : Setup) (steps : List WorldStep) (since within wait : ℕ) → IsRun setup steps →
         IsFairFrom setup steps since within → AgentHasRoomFrom setup steps since → let w = plain_world setup steps in
-        Any (λ (one : ℕ). one ≡ wait) chances → wait + 2 * within < answer_wait → since + answer_wait + setup.restart_wait + 2 * within ≤ now_in setup w + 1 + wait →
+        Any (λ (one : ℕ). one ≡ wait) chances → wait + 2 * within < answer_wait →
+        since + answer_wait + setup.restart_wait + 2 * within ≤ now_in setup w + 1 + wait →
         serves (gateway_in setup w).endpoints ≡ true }
 {}
 
