@@ -73,7 +73,8 @@ impl Journal {
     /// A datagram came from who may not speak: it is counted, and noted at most once a second.
     pub fn stranger(&mut self, now: Now, source: SocketAddrV4)
         ensures counted { self.new.tally.value.strangers ≡ counted self.old.tally.value.strangers 1 }
-        ensures told { Records self.old.log.value.record (stranger_text self.old.log.value.quiet now.time source) self.new.log.value.record }
+        ensures told { Records self.old.log.value.record
+            (stranger_text self.old.log.value.quiet now.time source) self.new.log.value.record }
         ensures quiet { self.new.log.value.quiet ≡ quiet_after self.old.log.value.quiet now.time }
         ensures rest { (self.new.capture ≡ self.old.capture) × (self.new.board ≡ self.old.board) × (self.new.written ≡ self.old.written) }
     {

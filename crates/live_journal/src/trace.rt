@@ -113,7 +113,8 @@ impl Trace {
     fn put(&mut self, text: &[u8])
         ensures quiet { is_telling self.old ≡ false → self.new ≡ self.old }
         ensures placed { is_telling self.old ≡ true → length text.now ≤ self.old.room → HasPlace self.old text.now self.new }
-        ensures no_room { is_telling self.old ≡ true → self.old.room < length text.now → self.new ≡ record self.old { is_broken_off = true } }
+        ensures no_room { is_telling self.old ≡ true → self.old.room < length text.now
+            → self.new ≡ record self.old { is_broken_off = true } }
     {
         if !self.takes_more() {
             return;
