@@ -20,6 +20,8 @@ refuses Off were text are state told refused none = absurd cc
 refuses On were text are state told refused none = inr (refused, none)
 refuses OutOfMemory were text are state told refused none = absurd cc
 
+pub ruleset putting = (puts_text, puts_nothing, refuses)
+
 -- nothing is put
 pub puts_none : (state : RecordState) (were : List ℕ) → Puts state were [] state were
 puts_none Off were = (refl, refl)

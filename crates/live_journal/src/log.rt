@@ -109,7 +109,7 @@ impl Log {
     }
 
     // Puts a note, likewise.
-    #[tactic(auto, using(crate::proofs::RecordLemmas::puts_text, crate::proofs::RecordLemmas::puts_nothing, crate::proofs::RecordLemmas::refuses))]
+    #[tactic(auto, using(crate::proofs::RecordLemmas::putting))]
     pub(crate) fn put_note(&mut self, stamp: Stamp, note: Note)
         ensures told { Records self.old.record (note_line stamp note) self.new.record }
         ensures quiet { self.new.quiet ≡ self.old.quiet }

@@ -54,7 +54,7 @@ impl Log {
     }
 
     /// The program was stopped and went on so much later than it was to, in ms, and so many datagrams had come, where that is known.
-    #[tactic(auto, using(crate::proofs::RecordLemmas::puts_text, crate::proofs::RecordLemmas::puts_nothing, crate::proofs::RecordLemmas::refuses))]
+    #[tactic(auto, using(crate::proofs::RecordLemmas::putting))]
     pub fn pause(&mut self, now: Now, lateness: u64, read: Option<u64>)
         ensures puts { Records self.old.record (pause_line now.time lateness read) self.new.record }
         ensures moments { (self.new.sent ≡ self.old.sent) × (self.new.came ≡ self.old.came) × (self.new.arrival ≡ self.old.arrival) }

@@ -95,7 +95,7 @@ fn put_all_unheard(
 
 impl Log {
     // Notes a stranger's datagram, where it is told of, and then of how many before it wasn't.
-    #[tactic(auto, using(crate::proofs::RecordLemmas::puts_text, crate::proofs::RecordLemmas::puts_nothing, crate::proofs::RecordLemmas::refuses, crate::proofs::RecordLemmas::puts_none))]
+    #[tactic(auto, using(crate::proofs::RecordLemmas::putting, crate::proofs::RecordLemmas::puts_none))]
     fn put_stranger(&mut self, now: Now, source: SocketAddrV4, untold: Option<u64>)
         ensures record { Records self.old.record (text_of_stranger now.time source untold) self.new.record }
         ensures quiet { self.new.quiet ≡ self.old.quiet }
@@ -136,7 +136,7 @@ impl Log {
 
     /// The gateway took an event, and what it sent at it, which this was, was handed out: of each command of its own that went to who may
     /// not speak it is noted that no answer to it is heard, and by which word one would be.
-    #[tactic(auto, using(crate::proofs::RecordLemmas::puts_text, crate::proofs::RecordLemmas::puts_nothing, crate::proofs::RecordLemmas::refuses))]
+    #[tactic(auto, using(crate::proofs::RecordLemmas::putting))]
     pub fn unheard(&mut self, now: Now, sent: &[SentMessage], speakers: &Speakers)
         ensures record { Records self.old.record
             (flat_map (unheard_text (admitted_by speakers.now) now.time) sent.now) self.new.record }
