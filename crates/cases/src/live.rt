@@ -13,8 +13,9 @@
 //! - `dropped 12` so many lines of the log are said not to be kept; `failed calls.pcap` a record is said not to be written.
 //! - `room 300` so many bytes of the trace find room, and no more, since nobody takes any.
 //! - `read 1048385` the log is read from here on; before, nobody does, and so many bytes wait for that from the start, which aren't told.
-//! - `answer done` a line of an answer to who usually types, `answer 10.0.0.9:5000 done` to somebody else; `page ..` one of what a visitor gets; `log ..`, `trace ..`, `capture ..` what is
-//!   recorded; `count ..` what is counted at the end, and `replay ..` what a replay of the trace finds.
+//! - `answer done` a line of an answer to who usually types, `answer 10.0.0.9:5000 done` to somebody else; `page ..` one of what a
+//!   visitor gets; `log ..`, `trace ..`, `capture ..` what is recorded; `count ..` what is counted at the end, and `replay ..` what a
+//!   replay of the trace finds.
 mod browsers;
 
 use crate::live::browsers::Browsers;
