@@ -53,8 +53,8 @@ pub fn what_was_put_off_is_sent_again()
 /// which the exchange still has something in flight may not go on by what is kept of it.
 pub fn a_line_goes_on_in_four_ways()
     ensures in_flight { GoesOn (desk_then []) 0 (begun new_care) ready [] Phase.Resting None }
-    ensures again { GoesOn (desk_with (held_care 1500) ((record { moment = 1500; line = 0 }) ∷ [])) 0 (held_care 1500) ready [] Phase.Resting
-        None }
+    ensures again { GoesOn (desk_with (held_care 1500) ((record { moment = 1500; line = 0 }) ∷ [])) 0
+        (held_care 1500) ready [] Phase.Resting None }
     ensures sent_now { GoesOn (desk_then []) 0 new_care ready [] Phase.Resting None }
     ensures routed_now { GoesOn (desk_then []) 0 routed_care opened [] Phase.Resting None }
     ensures waited_for { GoesOn (desk_then []) 0 routed_care ready [] Phase.Resting (Some Asked.Rest) }
@@ -63,7 +63,8 @@ pub fn a_line_goes_on_in_four_ways()
     ensures held { IsHeldUntil (desk_with (held_care 1500) ((record { moment = 1500; line = 0 }) ∷ [])) 0 (held_care 1500) 1500 }
     ensures not_put_off { ¬ IsHeldUntil (desk_with routed_care ((record { moment = 1500; line = 0 }) ∷ [])) 0 routed_care 1500 }
     ensures stands_not { ¬ IsHeldUntil (desk_with (held_care 1500) []) 0 (held_care 1500) 1500 }
-    ensures another_stands { ¬ IsHeldUntil (desk_with (held_care 1500) ((record { moment = 1500; line = 1 }) ∷ [])) 0 (held_care 1500) 1500 }
+    ensures another_stands { ¬ IsHeldUntil (desk_with (held_care 1500) ((record { moment = 1500; line = 1 }) ∷ [])) 0
+        (held_care 1500) 1500 }
     ensures too_late { ¬ IsHeldUntil (desk_with (held_care 1501) ((record { moment = 1501; line = 0 }) ∷ [])) 0 (held_care 1501) 1501 }
     ensures sent_still { is_in_flight asked_meanwhile 0 ≡ true }
     ensures none_meanwhile { ¬ GoesOn (desk_then []) 0 routed_care asked_meanwhile [] Phase.Resting None }
