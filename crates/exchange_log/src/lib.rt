@@ -7,8 +7,8 @@
 //! ```
 //!
 //! Each line begins with the date and the time of day, in UTC, and the other end's address. `>` is what it sent, `<` what it was
-//! sent, `!` what is noted; of the program itself without an address. All that comes from a datagram is escaped: a line has printable ASCII alone. What happened is told by
-//! who calls; nothing here reads a clock or knows what came before.
+//! sent, `!` what is noted; of the program itself without an address. All that comes from a datagram is escaped: a line has
+//! printable ASCII alone. What happened is told by who calls; nothing here reads a clock or knows what came before.
 //!
 //! A capture file has datagrams as packets that tshark, Wireshark and tcpdump read, in the classic format of pcap: each as
 //! an IPv4 packet with a UDP header, and the moment at which it went. It is put together as bytes; nothing here opens one.
