@@ -100,7 +100,10 @@ audited_first = in_one_life (audits ∷ delivering 0 ∷ []) ++ restarting 0 ∷
 -- an agent that issued what it refuses to issue: two commands in one text
 abbrev pub issued_two : List LivesStep
 issued_two =
-    in_one_life (issuing (codes "AUEP") (codes "aaln/1@rgw.example.net") (codes ".\r\nAUEP 99 aaln/1@rgw.example.net MGCP 1.0\r\n") ∷ delivering 0 ∷ [])
+    in_one_life (
+    issuing (codes "AUEP") (codes "aaln/1@rgw.example.net") (codes ".\r\nAUEP 99 aaln/1@rgw.example.net MGCP 1.0\r\n")
+    ∷ delivering 0 ∷ []
+    )
 
 -- a setup that no configuration gives: whatever the gateway announces has a second announcement in it, with the id 21
 abbrev pub broken : Setup
@@ -166,7 +169,13 @@ refused_then steps step = lived_refusal two_lines (lives steps) step
 -- a command with this id that a life brought at this moment
 abbrev pub bringing : ℕ → ℕ → ℕ → Brought
 bringing life id moment =
-    record { life = life; reached = record { asked = record { source = agent; moment = moment; id = id; confirms = [] }; outcome = bad_body id } }
+    record {
+      life = life;
+      reached = record {
+        asked = record { source = agent; moment = moment; id = id; confirms = [] };
+        outcome = bad_body id;
+      };
+    }
 
 -- a command with this id that began at this moment
 abbrev pub beginning : ℕ → ℕ → Begun

@@ -98,7 +98,8 @@ pub fn steps_that_are_refused_may_bring_more()
     ensures left { AllHaveNumbersLeft (lives_of (lives announced_too_late)) }
     ensures twice { firsts_after announced_too_late ≡ (0, 1) ∷ (0, 1) ∷ [] }
     ensures no_gateways { are_taken two_lines (opening two_lines) (lives announced_too_late).life.took ≡ false }
-    ensures no_agents { agent_takes (agent_of two_lines) (agent_opening (agent_of two_lines)) (lives announced_too_late).agent_took ≡ false }
+    ensures no_agents { agent_takes (agent_of two_lines) (agent_opening (agent_of two_lines))
+        (lives announced_too_late).agent_took ≡ false }
     ensures refused_back { lives_are_taken two_lines (lives_opening two_lines) gone_back ≡ false }
     ensures clock { clock_of two_lines (lives gone_back) ≡ 3 }
     ensures starts { starts_after gone_back ≡ 0 ∷ 5 ∷ [] }
@@ -197,15 +198,18 @@ pub fn a_life_without_numbers_is_heard_twice()
     ensures over_steps { (steps : List LivesStep) × (lives_are_taken two_lines (lives_opening two_lines) steps ≡ true)
         × (firsts_after steps ≡ (0, 1) ∷ (0, 10000000) ∷ (0, 10000000) ∷ []) × (¬ AllHaveNumbersLeft (lives_of (lives steps))) }
     ensures set_up { IsSetUp two_lines }
-    ensures twice { map brought_key (fold taken_after [] (bringing 0 10000000 5 ∷ bringing 0 10000000 30005 ∷ [])) ≡ (0, 10000000) ∷ (0, 10000000) ∷ [] }
+    ensures twice { map brought_key (fold taken_after [] (bringing 0 10000000 5 ∷ bringing 0 10000000 30005 ∷ []))
+        ≡ (0, 10000000) ∷ (0, 10000000) ∷ [] }
     ensures repeat { map brought_key (fold taken_after [] (bringing 0 10000000 5 ∷ bringing 0 10000000 30004 ∷ [])) ≡ (0, 10000000) ∷ [] }
-    ensures any_life { map brought_key (fold taken_after [] (bringing 0 5 5 ∷ bringing 1 5 6 ∷ bringing 1 6 6 ∷ [])) ≡ (0, 5) ∷ (1, 6) ∷ [] }
+    ensures any_life { map brought_key (fold taken_after [] (bringing 0 5 5 ∷ bringing 1 5 6 ∷ bringing 1 6 6 ∷ []))
+        ≡ (0, 5) ∷ (1, 6) ∷ [] }
 {}
 
 /// A new life has its hooks down and serves no more, its moments begin with 0, and its setup is that of the first but for its number.
 /// The agent, its clock and the packets go on.
 pub fn a_new_life_has_nothing()
-    ensures life { (lives (first_life ++ restarting 20 ∷ [])).life ≡ record { setup = record two_lines { first = 20 }; start = 1; took = [] } }
+    ensures life { (lives (first_life ++ restarting 20 ∷ [])).life
+        ≡ record { setup = record two_lines { first = 20 }; start = 1; took = [] } }
     ensures over { map (λ life. life.start) (lives (first_life ++ restarting 20 ∷ restarting 40 ∷ [])).over ≡ 0 ∷ 1 ∷ [] }
     ensures hooks_down { refused_then (first_life ++ restarting 20 ∷ []) (stepping (dialling 1 acts.OnHook))
         ≡ Some (as_step (by_gateway refusals.PhoneState)) }
@@ -227,8 +231,10 @@ pub fn steps_of_lives_are_refused()
     ensures young { refused_then started_late (stepping (delivering 0)) ≡ None }
     ensures old { refused_then (started_late ++ stepping (ticking 10002) ∷ []) (stepping (delivering 0)) ≡ Some (as_step packet_too_old) }
     ensures none { refused_then first_life (stepping (delivering 4)) ≡ Some (as_step no_such_packet) }
-    ensures back { refused_then (first_life ++ restarting 20 ∷ []) (stepping (ticking 0)) ≡ Some (as_step (by_agent (as_event refusals.ClockBack))) }
-    ensures far { refused_then (first_life ++ restarting 20 ∷ []) (stepping (ticking 1002)) ≡ Some (as_step (by_agent (as_event refusals.TickTooFar))) }
+    ensures back { refused_then (first_life ++ restarting 20 ∷ []) (stepping (ticking 0))
+        ≡ Some (as_step (by_agent (as_event refusals.ClockBack))) }
+    ensures far { refused_then (first_life ++ restarting 20 ∷ []) (stepping (ticking 1002))
+        ≡ Some (as_step (by_agent (as_event refusals.TickTooFar))) }
     ensures near { refused_then (first_life ++ restarting 20 ∷ []) (stepping (ticking 1001)) ≡ None }
     ensures last_first { refused_then [] (restarting 9999998) ≡ None }
     ensures no_first { refused_then [] (restarting 9999999) ≡ Some no_such_first }
@@ -246,7 +252,8 @@ pub fn packets_have_addresses()
     ensures room { length (taken_after (replicate 4095 (bringing 0 1 5)) (bringing 0 2 6)) ≡ 4096 }
     ensures no_room { length (taken_after (replicate 4096 (bringing 0 1 5)) (bringing 0 2 6)) ≡ 4096 }
     ensures have_left { AllHaveNumbersLeft (new_life two_lines 0 ∷ new_life two_lines 5 ∷ []) }
-    ensures each_has_left { (one other : Life) → AllHaveNumbersLeft (one ∷ other ∷ []) → HasNumbersLeft (own_of one) × HasNumbersLeft (own_of other) }
+    ensures each_has_left { (one other : Life) → AllHaveNumbersLeft (one ∷ other ∷ [])
+        → HasNumbersLeft (own_of one) × HasNumbersLeft (own_of other) }
 {}
 
 /// A line may begin ten commands at once and another from its 100th ms on; others' don't count, nor does what comes five days after its

@@ -34,8 +34,8 @@ pub fn what_takes_the_same_goes_on_as_a_life()
         Took g events g' were are → IsLifeOf g' (record life { took = life.took ++ events }) }
     ensures sends { (g g' : GatewayState) (life : Life) (event : GatewayEvent) (were are : List OutDatagram) → IsLifeOf g life →
         Took g (event ∷ []) g' were are → are ≡ were ++ put_out (effect life.setup (gateway_of life) event).sent }
-    ensures agent { (a a' : AgentState) (setup : Setup) (w : LivesWorld) (event : AgentEvent) (out : List OutDatagram) → IsAgentOf a setup w →
-        AgentTook a event a' out → IsAgentOf a' setup (record w { agent_took = w.agent_took ++ event ∷ [] }) }
+    ensures agent { (a a' : AgentState) (setup : Setup) (w : LivesWorld) (event : AgentEvent) (out : List OutDatagram) →
+        IsAgentOf a setup w → AgentTook a event a' out → IsAgentOf a' setup (record w { agent_took = w.agent_took ++ event ∷ [] }) }
     ensures agent_sends { (a a' : AgentState) (setup : Setup) (w : LivesWorld) (event : AgentEvent) (out : List OutDatagram) →
         IsAgentOf a setup w → AgentTook a event a' out → out ≡ packed (agent_effect (agent_of setup) (agent_then setup w) event).sent }
 {}
@@ -58,7 +58,8 @@ pub fn what_a_life_is_to_its_calls()
 
 /// So it is of the agent: its clock, the answers that it has and what it has taken are those of the world's agent.
 pub fn what_the_agent_of_lives_is_to_its_calls()
-    ensures machine { (a : AgentState) (setup : Setup) (w : LivesWorld) → IsAgentOf a setup w → plain_agent a.setup w.agent_took ≡ agent_then setup w }
+    ensures machine { (a : AgentState) (setup : Setup) (w : LivesWorld) → IsAgentOf a setup w →
+        plain_agent a.setup w.agent_took ≡ agent_then setup w }
     ensures now { (a : AgentState) (setup : Setup) (w : LivesWorld) → IsAgentOf a setup w → a.machine.now ≡ (agent_then setup w).now }
     ensures answers { (a : AgentState) (setup : Setup) (w : LivesWorld) → IsAgentOf a setup w →
         a.machine.answers ≡ (agent_then setup w).answers }
