@@ -218,7 +218,8 @@ impl<F: Write + Drop> Outlet<F> {
             self.new.backlog ≡ offered TEXT_ROOM self.old.backlog record.old.out.items }
         ensures told { is_kept TEXT_ROOM self.old.backlog record.old.out.items ≡ true →
             (self.new.state ≡ self.old.state) × (record.new.state ≡ record.old.state) }
-        ensures ended { record.old.out.items ≢ [] → is_kept TEXT_ROOM self.old.backlog record.old.out.items ≡ false → record.new.state ≡ Off }
+        ensures ended { record.old.out.items ≢ [] → is_kept TEXT_ROOM self.old.backlog record.old.out.items ≡ false
+            → record.new.state ≡ Off }
         ensures broken_off { record.old.out.items ≢ [] → is_kept TEXT_ROOM self.old.backlog record.old.out.items ≡ false →
             is_open self.old.state ≡ true → self.new.state ≡ BrokenOff }
         ensures last { record.old.out.items ≢ [] → is_kept TEXT_ROOM self.old.backlog record.old.out.items ≡ false →
@@ -256,10 +257,12 @@ impl<F: Write + Drop> Outlet<F> {
 
     /// Where memory was refused for a record, what is written of it ends with this last line, and that is a write fault.
     pub fn end_refused(&mut self, record: &Record, last: &[u8])
-        ensures not_refused { is_refused record.now.state ≡ false → (self.new.state ≡ self.old.state) × (self.new.backlog ≡ self.old.backlog) }
+        ensures not_refused { is_refused record.now.state ≡ false
+            → (self.new.state ≡ self.old.state) × (self.new.backlog ≡ self.old.backlog) }
         ensures not_open { is_open self.old.state ≡ false → (self.new.state ≡ self.old.state) × (self.new.backlog ≡ self.old.backlog) }
         ensures fault { is_refused record.now.state ≡ true → is_open self.new.state ≡ false }
-        ensures memory { is_refused record.now.state ≡ true → is_open self.old.state ≡ true → self.new.state ≡ Failed ErrorKind.OutOfMemory }
+        ensures memory { is_refused record.now.state ≡ true → is_open self.old.state ≡ true
+            → self.new.state ≡ Failed ErrorKind.OutOfMemory }
         ensures last { is_refused record.now.state ≡ true → is_open self.old.state ≡ true →
             self.new.backlog ≡ ended_within NOTE_ROOM TEXT_ROOM self.old.backlog last.now }
         ensures rest { self.new ≡ record self.old { backlog = self.new.backlog; state = self.new.state } }
