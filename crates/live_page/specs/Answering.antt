@@ -9,7 +9,8 @@ use Rattle.live_page.specs.Naming.{names_of}
 use Rattle.live_page.specs.Serving.{Answered}
 
 pub record Answers (old : Desk) (request : Request (List ℕ)) (response : Response) (new : Desk) : Type 0 where
-  pub answered : Answered (asked_of old.site (names_of old.names.now) (head_of request)) old.board.now (body_of request) response new.board.now
+  pub answered :
+      Answered (asked_of old.site (names_of old.names.now) (head_of request)) old.board.now (body_of request) response new.board.now
   -- the page stays where it is, and under the same names, and it is the same board
   pub site : new.site ≡ old.site
   pub names : new.names ≡ old.names
