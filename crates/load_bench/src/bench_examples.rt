@@ -15,7 +15,8 @@ ghost use Rattle.load_bench.specs.Success.{success_of, is_success};
 pub fn signals_are_heard()
     ensures tones { map heard_of (signals.DialTone ∷ signals.Busy ∷ signals.Reorder ∷ signals.Ringing ∷ [])
         ≡ Some heard.DialTone ∷ Some heard.BusyTone ∷ Some heard.ReorderTone ∷ Some heard.Ringing ∷ [] }
-    ensures others { map heard_of (signals.RingSplash ∷ signals.MessageWaiting ∷ signals.Ringback ∷ signals.Congestion ∷ signals.Confirm ∷ [])
+    ensures others { map heard_of
+        (signals.RingSplash ∷ signals.MessageWaiting ∷ signals.Ringback ∷ signals.Congestion ∷ signals.Confirm ∷ [])
         ≡ Some heard.Other ∷ None ∷ Some heard.Other ∷ Some heard.ReorderTone ∷ Some heard.Other ∷ [] }
     ensures first { signal_heard (signals.MessageWaiting ∷ signals.Ringback ∷ signals.Busy ∷ []) ≡ Some heard.Other }
     ensures lamp { signal_heard (signals.MessageWaiting ∷ []) ≡ None }
@@ -27,7 +28,8 @@ pub fn the_other_end_is_heard()
         ≡ false ∷ false ∷ true ∷ false ∷ false ∷ [] }
     ensures nothing { without_signal [] ≡ heard.Nothing }
     ensures one { without_signal (record { id = codes "A"; mode = modes.ReceiveOnly } ∷ []) ≡ heard.Other }
-    ensures talk { without_signal (record { id = codes "A"; mode = modes.ReceiveOnly } ∷ record { id = codes "B"; mode = modes.SendReceive } ∷ []) ≡ heard.Talk }
+    ensures talk { without_signal
+        (record { id = codes "A"; mode = modes.ReceiveOnly } ∷ record { id = codes "B"; mode = modes.SendReceive } ∷ []) ≡ heard.Talk }
     ensures signal { heard_by (Some heard.BusyTone) (record { id = codes "A"; mode = modes.SendReceive } ∷ []) ≡ heard.BusyTone }
 {}
 

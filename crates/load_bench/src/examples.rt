@@ -61,7 +61,8 @@ pub fn a_call_comes_to_rest()
     ensures caller_restless { gone_on (call_in stages.Clearing 905) (on heard.Other 920) (resting 930) ≡ None }
     ensures called_off { gone_on (call_in stages.Clearing 905) (resting 920) (off heard.Nothing 930) ≡ None }
     ensures rests { gone_on (call_in stages.Clearing 905) (resting 920) (resting 930) ≡ Some (call_in stages.Over 930, events.AtRest 25) }
-    ensures failed { gone_on (failed_in stages.Clearing 905) (resting 920) (resting 930) ≡ Some (failed_in stages.Over 930, events.Cleared) }
+    ensures failed { gone_on (failed_in stages.Clearing 905) (resting 920) (resting 930)
+        ≡ Some (failed_in stages.Over 930, events.Cleared) }
     ensures over { gone_on (call_in stages.Over 930) (off heard.DialTone 940) (resting 930) ≡ None }
 {}
 
@@ -100,7 +101,8 @@ pub fn time_makes_something_of_a_call()
     ensures not_joined { timed (call_in stages.Joining 200) 3000 10200 (off heard.Nothing 9)
         ≡ Some (record { stage = stages.HangingUp; since = 10200; why = Some reasons.NoConnection }, events.Failed reasons.NoConnection) }
     ensures talks { timed (call_in stages.Talking 360) 3000 3359 (off heard.Talk 350) ≡ None }
-    ensures hangs_up { timed (call_in stages.Talking 360) 3000 3360 (off heard.Talk 350) ≡ Some (call_in stages.HangingUp 3360, events.WentOn) }
+    ensures hangs_up { timed (call_in stages.Talking 360) 3000 3360 (off heard.Talk 350)
+        ≡ Some (call_in stages.HangingUp 3360, events.WentOn) }
     ensures long_talk { timed (call_in stages.Talking 360) 30000 10400 (off heard.Talk 350) ≡ None }
     ensures lifted { timed (call_in stages.HangingUp 900) 3000 10900 (off heard.Talk 350)
         ≡ Some (failed_in stages.HangingUp 900, events.Failed reasons.NoRest) }
@@ -125,7 +127,8 @@ pub fn keys_are_pressed()
 pub fn something_falls_due()
     ensures lifting { due_of 3000 (begun_at 3) ≡ Some 10003 }
     ensures dialling { due_of 3000 (call_in (stages.Dialling 2) 8) ≡ Some 208 }
-    ensures stages { map (λ stage. due_of 3000 (call_in stage 8)) (stages.Waiting ∷ stages.Answering ∷ stages.Joining ∷ stages.HangingUp ∷ stages.Clearing ∷ [])
+    ensures stages { map (λ stage. due_of 3000 (call_in stage 8))
+        (stages.Waiting ∷ stages.Answering ∷ stages.Joining ∷ stages.HangingUp ∷ stages.Clearing ∷ [])
         ≡ Some 10008 ∷ Some 10008 ∷ Some 10008 ∷ Some 10008 ∷ Some 10008 ∷ [] }
     ensures talking { due_of 3000 (call_in stages.Talking 8) ≡ Some 3008 }
     ensures failed { map (λ stage. due_of 3000 (failed_in stage 8)) (stages.HangingUp ∷ stages.Clearing ∷ []) ≡ None ∷ None ∷ [] }

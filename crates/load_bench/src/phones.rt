@@ -100,8 +100,8 @@ impl Phones {
         self.since = Some(self.since.unwrap_or(now));
     }
 
-    /// It answers now that it is this moment there, in ms. Which question that answers isn't known, but none that was asked before the first
-    /// one that it hasn't answered.
+    /// It answers now that it is this moment there, in ms. Which question that answers isn't known, but none that was asked before the
+    /// first one that it hasn't answered.
     pub(crate) fn compare(&mut self, moment: u64, now: u64) {
         if let Some(since) = self.since.take() {
             let offset = Offset::of(since, now, moment);
