@@ -36,7 +36,8 @@ fn tell_output(
     ensures number { result ≡ output_number_by (slice_get outputs.now index) (length buffer.old) }
     ensures output { IfSome (slice_get outputs.now index) (λ datagram. output.new ≡ output_of datagram) }
     ensures needed { IfSome (slice_get outputs.now index) (λ datagram. needed.new ≡ length datagram.bytes) }
-    ensures copied { result ≡ OK → IfSome (slice_get outputs.now index) (λ datagram. take (length datagram.bytes) buffer.new ≡ datagram.bytes) }
+    ensures copied { result ≡ OK → IfSome (slice_get outputs.now index) (λ datagram.
+        take (length datagram.bytes) buffer.new ≡ datagram.bytes) }
     ensures left { result ≢ OK → buffer.new ≡ buffer.old }
     ensures untold { slice_get outputs.now index ≡ None → output.new ≡ output.old }
     ensures unasked { slice_get outputs.now index ≡ None → needed.new ≡ needed.old }
