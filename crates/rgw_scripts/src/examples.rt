@@ -1,7 +1,7 @@
 //! Worked examples of the input, the script and what is printed, as theorems.
 #![tactic(auto, unfolding(crate::proofs::Computing::on_examples))]
 
-ghost use Rattle.std.specs.Prelude.{◌≡◌, ℕ, codes, pos, negsuc, true, false, [], ◌∷◌, Some, None, Ok, Err, replicate};
+ghost use Rattle.std.specs.Prelude.{◌≡◌, ℕ, codes, pos, negsuc, true, false, [], ◌∷◌, Some, None, Ok, Err, replicate, ◌++◌};
 ghost use Rattle.toml.specs.Data.{string, integer, boolean, array, table, no_items, item, no_members, member};
 ghost use Rattle.endpoint_names.specs.declared.route.Route.TheVariants.{Two, Three, Four};
 ghost use Rattle.mg_line.specs.declared.phone.Act.TheVariants as acts;
@@ -291,7 +291,9 @@ pub fn yet_more_sentences_have_examples()
         ≡ codes "line 1 off signals - connections - lost 0\n" }
     ensures shown { output_of
         (pass 1 ∷ give (datagram agent (codes "200 1 OK\r\n")) ∷ give (phone 1 acts.OffHook) ∷ ask 1 ∷ ask 16 ∷ [])
-        ≡ codes "> 1 127.0.0.1:2727\nRSIP 1 *@rgw.example.net MGCP 1.0\nRM: restart\n--\n> 1 127.0.0.1:2727\nNTFY 10000000 aaln/1@rgw.example.net MGCP 1.0\nX: 0\nO: L/hd\n--\nline 1 off signals - connections - lost 0\nline 16 on signals - connections - lost 0\n" }
+        ≡ codes "> 1 127.0.0.1:2727\nRSIP 1 *@rgw.example.net MGCP 1.0\nRM: restart\n--\n"
+        ++ codes "> 1 127.0.0.1:2727\nNTFY 10000000 aaln/1@rgw.example.net MGCP 1.0\nX: 0\nO: L/hd\n--\n"
+        ++ codes "line 1 off signals - connections - lost 0\nline 16 on signals - connections - lost 0\n" }
     ensures connected { told_after
         (creates 1 (codes "aaln/2") (codes "recvonly") ∷ creates 2 (codes "aaln/2") (codes "inactive") ∷ []) 2
         ≡ codes "line 2 on signals - connections 1:recvonly,2:inactive lost 0\n" }
