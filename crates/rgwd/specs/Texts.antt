@@ -20,14 +20,17 @@ unanswered_text address =
 unfoldable pub ending_text : About → FileNames → Ending → List ℕ
 ending_text about files (Common ending) = common_text about files ending
 ending_text about files Checked = []
-ending_text about files BadAgents = joined (codes "--agents: wanted any, or addresses, as 10.0.0.7,10.1.0.0/16, of which the first 16 bits count\n" ∷ [])
+ending_text about files BadAgents =
+    joined (codes "--agents: wanted any, or addresses, as 10.0.0.7,10.1.0.0/16, of which the first 16 bits count\n" ∷ [])
 ending_text about files BadHosts = joined (codes "--http-host: wanted names, as rgw.example.net,10.0.0.5, without a port\n" ∷ [])
 ending_text about files BadSize = codes "--capture-size: wanted 1 to " ++ decimal most_megabytes ++ codes " MB, beside --capture\n"
 ending_text about files BadFiles = codes "--capture-files: wanted 1 to " ++ decimal most_files ++ codes ", beside --capture-size\n"
-ending_text about files AnyAddress = joined (codes "--http: the page answers those who name its address, and nobody names 0.0.0.0: write one of this machine's, as 127.0.0.1:8080, or a name behind --http-host\n" ∷ [])
+ending_text about files AnyAddress =
+    joined (codes "--http: the page answers those who name its address, and nobody names 0.0.0.0: write one of this machine's, as 127.0.0.1:8080, or a name behind --http-host\n" ∷ [])
 ending_text about files BadFirst = codes "--first: wanted a number, 0 to " ++ decimal LAST_FIRST ++ codes "\n"
 ending_text about files BadSpread = codes "--spread: wanted 0 to " ++ decimal longest_spread ++ codes " ms\n"
-ending_text about files NoTimeOfDay = joined (codes "this machine has no time of day: --first N says with which number ids begin, another at each start\n" ∷ [])
+ending_text about files NoTimeOfDay =
+    joined (codes "this machine has no time of day: --first N says with which number ids begin, another at each start\n" ∷ [])
 ending_text about files Replayed = []
 ending_text about files Differs = []
 ending_text about files NoTrace = []
