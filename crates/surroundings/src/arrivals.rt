@@ -20,7 +20,8 @@ fn keep_copy(
     source: SocketAddrV4,
     bytes: &[u8],
 ) -> Result<(), AllocError>
-    ensures ok { OnOk result (received_in kept.new.items ≡ received_in kept.old.items ++ record { source = source; bytes = bytes.now } ∷ []) }
+    ensures ok { OnOk result (received_in kept.new.items
+        ≡ received_in kept.old.items ++ record { source = source; bytes = bytes.now } ∷ []) }
     ensures err { OnErr result (kept.new.items ≡ kept.old.items) }
 {
     let bytes = Vec::from_slice(alloc, bytes)?;
