@@ -17,6 +17,8 @@ tells_nothing text was is off same = inl (ap (λ (r : Record). r.state) same, rw
 pub tells_refusal : (text : List ℕ) (was is : Record) → is.state ≡ records.OutOfMemory → is.out.items ≡ [] → Tells text was is
 tells_refusal text was is state none = inr (state, none)
 
+pub ruleset telling = (tells_text, tells_nothing, tells_refusal)
+
 none_grown : (on : Bool) (were : List ℕ) → were ≡ (if on then were ++ [] else were)
 none_grown true were = sym (append-nil were)
 none_grown false were = refl

@@ -192,7 +192,7 @@ impl Journal {
     }
 
     /// Tells a line of these pieces.
-    #[tactic(auto, using(crate::proofs::TellingLemmas::tells_text, crate::proofs::TellingLemmas::tells_nothing, crate::proofs::TellingLemmas::tells_refusal))]
+    #[tactic(auto, using(crate::proofs::TellingLemmas::telling))]
     pub(crate) fn tell(&mut self, pieces: &[&[u8]])
         ensures tells { Tells (line_of_pieces pieces.now) self.old.told self.new.told }
         ensures rest { self.new ≡ record self.old { told = self.new.told } }
