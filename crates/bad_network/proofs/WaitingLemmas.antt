@@ -39,6 +39,8 @@ place_further due i items d within no_less =
 pub place_at_end : (due i : ℕ) (items : List Packet) → length items ≤ i → place_in due (drop i items) ≡ 0
 place_at_end due i items past = ap (place_in due) (drop_all i items past) ∙ nowhere due
 
+pub ruleset walking = (place_found, place_further, place_at_end)
+
 -- ---- one more
 
 pub put_permutes : (p : Packet) (waiting : List Packet) → IsPermutation (p ∷ waiting) (put_in p waiting)

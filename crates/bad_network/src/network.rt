@@ -25,7 +25,7 @@ pub struct BadNetwork {
 }
 
 // How many stand in front of the first that is due later than this.
-#[tactic(auto, using(crate::proofs::WaitingLemmas::place_found, crate::proofs::WaitingLemmas::place_further, crate::proofs::WaitingLemmas::place_at_end))]
+#[tactic(auto, using(crate::proofs::WaitingLemmas::walking))]
 fn place_in(waiting: &VecDeque<Packet>, due: u64) -> usize
     ensures place { result ≡ place_in due waiting.now.items }
     ensures within { result ≤ length waiting.now.items }
