@@ -11,3 +11,5 @@ size_is_some bits = pow_pos (32 - bits)
 
 pub size_is_few : (bits : ℕ) → 2 ^ (32 - bits) ≤ 2 ^ 32
 size_is_few bits = pow_mono {i = 32 - bits} {j = 32} (omega arith)
+
+pub ruleset sizes = (size_fits, size_is_some, size_is_few)

@@ -26,6 +26,8 @@ ends_empty text = (text, sym (append_nil text)) where
   append_nil [] = refl
   append_nil (x ∷ xs) = ap (λ (l : List ℕ). x ∷ l) (append_nil xs)
 
+pub ruleset endings = (ends_itself, ends_empty)
+
 pub ends_on : (text middle end : List ℕ) → EndsWith text middle → EndsWith middle end → EndsWith text end
 ends_on text middle end a b = (a.0 ++ b.0, a.1 ∙ ap (λ (l : List ℕ). a.0 ++ l) b.1 ∙ sym (append_assoc a.0 b.0 end))
 

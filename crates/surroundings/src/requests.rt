@@ -68,7 +68,7 @@ fn is_request(line: &[u8]) -> bool
 }
 
 // What is left of a text from the first line on that asks for something.
-#[tactic(auto, unfolding(crate::specs::Requests::requests_from), using(crate::proofs::TypingLemmas::ends_itself, crate::proofs::TypingLemmas::ends_empty))]
+#[tactic(auto, unfolding(crate::specs::Requests::requests_from), using(crate::proofs::TypingLemmas::endings))]
 pub(crate) fn from_request(text: &[u8]) -> &[u8]
     ensures pieces { cut result.now ≡ requests_from (cut text.now) }
     ensures end { EndsWith text.now result.now }

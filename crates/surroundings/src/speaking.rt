@@ -26,7 +26,7 @@ pub struct Speakers {
 }
 
 // How many addresses have so many of their first bits in common.
-#[tactic(auto, using(crate::proofs::SpeakingLemmas::size_fits, crate::proofs::SpeakingLemmas::size_is_some, crate::proofs::SpeakingLemmas::size_is_few))]
+#[tactic(auto, using(crate::proofs::SpeakingLemmas::sizes))]
 fn size_of(bits: u8) -> u64
     ensures value { result ≡ size_of bits }
     ensures some { 1 ≤ result }
