@@ -18,7 +18,8 @@ kind_of contents.Plain = codes "text/plain; charset=utf-8"
 -- the page may use its own style, script and questions, and stands in no other's frame (Content Security Policy, 3)
 unfoldable pub policy : List ℕ
 policy =
-    codes "default-src 'none'; style-src 'self'; script-src 'self'; connect-src 'self'; img-src data:; base-uri 'none'; form-action 'none'; frame-ancestors 'none'"
+    codes "default-src 'none'; style-src 'self'; script-src 'self'; connect-src 'self'; img-src data:; "
+    ++ codes "base-uri 'none'; form-action 'none'; frame-ancestors 'none'"
 
 -- the kind, which no browser guesses, of what none keeps
 abbrev pub kept_fields : Content → List Header
