@@ -248,12 +248,14 @@ module _ (setup : Setup) (set_up : IsSetUp setup) where
   of_own_turns : OwnTurns setup OnEndpoint OwnStands IsLines
   of_own_turns = record {
     free = λ own s. inr (λ serving other line endpoint stands. stands);
-    response = λ moment response own read s.
-        (record { sound = ((sound_own_turns setup set_up).response moment response own read s.sound).0; flight = (own_replied_of moment response own s).0 },
-        (own_replied_of moment response own s).1);
-    happening = λ due moment own s.
-        (record { sound = ((sound_own_turns setup set_up).happening due moment own s.sound).0; flight = (own_happened_of due moment own s).0 },
-        (own_happened_of due moment own s).1);
+    response = λ moment response own read s. (
+      record { sound = ((sound_own_turns setup set_up).response moment response own read s.sound).0; flight = (own_replied_of moment response own s).0 },
+      (own_replied_of moment response own s).1,
+    );
+    happening = λ due moment own s. (
+      record { sound = ((sound_own_turns setup set_up).happening due moment own s.sound).0; flight = (own_happened_of due moment own s).0 },
+      (own_happened_of due moment own s).1,
+    );
   }
 
   -- Texts and events

@@ -103,31 +103,31 @@ cut_from setup limit front [] taken low high = record {
 }
 cut_from setup limit front (step ∷ rest) taken low high =
     by_test (nat_le (now_in setup (plain_world setup (front ++ step ∷ []))) limit) refl (cut_from setup limit (front ++ step ∷ []) rest) where
-  order : (front ++ step ∷ []) ++ rest ≡ front ++ step ∷ rest
-  order = append_assoc front (step ∷ []) rest
+      order : (front ++ step ∷ []) ++ rest ≡ front ++ step ∷ rest
+      order = append_assoc front (step ∷ []) rest
 
-  taken_on : steps_are_taken setup world_opening ((front ++ step ∷ []) ++ rest) ≡ true
-  taken_on = subst (λ (s : List WorldStep). steps_are_taken setup world_opening s ≡ true) (sym order) taken
+      taken_on : steps_are_taken setup world_opening ((front ++ step ∷ []) ++ rest) ≡ true
+      taken_on = subst (λ (s : List WorldStep). steps_are_taken setup world_opening s ≡ true) (sym order) taken
 
-  Goes : Type 0
-  Goes =
-      steps_are_taken setup world_opening ((front ++ step ∷ []) ++ rest) ≡ true → now_in setup (plain_world setup (front ++ step ∷ [])) ≤ limit
-      → limit ≤ now_in setup (plain_world setup ((front ++ step ∷ []) ++ rest)) → Cut setup ((front ++ step ∷ []) ++ rest) limit
+      Goes : Type 0
+      Goes =
+          steps_are_taken setup world_opening ((front ++ step ∷ []) ++ rest) ≡ true → now_in setup (plain_world setup (front ++ step ∷ [])) ≤ limit
+          → limit ≤ now_in setup (plain_world setup ((front ++ step ∷ []) ++ rest)) → Cut setup ((front ++ step ∷ []) ++ rest) limit
 
-  by_test : (b : Bool) → nat_le (now_in setup (plain_world setup (front ++ step ∷ []))) limit ≡ b → Goes → Cut setup (front ++ step ∷ rest) limit
-  by_test true past on =
-      subst (λ (s : List WorldStep). Cut setup s limit) order
-      (on taken_on (leb-true (now_in setup (plain_world setup (front ++ step ∷ []))) limit past)
-      (subst (λ (s : List WorldStep). limit ≤ now_in setup (plain_world setup s)) (sym order) high))
-  by_test false beyond on = record {
-    front = front;
-    later = step ∷ rest;
-    order = refl;
-    low = low;
-    near = near_by limit (now_in setup (plain_world setup front)) (now_in setup (plain_world setup (front ++ step ∷ [])))
-        (leb-false (now_in setup (plain_world setup (front ++ step ∷ []))) limit beyond)
-        (step_soon setup front step (taken_front setup world_opening (front ++ step ∷ []) rest taken_on));
-  }
+      by_test : (b : Bool) → nat_le (now_in setup (plain_world setup (front ++ step ∷ []))) limit ≡ b → Goes → Cut setup (front ++ step ∷ rest) limit
+      by_test true past on =
+          subst (λ (s : List WorldStep). Cut setup s limit) order
+          (on taken_on (leb-true (now_in setup (plain_world setup (front ++ step ∷ []))) limit past)
+          (subst (λ (s : List WorldStep). limit ≤ now_in setup (plain_world setup s)) (sym order) high))
+      by_test false beyond on = record {
+        front = front;
+        later = step ∷ rest;
+        order = refl;
+        low = low;
+        near = near_by limit (now_in setup (plain_world setup front)) (now_in setup (plain_world setup (front ++ step ∷ [])))
+            (leb-false (now_in setup (plain_world setup (front ++ step ∷ []))) limit beyond)
+            (step_soon setup front step (taken_front setup world_opening (front ++ step ∷ []) rest taken_on));
+      }
 
 opening_now : (setup : Setup) (limit : ℕ) → now_in setup (plain_world setup []) ≤ limit
 unfolding world_after machine_after
@@ -145,34 +145,34 @@ handed_young setup before number post taken sent =
     by_test (nat_lt oldest_packet (now_in setup (plain_world setup before) - post.packet.moment)) refl
     (subst (λ (o : Option Posted). delivery_refusal o (now_in setup (plain_world setup before)) ≡ None) sent
     (taken_last setup world_opening before (delivering number) taken)) where
-  by_test : (b : Bool) → nat_lt oldest_packet (now_in setup (plain_world setup before) - post.packet.moment) ≡ b → (if b then Some packet_too_old else None) ≡ None
-      → now_in setup (plain_world setup before) ≤ post.packet.moment + oldest_packet
-  by_test true old none = absurd (none-some packet_too_old (sym none))
-  by_test false young none = young_by (now_in setup (plain_world setup before)) post.packet.moment young
+      by_test : (b : Bool) → nat_lt oldest_packet (now_in setup (plain_world setup before) - post.packet.moment) ≡ b → (if b then Some packet_too_old else None) ≡ None
+          → now_in setup (plain_world setup before) ≤ post.packet.moment + oldest_packet
+      by_test true old none = absurd (none-some packet_too_old (sym none))
+      by_test false young none = young_by (now_in setup (plain_world setup before)) post.packet.moment young
 
 pub of_stays : (setup : Setup) (some more : List WorldStep) (line : ℕ) (b : Begun) → IsOfLine setup (plain_world setup some) line b → IsOfLine setup (plain_world setup (some ++ more)) line b
 of_stays setup some more line b of =
     any_from_one (λ (one : Begun). one ≡ b) (begun_in (of_line line (sent_of setup (plain_world setup (some ++ more)).gateway_took)))
     (subst (OneOf (λ (one : Begun). one ≡ b)) (sym is)
     (one_before (λ (one : Begun). one ≡ b) (begun_in old) (begun_in (of_line line since)) (one_from_any (λ (one : Begun). one ≡ b) (begun_in old) of))) where
-  w : World
-  w = plain_world setup some
+      w : World
+      w = plain_world setup some
 
-  t : (events : List GatewayEvent) × ((world_after setup w more).gateway_took ≡ w.gateway_took ++ events)
-  t = took_more setup w more
+      t : (events : List GatewayEvent) × ((world_after setup w more).gateway_took ≡ w.gateway_took ++ events)
+      t = took_more setup w more
 
-  since : List Sent
-  since = sent_from setup (plain setup w.gateway_took) t.0
+      since : List Sent
+      since = sent_from setup (plain setup w.gateway_took) t.0
 
-  old : List Sent
-  old = of_line line (sent_of setup w.gateway_took)
+      old : List Sent
+      old = of_line line (sent_of setup w.gateway_took)
 
-  is : begun_in (of_line line (sent_of setup (plain_world setup (some ++ more)).gateway_took)) ≡ begun_in old ++ begun_in (of_line line since)
-  is =
-      ap (λ (x : World). begun_in (of_line line (sent_of setup x.gateway_took))) (steps_more setup world_opening some more)
-      ∙ ap (λ (x : List GatewayEvent). begun_in (of_line line (sent_of setup x))) t.1
-      ∙ ap (λ (x : List Sent). begun_in (of_line line x)) (sent_on setup (opening setup) w.gateway_took t.0)
-      ∙ ap begun_in (of_both line (sent_of setup w.gateway_took) since) ∙ begun_both old (of_line line since)
+      is : begun_in (of_line line (sent_of setup (plain_world setup (some ++ more)).gateway_took)) ≡ begun_in old ++ begun_in (of_line line since)
+      is =
+          ap (λ (x : World). begun_in (of_line line (sent_of setup x.gateway_took))) (steps_more setup world_opening some more)
+          ∙ ap (λ (x : List GatewayEvent). begun_in (of_line line (sent_of setup x))) t.1
+          ∙ ap (λ (x : List Sent). begun_in (of_line line x)) (sent_on setup (opening setup) w.gateway_took t.0)
+          ∙ ap begun_in (of_both line (sent_of setup w.gateway_took) since) ∙ begun_both old (of_line line since)
 
 -- The moments
 

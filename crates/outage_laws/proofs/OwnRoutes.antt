@@ -113,7 +113,6 @@ asks_still (Err code) setup endpoints moment id = silent_still endpoints
 asks_still (Ok (Reports target audit)) setup endpoints moment id = silent_still endpoints
 asks_still (Ok (Does target deed)) setup endpoints moment id = target_still setup endpoints target deed moment
 
-
 -- What the gateway itself does
 
 -- nobody but 521 redirects it

@@ -510,22 +510,22 @@ begun_here = refl
 pub is_of_line : IsOfLine two_lines (plain_world two_lines roomless) 1 (key_begun 4095)
 is_of_line =
     subst (λ (s : List WorldStep). IsOfLine two_lines (plain_world two_lines s) 1 (key_begun 4095)) (sym order_1) (of_stays two_lines s_1 _ 1 (key_begun 4095) here) where
-  sent : List Sent
-  sent = of_line 1 (sent_of two_lines w_0.gateway_took)
+      sent : List Sent
+      sent = of_line 1 (sent_of two_lines w_0.gateway_took)
 
-  is : begun_in (of_line 1 (sent_of two_lines (plain_world two_lines s_1).gateway_took)) ≡ begun_in sent ++ key_begun 4095 ∷ []
-  is =
-      ap (λ (x : World). begun_in (of_line 1 (sent_of two_lines x.gateway_took))) one_is
-      ∙ ap (λ (x : List Sent). begun_in (of_line 1 x)) (sent_more two_lines (opening two_lines) w_0.gateway_took key)
-      ∙ ap (λ (x : List Sent). begun_in (of_line 1 (sent_of two_lines w_0.gateway_took ++ x))) sent_one
-      ∙ ap begun_in (of_both 1 (sent_of two_lines w_0.gateway_took) (key_sent 4095 ∷ []))
-      ∙ begun_both sent (of_line 1 (key_sent 4095 ∷ []))
-      ∙ ap (λ (x : List Begun). begun_in sent ++ x) begun_here
+      is : begun_in (of_line 1 (sent_of two_lines (plain_world two_lines s_1).gateway_took)) ≡ begun_in sent ++ key_begun 4095 ∷ []
+      is =
+          ap (λ (x : World). begun_in (of_line 1 (sent_of two_lines x.gateway_took))) one_is
+          ∙ ap (λ (x : List Sent). begun_in (of_line 1 x)) (sent_more two_lines (opening two_lines) w_0.gateway_took key)
+          ∙ ap (λ (x : List Sent). begun_in (of_line 1 (sent_of two_lines w_0.gateway_took ++ x))) sent_one
+          ∙ ap begun_in (of_both 1 (sent_of two_lines w_0.gateway_took) (key_sent 4095 ∷ []))
+          ∙ begun_both sent (of_line 1 (key_sent 4095 ∷ []))
+          ∙ ap (λ (x : List Begun). begun_in sent ++ x) begun_here
 
-  here : IsOfLine two_lines (plain_world two_lines s_1) 1 (key_begun 4095)
-  here =
-      any_from_one (λ (one : Begun). one ≡ key_begun 4095) (begun_in (of_line 1 (sent_of two_lines (plain_world two_lines s_1).gateway_took)))
-      (subst (OneOf (λ (one : Begun). one ≡ key_begun 4095)) (sym is) (one_behind (λ (one : Begun). one ≡ key_begun 4095) (begun_in sent) (key_begun 4095 ∷ []) (inl refl)))
+      here : IsOfLine two_lines (plain_world two_lines s_1) 1 (key_begun 4095)
+      here =
+          any_from_one (λ (one : Begun). one ≡ key_begun 4095) (begun_in (of_line 1 (sent_of two_lines (plain_world two_lines s_1).gateway_took)))
+          (subst (OneOf (λ (one : Begun). one ≡ key_begun 4095)) (sym is) (one_behind (λ (one : Begun). one ≡ key_begun 4095) (begun_in sent) (key_begun 4095 ∷ []) (inl refl)))
 
 firsts_low : (entries : List Entry) → Each (IsLow (id_on 1 4095)) entries → Each (λ (first : KeptFirst). first.id < id_on 1 4095) (firsts_in entries)
 firsts_low [] low = tt
@@ -537,21 +537,21 @@ not_taken any =
     one_to (λ (one : Reached). (one.asked.id < id_on 1 4095) × (one.asked.id ≡ id_on 1 4095)) ⊥ (λ one both. clash one.asked.id (id_on 1 4095) both.0 both.1) (taken_in w)
     (one_of_each (λ (one : Reached). one.asked.id < id_on 1 4095) (λ (one : Reached). one.asked.id ≡ id_on 1 4095) (taken_in w) low
     (one_from_any (λ (one : Reached). one.asked.id ≡ id_on 1 4095) (taken_in w) any)) where
-  w : World
-  w = plain_world two_lines roomless
+      w : World
+      w = plain_world two_lines roomless
 
-  clash : (a b : ℕ) → a < b → a ≡ b → ⊥
-  clash a b less same = absurd (omega (arith, less, same))
+      clash : (a b : ℕ) → a < b → a ≡ b → ⊥
+      clash a b less same = absurd (omega (arith, less, same))
 
-  keys_low : Each (λ (k : ℕ × ℕ). k.0 < id_on 1 4095) (map key_kept (firsts_in (agent_in two_lines w).history))
-  keys_low =
-      each_mapped (λ (k : ℕ × ℕ). k.0 < id_on 1 4095) key_kept (firsts_in (agent_in two_lines w).history)
-      (subst (λ (h : List Entry). Each (λ (first : KeptFirst). first.id < id_on 1 4095) (firsts_in h)) (sym ends.kept) (firsts_low history_0 r.low))
+      keys_low : Each (λ (k : ℕ × ℕ). k.0 < id_on 1 4095) (map key_kept (firsts_in (agent_in two_lines w).history))
+      keys_low =
+          each_mapped (λ (k : ℕ × ℕ). k.0 < id_on 1 4095) key_kept (firsts_in (agent_in two_lines w).history)
+          (subst (λ (h : List Entry). Each (λ (first : KeptFirst). first.id < id_on 1 4095) (firsts_in h)) (sym ends.kept) (firsts_low history_0 r.low))
 
-  low : Each (λ (one : Reached). one.asked.id < id_on 1 4095) (taken_in w)
-  low =
-      each_unmapped (λ (k : ℕ × ℕ). k.0 < id_on 1 4095) key_reached (taken_in w)
-      (subst (Each (λ (k : ℕ × ℕ). k.0 < id_on 1 4095)) (agent_keys two_lines roomless two_lines_set_up ends.taken) keys_low)
+      low : Each (λ (one : Reached). one.asked.id < id_on 1 4095) (taken_in w)
+      low =
+          each_unmapped (λ (k : ℕ × ℕ). k.0 < id_on 1 4095) key_reached (taken_in w)
+          (subst (Each (λ (k : ℕ × ℕ). k.0 < id_on 1 4095)) (agent_keys two_lines roomless two_lines_set_up ends.taken) keys_low)
 
 pub not_answered : HasCome (plain_world two_lines roomless) (id_on 1 4095) → ⊥
 not_answered come = not_taken (come_taken two_lines two_lines_set_up roomless (id_on 1 4095) ends.taken come)

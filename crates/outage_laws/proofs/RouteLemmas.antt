@@ -32,12 +32,12 @@ among all place other there =
     (any_from_one (λ (b : SocketAddrV4). same_address a b ≡ true) all
     (one_weaker (λ (b : SocketAddrV4). b ≡ a) (λ (b : SocketAddrV4). same_address a b ≡ true)
     (λ b same. subst (λ (x : SocketAddrV4). same_address a x ≡ true) (sym same) (address_itself a)) all (by_case (one_or all place other)))) where
-  a : SocketAddrV4
-  a = slice_index_or all place other
+      a : SocketAddrV4
+      a = slice_index_or all place other
 
-  by_case : (slice_index_or all place other ≡ other) ⊎ IsIn (slice_index_or all place other) all → IsIn (slice_index_or all place other) all
-  by_case (inl same) = subst (λ (x : SocketAddrV4). IsIn x all) (sym same) there
-  by_case (inr is) = is
+      by_case : (slice_index_or all place other ≡ other) ⊎ IsIn (slice_index_or all place other) all → IsIn (slice_index_or all place other) all
+      by_case (inl same) = subst (λ (x : SocketAddrV4). IsIn x all) (sym same) there
+      by_case (inr is) = is
 
 pub at_among : (route : Route SocketAddrV4) (send : ℕ) → is_among route (at route send) ≡ true
 unfolding at

@@ -211,14 +211,18 @@ module _ (setup : Setup) where
   own_turns : OwnTurns setup OnEndpoint Anything (IsWithin most)
   own_turns = record {
     free = λ own any. inr (λ serving other line endpoint low. low);
-    response = λ moment response own read any.
-        (tt, all_from_each (IsWithin most) (replied_on setup 0 moment response own).sent
-        (own_within most (replied_on setup 0 moment response own).sent (replied_quiet setup moment response own)
-        (λ line. each_line 0 line (replied_on setup 0 moment response own).sent (own_responded_owned setup moment response own))));
-    happening = λ due moment own any.
-        (tt, all_from_each (IsWithin most) (happened_under due setup 0 moment own).sent
-        (own_within most (happened_under due setup 0 moment own).sent (happened_quiet setup due moment own)
-        (λ line. each_line 0 line (happened_under due setup 0 moment own).sent (own_happened_owned due setup moment own))));
+    response = λ moment response own read any. (
+      tt,
+      all_from_each (IsWithin most) (replied_on setup 0 moment response own).sent
+          (own_within most (replied_on setup 0 moment response own).sent (replied_quiet setup moment response own)
+          (λ line. each_line 0 line (replied_on setup 0 moment response own).sent (own_responded_owned setup moment response own))),
+    );
+    happening = λ due moment own any. (
+      tt,
+      all_from_each (IsWithin most) (happened_under due setup 0 moment own).sent
+          (own_within most (happened_under due setup 0 moment own).sent (happened_quiet setup due moment own)
+          (λ line. each_line 0 line (happened_under due setup 0 moment own).sent (own_happened_owned due setup moment own))),
+    );
   }
 
   abbrev AllStand : Machine → Type 0
