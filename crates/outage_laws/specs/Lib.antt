@@ -12,3 +12,4 @@ pub mod ToldLaterExample
 pub mod ToldSinceExample
 pub mod SinceThenExample
 pub mod Roomless
+pub mod SlowExample

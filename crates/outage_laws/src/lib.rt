@@ -6,6 +6,7 @@
 #![tactic(auto)]
 
 pub mod alone_laws;
+pub mod apart_examples;
 pub mod carrying_laws;
 pub mod examples;
 pub mod line_examples;
@@ -16,6 +17,7 @@ pub mod response_examples;
 pub mod response_laws;
 pub mod since_laws;
 pub mod since_then_examples;
+pub mod slow_examples;
 pub mod told_behind_examples;
 pub mod told_later_examples;
 pub mod told_later_laws;

@@ -1,0 +1,43 @@
+//! Worked examples of the laws of a line, and of a gateway, behind an outage over a slow network: worlds in which each premise holds, and
+//! the bound is met.
+#![tactic(auto, unfolding(crate::proofs::Computing::on_examples))]
+
+ghost use Rattle.std.specs.Prelude.{◌≡◌, ◌+◌, ◌*◌, true, false};
+ghost use Rattle.restart.specs.declared.restart.Restart.TheVariants.{Announced, Serving};
+ghost use Rattle.plain_machine.specs.Example.{two_lines};
+ghost use Rattle.plain_machine.specs.Machine.{serves};
+ghost use Rattle.machine_laws.specs.Saying.{Begun};
+ghost use Rattle.agent_core.specs.World.{gateway_in, now_in};
+ghost use Rattle.world_laws.specs.Example.{world};
+ghost use Rattle.delivery_laws.specs.Copies.{IsRun};
+ghost use Rattle.delivery_laws.specs.DialledExample.{endpoint_then};
+ghost use Rattle.delivery_laws.specs.Fairness.{GoesToAgent};
+ghost use Rattle.delivery_laws.specs.OwnChances.{IsOfLine};
+ghost use Rattle.outage_laws.specs.AfterOutage.{AgentHasRoomFrom, IsFairFrom, gap_of};
+ghost use Rattle.outage_laws.specs.SlowExample.{connected_slowly, serving_slowly, unconnected_slowly, unserved_slowly};
+
+/// A packet takes 2,000 ms, and the network is there again 1 ms behind the seventh send of a notification: the answer to the eighth comes
+/// as that is given up, and the line announces itself 5,000 ms later. It is answered 8,000 ms, that wait and twice 2,000 ms behind the
+/// moment at which the network was there again, and no sooner.
+pub fn a_line_has_its_agent_over_a_slow_network()
+    ensures run { IsRun two_lines connected_slowly }
+    ensures fair { IsFairFrom two_lines connected_slowly 15502 2000 }
+    ensures fair_not_before { ¬ IsFairFrom two_lines connected_slowly 15501 2000 }
+    ensures room { AgentHasRoomFrom two_lines connected_slowly 15502 }
+    ensures goes { (b : Begun) → IsOfLine two_lines (world connected_slowly) 1 b →
+        GoesToAgent two_lines (world connected_slowly) b.text }
+    ensures late { 15502 + gap_of 2000 + two_lines.disconnected_wait + 2 * 2000 ≡ now_in two_lines (world connected_slowly) + 1 }
+    ensures not_yet { (endpoint_then unconnected_slowly).post.restart ≡ Announced }
+    ensures connected { (endpoint_then connected_slowly).post.restart ≡ Serving }
+{}
+
+/// So it is of the gateway itself, which announces itself anew 1 ms later.
+pub fn a_gateway_serves_over_a_slow_network()
+    ensures run { IsRun two_lines serving_slowly }
+    ensures fair { IsFairFrom two_lines serving_slowly 15502 2000 }
+    ensures fair_not_before { ¬ IsFairFrom two_lines serving_slowly 15501 2000 }
+    ensures room { AgentHasRoomFrom two_lines serving_slowly 15502 }
+    ensures late { 15502 + gap_of 2000 + two_lines.restart_wait + 2 * 2000 ≡ now_in two_lines (world serving_slowly) + 1 }
+    ensures not_yet { serves (gateway_in two_lines (world unserved_slowly)).endpoints ≡ false }
+    ensures serving { serves (gateway_in two_lines (world serving_slowly)).endpoints ≡ true }
+{}
