@@ -5,3 +5,4 @@ pub mod Example
 pub mod WorldExample
 pub mod Premises
 pub mod WorldPremises
+pub mod WalkExample

@@ -9,4 +9,6 @@ pub mod examples;
 pub mod laws;
 pub mod premise_examples;
 pub mod premise_worlds;
+pub mod walk_examples;
+pub mod way_examples;
 pub mod world_examples;
