@@ -3,6 +3,7 @@
 //! It holds no code: each function has an empty body, and its clauses are the theorems.
 #![tactic(auto)]
 
+pub mod code_examples;
 pub mod examples;
 pub mod laws;
 pub mod premise_examples;
