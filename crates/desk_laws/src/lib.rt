@@ -5,4 +5,5 @@
 #![tactic(auto)]
 
 pub mod examples;
+pub mod happening_examples;
 pub mod laws;
