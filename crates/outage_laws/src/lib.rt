@@ -7,6 +7,7 @@
 
 pub mod alone_laws;
 pub mod apart_examples;
+pub mod carried_examples;
 pub mod carrying_laws;
 pub mod examples;
 pub mod line_examples;
