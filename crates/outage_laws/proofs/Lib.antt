@@ -49,6 +49,10 @@ pub mod OldestServes
 pub mod ServesByThen
 pub mod WellLaws
 pub mod ToldBehindLaws
+pub mod FewLemmas
+pub mod QuickFronts
+pub mod SlowQuarantines
+pub mod SlowTold
 pub mod HadTimeExamples
 pub mod LineTexts
 pub mod RouteLemmas

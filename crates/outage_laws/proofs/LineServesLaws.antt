@@ -15,7 +15,7 @@ use Rattle.plain_machine.specs.Setup.{IsSetUp}
 use Rattle.machine_laws.specs.Saying.{Begun, OneOf, begun_in}
 use Rattle.machine_laws.proofs.EachLemmas.{Each, any_from_one, one_before, one_from_any, one_of_each, one_to}
 use Rattle.machine_laws.proofs.LineLemmas.{place_of}
-use Rattle.agent_core.specs.World.{World, WorldStep, gateway_in, now_in, oldest_packet, plain_world, steps_are_taken, world_opening}
+use Rattle.agent_core.specs.World.{World, WorldStep, gateway_in, now_in, plain_world, steps_are_taken, world_opening}
 use Rattle.delivery_laws.specs.Chances.{chances, last_chance}
 use Rattle.delivery_laws.specs.Copies.{answer_wait}
 use Rattle.delivery_laws.specs.Fairness.{GoesToAgent}
@@ -31,7 +31,7 @@ use Rattle.outage_laws.proofs.LineBackLaws.{announced_answered, flight_answered,
 use Rattle.outage_laws.proofs.LineTrackLaws.{line_says, tracks_at}
 use Rattle.outage_laws.proofs.LineTracks.{Announces, Behind, Flies, FliesSo, IsGivenUp, LineTracks, TracksBy}
 use Rattle.outage_laws.proofs.NextSendLemmas.{IsNext, next_send}
-use Rattle.outage_laws.proofs.ServesLaws.{due_by, first_few, gap_late, in_time, one_of_chances}
+use Rattle.outage_laws.proofs.ServesLaws.{IsQuick, due_by, first_few, gap_late, in_time, one_of_chances}
 use Rattle.outage_laws.proofs.SinceLaws.{IsBackBehind, comes_behind}
 use Rattle.outage_laws.proofs.StretchLemmas.{IsLast, is_begun}
 
@@ -274,12 +274,12 @@ agent_is_there_by setup steps since within wait line endpoint set_up taken fair 
     (wait_is setup line (place_of (gateway_in setup (plain_world setup steps)).endpoints line endpoint at).0) late)
 
 pub agent_is_there : (setup : Setup) (steps : List WorldStep) (since within line : ℕ) (endpoint : Endpoint) → IsSetUp setup → steps_are_taken setup world_opening steps ≡ true
-    → within ≤ oldest_packet → IsFairFrom setup steps since within → AgentHasRoomFrom setup steps since → let w = plain_world setup steps in
+    → IsQuick within → IsFairFrom setup steps since within → AgentHasRoomFrom setup steps since → let w = plain_world setup steps in
     ((b : Begun) → IsOfLine setup w line b → GoesToAgent setup w b.text) → endpoint_at (gateway_in setup w).endpoints line ≡ Some endpoint
     → since + gap_of within + setup.disconnected_wait + 2 * within ≤ now_in setup w + 1 → endpoint.post.restart ≡ Serving
-agent_is_there setup steps since within line endpoint set_up taken young fair roomy reach at late =
+agent_is_there setup steps since within line endpoint set_up taken quick fair roomy reach at late =
     let last = last_in_time within 0 chances in
-    let is = in_time within 0 chances (first_few within young) in
+    let is = in_time within 0 chances (first_few within quick) in
     agent_is_there_by setup steps since within last line endpoint set_up taken fair roomy reach at
     (any_from_one (λ (one : ℕ). one ≡ last) chances (one_of_chances last is.among)) is.few
     (gap_late since within (now_in setup (plain_world setup steps)) setup.disconnected_wait last is.few late)

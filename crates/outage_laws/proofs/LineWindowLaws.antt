@@ -24,7 +24,7 @@ use Rattle.machine_laws.proofs.AnnouncementLaws.{serving_lasts}
 use Rattle.machine_laws.proofs.LineLemmas.{place_of}
 use Rattle.machine_laws.proofs.OwningLemmas.{of_both}
 use Rattle.machine_laws.proofs.WaitLaws.{opening_waits}
-use Rattle.agent_core.specs.World.{World, WorldStep, gateway_in, now_in, oldest_packet, plain_world, steps_are_taken, world_opening}
+use Rattle.agent_core.specs.World.{World, WorldStep, gateway_in, now_in, plain_world, steps_are_taken, world_opening}
 use Rattle.world_laws.proofs.WorldLaws.{gateway_alone}
 use Rattle.delivery_laws.specs.Chances.{chances}
 use Rattle.delivery_laws.specs.Copies.{answer_wait}
@@ -46,7 +46,7 @@ use Rattle.delivery_laws.proofs.WaitingTurns.{HasFlight, HasOnceServing, has_tur
 use Rattle.outage_laws.specs.AfterOutage.{AgentHasRoomFrom, IsFairFrom, gap_of, last_in_time}
 use Rattle.outage_laws.proofs.LineFrontLaws.{awaited_there, none_announced, none_said, serves_there, with_one}
 use Rattle.outage_laws.proofs.LineServesLaws.{wait_is}
-use Rattle.outage_laws.proofs.ServesLaws.{first_few, in_time, one_of_chances}
+use Rattle.outage_laws.proofs.ServesLaws.{IsQuick, first_few, in_time, one_of_chances}
 
 -- while a line of a gateway that serves waits, with nothing to announce, something is in flight
 has_flight : (setup : Setup) (line : ℕ) → 1 ≤ line → (events : List GatewayEvent) (s : Endpoint) → endpoint_at (plain setup events).endpoints line ≡ Some s → serves (plain setup events).endpoints ≡ true
@@ -242,7 +242,7 @@ module _ (setup : Setup) (steps : List WorldStep) (since within line : ℕ) (bef
 -- By the last send whose answer comes in time
 
 module _ (setup : Setup) (steps : List WorldStep) (since within line : ℕ) (before after : List GatewayEvent) (endpoint : Endpoint) (set_up : IsSetUp setup)
-    (taken : steps_are_taken setup world_opening steps ≡ true) (young : within ≤ oldest_packet) (fair : IsFairFrom setup steps since within) (roomy : AgentHasRoomFrom setup steps since)
+    (taken : steps_are_taken setup world_opening steps ≡ true) (quick : IsQuick within) (fair : IsFairFrom setup steps since within) (roomy : AgentHasRoomFrom setup steps since)
     (reach : (b : Begun) → IsOfLine setup (plain_world setup steps) line b → GoesToAgent setup (plain_world setup steps) b.text)
     (took : (plain_world setup steps).gateway_took ≡ before ++ after) (serving : serves (plain setup before).endpoints ≡ true)
     (there : endpoint_at (gateway_in setup (plain_world setup steps)).endpoints line ≡ Some endpoint)
@@ -251,10 +251,10 @@ module _ (setup : Setup) (steps : List WorldStep) (since within line : ℕ) (bef
   last_wait = last_in_time within 0 chances
 
   among : OneOf (λ (one : ℕ). one ≡ last_wait) chances
-  among = one_of_chances last_wait (in_time within 0 chances (first_few within young)).among
+  among = one_of_chances last_wait (in_time within 0 chances (first_few within quick)).among
 
   few : last_wait + 2 * within < answer_wait
-  few = (in_time within 0 chances (first_few within young)).few
+  few = (in_time within 0 chances (first_few within quick)).few
 
   bound_so : since + answer_wait + setup.disconnected_wait + 2 * within ≤ (plain setup before).now + last_wait
   bound_so = gap_front since within setup.disconnected_wait (plain setup before).now last_wait few late

@@ -91,7 +91,7 @@ at_end limit now high = omega (arith, high)
 near_by : (limit now next : ℕ) → limit < next → next ≤ now + 1000 → limit ≤ now + 1000
 near_by limit now next less soon = omega (arith, less, soon)
 
-cut_from : (setup : Setup) (limit : ℕ) (front rest : List WorldStep) → steps_are_taken setup world_opening (front ++ rest) ≡ true → now_in setup (plain_world setup front) ≤ limit
+pub cut_from : (setup : Setup) (limit : ℕ) (front rest : List WorldStep) → steps_are_taken setup world_opening (front ++ rest) ≡ true → now_in setup (plain_world setup front) ≤ limit
     → limit ≤ now_in setup (plain_world setup (front ++ rest)) → Cut setup (front ++ rest) limit
 cut_from setup limit front [] taken low high = record {
   front = front;
@@ -129,7 +129,7 @@ cut_from setup limit front (step ∷ rest) taken low high =
             (step_soon setup front step (taken_front setup world_opening (front ++ step ∷ []) rest taken_on));
       }
 
-opening_now : (setup : Setup) (limit : ℕ) → now_in setup (plain_world setup []) ≤ limit
+pub opening_now : (setup : Setup) (limit : ℕ) → now_in setup (plain_world setup []) ≤ limit
 unfolding world_after machine_after
 opening_now setup limit = omega arith
 
@@ -138,7 +138,7 @@ opening_now setup limit = omega arith
 young_by : (now moment : ℕ) → nat_lt oldest_packet (now - moment) ≡ false → now ≤ moment + oldest_packet
 young_by now moment is = (let low : now - moment ≤ oldest_packet = ltb-false oldest_packet (now - moment) is in omega (arith, low))
 
-handed_young : (setup : Setup) (before : List WorldStep) (number : ℕ) (post : Posted) → steps_are_taken setup world_opening (before ++ delivering number ∷ []) ≡ true
+pub handed_young : (setup : Setup) (before : List WorldStep) (number : ℕ) (post : Posted) → steps_are_taken setup world_opening (before ++ delivering number ∷ []) ≡ true
     → slice_get (plain_world setup before).posted number ≡ Some post → now_in setup (plain_world setup before) ≤ post.packet.moment + oldest_packet
 unfolding step_refusal
 handed_young setup before number post taken sent =

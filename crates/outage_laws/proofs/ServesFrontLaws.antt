@@ -7,7 +7,7 @@ use Rattle.plain_machine.specs.Machine.{serves}
 use Rattle.plain_machine.specs.Setup.{IsSetUp}
 use Rattle.machine_laws.specs.Saying.{Begun, OneOf}
 use Rattle.machine_laws.proofs.EachLemmas.{one_of_each, one_to}
-use Rattle.agent_core.specs.World.{WorldStep, gateway_in, now_in, oldest_packet, plain_world, steps_are_taken, world_opening}
+use Rattle.agent_core.specs.World.{WorldStep, gateway_in, now_in, plain_world, steps_are_taken, world_opening}
 use Rattle.delivery_laws.specs.Chances.{chances, last_chance}
 use Rattle.delivery_laws.specs.Copies.{answer_wait}
 use Rattle.delivery_laws.specs.Fairness.{GoesToAgent}
@@ -18,7 +18,7 @@ use Rattle.delivery_laws.proofs.StepLemmas.{taken_front}
 use Rattle.outage_laws.specs.AfterOutage.{AgentHasRoomFrom, IsFairFrom, gap_of, last_in_time}
 use Rattle.outage_laws.proofs.FirstServes.{fair_on, first_serves_so, roomy_on}
 use Rattle.outage_laws.proofs.LineFrontLaws.{back}
-use Rattle.outage_laws.proofs.ServesLaws.{IsInTime, first_few, in_time, one_of_chances, serves_so}
+use Rattle.outage_laws.proofs.ServesLaws.{IsInTime, IsQuick, first_few, in_time, one_of_chances, serves_so}
 
 gap_behind : (since within restart before now last : ℕ) → last + 2 * within < answer_wait → since + (answer_wait - last) + restart + 2 * within ≤ before → before ≡ now
     → since + answer_wait + restart + 2 * within + 1 ≤ now + 1 + last
@@ -36,11 +36,8 @@ serves_at_front setup first later since within wait set_up taken some fair roomy
 first_behind : (within restart before now last : ℕ) → last ≤ last_chance → 0 + (answer_wait - last) + restart + 2 * within ≤ before → before ≡ now → restart + 500 + 2 * within + 1 ≤ now
 first_behind within restart before now last low late same = omega (arith, low, late, same)
 
-next_few : (within : ℕ) → within ≤ oldest_packet → 500 + 2 * within < answer_wait
-next_few within young = omega (arith, young)
-
 module _ (setup : Setup) (steps : List WorldStep) (within : ℕ) (before after : List GatewayEvent) (set_up : IsSetUp setup) (taken : steps_are_taken setup world_opening steps ≡ true)
-    (young : within ≤ oldest_packet) (reach : (b : Begun) → IsOfLine setup (plain_world setup steps) 0 b → GoesToAgent setup (plain_world setup steps) b.text)
+    (quick : IsQuick within) (reach : (b : Begun) → IsOfLine setup (plain_world setup steps) 0 b → GoesToAgent setup (plain_world setup steps) b.text)
     (took : (plain_world setup steps).gateway_took ≡ before ++ after) where
   t : TookThem setup world_opening steps before
   t = took_them setup steps before after took
@@ -49,7 +46,7 @@ module _ (setup : Setup) (steps : List WorldStep) (within : ℕ) (before after :
   last = last_in_time within 0 chances
 
   is : IsInTime within 0 chances last
-  is = in_time within 0 chances (first_few within young)
+  is = in_time within 0 chances (first_few within quick)
 
   low : last ≤ last_chance
   low =
@@ -76,7 +73,7 @@ module _ (setup : Setup) (steps : List WorldStep) (within : ℕ) (before after :
       at_front (first_serves_so setup t.first within 1 set_up (taken_front setup world_opening t.first t.later whole_taken)
       (λ b one of past twice told.
       (back setup t.first t.later 1 within 0 set_up whole_taken (fair_on setup (t.first ++ t.later) within fair_whole) (roomy_on setup (t.first ++ t.later) roomy_whole) reach_whole b one of
-      past twice told).is) (next_few within young) (omega arith)
+      past twice told).is) quick (omega arith)
       (first_behind within setup.restart_wait (plain setup before).now (now_in setup (plain_world setup t.first)) last low late same))
   serves_before (suc since) fair roomy late =
       at_front (serves_at_front setup t.first t.later (suc since) within last set_up whole_taken (omega arith)

@@ -354,5 +354,13 @@ one_of_chances last (inr there) = there
 pub gap_late : (since within now restart last : ℕ) → last + 2 * within < answer_wait → since + (answer_wait - last) + restart + 2 * within ≤ now + 1 → since + answer_wait + restart + 2 * within ≤ now + 1 + last
 gap_late since within now restart last few late = omega (arith, few, late)
 
-pub first_few : (within : ℕ) → within ≤ oldest_packet → 0 + 2 * within < answer_wait
-first_few within young = omega (arith, young)
+-- An answer to the second send of a command comes in time, where the network takes that long there, and as long back; so one to the first.
+
+abbrev pub IsQuick : ℕ → Type 0
+IsQuick within = 500 + 2 * within < answer_wait
+
+pub young_quick : (within : ℕ) → within ≤ oldest_packet → IsQuick within
+young_quick within young = omega (arith, young)
+
+pub first_few : (within : ℕ) → IsQuick within → 0 + 2 * within < answer_wait
+first_few within quick = (let few : 500 + 2 * within < answer_wait = quick in omega (arith, few))

@@ -11,7 +11,7 @@ use Rattle.plain_machine.specs.Setup.{IsSetUp}
 use Rattle.machine_laws.specs.Belonging.{of_line}
 use Rattle.machine_laws.specs.Saying.{Begun, HasNumbersLeft}
 use Rattle.machine_laws.proofs.LineLemmas.{place_of}
-use Rattle.agent_core.specs.World.{World, WorldStep, gateway_in, now_in, oldest_packet, plain_world, steps_are_taken, world_after, world_opening}
+use Rattle.agent_core.specs.World.{World, WorldStep, gateway_in, now_in, plain_world, steps_are_taken, world_after, world_opening}
 use Rattle.world_laws.specs.Reached.{own_in}
 use Rattle.delivery_laws.specs.Course.{course_from}
 use Rattle.delivery_laws.specs.Dialled.{done_in}
@@ -31,6 +31,7 @@ use Rattle.outage_laws.proofs.CalmStretches.{calm_back}
 use Rattle.outage_laws.proofs.FairStretchLaws.{fair_all_from, fair_told_from}
 use Rattle.outage_laws.proofs.LineWindowLaws.{calm_behind, serving_behind, since_behind}
 use Rattle.outage_laws.proofs.ServesFrontLaws.{serves_before}
+use Rattle.outage_laws.proofs.ServesLaws.{IsQuick}
 use Rattle.outage_laws.proofs.WellLaws.{both_waits, shorter}
 
 early : (since gap longer within before : ℕ) → since + gap + longer + 2 * within ≤ before → since + 2 * within ≤ before
@@ -39,7 +40,7 @@ early since gap longer within before late = omega (arith, late)
 module _ (setup : Setup) (line : ℕ) (first pause stretch : List WorldStep) (was is : Endpoint) (set_up : IsSetUp setup)
     (taken : steps_are_taken setup world_opening ((first ++ pause) ++ stretch) ≡ true)
     (at_was : endpoint_at (gateway_in setup (plain_world setup (first ++ pause))).endpoints line ≡ Some was)
-    (at_is : endpoint_at (gateway_in setup (plain_world setup ((first ++ pause) ++ stretch))).endpoints line ≡ Some is) (since within : ℕ) (young : within ≤ oldest_packet)
+    (at_is : endpoint_at (gateway_in setup (plain_world setup ((first ++ pause) ++ stretch))).endpoints line ≡ Some is) (since within : ℕ) (quick : IsQuick within)
     (fair : IsFairFrom setup ((first ++ pause) ++ stretch) since within) (roomy : AgentHasRoomFrom setup ((first ++ pause) ++ stretch) since)
     (reach : (line : ℕ) (b : Begun) → IsOfLine setup (plain_world setup ((first ++ pause) ++ stretch)) line b
     → GoesToAgent setup (plain_world setup ((first ++ pause) ++ stretch)) b.text)
@@ -86,7 +87,7 @@ module _ (setup : Setup) (line : ℕ) (first pause stretch : List WorldStep) (wa
 
   serving : serves (plain setup v.gateway_took).endpoints ≡ true
   serving =
-      serves_before setup all within v.gateway_took behind set_up taken young (reach 0) took since fair roomy
+      serves_before setup all within v.gateway_took behind set_up taken quick (reach 0) took since fair roomy
       (shorter since (gap_of within) setup.restart_wait (longer_wait setup) within (now_in setup v) (both_waits setup.restart_wait setup.disconnected_wait).0 late)
 
   line_late : since + gap_of within + setup.disconnected_wait + 2 * within ≤ (plain setup v.gateway_took).now
@@ -95,12 +96,12 @@ module _ (setup : Setup) (line : ℕ) (first pause stretch : List WorldStep) (wa
   serves_so : (some more : List GatewayEvent) (s : Endpoint) → behind ≡ some ++ more → endpoint_at (plain setup (v.gateway_took ++ some)).endpoints line ≡ Some s
       → is_serving s.post.restart ≡ true
   serves_so some more s order at =
-      serving_behind setup all since within line v.gateway_took behind is set_up taken young fair roomy (reach line) took serving at_is line_late some more s order at
+      serving_behind setup all since within line v.gateway_took behind is set_up taken quick fair roomy (reach line) took serving at_is line_late some more s order at
 
   calm_so : (some more : List GatewayEvent) (s : Endpoint) → behind ≡ some ++ more → endpoint_at (plain setup (v.gateway_took ++ some)).endpoints line ≡ Some s
       → has_given_up (of_line line (sent_from setup (plain setup v.gateway_took) some)) s.post ≡ false
   calm_so some more s order at =
-      calm_behind setup all since within line v.gateway_took behind is set_up taken young fair roomy (reach line) took serving at_is line_late some more s order at
+      calm_behind setup all since within line v.gateway_took behind is set_up taken quick fair roomy (reach line) took serving at_is line_late some more s order at
 
   was_at : endpoint_at (plain setup (v.gateway_took ++ paused)).endpoints line ≡ Some was
   was_at = subst (λ (x : List GatewayEvent). endpoint_at (plain setup x).endpoints line ≡ Some was) up_took at_was
@@ -141,7 +142,7 @@ module _ (setup : Setup) (line : ℕ) (first pause stretch : List WorldStep) (wa
 
   began : FlightsBeganSince setup line (u.gateway_took ++ front) later since
   began some more s order at =
-      since_behind setup all since within line v.gateway_took behind is set_up taken young fair roomy (reach line) took serving at_is line_late since
+      since_behind setup all since within line v.gateway_took behind is set_up taken quick fair roomy (reach line) took serving at_is line_late since
       (early since (gap_of within) (longer_wait setup) within (now_in setup v) late) ((paused ++ front) ++ some) more s (parts some more order)
       (subst (λ (x : List GatewayEvent). endpoint_at (plain setup x).endpoints line ≡ Some s) (places some) at)
 

@@ -10,7 +10,7 @@ use Rattle.plain_machine.specs.Machine.{endpoint_at, serves}
 use Rattle.plain_machine.specs.Setup.{IsSetUp}
 use Rattle.machine_laws.specs.Saying.{Begun}
 use Rattle.machine_laws.proofs.EachLemmas.{one_of_each, one_to}
-use Rattle.agent_core.specs.World.{World, WorldStep, gateway_in, now_in, oldest_packet, plain_world, steps_are_taken, world_opening}
+use Rattle.agent_core.specs.World.{World, WorldStep, gateway_in, now_in, plain_world, steps_are_taken, world_opening}
 use Rattle.delivery_laws.specs.Chances.{chances, last_chance}
 use Rattle.delivery_laws.specs.Copies.{answer_wait}
 use Rattle.delivery_laws.specs.Course.{course_from}
@@ -26,7 +26,7 @@ use Rattle.outage_laws.proofs.LineServesLaws.{agent_is_there}
 use Rattle.outage_laws.proofs.LineWindowLaws.{answered_behind, out_behind, rests_behind}
 use Rattle.outage_laws.proofs.ServesFrontLaws.{serves_before}
 use Rattle.outage_laws.proofs.ServesByThen.{serves_behind_the_last}
-use Rattle.outage_laws.proofs.ServesLaws.{first_few, in_time, one_of_chances}
+use Rattle.outage_laws.proofs.ServesLaws.{IsQuick, first_few, in_time, one_of_chances}
 use Rattle.outage_laws.proofs.SinceLaws.{answered_since, taken_since}
 
 -- Numbers
@@ -41,12 +41,12 @@ pub shorter : (since gap wait longer within now : ℕ) → wait ≤ longer → s
 shorter since gap wait longer within now less late = omega (arith, less, late)
 
 -- a command is given up a longest pause behind one of its sends at least
-gap_low : (within : ℕ) → within ≤ oldest_packet → longest_pause ≤ gap_of within
-gap_low within young = by_last (last_in_time within 0 chances) low where
+gap_low : (within : ℕ) → IsQuick within → longest_pause ≤ gap_of within
+gap_low within quick = by_last (last_in_time within 0 chances) low where
   low : last_in_time within 0 chances ≤ last_chance
   low =
       let last = last_in_time within 0 chances in
-      let is = in_time within 0 chances (first_few within young) in
+      let is = in_time within 0 chances (first_few within quick) in
       one_to (λ (one : ℕ). (one ≤ last_chance) × (one ≡ last)) (last ≤ last_chance) (λ one both. subst (λ (n : ℕ). n ≤ last_chance) both.1 both.0) chances
       (one_of_each (λ (one : ℕ). one ≤ last_chance) (λ (one : ℕ). one ≡ last) chances chances_low (one_of_chances last is.among))
 
@@ -63,7 +63,7 @@ half_ago : (first within now : ℕ) → first + 2 * within ≤ now → first + w
 half_ago first within now late = omega (arith, late)
 
 module _ (setup : Setup) (steps : List WorldStep) (since within : ℕ) (set_up : IsSetUp setup) (taken : steps_are_taken setup world_opening steps ≡ true)
-    (young : within ≤ oldest_packet) (fair : IsFairFrom setup steps since within) (roomy : AgentHasRoomFrom setup steps since)
+    (quick : IsQuick within) (fair : IsFairFrom setup steps since within) (roomy : AgentHasRoomFrom setup steps since)
     (reach : (line : ℕ) (b : Begun) → IsOfLine setup (plain_world setup steps) line b → GoesToAgent setup (plain_world setup steps) b.text) where
   abbrev w : World
   w = plain_world setup steps
@@ -73,7 +73,7 @@ module _ (setup : Setup) (steps : List WorldStep) (since within : ℕ) (set_up :
 
   module _ (late : well_by setup since within ≤ now + 1) where
     paused : since + longest_pause + 2 * within ≤ now + 1
-    paused = by_pause since (gap_of within) (longer_wait setup) within now (gap_low within young) late
+    paused = by_pause since (gap_of within) (longer_wait setup) within now (gap_low within quick) late
 
     line_done : (line : ℕ) (endpoint : Endpoint) (b : Begun) → endpoint_at (gateway_in setup w).endpoints line ≡ Some endpoint → IsOfLine setup w line b → since ≤ b.moment + last_chance
         → b.moment + 2 * within ≤ now → IsDone w b.id
@@ -95,7 +95,7 @@ module _ (setup : Setup) (steps : List WorldStep) (since within : ℕ) (set_up :
       serving = serves_behind_the_last setup steps within set_up taken (reach 0) since fair roomy
           (shorter since (gap_of within) setup.restart_wait (longer_wait setup) within (now + 1) (both_waits setup.restart_wait setup.disconnected_wait).0 late);
       lines = λ line endpoint at.
-          agent_is_there setup steps since within line endpoint set_up taken young fair roomy (reach line) at
+          agent_is_there setup steps since within line endpoint set_up taken quick fair roomy (reach line) at
           (shorter since (gap_of within) setup.disconnected_wait (longer_wait setup) within (now + 1) (both_waits setup.restart_wait setup.disconnected_wait).1 late);
       commands = line_done;
       announcements = own_done;
@@ -105,7 +105,7 @@ module _ (setup : Setup) (steps : List WorldStep) (since within : ℕ) (set_up :
       (there : endpoint_at (gateway_in setup w).endpoints line ≡ Some endpoint) (late : well_by setup since within ≤ (plain setup before).now) where
     serving : serves (plain setup before).endpoints ≡ true
     serving =
-        serves_before setup steps within before after set_up taken young (reach 0) took since fair roomy
+        serves_before setup steps within before after set_up taken quick (reach 0) took since fair roomy
         (shorter since (gap_of within) setup.restart_wait (longer_wait setup) within (plain setup before).now (both_waits setup.restart_wait setup.disconnected_wait).0 late)
 
     line_late : since + gap_of within + setup.disconnected_wait + 2 * within ≤ (plain setup before).now
@@ -113,13 +113,13 @@ module _ (setup : Setup) (steps : List WorldStep) (since within : ℕ) (set_up :
         shorter since (gap_of within) setup.disconnected_wait (longer_wait setup) within (plain setup before).now (both_waits setup.restart_wait setup.disconnected_wait).1 late
 
     pub well_answered : IsAnsweredWithin setup line before after (2 * within)
-    well_answered = answered_behind setup steps since within line before after endpoint set_up taken young fair roomy (reach line) took serving there line_late
+    well_answered = answered_behind setup steps since within line before after endpoint set_up taken quick fair roomy (reach line) took serving there line_late
 
     module _ (was : Endpoint) (asking : ℕ) (at : endpoint_at (plain setup before).endpoints line ≡ Some was) (asked : IsAskedWithin setup line before after asking)
         (last : (plain setup before).now + rounds_take (length was.line.quarantined.events) (2 * within) asking < now) where
       pub well_out : length (of_telephone endpoint.line.quarantined.events) ≤ length (done_in (course_from setup (plain setup before) line after))
-      well_out = out_behind setup steps since within line before after endpoint set_up taken young fair roomy (reach line) took serving there line_late was asking at asked last
+      well_out = out_behind setup steps since within line before after endpoint set_up taken quick fair roomy (reach line) took serving there line_late was asking at asked last
 
       pub well_rests : done_in (course_from setup (plain setup before) line after) ≡ [] → of_telephone endpoint.line.quarantined.events ≡ []
       well_rests rests =
-          rests_behind setup steps since within line before after endpoint set_up taken young fair roomy (reach line) took serving there line_late was asking at asked last rests
+          rests_behind setup steps since within line before after endpoint set_up taken quick fair roomy (reach line) took serving there line_late was asking at asked last rests

@@ -35,9 +35,10 @@ pub fn a_line_has_its_agent_again_after_an_outage()
         since + answer_wait + setup.disconnected_wait + 2 * within ≤ now_in setup w + 1 + wait → endpoint.post.restart ≡ Serving }
 {}
 
-/// From then on a line of a gateway that serves waits for the answer to its command for twice the time of the network at most; so where it
-/// isn't left without a request for longer than so many ms either, after as many rounds of both as there were events in its quarantine
-/// no more of them is quarantined than its telephone did since, and nothing that it did where it rests (RFC 3435, 3.5 and 4.4.1).
+/// From then on a line of a gateway that serves waits for the answer to its command for twice the time of the network at most, where that
+/// time isn't longer than a packet lasts. And however long the network takes: where the line isn't left without a request for longer than
+/// so many ms, after as many rounds of both as there were events in its quarantine no more of them is quarantined than its telephone did
+/// since, and nothing that it did where it rests (RFC 3435, 3.5 and 4.4.1).
 pub fn a_quarantine_is_out_after_an_outage()
     ensures answered { (setup : Setup) (steps : List WorldStep) (since within line : ℕ) (before after : List GatewayEvent)
         (endpoint : Endpoint) → IsRun setup steps → within ≤ oldest_packet → IsFairFrom setup steps since within →
@@ -47,7 +48,7 @@ pub fn a_quarantine_is_out_after_an_outage()
         since + gap_of within + setup.disconnected_wait + 2 * within ≤ (plain setup before).now →
         IsAnsweredWithin setup line before after (2 * within) }
     ensures out { (setup : Setup) (steps : List WorldStep) (since within line asking : ℕ) (before after : List GatewayEvent)
-        (was endpoint : Endpoint) → IsRun setup steps → within ≤ oldest_packet → IsFairFrom setup steps since within →
+        (was endpoint : Endpoint) → IsRun setup steps → IsFairFrom setup steps since within →
         AgentHasRoomFrom setup steps since → let w = plain_world setup steps in
         ((b : Begun) → IsOfLine setup w line b → GoesToAgent setup w b.text) → w.gateway_took ≡ before ++ after →
         serves (plain setup before).endpoints ≡ true → endpoint_at (plain setup before).endpoints line ≡ Some was →
@@ -57,7 +58,7 @@ pub fn a_quarantine_is_out_after_an_outage()
         (plain setup before).now + rounds_take (length was.line.quarantined.events) (2 * within) asking < now_in setup w →
         length (of_telephone endpoint.line.quarantined.events) ≤ length (done_in (course_from setup (plain setup before) line after)) }
     ensures rests { (setup : Setup) (steps : List WorldStep) (since within line asking : ℕ) (before after : List GatewayEvent)
-        (was endpoint : Endpoint) → IsRun setup steps → within ≤ oldest_packet → IsFairFrom setup steps since within →
+        (was endpoint : Endpoint) → IsRun setup steps → IsFairFrom setup steps since within →
         AgentHasRoomFrom setup steps since → let w = plain_world setup steps in
         ((b : Begun) → IsOfLine setup w line b → GoesToAgent setup w b.text) → w.gateway_took ≡ before ++ after →
         serves (plain setup before).endpoints ≡ true → endpoint_at (plain setup before).endpoints line ≡ Some was →

@@ -20,9 +20,10 @@ ghost use Rattle.outage_laws.specs.AfterOutage.{AgentHasRoomFrom, IsFairFrom, Is
 ghost use Rattle.outage_laws.specs.ToldSince.{IsAskedForAllSince, IsToldFrom};
 
 /// Behind an outage of any length all is well by then: the gateway serves, each line has its agent, and each command of them is done. From
-/// 1 ms later on a line waits for the answer to its command for twice the time of the network at most; so where it isn't left without a
-/// request for longer than so many ms either, after as many rounds of both as there were events in its quarantine no more of them is
-/// quarantined than its telephone did since, and nothing that it did where it rests (RFC 3435, 3.5, 4.3 and 4.4).
+/// 1 ms later on a line waits for the answer to its command for twice the time of the network at most. And however long the network takes:
+/// where a line isn't left without a request for longer than so many ms, after as many rounds of both as there were events in its
+/// quarantine no more of them is quarantined than its telephone did since, and nothing that it did where it rests (RFC 3435, 3.5, 4.3 and
+/// 4.4).
 pub fn all_is_well_after_an_outage()
     ensures well { (setup : Setup) (steps : List WorldStep) (since within : ℕ) → IsRun setup steps → within ≤ oldest_packet →
         IsFairFrom setup steps since within → AgentHasRoomFrom setup steps since →
@@ -35,7 +36,7 @@ pub fn all_is_well_after_an_outage()
         endpoint_at (gateway_in setup w).endpoints line ≡ Some endpoint → well_by setup since within ≤ (plain setup before).now →
         IsAnsweredWithin setup line before after (2 * within) }
     ensures out { (setup : Setup) (steps : List WorldStep) (since within line asking : ℕ) (before after : List GatewayEvent)
-        (was endpoint : Endpoint) → IsRun setup steps → within ≤ oldest_packet → IsFairFrom setup steps since within →
+        (was endpoint : Endpoint) → IsRun setup steps → IsFairFrom setup steps since within →
         AgentHasRoomFrom setup steps since → let w = plain_world setup steps in
         ((line : ℕ) (b : Begun) → IsOfLine setup w line b → GoesToAgent setup w b.text) → w.gateway_took ≡ before ++ after →
         endpoint_at (plain setup before).endpoints line ≡ Some was → endpoint_at (gateway_in setup w).endpoints line ≡ Some endpoint →
@@ -43,7 +44,7 @@ pub fn all_is_well_after_an_outage()
         (plain setup before).now + rounds_take (length was.line.quarantined.events) (2 * within) asking < now_in setup w →
         length (of_telephone endpoint.line.quarantined.events) ≤ length (done_in (course_from setup (plain setup before) line after)) }
     ensures rests { (setup : Setup) (steps : List WorldStep) (since within line asking : ℕ) (before after : List GatewayEvent)
-        (was endpoint : Endpoint) → IsRun setup steps → within ≤ oldest_packet → IsFairFrom setup steps since within →
+        (was endpoint : Endpoint) → IsRun setup steps → IsFairFrom setup steps since within →
         AgentHasRoomFrom setup steps since → let w = plain_world setup steps in
         ((line : ℕ) (b : Begun) → IsOfLine setup w line b → GoesToAgent setup w b.text) → w.gateway_took ≡ before ++ after →
         endpoint_at (plain setup before).endpoints line ≡ Some was → endpoint_at (gateway_in setup w).endpoints line ≡ Some endpoint →
@@ -56,11 +57,11 @@ pub fn all_is_well_after_an_outage()
 /// all that its telephone does, is asked for all since, loses nothing more, and isn't left without a request for longer than so many ms,
 /// what was quarantined at that moment, and what its telephone had done since by a later one, the agent was told since, as many rounds
 /// later as there were events in its quarantine, and once the time of the network; and that is all, where the telephone rests from that
-/// moment on. For that the line's numbers aren't used up (RFC 3435, 3.5, 4.3 and 4.4).
+/// moment on, and a packet is handed over while it lasts. For that the line's numbers aren't used up (RFC 3435, 3.5, 4.3 and 4.4).
 pub fn what_is_dialled_behind_an_outage_is_told()
     ensures told { (setup : Setup) (line since within asking : ℕ) (first pause stretch : List WorldStep)
         (front later : List GatewayEvent) (was is there : Endpoint) → let up = first ++ pause in let steps = up ++ stretch in
-        IsRun setup steps → within ≤ oldest_packet → IsFairFrom setup steps since within → AgentHasRoomFrom setup steps since →
+        IsRun setup steps → IsFairFrom setup steps since within → AgentHasRoomFrom setup steps since →
         let v = plain_world setup first in let u = plain_world setup up in let w = plain_world setup steps in
         ((line : ℕ) (b : Begun) → IsOfLine setup w line b → GoesToAgent setup w b.text) → HasNumbersLeft (own_in setup w) →
         endpoint_at (gateway_in setup u).endpoints line ≡ Some was → endpoint_at (gateway_in setup w).endpoints line ≡ Some is →
