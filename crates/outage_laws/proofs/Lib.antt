@@ -54,6 +54,7 @@ pub mod QuickFronts
 pub mod SlowQuarantines
 pub mod SlowTold
 pub mod HadTimeExamples
+pub mod MoreExamples
 pub mod LineTexts
 pub mod RouteLemmas
 pub mod OwnRoutes

@@ -12,4 +12,5 @@ pub mod ToldLaterExample
 pub mod ToldSinceExample
 pub mod SinceThenExample
 pub mod Roomless
+pub mod MorePremises
 pub mod SlowExample

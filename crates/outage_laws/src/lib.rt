@@ -13,6 +13,7 @@ pub mod examples;
 pub mod line_examples;
 pub mod line_laws;
 pub mod line_premise_examples;
+pub mod more_premise_examples;
 pub mod premise_examples;
 pub mod response_examples;
 pub mod response_laws;

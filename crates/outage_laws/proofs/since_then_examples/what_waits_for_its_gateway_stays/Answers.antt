@@ -2,7 +2,6 @@ use Rattle.std.proofs.Common.{◌≡◌, None, Some, [], refl}
 use Rattle.std.proofs.lemmas.Bool.{ltb-true}
 use Rattle.outbound.specs.Flight.{InFlight}
 use Rattle.plain_machine.specs.Example.{two_lines}
-use Rattle.world_laws.specs.Example.{world}
 use Rattle.delivery_laws.specs.Example.{took_between, took_first}
 use Rattle.delivery_laws.specs.Rounds.{IsAnsweredWithin, IsAskedWithin}
 use Rattle.delivery_laws.proofs.ExampleLemmas.{to_agent, took_split, two_lines_set_up}

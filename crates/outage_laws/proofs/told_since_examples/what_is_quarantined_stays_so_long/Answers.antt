@@ -1,6 +1,5 @@
 use Rattle.std.proofs.Common.{refl}
 use Rattle.plain_machine.specs.Example.{two_lines}
-use Rattle.world_laws.specs.Example.{world}
 use Rattle.delivery_laws.specs.Example.{took_between, took_first}
 use Rattle.delivery_laws.specs.Rounds.{IsAskedWithin}
 use Rattle.delivery_laws.proofs.ExampleLemmas.{to_agent, took_split}

@@ -1,0 +1,33 @@
+use Rattle.std.proofs.Common.{[], refl, sym, append-nil}
+use Rattle.std.proofs.lemmas.Bool.{ltb-true}
+use Rattle.plain_machine.specs.Example.{two_lines}
+use Rattle.delivery_laws.specs.Example.{took_between_with, took_with}
+use Rattle.delivery_laws.proofs.ExampleLemmas.{to_agent, took_split, two_lines_set_up}
+use Rattle.delivery_laws.proofs.FrontLemmas.{agent_has_room, never_locked, not_answered}
+use Rattle.outage_laws.specs.MorePremises.{lost_since, lost_yet}
+use Rattle.outage_laws.proofs.Computing.{on_examples}
+use Rattle.outage_laws.proofs.FairFromExamples.{fair_from_is, not_fair_from, room_from}
+use Rattle.outage_laws.proofs.HadTimeExamples.{flights_since, not_flights_since}
+use Rattle.outage_laws.proofs.more_premise_examples.else_a_line_waits_since_before.Goals as goal
+
+pub returns : goal.returns
+unfolding on_examples
+returns c = record {
+  run = (two_lines_set_up, refl);
+  room = room_from two_lines lost_yet 0 (agent_has_room two_lines lost_yet refl);
+  split = took_split two_lines lost_since lost_yet refl;
+  serving = refl;
+  line_serves = refl;
+  calm = refl;
+  began = flights_since two_lines 1 (took_with two_lines lost_since) (took_between_with two_lines lost_since lost_yet) 1 refl;
+  goes = λ b of past. to_agent two_lines lost_yet b.text refl;
+  unfair = not_fair_from two_lines lost_yet 1 0 2 _ refl refl refl refl;
+  fair_behind = fair_from_is two_lines lost_yet 19502 0 refl;
+  began_before = not_flights_since two_lines 1 (took_with two_lines lost_since) (took_between_with two_lines lost_since lost_yet) 19502 refl;
+  asked_again = never_locked two_lines 1 (took_with two_lines lost_since) (took_between_with two_lines lost_since lost_yet) 0 refl;
+  held = refl;
+  late = ltb-true _ _ refl;
+  not_answered = not_answered two_lines 1 (took_with two_lines lost_since) (took_between_with two_lines lost_since lost_yet) (took_between_with two_lines lost_since lost_yet) [] 0 (sym (append-nil (took_between_with two_lines lost_since lost_yet))) refl;
+  rests = refl;
+  left = refl;
+}
