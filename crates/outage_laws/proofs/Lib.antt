@@ -59,6 +59,8 @@ pub mod LineTexts
 pub mod RouteLemmas
 pub mod OwnRoutes
 pub mod OwnReaches
+pub mod UnservedRoom
+pub mod UnservedSends
 pub mod EachLine
 pub mod NextDue
 mod RoomlessRounds

@@ -116,7 +116,7 @@ asks_still (Ok (Does target deed)) setup endpoints moment id = target_still setu
 -- What the gateway itself does
 
 -- nobody but 521 redirects it
-not_redirected : (own : Post) (response : Response) (agent : Entity) → response.code ≢ 521 → heard_on own response ≡ Redirected agent → ⊥
+pub not_redirected : (own : Post) (response : Response) (agent : Entity) → response.code ≢ 521 → heard_on own response ≡ Redirected agent → ⊥
 not_redirected own response agent other is = by_pending own.pending is where
   by_code : (b : Bool) (entity : Entity) → (response.code == 521) ≡ b → (if b then Redirected entity else Answered (Some entity)) ≡ Redirected agent → ⊥
   by_code true entity so e = other (eqb-true response.code 521 so)

@@ -26,7 +26,7 @@ use Rattle.plain_machine.specs.Posting.{id_on, number_after, repeated_as, resent
 use Rattle.machine_laws.specs.Passing.{PassesAlone, goes_on, own_happens, rests}
 use Rattle.machine_laws.specs.Saying.{Begun, OneOf, begun_in}
 use Rattle.machine_laws.proofs.AnnouncementLaws.{waits_anew, waits_due, waits_sent}
-use Rattle.machine_laws.proofs.EachLemmas.{one_before, one_behind}
+use Rattle.machine_laws.proofs.EachLemmas.{Each, each_both, one_before, one_behind}
 use Rattle.delivery_laws.specs.Copies.{answer_wait}
 use Rattle.delivery_laws.proofs.ChanceLemmas.{offset_low}
 use Rattle.delivery_laws.proofs.OnTurns.{IsIt, IsOn, WentOut, all_out, its_sends, on_again, on_begins, on_more, went_on}
@@ -375,6 +375,42 @@ module _ (setup : Setup) where
       subst (λ (t : Effect Post). Tracked (λ (due : ℕ). moment < due) (sent ++ t.sent) moment t.value) (sym same)
       (subst (λ (x : List Sent). Tracked (λ (due : ℕ). moment < due) x moment rest.value) (append_assoc sent turn.sent rest.sent)
       (passed moment turn.value rest own (sent ++ turn.sent) (item_happens sent moment was item s some)))
+
+  -- What begins by it
+
+  -- one of them begins
+  abbrev pub IsAnnounced : Begun → Type 0
+  IsAnnounced b = (j : ℕ) × (b ≡ announcement_at setup j)
+
+  abbrev pub AreAnnounced : Effect Post → Type 0
+  AreAnnounced turn = Each IsAnnounced (begun_in turn.sent)
+
+  announced_begins : (own : Post) (k : ℕ) → own.number ≡ number_of setup k
+      → AreAnnounced (with_command 0 (start_of setup k) (record own { restart = Announced }) (announcement setup 0 (id_on 0 own.number)))
+  unfolding announcement
+  announced_begins own k number = ((k, ap (λ (n : ℕ). numbered setup n (start_of setup k)) number), tt)
+
+  item_begins : (sent : List Sent) (moment : ℕ) (own : Post) (item : DueItem) → Tracked Anytime sent moment own → if_by moment (post_due 0 own) ≡ Some item → AreAnnounced (own_happens setup item own)
+  item_begins sent moment own item (inl w) due =
+      let is = by_item moment (announcement_item 0 (start_of setup w.k)) item (sym (ap (if_by moment) (waiting_due sent moment own w)) ∙ due) in
+      subst (λ (i : DueItem). AreAnnounced (own_happens setup i own)) is.0
+      (subst AreAnnounced (sym (announces_so own (start_of setup w.k) w.waits)) (announced_begins own w.k w.number))
+  item_begins sent moment own item (inr f) due =
+      let is = by_item moment (command_item 0 f.flight) item (sym (ap (if_by moment) (flying_due sent moment own f)) ∙ due) in
+      subst (λ (i : DueItem). AreAnnounced (own_happens setup i own)) is.0 (by_repeat (repeat_of f.flight f.flight.due) refl) where
+        by_repeat : (repeat : Repeat) → repeat_of f.flight f.flight.due ≡ repeat → AreAnnounced (happened_under Resend setup 0 f.flight.due own)
+        by_repeat SentAgain is = subst AreAnnounced (sym (again_so own f.flight f.flies is)) tt
+        by_repeat GivenUp is = subst AreAnnounced (sym (gives_so own f.flight f.flies is)) tt
+
+  -- nothing else does
+  pub begun_passed : (moment : ℕ) (was : Post) (is : Effect Post) → PassesAlone (post_due 0) (own_happens setup) moment was is → (sent : List Sent) → Tracked Anytime sent moment was → AreAnnounced is
+  begun_passed moment was is (rests w t none same) sent s = subst AreAnnounced (sym same) tt
+  begun_passed moment was is (goes_on w item rest t some own same) sent s =
+      let turn = own_happens setup item was in
+      subst AreAnnounced (sym same)
+      (subst (Each IsAnnounced) (sym (begun_both turn.sent rest.sent))
+      (each_both IsAnnounced (begun_in turn.sent) (begun_in rest.sent) (item_begins sent moment was item s some)
+      (begun_passed moment turn.value rest own (sent ++ turn.sent) (item_happens sent moment was item s some))))
 
   -- as it opens
   pub opening_tracked : Tracked (λ (due : ℕ). Unit {0}) [] 0 (opening setup).endpoints.own

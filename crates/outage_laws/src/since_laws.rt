@@ -51,14 +51,15 @@ pub fn what_is_in_flight_is_taken_after_an_outage()
 
 /// A gateway that isn't answered yet when the network comes back serves by then: that long behind it as a command is given up behind the
 /// last of its sends whose answer may still come in time, then the wait before it announces itself anew, and then twice the time of the
-/// network: 4,000 ms, the wait and twice that time, where twice that time is less than 4,000 ms (RFC 3435, 3.5.3, 4.3 and 4.4.6).
+/// network: 4,000 ms, the wait and twice that time, where twice that time is less than 4,000 ms. Its agent has room until then: it is told
+/// of announcements alone (RFC 3435, 3.5.3, 4.3 and 4.4.6).
 pub fn a_gateway_serves_after_an_outage()
     ensures behind_the_last { (setup : Setup) (steps : List WorldStep) (since within : ℕ) → IsRun setup steps →
-        IsFairFrom setup steps since within → AgentHasRoomFrom setup steps since →
+        IsFairFrom setup steps since within →
         let w = plain_world setup steps in since + gap_of within + setup.restart_wait + 2 * within ≤ now_in setup w + 1 →
         serves (gateway_in setup w).endpoints ≡ true }
     ensures behind_any { (setup : Setup) (steps : List WorldStep) (since within wait : ℕ) → IsRun setup steps →
-        IsFairFrom setup steps since within → AgentHasRoomFrom setup steps since → let w = plain_world setup steps in
+        IsFairFrom setup steps since within → let w = plain_world setup steps in
         Any (λ (one : ℕ). one ≡ wait) chances → wait + 2 * within < answer_wait →
         since + answer_wait + setup.restart_wait + 2 * within ≤ now_in setup w + 1 + wait →
         serves (gateway_in setup w).endpoints ≡ true }
