@@ -96,7 +96,7 @@ own_line Announced pending flight order flies =
     ap (λ (o : Option InFlight). line_of_id (unwrap_or o flight).id) (sym flies ∙ order.flies) ∙ order.own
 own_line Serving pending flight order flies = absurd (none-some flight (sym order ∙ flies))
 
-serves_amid : (setup : Setup) (m : Machine) (source : SocketAddrV4) (texts : List (List ℕ)) (id : ℕ) → KeepOrder m.endpoints → OwnFlies id m.endpoints.own → Each (IsPlainAnswer id) texts
+pub serves_amid : (setup : Setup) (m : Machine) (source : SocketAddrV4) (texts : List (List ℕ)) (id : ℕ) → KeepOrder m.endpoints → OwnFlies id m.endpoints.own → Each (IsPlainAnswer id) texts
     → FirstOf id texts → serves (took_all setup m source texts).value.endpoints ≡ true
 unfolding took_all
 serves_amid setup m source texts id order s plain f =

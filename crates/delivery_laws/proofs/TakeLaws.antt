@@ -54,12 +54,12 @@ posts_it from to now text sent goes said =
     (one_weaker (HasMessage (message_to to now text)) (λ (out : OutDatagram). Tells to now text (posted_as agent_end from out))
     (λ out has. (refl, has.there, has.moment, has.inside)) (packed sent) (packed_has sent (message_to to now text) goes said))
 
-machine_is : (setup : AgentSetup) (m : AgentMachine) (source : SocketAddrV4) (bytes : List ℕ)
+pub machine_is : (setup : AgentSetup) (m : AgentMachine) (source : SocketAddrV4) (bytes : List ℕ)
     → (agent_effect setup m (hears (datagram source bytes))).machine ≡ (took_all setup m source (texts_of bytes)).machine
 unfolding agent_effect
 machine_is setup m source bytes = refl
 
-says_is : (setup : AgentSetup) (m : AgentMachine) (source : SocketAddrV4) (bytes : List ℕ)
+pub says_is : (setup : AgentSetup) (m : AgentMachine) (source : SocketAddrV4) (bytes : List ℕ)
     → (agent_effect setup m (hears (datagram source bytes))).sent ≡ (took_all setup m source (texts_of bytes)).sent
 unfolding agent_effect
 says_is setup m source bytes = refl

@@ -55,12 +55,12 @@ IsBare no_header = Unit {0}
 IsBare (bad_version id) = Unit {0}
 IsBare (bad_body id) = Unit {0}
 
-abbrev BareText : List ℕ → Type 0
+abbrev pub BareText : List ℕ → Type 0
 BareText text = IsBare (read_text text)
 
 -- What the gateway says
 
-abbrev BareBegun : Begun → Type 0
+abbrev pub BareBegun : Begun → Type 0
 BareBegun b = BareText b.text
 
 said_bare : (setup : Setup) (owner : Owner) (moment : ℕ) (said : Said) → SaysWell setup owner said → Each BareBegun (begun_by moment said)
@@ -72,7 +72,7 @@ said_bare setup owner moment (again id text) well = tt
 said_bare setup owner moment (resent flight) well = tt
 said_bare setup owner moment (acknowledgement response) well = tt
 
-own_bare : (setup : Setup) (w : World) → IsSetUp setup → Each BareBegun (own_in setup w)
+pub own_bare : (setup : Setup) (w : World) → IsSetUp setup → Each BareBegun (own_in setup w)
 own_bare setup w set_up =
     let sent : List Sent = sent_of setup w.gateway_took in
     each_flat BareBegun begun_at sent
@@ -122,10 +122,10 @@ posted_bare setup steps number post text verb id name params body set_up taken f
 -- What an agent keeps
 
 -- it confirms nothing
-abbrev IsSilent : Entry → Type 0
+abbrev pub IsSilent : Entry → Type 0
 IsSilent entry = (id : ℕ) → confirms id entry ≡ false
 
-abbrev AllSilent : AgentMachine → Type 0
+abbrev pub AllSilent : AgentMachine → Type 0
 AllSilent m = Each IsSilent m.history
 
 none_named : (params : List Param) → param_at (codes "K") params ≡ None → spans_of (k_of params) ≡ []
@@ -168,10 +168,10 @@ texts_silent setup m source [] bare all = all
 texts_silent setup m source (text ∷ texts) bare all =
     texts_silent setup (handled setup m source text).machine source texts bare.1 (text_silent setup m source text (read_text text) bare.0 all)
 
-abbrev BareArrival : TextArrival → Type 0
+abbrev pub BareArrival : TextArrival → Type 0
 BareArrival a = IsBare a.outcome
 
-event_silent : (setup : AgentSetup) (m : AgentMachine) (event : AgentEvent) (now : ℕ) → Each BareArrival (arrives_with now event) → AllSilent m → AllSilent (agent_effect setup m event).machine
+pub event_silent : (setup : AgentSetup) (m : AgentMachine) (event : AgentEvent) (now : ℕ) → Each BareArrival (arrives_with now event) → AllSilent m → AllSilent (agent_effect setup m event).machine
 unfolding agent_effect
 event_silent setup m (issues verb name rest) now bare all = all
 event_silent setup m (hears (datagram source bytes)) now bare all =

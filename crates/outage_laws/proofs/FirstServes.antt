@@ -25,25 +25,25 @@ use Rattle.outage_laws.proofs.TrackLemmas.{IsFlying, IsWaiting, Went, announceme
 
 -- the second send of each announcement may be answered in time
 
-not_yet : (first within now restart : ℕ) → first ≡ 0 + restart → now < first → restart + 500 + 2 * within ≤ now → ⊥
+pub not_yet : (first within now restart : ℕ) → first ≡ 0 + restart → now < first → restart + 500 + 2 * within ≤ now → ⊥
 not_yet first within now restart is soon late = absurd (omega (arith, is, soon, late))
 
-none_gone : (within now restart : ℕ) → now ≡ 0 → restart + 500 + 2 * within ≤ now → ⊥
+pub none_gone : (within now restart : ℕ) → now ≡ 0 → restart + 500 + 2 * within ≤ now → ⊥
 none_gone within now restart none late = absurd (omega (arith, none, late))
 
-over_twice : (first within slack now : ℕ) → slack ≤ 1 → 500 + 2 * within < answer_wait → first + answer_wait ≤ now → first + 500 + 2 * within + slack ≤ now
+pub over_twice : (first within slack now : ℕ) → slack ≤ 1 → 500 + 2 * within < answer_wait → first + answer_wait ≤ now → first + 500 + 2 * within + slack ≤ now
 over_twice first within slack now small few over = omega (arith, small, few, over)
 
-first_twice : (first within slack now restart : ℕ) → first ≡ 0 + restart → restart + 500 + 2 * within + slack ≤ now → first + 500 + 2 * within + slack ≤ now
+pub first_twice : (first within slack now restart : ℕ) → first ≡ 0 + restart → restart + 500 + 2 * within + slack ≤ now → first + 500 + 2 * within + slack ≤ now
 first_twice first within slack now restart is late = omega (arith, is, late)
 
-first_sent : (first within slack now : ℕ) → first + 500 + 2 * within + slack ≤ now → first + 500 ≤ now
+pub first_sent : (first within slack now : ℕ) → first + 500 + 2 * within + slack ≤ now → first + 500 ≤ now
 first_sent first within slack now late = omega (arith, late)
 
-no_slack : (within now restart slack : ℕ) → restart + 500 + 2 * within + slack ≤ now → restart + 500 + 2 * within ≤ now
+pub no_slack : (within now restart slack : ℕ) → restart + 500 + 2 * within + slack ≤ now → restart + 500 + 2 * within ≤ now
 no_slack within now restart slack late = omega (arith, late)
 
-with_none : (within now restart : ℕ) → restart + 500 + 2 * within ≤ now → restart + 500 + 2 * within + 0 ≤ now
+pub with_none : (within now restart : ℕ) → restart + 500 + 2 * within ≤ now → restart + 500 + 2 * within + 0 ≤ now
 with_none within now restart late = omega (arith, late)
 
 -- where each announcement is answered so that was sent at 1 or later, as long behind its sends as twice the network's time, and one ms more

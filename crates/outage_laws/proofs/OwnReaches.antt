@@ -67,7 +67,7 @@ module _ (agent : Route SocketAddrV4) where
   abbrev pub TextGoes : SocketAddrV4 → List ℕ → Type 0
   TextGoes to text = (id : ℕ) (name : List ℕ) → is_command_as id name (read_text text) ≡ true → line_of_id id ≡ 0 → IsAmong agent to
 
-  sent_goes : (one : Sent) → IsLines one ⊎ IsAmong agent one.to → OwnGoes agent one → TextGoes one.to (text_of one.said)
+  pub sent_goes : (one : Sent) → IsLines one ⊎ IsAmong agent one.to → OwnGoes agent one → TextGoes one.to (text_of one.said)
   sent_goes one (inr among) goes = λ id name reads own. among
   sent_goes one (inl lines) goes = λ id name reads own.
       goes (lines.owned ∙ ap own_of (sym lines.says.of ∙ ap line_of_id (one_id lines.says.id id lines.says.name name (read_text (text_of one.said)) lines.says.reads reads) ∙ own))
@@ -105,7 +105,7 @@ pub record AllReach (setup : Setup) (w : World) : Type 0 where
 abbrev EventGoes : Setup → Effect Machine → Type 0
 EventGoes setup is = OwnFits setup.agent.route is.value.endpoints.own × Each (OwnGoes setup.agent.route) (of_line 0 is.sent)
 
-abbrev SaysSo : Setup → Sent → Type 0
+abbrev pub SaysSo : Setup → Sent → Type 0
 SaysSo setup one = IsLines one ⊎ IsAmong setup.agent.route one.to
 
 to_agent_reaches : (setup : Setup) (w : World) (event : AgentEvent) → AllReach setup w → AllReach setup (to_agent setup w event)
@@ -142,10 +142,10 @@ module _ (setup : Setup) (set_up : IsSetUp setup) where
   abbrev route : Route SocketAddrV4
   route = setup.agent.route
 
-  by_lines : (sent : List Sent) → Each IsLines sent → Each (SaysSo setup) sent
+  pub by_lines : (sent : List Sent) → Each IsLines sent → Each (SaysSo setup) sent
   by_lines sent all = each_weaker IsLines (SaysSo setup) (λ one is. inl is) sent all
 
-  by_source : (source : SocketAddrV4) (sent : List Sent) → IsAmong route source → Each (IsLinesOr setup set_up source) sent → Each (SaysSo setup) sent
+  pub by_source : (source : SocketAddrV4) (sent : List Sent) → IsAmong route source → Each (IsLinesOr setup set_up source) sent → Each (SaysSo setup) sent
   by_source source sent among all = each_weaker (IsLinesOr setup set_up source) (SaysSo setup) one_so sent all where
     one_so : (one : Sent) → IsLinesOr setup set_up source one → SaysSo setup one
     one_so one (inl is) = inl is
@@ -237,7 +237,7 @@ module _ (setup : Setup) (set_up : IsSetUp setup) where
     own_said owner (resent flight) moment mine well none = absurd none
     own_said owner (acknowledgement response) moment mine well none = absurd none
 
-    own_text : (sent : List Sent) → Each (IsWell setup) sent → OneOf (λ (x : Begun). x ≡ b) (begun_in (of_line 0 sent)) → IsTextOf 0 b.text
+    pub own_text : (sent : List Sent) → Each (IsWell setup) sent → OneOf (λ (x : Begun). x ≡ b) (begun_in (of_line 0 sent)) → IsTextOf 0 b.text
     own_text [] well began = absurd began
     own_text (one ∷ sent) well began = by_test (is_of 0 one.owner) refl began (λ there. own_text sent well.1 there) where
       by_part : is_of 0 one.owner ≡ true → OneOf (λ (x : Begun). x ≡ b) (begun_at one) ⊎ OneOf (λ (x : Begun). x ≡ b) (begun_in (of_line 0 sent))

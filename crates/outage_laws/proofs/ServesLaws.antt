@@ -36,7 +36,7 @@ use Rattle.outage_laws.proofs.TrackLemmas.{IsFlying, IsWaiting, Tracked, Went, a
 
 -- Numbers
 
-compare : (j k : ℕ) → (j < k) ⊎ ((k < j) ⊎ (k ≡ j))
+pub compare : (j k : ℕ) → (j < k) ⊎ ((k < j) ⊎ (k ≡ j))
 compare j k = by_test (nat_le (suc j) k) (nat_le (suc k) j) refl refl where
   by_test : (a b : Bool) → nat_le (suc j) k ≡ a → nat_le (suc k) j ≡ b → (j < k) ⊎ ((k < j) ⊎ (k ≡ j))
   by_test true b one two = inl (let low : suc j ≤ k = leb-true (suc j) k one in omega (arith, low))
@@ -44,16 +44,16 @@ compare j k = by_test (nat_le (suc j) k) (nat_le (suc k) j) refl refl where
   by_test false false one two =
       inr (inr (let high : k < suc j = leb-false (suc j) k one in let low : j < suc k = leb-false (suc k) j two in omega (arith, high, low)))
 
-not_zero : (since first wait now : ℕ) → 1 ≤ since → since ≤ first + wait → first + wait ≤ now → now ≡ 0 → ⊥
+pub not_zero : (since first wait now : ℕ) → 1 ≤ since → since ≤ first + wait → first + wait ≤ now → now ≡ 0 → ⊥
 not_zero since first wait now some late past none = absurd (omega (arith, some, late, past, none))
 
-over_soon : (first wait within now : ℕ) → wait + 2 * within < answer_wait → now ≤ first + wait + 2 * within → first + answer_wait ≤ now → ⊥
+pub over_soon : (first wait within now : ℕ) → wait + 2 * within < answer_wait → now ≤ first + wait + 2 * within → first + answer_wait ≤ now → ⊥
 over_soon first wait within now few by late = absurd (omega (arith, few, by, late))
 
-ends_by : (first wait within now next : ℕ) → wait + 2 * within < answer_wait → now ≤ first + wait + 2 * within → first + answer_wait ≤ next → next ≤ now → ⊥
+pub ends_by : (first wait within now next : ℕ) → wait + 2 * within < answer_wait → now ≤ first + wait + 2 * within → first + answer_wait ≤ next → next ≤ now → ⊥
 ends_by first wait within now next few by rise past = absurd (omega (arith, few, by, rise, past))
 
-begins_by : (first other wait now : ℕ) → other + answer_wait ≤ first → first + wait ≤ now → now < other + answer_wait → ⊥
+pub begins_by : (first other wait now : ℕ) → other + answer_wait ≤ first → first + wait ≤ now → now < other + answer_wait → ⊥
 begins_by first other wait now rise past soon = absurd (omega (arith, rise, past, soon))
 
 -- a command that is on its way is due 23,500 ms behind its first send at the latest
@@ -65,54 +65,54 @@ due_by sent flight on =
     let next : flight.due ≡ flight.first + offset (flight.repeats + 1) = on.next in
     omega (arith, low, last, next)
 
-flies_soon : (now due first start : ℕ) → now < due → due ≤ first + answer_wait → first ≡ start → now < start + answer_wait
+pub flies_soon : (now due first start : ℕ) → now < due → due ≤ first + answer_wait → first ≡ start → now < start + answer_wait
 flies_soon now due first start soon by is = omega (arith, soon, by, is)
 
-waits_by : (first other wait now : ℕ) → other + answer_wait ≤ first → first + wait ≤ now → now < other → ⊥
+pub waits_by : (first other wait now : ℕ) → other + answer_wait ≤ first → first + wait ≤ now → now < other → ⊥
 waits_by first other wait now rise past soon = absurd (omega (arith, rise, past, soon))
 
-waits_same : (first other wait now : ℕ) → other ≡ first → first + wait ≤ now → now < other → ⊥
+pub waits_same : (first other wait now : ℕ) → other ≡ first → first + wait ≤ now → now < other → ⊥
 waits_same first other wait now same past soon = absurd (omega (arith, same, past, soon))
 
-over_twice : (first wait within slack now : ℕ) → slack ≤ 1 → wait + 2 * within < answer_wait → first + answer_wait ≤ now → first + wait + 2 * within + slack ≤ now
+pub over_twice : (first wait within slack now : ℕ) → slack ≤ 1 → wait + 2 * within < answer_wait → first + answer_wait ≤ now → first + wait + 2 * within + slack ≤ now
 over_twice first wait within slack now small few over = omega (arith, small, few, over)
 
-twice_past : (first wait within slack now : ℕ) → first + wait + 2 * within + slack ≤ now → first + wait ≤ now
+pub twice_past : (first wait within slack now : ℕ) → first + wait + 2 * within + slack ≤ now → first + wait ≤ now
 twice_past first wait within slack now twice = omega (arith, twice)
 
-flies_few : (first wait within slack now : ℕ) → first + wait + 2 * within + slack ≤ now → now < first + answer_wait → wait + 2 * within < answer_wait
+pub flies_few : (first wait within slack now : ℕ) → first + wait + 2 * within + slack ≤ now → now < first + answer_wait → wait + 2 * within < answer_wait
 flies_few first wait within slack now twice soon = omega (arith, twice, soon)
 
-first_late : (since wait within slack now restart first : ℕ) → first ≡ 0 + restart → now < first → wait ≤ last_chance
+pub first_late : (since wait within slack now restart first : ℕ) → first ≡ 0 + restart → now < first → wait ≤ last_chance
     → since + answer_wait + restart + 2 * within + slack ≤ now + 1 + wait → ⊥
 first_late since wait within slack now restart first is soon low late = absurd (omega (arith, is, soon, low, late))
 
-next_past : (since wait within slack now restart first next : ℕ) → next ≡ first + answer_wait + restart → now < next
+pub next_past : (since wait within slack now restart first next : ℕ) → next ≡ first + answer_wait + restart → now < next
     → since + answer_wait + restart + 2 * within + slack ≤ now + 1 + wait → since ≤ first + wait
 next_past since wait within slack now restart first next is soon late = omega (arith, is, soon, late)
 
-first_sent : (since wait within slack now restart first : ℕ) → first ≡ 0 + restart → now < first + 2 * within + slack → wait ≤ last_chance
+pub first_sent : (since wait within slack now restart first : ℕ) → first ≡ 0 + restart → now < first + 2 * within + slack → wait ≤ last_chance
     → since + answer_wait + restart + 2 * within + slack ≤ now + 1 + wait → ⊥
 first_sent since wait within slack now restart first is soon low late = absurd (omega (arith, is, soon, low, late))
 
-next_sent : (since wait within slack now restart first next : ℕ) → next ≡ first + answer_wait + restart → now < next + 2 * within + slack
+pub next_sent : (since wait within slack now restart first next : ℕ) → next ≡ first + answer_wait + restart → now < next + 2 * within + slack
     → since + answer_wait + restart + 2 * within + slack ≤ now + 1 + wait → since ≤ first + wait
 next_sent since wait within slack now restart first next is soon late = omega (arith, is, soon, late)
 
-at_first : (since first one : ℕ) → one ≡ 0 → since ≤ first + one → since ≤ first
+pub at_first : (since first one : ℕ) → one ≡ 0 → since ≤ first + one → since ≤ first
 at_first since first one none past = omega (arith, none, past)
 
-before_twice : (first one within slack now : ℕ) → one ≡ 0 → now < first + one + 2 * within + slack → now < first + 2 * within + slack
+pub before_twice : (first one within slack now : ℕ) → one ≡ 0 → now < first + one + 2 * within + slack → now < first + 2 * within + slack
 before_twice first one within slack now none soon = omega (arith, none, soon)
 
-next_twice : (since first one wait within slack now restart : ℕ) → first + one + 1 ≤ since + longest_pause → wait ≤ last_chance
+pub next_twice : (since first one wait within slack now restart : ℕ) → first + one + 1 ≤ since + longest_pause → wait ≤ last_chance
     → since + answer_wait + restart + 2 * within + slack ≤ now + 1 + wait → first + one + 2 * within + slack ≤ now
 next_twice since first one wait within slack now restart next low late = omega (arith, next, low, late)
 
-last_past : (since first wait : ℕ) → since ≤ first + wait → wait ≤ last_chance → since ≤ first + last_chance
+pub last_past : (since first wait : ℕ) → since ≤ first + wait → wait ≤ last_chance → since ≤ first + last_chance
 last_past since first wait past low = omega (arith, past, low)
 
-too_late : (since first wait within slack now restart : ℕ) → now < first + answer_wait → first + wait < since
+pub too_late : (since first wait within slack now restart : ℕ) → now < first + answer_wait → first + wait < since
     → since + answer_wait + restart + 2 * within + slack ≤ now + 1 + wait → ⊥
 too_late since first wait within slack now restart soon before late = absurd (omega (arith, soon, before, late))
 

@@ -134,7 +134,7 @@ module _ (setup : Setup) where
       (subst (λ (sent : List Sent). Tracked setup (Behind now) sent now (effect setup (gateway_in setup w) event).value.endpoints.own) (sym (sent_is w event)) s))
 
   -- its own post stays, and so does the clock
-  stays : (w : World) (event : GatewayEvent) → now_in setup (to_gateway setup w event) ≡ now_in setup w → (effect setup (gateway_in setup w) event).value.endpoints.own ≡ (gateway_in setup w).endpoints.own
+  pub stays : (w : World) (event : GatewayEvent) → now_in setup (to_gateway setup w event) ≡ now_in setup w → (effect setup (gateway_in setup w) event).value.endpoints.own ≡ (gateway_in setup w).endpoints.own
       → IsTracked w → IsTracked (to_gateway setup w event)
   stays w event clock same s =
       let now = now_in setup w in
@@ -149,7 +149,7 @@ module _ (setup : Setup) where
   unfolding effect
   datagram_own m source bytes order plain = texts_same setup m source (texts_of bytes) order plain
 
-  datagram_tracked : (w : World) (source : SocketAddrV4) (bytes : List ℕ) → Each (λ (text : List ℕ). IsPlain (read_text text)) (texts_of bytes) → Closed (to_gateway setup w (datagram source bytes))
+  pub datagram_tracked : (w : World) (source : SocketAddrV4) (bytes : List ℕ) → Each (λ (text : List ℕ). IsPlain (read_text text)) (texts_of bytes) → Closed (to_gateway setup w (datagram source bytes))
       → IsTracked w → IsTracked (to_gateway setup w (datagram source bytes))
   datagram_tracked w source bytes plain closed s = by_own (datagram_own (gateway_in setup w) source bytes (events_wait setup w.gateway_took) plain) where
     by_own : SameOrServes (gateway_in setup w).endpoints.own (effect setup (gateway_in setup w) (datagram source bytes)).value.endpoints.own → IsTracked (to_gateway setup w (datagram source bytes))
@@ -157,7 +157,7 @@ module _ (setup : Setup) where
     by_own (inr serving) =
         absurd (let clash : true ≡ false = sym serving ∙ sym (ap (λ (m : Machine). serves m.endpoints) (more_is w (datagram source bytes))) ∙ closed in cc)
 
-  act_own : (m : Machine) (line : ℕ) (act : Act) → (effect setup m (phone line act)).value.endpoints.own ≡ m.endpoints.own
+  pub act_own : (m : Machine) (line : ℕ) (act : Act) → (effect setup m (phone line act)).value.endpoints.own ≡ m.endpoints.own
   unfolding effect
   act_own m line act = own_stays_on m.endpoints line (acted_on setup line m.now act)
 
@@ -166,7 +166,7 @@ module _ (setup : Setup) where
   unfolding effect
   tick_own m moment sent s = passed setup moment m.endpoints.own _ (own_passes setup moment m.endpoints) sent s
 
-  tick_tracked : (w : World) (moment : ℕ) → now_in setup w ≤ moment → IsTracked w → IsTracked (to_gateway setup w (tick moment))
+  pub tick_tracked : (w : World) (moment : ℕ) → now_in setup w ≤ moment → IsTracked w → IsTracked (to_gateway setup w (tick moment))
   tick_tracked w moment past s =
       let sent = of_line 0 (sent_of setup w.gateway_took) in
       let own = (gateway_in setup w).endpoints.own in
@@ -242,7 +242,7 @@ module _ (setup : Setup) where
         (step_tracked before step (taken_front setup world_opening before (step ∷ []) here) (taken_last setup world_opening before step here)
         (subst Closed (step_more setup before step) (closed_front (before ++ step ∷ []) rest closed_on)) s)))
 
-    opening_is : IsTracked (plain_world setup [])
+    pub opening_is : IsTracked (plain_world setup [])
     unfolding world_after machine_after sent_from
     opening_is =
         subst (λ (x : List Sent). Tracked setup (Behind 0) x 0 (opening setup).endpoints.own) (append-nil [])
