@@ -1,0 +1,7 @@
+-- The definitions opened, so that worked examples compute.
+use Rattle.std.specs.Prelude.{⊤}
+use Rattle.life_laws.proofs.Computing.{on_examples as lives_examples}
+
+unfoldable pub on_examples : ⊤
+unfolding lives_examples
+on_examples = tt

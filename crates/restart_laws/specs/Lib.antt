@@ -1,0 +1,2 @@
+pub mod AfterRestart
+pub mod Example

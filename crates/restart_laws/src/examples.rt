@@ -1,0 +1,77 @@
+//! Worked examples, as theorems: worlds of lives in which each premise of a law holds, and worlds in which one alone is missing and the
+//! law's sentence fails; and each sentence of a definition has one that a slip in it breaks. A world without room at its agent is too large
+//! for one.
+#![tactic(auto, unfolding(crate::proofs::Computing::on_examples))]
+
+ghost use Rattle.std.specs.Prelude.{◌≡◌, ◌≤◌, ◌+◌, ◌*◌, [], ◌∷◌, true, false};
+ghost use Rattle.plain_machine.specs.Example.{two_lines};
+ghost use Rattle.plain_machine.specs.Machine.{serves};
+ghost use Rattle.plain_machine.specs.Setup.{IsSetUp};
+ghost use Rattle.agent_core.specs.World.{oldest_packet};
+ghost use Rattle.delivery_laws.specs.Example.{endless};
+ghost use Rattle.outage_laws.specs.AfterOutage.{gap_of};
+ghost use Rattle.life_laws.specs.Lives.{clock_of, gateway_of, lives_are_taken, lives_of, lives_opening, number_of, plain_lives};
+ghost use Rattle.life_laws.specs.Apart.{LieApart};
+ghost use Rattle.life_laws.specs.Example.{brought_after, firsts_after, lives, moments_after, owners_after, serves_after};
+ghost use Rattle.restart_laws.specs.AfterRestart.{AgentHasRoomThen, IsRunOfLives, LivesAreFairFrom};
+ghost use Rattle.restart_laws.specs.Example.{answered_at_last, down_at_first, never_heard, served_never_again, started_alike_once};
+ghost use Rattle.restart_laws.specs.Example.{started_anew, unanswered_yet};
+
+/// The gateway starts again at 1, while the network is down. The eight sends of its announcement are lost, and the network is there again
+/// 1 ms behind the last, with 300 ms for a packet; the announcement is given up, and goes out anew 1 ms later. The gateway serves 4,000
+/// ms, that wait and twice 300 ms behind that, and 1 ms sooner it doesn't. All that the law asks for holds at once.
+pub fn a_gateway_that_started_again_serves_at_last()
+    ensures run { IsRunOfLives two_lines answered_at_last }
+    ensures second_life { number_of (lives answered_at_last) ≡ 1 }
+    ensures start { (lives answered_at_last).life.start ≡ 1 }
+    ensures owners { owners_after unanswered_yet ≡ 0 ∷ 1 ∷ 1 ∷ 1 ∷ 1 ∷ 1 ∷ 1 ∷ 1 ∷ 1 ∷ 1 ∷ 1 ∷ 1 ∷ [] }
+    ensures moments { moments_after unanswered_yet ≡
+        1 ∷ 2 ∷ 502 ∷ 1502 ∷ 3502 ∷ 7502 ∷ 11502 ∷ 15502 ∷ 19502 ∷ 23503 ∷ 23803 ∷ 24003 ∷ [] }
+    ensures fair { LivesAreFairFrom two_lines answered_at_last 19503 300 }
+    ensures fair_not_before { ¬ LivesAreFairFrom two_lines answered_at_last 19502 300 }
+    ensures room { AgentHasRoomThen two_lines answered_at_last 19503 }
+    ensures young { 300 ≤ oldest_packet }
+    ensures late { 19503 + gap_of 300 + two_lines.restart_wait + 2 * 300 ≡ clock_of two_lines (lives answered_at_last) + 1 }
+    ensures late_too { (lives answered_at_last).life.start + gap_of 300 + two_lines.restart_wait + 2 * 300
+        ≤ clock_of two_lines (lives answered_at_last) + 1 }
+    ensures serving { serves_after answered_at_last ≡ true }
+    ensures fair_yet { LivesAreFairFrom two_lines down_at_first 19503 300 }
+    ensures too_soon { 19503 + gap_of 300 + two_lines.restart_wait + 2 * 300 ≡ clock_of two_lines (lives down_at_first) + 2 }
+    ensures not_yet { serves_after down_at_first ≡ false }
+{}
+
+/// Its announcement is taken for a repeat of its first life's, whose id it has, and what is answered to that makes it serve.
+pub fn what_is_taken_for_a_repeat_is_answered_too()
+    ensures taken { lives_are_taken two_lines (lives_opening two_lines) started_alike_once ≡ true }
+    ensures came { brought_after started_alike_once ≡ (0, 1) ∷ (1, 1) ∷ [] }
+    ensures a_repeat { firsts_after started_alike_once ≡ (0, 1) ∷ [] }
+    ensures not_apart { ¬ LieApart (lives_of (lives started_alike_once)) }
+    ensures serving { serves_after started_alike_once ≡ true }
+{}
+
+/// It serves later, or never, where it isn't set up well, a step is refused, the network isn't fair, or it started later.
+pub fn else_a_new_life_does_not_serve()
+    ensures not_set_up { ¬ IsSetUp endless }
+    ensures steps { lives_are_taken endless (lives_opening endless) never_heard ≡ true }
+    ensures fair { LivesAreFairFrom endless never_heard 1 0 }
+    ensures room { AgentHasRoomThen endless never_heard 1 }
+    ensures late { 1 + gap_of 0 + endless.restart_wait + 2 * 0 ≤ clock_of endless (plain_lives endless never_heard) + 1 }
+    ensures late_too { 0 + gap_of 0 + endless.restart_wait + 2 * 0 ≤ clock_of endless (plain_lives endless never_heard) + 1 }
+    ensures serves_not { serves (gateway_of (plain_lives endless never_heard).life).endpoints ≡ false }
+    ensures refused { lives_are_taken two_lines (lives_opening two_lines) served_never_again ≡ false }
+    ensures fair_then { LivesAreFairFrom two_lines served_never_again 19503 300 }
+    ensures room_then { AgentHasRoomThen two_lines served_never_again 19503 }
+    ensures late_then { 19503 + gap_of 300 + two_lines.restart_wait + 2 * 300 ≤ clock_of two_lines (lives served_never_again) + 1 }
+    ensures serves_not_then { serves_after served_never_again ≡ false }
+    ensures run { IsRunOfLives two_lines unanswered_yet }
+    ensures unfair { ¬ LivesAreFairFrom two_lines unanswered_yet 19503 300 }
+    ensures room_yet { AgentHasRoomThen two_lines unanswered_yet 19503 }
+    ensures late_yet { 19503 + gap_of 300 + two_lines.restart_wait + 2 * 300 ≤ clock_of two_lines (lives unanswered_yet) + 1 }
+    ensures serves_not_yet { serves_after unanswered_yet ≡ false }
+    ensures run_anew { IsRunOfLives two_lines started_anew }
+    ensures fair_anew { LivesAreFairFrom two_lines started_anew 19503 300 }
+    ensures room_anew { AgentHasRoomThen two_lines started_anew 19503 }
+    ensures late_anew { 19503 + gap_of 300 + two_lines.restart_wait + 2 * 300 ≤ clock_of two_lines (lives started_anew) + 1 }
+    ensures started { (lives started_anew).life.start ≡ clock_of two_lines (lives started_anew) }
+    ensures serves_not_anew { serves_after started_anew ≡ false }
+{}
