@@ -5,4 +5,5 @@ pub mod LivesFronts
 pub mod LivesSays
 pub mod LivesTake
 pub mod LivesServe
+pub mod LivesInFlight
 pub mod LivesFairExamples

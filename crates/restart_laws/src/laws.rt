@@ -2,10 +2,13 @@
 ghost use Rattle.std.specs.Prelude.{◌≡◌, ◌≤◌, ◌+◌, ◌*◌, ℕ, List, true};
 ghost use Rattle.plain_machine.specs.declared.setup.Setup.{Setup};
 ghost use Rattle.plain_machine.specs.Machine.{serves};
+ghost use Rattle.machine_laws.specs.Saying.{Begun};
 ghost use Rattle.agent_core.specs.World.{oldest_packet};
-ghost use Rattle.outage_laws.specs.AfterOutage.{gap_of};
+ghost use Rattle.delivery_laws.specs.Chances.{last_chance};
+ghost use Rattle.outage_laws.specs.AfterOutage.{gap_of, longest_pause};
+ghost use Rattle.outage_laws.specs.Alone.{HasBegun, HasResponse};
 ghost use Rattle.life_laws.specs.Lives.{LivesStep, clock_of, gateway_of, plain_lives};
-ghost use Rattle.restart_laws.specs.AfterRestart.{AgentHasRoomThen, IsRunOfLives, LivesAreFairFrom};
+ghost use Rattle.restart_laws.specs.AfterRestart.{AgentHasRoomThen, IsRunOfLives, LifeGoesToAgent, LivesAreFairFrom};
 
 /// However often the gateway started before, and whatever its lives had sent, that of the life that goes on serves by then: behind the
 /// moment at which the network came back, or behind its start, where that was later, the time between the last send whose answer comes in
@@ -17,4 +20,20 @@ pub fn a_new_life_serves_after_an_outage()
         let w = plain_lives setup steps in since + gap_of within + setup.restart_wait + 2 * within ≤ clock_of setup w + 1 →
         w.life.start + gap_of within + setup.restart_wait + 2 * within ≤ clock_of setup w + 1 →
         serves (gateway_of w.life).endpoints ≡ true }
+{}
+
+/// What the life that goes on has in flight when the network is there again, or begins since, is answered: a response to it comes to that
+/// life 3,999 ms and twice the network's time behind that moment at the latest, or twice that time behind its first send; unless the last of
+/// its eight sends was before. So it is of its announcements, and of a line's command that goes to the agent (RFC 3435, 3.5.3).
+pub fn what_a_new_life_has_in_flight_is_answered_after_an_outage()
+    ensures line_answered { (setup : Setup) (steps : List LivesStep) (since within line : ℕ) (b : Begun) → IsRunOfLives setup steps →
+        LivesAreFairFrom setup steps since within → AgentHasRoomThen setup steps since → let w = plain_lives setup steps in
+        HasBegun w.life.setup w.life.took line b → LifeGoesToAgent setup w b.text → since ≤ w.life.start + b.moment + last_chance →
+        w.life.start + b.moment + 2 * within ≤ clock_of setup w → since + longest_pause + 2 * within ≤ clock_of setup w + 1 →
+        HasResponse w.life.took b.id }
+    ensures own_answered { (setup : Setup) (steps : List LivesStep) (since within : ℕ) (b : Begun) → IsRunOfLives setup steps →
+        LivesAreFairFrom setup steps since within → AgentHasRoomThen setup steps since → let w = plain_lives setup steps in
+        HasBegun w.life.setup w.life.took 0 b → since ≤ w.life.start + b.moment + last_chance →
+        w.life.start + b.moment + 2 * within ≤ clock_of setup w → since + longest_pause + 2 * within ≤ clock_of setup w + 1 →
+        HasResponse w.life.took b.id }
 {}
