@@ -11,3 +11,4 @@ pub mod Asking
 pub mod Wording
 pub mod Numbering
 pub mod Example
+pub mod Waiting

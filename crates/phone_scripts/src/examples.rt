@@ -19,9 +19,12 @@ ghost use Rattle.phone_scripts.specs.declared.expecting.Verdict.TheVariants as v
 ghost use Rattle.phone_scripts.specs.Faults.{fault_text};
 ghost use Rattle.phone_scripts.specs.Grammar.{is_comment};
 ghost use Rattle.phone_scripts.specs.declared.gateways.Numbered.TheVariants as numbers;
-ghost use Rattle.phone_scripts.specs.Numbering.{number_says, missing_before};
+ghost use Rattle.phone_scripts.specs.Numbering.{number_says, missing_before, next_behind};
 ghost use Rattle.phone_scripts.specs.Pushed.{watching_in};
 ghost use Rattle.phone_scripts.specs.Telephones.{resting, after};
+ghost use Rattle.phone_scripts.specs.declared.runner.Runner.{Runner};
+ghost use Rattle.phone_scripts.specs.declared.runner.Waits.TheVariants as waits;
+ghost use Rattle.phone_scripts.specs.Waiting.{others, is_over, due_of, asker_of, is_overdue, due_at};
 ghost use Rattle.phone_scripts.specs.Wording.{telephone_text, fault_line, expected_text, failure_lines};
 ghost use Rattle.mg_bytes.specs.Words.{words};
 
@@ -150,6 +153,9 @@ pub fn more_sentences_have_examples()
     ensures again { number_says 17 16 ≡ numbers.Told }
     ensures a_missing_number_is_a_loss_lost { number_says 17 18 ≡ numbers.Lost 17 }
     ensures more_lost { number_says 17 30 ≡ numbers.Lost 17 }
+    ensures counted { next_behind numbers.Next None 17 ≡ Some 18 }
+    ensures told_again { next_behind numbers.Told (Some 17) 16 ≡ Some 17 }
+    ensures not_counted { next_behind (numbers.Lost 17) (Some 17) 30 ≡ Some 17 }
     ensures all { missing_before 17 17 ≡ None }
     ensures missing { missing_before 17 19 ≡ Some 17 }
     // What is told who watches is read.
@@ -219,4 +225,27 @@ pub fn other_sentences_have_examples()
     ensures acts_are_asked_on { act_line 17 On ≡ codes "phone 17 on\n" }
     ensures acts_are_asked_flash { act_line 1 Flash ≡ codes "phone 1 flash\n" }
     ensures acts_are_asked_key { act_line 1 (Key 35) ≡ codes "phone 1 #\n" }
+{}
+
+/// Each sentence at an example.
+pub fn what_is_waited_for_comes_to_its_end()
+    // Who waits for others goes on when none is left, and is over at its end.
+    ensures one_is_left { others 1 ≡ waits.Others 1 }
+    ensures none_is_left { others 0 ≡ waits.Nothing }
+    ensures over { (runner : Runner) → is_over (record runner { at = 7; end = 7; waits = waits.Nothing }) ≡ true }
+    ensures goes_on { (runner : Runner) → is_over (record runner { at = 6; end = 7; waits = waits.Nothing }) ≡ false }
+    ensures waits_still { (runner : Runner) → is_over (record runner { at = 7; end = 7; waits = waits.Answer }) ≡ false }
+    // Something is to be done at once, at a moment, or when something comes.
+    ensures at_once { due_of waits.Nothing 1000 ≡ 1000 }
+    ensures later { due_of (waits.Until 1500) 1000 ≡ 1500 }
+    ensures when_it_is_answered { due_of waits.Answer 1000 ≡ 18446744073709551615 }
+    ensures when_others_end { due_of (waits.Others 2) 1000 ≡ 18446744073709551615 }
+    // A gateway that hasn't answered for two seconds is silent, and each is asked anew twenty seconds behind the last time.
+    ensures asker { asker_of (Some (record { runner = Some 3; asked = 0 })) ≡ Some 3 }
+    ensures nobody { asker_of None ≡ None }
+    ensures nothing_asked { is_overdue None 9000 ≡ false }
+    ensures in_time { is_overdue (Some (record { runner = None; asked = 1000 })) 2999 ≡ false }
+    ensures overdue { is_overdue (Some (record { runner = None; asked = 1000 })) 3000 ≡ true }
+    ensures renewed { due_at 1000 None ≡ 21000 }
+    ensures answered_first { due_at 1000 (Some (record { runner = None; asked = 1500 })) ≡ 3500 }
 {}

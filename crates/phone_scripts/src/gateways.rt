@@ -1,7 +1,8 @@
 //! What is known of the gateways whose telephones a script works.
-ghost use Rattle.std.specs.Prelude.{◌≡◌};
+ghost use Rattle.std.specs.Prelude.{◌≡◌, Some, drop, slice_get};
 ghost use Rattle.std.specs.Option.{unwrap_or};
-ghost use Rattle.phone_scripts.specs.Numbering.{number_says, missing_before};
+ghost use Rattle.phone_scripts.specs.Numbering.{number_says, missing_before, next_behind};
+ghost use Rattle.phone_scripts.specs.Waiting.{asker_of, is_overdue, due_at};
 
 use crate::asking::{LONGEST_ANSWER, RENEWAL};
 use crate::telephone::{Telephone, What};
@@ -74,18 +75,21 @@ impl Watched {
 
     /// A change of this number is told: what that says. The first that is told of at all is the next.
     pub(crate) fn take_number(&mut self, number: u64) -> Numbered
-        ensures { result ≡ number_says (unwrap_or self.old.next number) number }
+        ensures said { result ≡ number_says (unwrap_or self.old.next number) number }
+        ensures next { self.new ≡ record self.old { next = next_behind result self.old.next number } }
     {
         let said = number_says(self.next.unwrap_or(number), number);
-        if matches!(said, Numbered::Next) {
-            self.next = Some(number.saturating_add(1));
+        match said {
+            Numbered::Next => self.next = Some(number.saturating_add(1)),
+            Numbered::Told | Numbered::Lost { .. } => {}
         }
         said
     }
 
     /// All changes before this number were told: the first of those that wasn't, if there is one.
     pub(crate) fn missing_before(&mut self, number: u64) -> Option<u64>
-        ensures { result ≡ missing_before (unwrap_or self.old.next number) number }
+        ensures missing { result ≡ missing_before (unwrap_or self.old.next number) number }
+        ensures next { self.new ≡ record self.old { next = Some (unwrap_or self.old.next number) } }
     {
         let next = self.next.unwrap_or(number);
         self.next = Some(next);
@@ -109,7 +113,11 @@ impl Watched {
     }
 
     /// It has answered: who asked for that, a runner or the player itself.
-    pub(crate) fn asked_first(&mut self) -> Option<usize> {
+    pub(crate) fn asked_first(&mut self) -> Option<usize>
+        ensures first { result ≡ asker_of (slice_get self.old.questions.items 0) }
+        ensures left { self.new.questions.items ≡ drop 1 self.old.questions.items }
+        ensures rest { self.new ≡ record self.old { questions = self.new.questions } }
+    {
         match self.questions.pop_front() {
             Some(question) => question.runner,
             None => None,
@@ -127,7 +135,9 @@ impl Watched {
     }
 
     /// Whether it hasn't answered for too long, at this moment of this machine's clock, in ms.
-    pub(crate) fn is_silent(&self, now: u64) -> bool {
+    pub(crate) fn is_silent(&self, now: u64) -> bool
+        ensures { result ≡ is_overdue (slice_get self.now.questions.items 0) now }
+    {
         match self.questions.front() {
             Some(question) => now >= question.asked.saturating_add(LONGEST_ANSWER),
             None => false,
@@ -135,7 +145,9 @@ impl Watched {
     }
 
     /// Until when it is waited for an answer, or for the moment at which it is asked anew to tell what changes.
-    pub(crate) fn due(&self) -> u64 {
+    pub(crate) fn due(&self) -> u64
+        ensures { result ≡ due_at self.now.renewed (slice_get self.now.questions.items 0) }
+    {
         let renewal = self.renewed.saturating_add(RENEWAL);
         match self.questions.front() {
             Some(question) => renewal.min(question.asked.saturating_add(LONGEST_ANSWER)),

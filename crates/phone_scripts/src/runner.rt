@@ -1,6 +1,7 @@
 //! Who goes through the statements of a script: where it is, and what it waits for.
 ghost use Rattle.std.specs.Prelude.{◌≡◌};
 ghost use Rattle.phone_scripts.specs.Blocks.{depth_behind, length_of_first};
+ghost use Rattle.phone_scripts.specs.Waiting.{others, is_nothing, is_over, due_of};
 
 use crate::expecting::{Expected, Open};
 use crate::script::Placed;
@@ -65,11 +66,26 @@ pub(crate) struct Runner {
 
 impl Waits {
     /// For so many others, or for nothing.
-    pub(crate) fn others(left: usize) -> Waits {
+    pub(crate) fn others(left: usize) -> Waits
+        ensures { result ≡ others left }
+    {
         if left > 0 {
             Waits::Others { left }
         } else {
             Waits::Nothing
+        }
+    }
+
+    fn is_nothing(self) -> bool
+        ensures { result ≡ is_nothing self }
+    {
+        match self {
+            Waits::Nothing => true,
+            Waits::Until { .. }
+            | Waits::Answer
+            | Waits::Begin { .. }
+            | Waits::Expect(_)
+            | Waits::Others { .. } => false,
         }
     }
 }
@@ -97,12 +113,16 @@ pub(crate) fn new_runner(
 
 impl Runner {
     /// Whether it has come to its end.
-    pub(crate) fn is_over(&self) -> bool {
-        self.at >= self.end && matches!(self.waits, Waits::Nothing)
+    pub(crate) fn is_over(&self) -> bool
+        ensures { result ≡ is_over self.now }
+    {
+        self.at >= self.end && self.waits.is_nothing()
     }
 
     /// Until when nothing is to be done for it, but for what comes; this moment where it goes on at once.
-    pub(crate) fn due(&self, now: u64) -> u64 {
+    pub(crate) fn due(&self, now: u64) -> u64
+        ensures { result ≡ due_of self.now.waits now }
+    {
         match self.waits {
             Waits::Nothing => now,
             Waits::Until { moment } => moment,
