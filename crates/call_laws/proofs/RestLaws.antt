@@ -479,6 +479,32 @@ so_many_in_all count last line before turns rests quiet =
     let short = all_short (after (opening count last) before) line turns (always_short count last line before) in
     omega (arith, room, most, short)
 
+-- where none is put off no more are answered than are settled
+
+parts : (coded put_off : Bool) → count_if coded ≤ count_if (coded && not put_off) + count_if put_off
+parts true true = omega arith
+parts true false = omega arith
+parts false true = omega arith
+parts false false = omega arith
+
+coded_parts : (line : ℕ) (exchange : ExchangeState) (turns : List Turn)
+    → count_turns (is_coded line) exchange turns ≤ count_turns (is_settled line) exchange turns + count_turns (is_put_off line) exchange turns
+unfolding count_turns
+coded_parts line exchange [] = omega arith
+coded_parts line exchange (turn ∷ turns) =
+    let one : count_if (is_coded line exchange turn) ≤ count_if (is_settled line exchange turn) + count_if (is_put_off line exchange turn) =
+    parts (is_coded line exchange turn) (is_put_off line exchange turn) in
+    let behind = coded_parts line (after_one exchange turn) turns in
+    omega (arith, one, behind)
+
+pub three_in_all : (count last line : ℕ) (before turns : List Turn) → phase_of (after (opening count last) before) line ≡ Some Resting
+    → AreQuietFor line turns → count_turns (is_put_off line) (after (opening count last) before) turns ≡ 0
+    → count_turns (is_coded line) (after (opening count last) before) turns ≤ 3
+three_in_all count last line before turns rests quiet none =
+    let both = coded_parts line (after (opening count last) before) turns in
+    let few = three_at_most count last line before turns rests quiet in
+    omega (arith, both, few, none)
+
 clear_of : (found : Option Line) (is : Line) → remaining_of found ≤ 0 → found ≡ Some is → IsClear is
 clear_of None is none e = absurd cc
 clear_of (Some line) is none e =

@@ -20,6 +20,7 @@ ghost use Rattle.call_routing.specs.Fates.{is_success, is_deleted, is_wanted, mo
 ghost use Rattle.call_routing.specs.Parameters.{gives, leg_of, description_of_other};
 ghost use Rattle.call_routing.specs.Exchange.{ExchangeState, opening, phase_of, line_of, told, answered, due};
 ghost use Rattle.call_laws.specs.Turns.{IsApart, IsAsBefore, Turn, sends, after, is_in_flight, count_if, is_sent, is_answered, is_coded};
+ghost use Rattle.call_laws.specs.Turns.{is_put_off};
 ghost use Rattle.call_laws.specs.Turns.{is_settled, count_turns, AreQuietFor, IsAtRest, is_request, is_creation, is_asked_on, is_bare};
 ghost use Rattle.call_laws.specs.Turns.{accepts, ends, IsPutOffOr, IsConnected};
 
@@ -64,8 +65,8 @@ pub fn a_restart_ends_the_call()
 
 /// A line that rests comes to rest at its gateway too. As long as its telephone is left alone and nobody dials it, it stays in no
 /// call, and at most three of its commands are answered by a code that doesn't put them off, whatever is given up in between, and
-/// whatever becomes of other lines; with those that are put off there are so many in all. After three it has no connection, no signal and
-/// no command in flight. Until then something is in flight, or is to be sent.
+/// whatever becomes of other lines; with those that are put off there are so many in all, and where none is put off three. After three it
+/// has no connection, no signal and no command in flight. Until then something is in flight, or is to be sent.
 pub fn a_line_that_hung_up_comes_to_rest()
     ensures no_call { (count last line : ℕ) (before turns : List Turn) →
         phase_of (after (opening count last) before) line ≡ Some Resting → AreQuietFor line turns →
@@ -76,6 +77,10 @@ pub fn a_line_that_hung_up_comes_to_rest()
     ensures in_all { (count last line : ℕ) (before turns : List Turn) →
         phase_of (after (opening count last) before) line ≡ Some Resting → AreQuietFor line turns →
         count_turns (is_coded line) (after (opening count last) before) turns ≤ 3 + 4 * most_put_off }
+    ensures none_put_off { (count last line : ℕ) (before turns : List Turn) →
+        phase_of (after (opening count last) before) line ≡ Some Resting → AreQuietFor line turns →
+        count_turns (is_put_off line) (after (opening count last) before) turns ≡ 0 →
+        count_turns (is_coded line) (after (opening count last) before) turns ≤ 3 }
     ensures after_three { (count last line : ℕ) (before turns : List Turn) →
         phase_of (after (opening count last) before) line ≡ Some Resting → AreQuietFor line turns →
         3 ≤ count_turns (is_settled line) (after (opening count last) before) turns →

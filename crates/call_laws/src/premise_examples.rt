@@ -8,11 +8,12 @@ ghost use Rattle.call_routing.specs.Fates.{is_deleted, is_success, is_wanted, ti
 ghost use Rattle.call_routing.specs.Next.{stands_for};
 ghost use Rattle.call_routing.specs.Exchange.{phase_of, line_of, answered, due};
 ghost use Rattle.call_routing.specs.declared.line.Line.{Line};
-ghost use Rattle.call_laws.specs.Turns.{tells, sends, after, is_in_flight, is_coded, is_settled, count_turns, leaves_alone, is_asked_on};
+ghost use Rattle.call_laws.specs.Turns.{tells, sends, after, is_in_flight, is_coded, is_put_off, is_settled, count_turns, leaves_alone};
+ghost use Rattle.call_laws.specs.Turns.{is_asked_on};
 ghost use Rattle.call_laws.specs.Turns.{is_bare, is_request, is_creation, accepts, ends, AreQuietFor};
-ghost use Rattle.call_laws.specs.Example.{opened, driven, accepted, created_first, created_second, ready, dial, ring};
+ghost use Rattle.call_laws.specs.Example.{opened, all_sent, driven, accepted, created_first, created_second, ready, dial, ring};
 ghost use Rattle.call_laws.specs.Example.{connect, then_is, phase_then};
-ghost use Rattle.call_laws.specs.Premises.{being_created, flashing, put_off_each_time, to_be_created};
+ghost use Rattle.call_laws.specs.Premises.{answering, being_created, flashing, put_off_each_time, to_be_created};
 
 use call_routing::{Asked, Cause, Command, Leg, Outcome, Phase, Side, Told, Tone};
 
@@ -27,7 +28,16 @@ pub fn else_a_line_does_not_come_to_rest()
     ensures still { phase_then 0 connect ≡ Some (Phase.InCall (record { call = 1; other = 1; side = Side.Caller; answered = true })) }
     ensures quiet_too { AreQuietFor 0 put_off_each_time }
     ensures more_in_all { count_turns (is_coded 0) (then_is dial) put_off_each_time ≡ 124 }
+    ensures coded_four { count_turns (is_coded 0) (then_is dial) (driven (accepted 0 ∷ accepted 1 ∷ tells 1 Told.OffHook ∷ accepted 1
+        ∷ created_first ∷ accepted 0 ∷ created_second ∷ accepted 0 ∷ [])) ≡ 4 }
+    ensures none_put_off { count_turns (is_put_off 0) (then_is dial) (driven (accepted 0 ∷ accepted 1 ∷ tells 1 Told.OffHook ∷ accepted 1
+        ∷ created_first ∷ accepted 0 ∷ created_second ∷ accepted 0 ∷ [])) ≡ 0 }
+    ensures rests_there { phase_of (after opened all_sent) 0 ≡ Some Phase.Resting }
+    ensures quiet_there { AreQuietFor 0 (answering 4 405) }
+    ensures put_off { count_turns (is_put_off 0) (after opened all_sent) (answering 4 405) ≡ 4 }
+    ensures four_in_all { count_turns (is_coded 0) (after opened all_sent) (answering 4 405) ≡ 4 }
     ensures resting { phase_of ready 0 ≡ Some Phase.Resting }
+    ensures no_flash_put_off { count_turns (is_put_off 0) ready (flashing 124) ≡ 0 }
     ensures not_quiet { leaves_alone 0 (tells 0 Told.Flash) ≡ false }
     ensures four_flashes { count_turns (is_settled 0) ready (flashing 4) ≡ 4 }
     ensures many_flashes { count_turns (is_coded 0) ready (flashing 124) ≡ 124 }
