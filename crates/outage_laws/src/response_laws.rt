@@ -33,12 +33,12 @@ pub fn what_is_put_off_is_sent_later()
         endpoint_at (plain setup (events ++ datagram source bytes ∷ [])).endpoints line
         ≡ Some (record was { post = record was.post { pending = Some (record flight { due = m.now + provisional_wait }) } }) }
     ensures line_sent { (setup : Setup) (events after : List GatewayEvent) (source : SocketAddrV4) (bytes text : List ℕ) (code id : ℕ)
-        (params : List Param) (body : List ℕ) (line : ℕ) (was is : Endpoint) (flight : InFlight) → texts_of bytes ≡ text ∷ [] →
+        (params : List Param) (body : List ℕ) (line : ℕ) (was : Endpoint) (flight : InFlight) → texts_of bytes ≡ text ∷ [] →
         read_text text ≡ message (messages.Response code id params body) → let m = plain setup events in
         let comes = events ++ datagram source bytes ∷ [] in let due = m.now + provisional_wait in
         endpoint_at m.endpoints line ≡ Some was → was.post.pending ≡ Some flight → flight.id ≡ id → reply_of flight id code ≡ Provisional →
         repeat_of (record flight { due = due }) due ≡ SentAgain → ¬ HasResponseSince setup comes after flight.id →
-        endpoint_at (plain setup (comes ++ after)).endpoints line ≡ Some is → due ≤ (plain setup (comes ++ after)).now →
+        due ≤ (plain setup (comes ++ after)).now →
         IsSentSince setup comes after line flight.text due }
     ensures own { (setup : Setup) (events : List GatewayEvent) (source : SocketAddrV4) (bytes text : List ℕ) (code id : ℕ)
         (params : List Param) (body : List ℕ) (flight : InFlight) → texts_of bytes ≡ text ∷ [] →
