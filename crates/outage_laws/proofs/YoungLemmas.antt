@@ -1,13 +1,14 @@
 -- Firsts that grow old are young no longer, and make room.
 use Rattle.std.proofs.Common.{◌≡◌, ℕ, suc, ◌+◌, ◌-◌, ◌<◌, ◌≤◌, Bool, true, false, if◌then◌else◌, List, [], ◌∷◌, length, inl, inr, refl, subst, ap, sym, ◌∙◌, arith}
-use Rattle.std.specs.Prelude.{◌⊎◌, All, Any, nat_lt}
-use Rattle.std.proofs.lemmas.Bool.{ltb-true, ltb-false}
+use Rattle.std.specs.Prelude.{◌⊎◌, All, Any, nat_le, nat_lt}
+use Rattle.std.proofs.lemmas.Bool.{leb-false, leb-true, ltb-true, ltb-false}
 use Rattle.history.specs.Arrival.{Arrival}
 use Rattle.history.specs.Firsts.{young_of}
 use Rattle.history.specs.Memory.{is_young, memory_time, most_firsts}
 use Rattle.machine_laws.specs.Saying.{OneOf}
 use Rattle.machine_laws.proofs.EachLemmas.{Each, each_from_all, one_from_any}
 use Rattle.delivery_laws.specs.Copies.{HasRoom}
+use Rattle.outage_laws.specs.AfterOutage.{grown_old}
 
 -- what is old isn't young
 old_test : (moment later : ℕ) → moment + memory_time ≤ later → is_young later moment ≡ false
@@ -80,3 +81,50 @@ all_make_room firsts now later all old = none_young firsts now later old (each_f
 pub has_room : (firsts : List Arrival) (now later : ℕ) → All (λ (first : Arrival). first.moment ≤ now) firsts → now + memory_time ≤ later → HasRoom later firsts
 has_room firsts now later all old =
     subst (λ (young : List Arrival). length young < most_firsts) (sym (all_make_room firsts now later all old)) (omega arith)
+
+-- As many fewer of them are young as grew old
+
+-- what isn't so old yet is young
+young_test : (moment later : ℕ) → later < moment + memory_time → is_young later moment ≡ true
+young_test moment later soon = by_test (is_young later moment) refl where
+  by_test : (b : Bool) → nat_lt (later - moment) memory_time ≡ b → b ≡ true
+  by_test true young = refl
+  by_test false old = absurd (let many : memory_time ≤ later - moment = ltb-false (later - moment) memory_time old in omega (arith, soon, many))
+
+-- one more, and it grew old, or not
+abbrev with_one : Bool → Arrival → List Arrival → List Arrival
+with_one old first firsts = if old then first ∷ firsts else firsts
+
+still : (now later old all : ℕ) → now ≡ later + old → all ≡ old → suc now ≡ suc later + all
+still now later old all same is = omega (arith, same, is)
+
+gone : (now later old all : ℕ) → now ≡ later + old → all ≡ suc old → suc now ≡ later + all
+gone now later old all same is = omega (arith, same, is)
+
+pub fewer_by : (firsts : List Arrival) (now later : ℕ) → now ≤ later → length (young_of now firsts) ≡ length (young_of later firsts) + length (grown_old later (young_of now firsts))
+fewer_by [] now later past = refl
+fewer_by (first ∷ firsts) now later past =
+    by_tests (is_young now first.moment) (is_young later first.moment) (nat_le (first.moment + memory_time) later) refl refl refl (fewer_by firsts now later past) where
+      one_more : (c : Bool) → nat_le (first.moment + memory_time) later ≡ c
+          → length (grown_old later (first ∷ young_of now firsts)) ≡ length (with_one c first (grown_old later (young_of now firsts)))
+      one_more c is = ap (λ (t : Bool). length (with_one t first (grown_old later (young_of now firsts)))) is
+
+      clash : (b : Bool) → b ≡ true → b ≡ false → ⊥
+      clash true young old = cc
+      clash false young old = cc
+
+      by_tests : (a b c : Bool) → is_young now first.moment ≡ a → is_young later first.moment ≡ b → nat_le (first.moment + memory_time) later ≡ c
+          → length (young_of now firsts) ≡ length (young_of later firsts) + length (grown_old later (young_of now firsts))
+          → length (if a then first ∷ young_of now firsts else young_of now firsts)
+          ≡ length (if b then first ∷ young_of later firsts else young_of later firsts)
+          + length (grown_old later (if a then first ∷ young_of now firsts else young_of now firsts))
+      by_tests false true c was is grew rest = absurd (clash (is_young later first.moment) is (young_before first.moment now later past was))
+      by_tests false false c was is grew rest = rest
+      by_tests true true true was is grew rest =
+          absurd (clash (is_young later first.moment) is (old_test first.moment later (leb-true (first.moment + memory_time) later grew)))
+      by_tests true true false was is grew rest =
+          still (length (young_of now firsts)) (length (young_of later firsts)) (length (grown_old later (young_of now firsts))) _ rest (one_more false grew)
+      by_tests true false true was is grew rest =
+          gone (length (young_of now firsts)) (length (young_of later firsts)) (length (grown_old later (young_of now firsts))) _ rest (one_more true grew)
+      by_tests true false false was is grew rest =
+          absurd (clash (is_young later first.moment) (young_test first.moment later (leb-false (first.moment + memory_time) later grew)) is)

@@ -1,5 +1,7 @@
 -- A network that was down and came back, and by when what is in flight is taken and answered (RFC 3435, 3.5.3 and 4.3).
-use Rattle.std.specs.Prelude.{◌≡◌, ℕ, ◌+◌, ◌-◌, ◌*◌, ◌≤◌, nat_lt, if◌then◌else◌, List, [], ◌∷◌, ◌++◌, Any, Some, slice_get, true}
+use Rattle.std.specs.Prelude.{◌≡◌, ℕ, ◌+◌, ◌-◌, ◌*◌, ◌≤◌, nat_lt, if◌then◌else◌, List, [], ◌∷◌, ◌++◌, Any, Some, filter, nat_le, slice_get, true}
+use Rattle.history.specs.Arrival.{Arrival}
+use Rattle.history.specs.Memory.{memory_time}
 use Rattle.restart.specs.declared.restart.Restart.TheVariants.{Serving}
 use Rattle.plain_machine.specs.declared.endpoint.Endpoint.{Endpoint}
 use Rattle.plain_machine.specs.declared.setup.Setup.{Setup}
@@ -10,7 +12,7 @@ use Rattle.agent_core.specs.World.{World, WorldStep, gateway_in, now_in, plain_w
 use Rattle.world_laws.specs.Reached.{Reached, taken_in}
 use Rattle.delivery_laws.specs.Chances.{chances, last_chance}
 use Rattle.delivery_laws.specs.Copies.{answer_wait}
-use Rattle.delivery_laws.specs.Fairness.{IsHandedOver}
+use Rattle.delivery_laws.specs.Fairness.{GoesToAgent, IsHandedOver}
 use Rattle.delivery_laws.specs.OwnChances.{HasCome, IsOfLine}
 use Rattle.delivery_laws.specs.Taking.{AgentHasRoom}
 
@@ -25,6 +27,15 @@ abbrev pub AgentHasRoomFrom : Setup → List WorldStep → ℕ → Type 0
 AgentHasRoomFrom setup steps since =
     (before later : List WorldStep) → steps ≡ before ++ later → since ≤ now_in setup (plain_world setup before)
     → AgentHasRoom setup (plain_world setup before)
+
+-- each command of this line's own whose last send was at that moment or later goes to the agent, whatever it began before
+abbrev pub ReachTheAgentSince : Setup → World → ℕ → ℕ → Type 0
+ReachTheAgentSince setup w line since =
+    (b : Begun) → IsOfLine setup w line b → since ≤ b.moment + last_chance → GoesToAgent setup w b.text
+
+-- of these firsts those that are no longer young by then (RFC 3435, 3.5.1)
+abbrev pub grown_old : ℕ → List Arrival → List Arrival
+grown_old later firsts = filter (λ (first : Arrival). nat_le (first.moment + memory_time) later) firsts
 
 -- the longest time between two sends of a command that isn't given up
 abbrev pub longest_pause : ℕ

@@ -12,7 +12,7 @@ ghost use Rattle.delivery_laws.specs.Chances.{chances, last_chance};
 ghost use Rattle.delivery_laws.specs.Copies.{HasRoom, IsRun, answer_wait};
 ghost use Rattle.delivery_laws.specs.Fairness.{GoesToAgent, IsFair};
 ghost use Rattle.delivery_laws.specs.OwnChances.{HasCome, IsOfLine};
-ghost use Rattle.outage_laws.specs.AfterOutage.{AgentHasRoomFrom, IsFairFrom, gap_of, longest_pause};
+ghost use Rattle.outage_laws.specs.AfterOutage.{AgentHasRoomFrom, IsFairFrom, gap_of, grown_old, longest_pause};
 
 /// A network is fair where it is so from the first moment on; and one that is so from a moment on is so from each later one.
 pub fn a_fair_network_is_fair_from_any_moment_on()
@@ -65,12 +65,14 @@ pub fn a_gateway_serves_after_an_outage()
         serves (gateway_in setup w).endpoints ≡ true }
 {}
 
-/// Where as many firsts are young as there may be, there is room again as one of them is 30,000 ms old, for one for each that is so; and
-/// once all of them are, none is young (RFC 3435, 3.5.1).
+/// Where as many firsts are young as there may be, there is room again as one of them is 30,000 ms old, for one for each that is so: as many
+/// fewer of them are young as grew old; and once all of them are, none is young (RFC 3435, 3.5.1).
 pub fn a_full_history_takes_a_command_again()
     ensures each { (firsts : List Arrival) (now later : ℕ) (first : Arrival) → now ≤ later →
         Any (λ (one : Arrival). one ≡ first) (young_of now firsts) → first.moment + memory_time ≤ later →
         length (young_of later firsts) < length (young_of now firsts) }
+    ensures by_as_many { (firsts : List Arrival) (now later : ℕ) → now ≤ later → length (young_of now firsts)
+        ≡ length (young_of later firsts) + length (grown_old later (young_of now firsts)) }
     ensures all { (firsts : List Arrival) (now later : ℕ) → All (λ (first : Arrival). first.moment ≤ now) firsts →
         now + memory_time ≤ later → young_of later firsts ≡ [] }
     ensures room { (firsts : List Arrival) (now later : ℕ) → All (λ (first : Arrival). first.moment ≤ now) firsts →
