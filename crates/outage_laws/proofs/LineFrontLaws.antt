@@ -43,7 +43,7 @@ use Rattle.machine_laws.proofs.EachLemmas.{any_from_one, one_before, one_from_an
 use Rattle.machine_laws.proofs.FlightLaws.{redirected_announced}
 use Rattle.machine_laws.proofs.WaitLaws.{events_wait}
 use Rattle.agent_core.specs.World.{World, WorldStep, delivering, gateway_in, now_in, plain_world, steps_are_taken, world_opening}
-use Rattle.delivery_laws.specs.Chances.{chances}
+use Rattle.delivery_laws.specs.Chances.{chances, last_chance}
 use Rattle.delivery_laws.specs.Copies.{answer_wait}
 use Rattle.delivery_laws.specs.Fairness.{GoesToAgent}
 use Rattle.delivery_laws.specs.GivenUp.{announces}
@@ -84,8 +84,7 @@ same_now a b same = omega (arith, same)
 -- At a front
 
 module _ (setup : Setup) (first later : List WorldStep) (since within line : ℕ) (set_up : IsSetUp setup) (taken : steps_are_taken setup world_opening (first ++ later) ≡ true)
-    (fair : IsFairFrom setup (first ++ later) since within) (roomy : AgentHasRoomFrom setup (first ++ later) since)
-    (reach : (b : Begun) → IsOfLine setup (plain_world setup (first ++ later)) line b → GoesToAgent setup (plain_world setup (first ++ later)) b.text) where
+    (fair : IsFairFrom setup (first ++ later) since within) (roomy : AgentHasRoomFrom setup (first ++ later) since) where
   abbrev w : World
   w = plain_world setup first
 
@@ -95,7 +94,7 @@ module _ (setup : Setup) (first later : List WorldStep) (since within line : ℕ
   first_taken : steps_are_taken setup world_opening first ≡ true
   first_taken = taken_front setup world_opening first later taken
 
-  of_whole : (b : Begun) → IsOfLine setup w line b → IsOfLine setup whole line b
+  pub of_whole : (b : Begun) → IsOfLine setup w line b → IsOfLine setup whole line b
   of_whole b of =
       let p = posts_since setup set_up first later taken in
       let more = of_line line (sent_from setup (gateway_in setup w) p.events) in
@@ -161,21 +160,27 @@ module _ (setup : Setup) (first later : List WorldStep) (since within line : ℕ
     at_front = by_first (one_first is.before first (delivering is.number ∷ is.later) later same)
 
   -- so an answer that had its time comes before the front ends
-  pub back : (b : Begun) (wait : ℕ) → IsOfLine setup w line b → since ≤ b.moment + wait → b.moment + wait + 2 * within + 1 ≤ now_in setup w → (told : IsToldAfter setup w b wait)
+  pub back : (b : Begun) (wait : ℕ) → IsOfLine setup w line b → GoesToAgent setup whole b.text → since ≤ b.moment + wait → b.moment + wait + 2 * within + 1 ≤ now_in setup w → (told : IsToldAfter setup w b wait)
       → IsBackBehind setup first within b wait told.number
   unfolding told_whole
-  back b wait of past late told =
+  back b wait of goes past late told =
       at_front b wait told.number late
-      (comes_behind setup (first ++ later) since within line b set_up taken fair roomy (of_whole b of) (reach b (of_whole b of)) wait (told_whole b wait told) past
+      (comes_behind setup (first ++ later) since within line b set_up taken fair roomy (of_whole b of) goes wait (told_whole b wait told) past
       (late_front (b.moment + wait + 2 * within) (now_in setup w) (now_in setup whole) late (front_forward setup first later taken)))
 
-  module _ (endpoint : Endpoint) (at : endpoint_at (gateway_in setup w).endpoints line ≡ Some endpoint) (wait : ℕ) (among : OneOf (λ (one : ℕ). one ≡ wait) chances)
+  module _ (reach : (b : Begun) → IsOfLine setup (plain_world setup (first ++ later)) line b → since ≤ b.moment + last_chance
+      → GoesToAgent setup (plain_world setup (first ++ later)) b.text)
+      (endpoint : Endpoint) (at : endpoint_at (gateway_in setup w).endpoints line ≡ Some endpoint) (wait : ℕ) (among : OneOf (λ (one : ℕ). one ≡ wait) chances)
       (few : wait + 2 * within < answer_wait) (bound : since + answer_wait + wait_of setup line + 2 * within + 1 ≤ now_in setup w + 1 + wait) where
+    back_recent : (b : Begun) (wait : ℕ) → IsOfLine setup w line b → since ≤ b.moment + last_chance → since ≤ b.moment + wait → b.moment + wait + 2 * within + 1 ≤ now_in setup w
+        → (told : IsToldAfter setup w b wait) → IsBackBehind setup first within b wait told.number
+    back_recent b wait of recent past late told = back b wait of (reach b (of_whole b of) recent) past late told
+
     pub serves_there : endpoint.post.restart ≡ Serving
-    serves_there = has_its_agent setup first line since within 1 endpoint set_up first_taken at back wait among few (omega arith) bound
+    serves_there = has_its_agent setup first line since within 1 endpoint set_up first_taken at back_recent wait among few (omega arith) bound
 
     pub awaited_there : (flight : InFlight) → endpoint.post.pending ≡ Some flight → IsAwaited (now_in setup w) (2 * within) endpoint.post.pending
-    awaited_there flight flies = is_awaited setup first line since within 1 endpoint set_up first_taken at back wait among few (omega arith) bound refl flight flies
+    awaited_there flight flies = is_awaited setup first line since within 1 endpoint set_up first_taken at back_recent wait among few (omega arith) bound refl flight flies
 
 -- What an event says of a line that is there before it and behind it
 

@@ -95,7 +95,7 @@ began_before some more b began =
 
 module _ (setup : Setup) (steps : List WorldStep) (line since within slack : ℕ) (endpoint : Endpoint) (set_up : IsSetUp setup) (taken : steps_are_taken setup world_opening steps ≡ true)
     (at : endpoint_at (gateway_in setup (plain_world setup steps)).endpoints line ≡ Some endpoint)
-    (back : (b : Begun) (wait : ℕ) → IsOfLine setup (plain_world setup steps) line b → since ≤ b.moment + wait → b.moment + wait + 2 * within + slack ≤ now_in setup (plain_world setup steps)
+    (back : (b : Begun) (wait : ℕ) → IsOfLine setup (plain_world setup steps) line b → since ≤ b.moment + last_chance → since ≤ b.moment + wait → b.moment + wait + 2 * within + slack ≤ now_in setup (plain_world setup steps)
     → (told : IsToldAfter setup (plain_world setup steps) b wait) → IsBackBehind setup steps within b wait told.number)
     (wait : ℕ) (among : OneOf (λ (one : ℕ). one ≡ wait) chances) (few : wait + 2 * within < answer_wait) (small : slack ≤ 1)
     (late : since + answer_wait + wait_of setup line + 2 * within + slack ≤ now_in setup (plain_world setup steps) + 1 + wait) where
@@ -136,6 +136,7 @@ module _ (setup : Setup) (steps : List WorldStep) (line since within slack : ℕ
   not_waiting until waits g soon =
       waiting_answered setup steps line within endpoint set_up taken at g.b wait few g.old g.mine g.order g.stretch (given_up_said sent until g) until waits
       (back g.b wait (of_last g.b (record { old = g.old; mine = g.mine; order = g.order; stretch = g.stretch }))
+      (last_past since g.b.moment wait (wait_sent since g.b.moment wait within now (wait_of setup line) until slack g.begins soon late) low)
       (wait_sent since g.b.moment wait within now (wait_of setup line) until slack g.begins soon late) (over_twice g.b.moment wait within now slack small few g.over))
 
   -- What is in flight was sent so often as the clock is late
@@ -150,11 +151,11 @@ module _ (setup : Setup) (steps : List WorldStep) (line since within slack : ℕ
   flight_soon old flight f = soon_by now flight.due flight.first f.b.moment f.up (due_by f.mine flight f.on) f.is.first
 
   -- and no send of it since was so long ago
-  not_sent : (old : List Sent) (flight : InFlight) (f : Flies setup line (Behind now) sent old now flight) → endpoint.post.pending ≡ Some flight → (one : ℕ)
-      → SaidOf f.mine f.b one → since ≤ f.b.moment + one → f.b.moment + one + 2 * within + slack ≤ now → ⊥
-  not_sent old flight f flies one has past twice =
+  not_sent : (old : List Sent) (flight : InFlight) (f : Flies setup line (Behind now) sent old now flight) → endpoint.post.pending ≡ Some flight
+      → since ≤ f.b.moment + last_chance → (one : ℕ) → SaidOf f.mine f.b one → since ≤ f.b.moment + one → f.b.moment + one + 2 * within + slack ≤ now → ⊥
+  not_sent old flight f flies recent one has past twice =
       flight_answered setup steps line within endpoint set_up taken at f.b one old f.mine f.order f.stretch (has (twice_past f.b.moment one within now slack twice)) flight flies f.is
-      (back f.b one (of_last f.b (record { old = old; mine = f.mine; order = f.order; stretch = f.stretch })) past twice)
+      (back f.b one (of_last f.b (record { old = old; mine = f.mine; order = f.order; stretch = f.stretch })) recent past twice)
 
   -- It didn't announce itself without an answer
 
@@ -167,7 +168,9 @@ module _ (setup : Setup) (steps : List WorldStep) (line since within slack : ℕ
     before_it soon =
         announced_answered setup steps line within endpoint set_up taken at a.before.b a.its.b wait (wait_of setup line) few a.before.old a.old a.before.mine a.its.mine a.before.order
         a.before.stretch a.its.order a.its.stretch (given_up_said a.old a.flight.first a.before) announces second
-        (back a.before.b wait of_it (next_sent since a.before.b.moment wait within now (wait_of setup line) a.its.b.moment slack second soon late)
+        (back a.before.b wait of_it
+        (last_past since a.before.b.moment wait
+        (next_sent since a.before.b.moment wait within now (wait_of setup line) a.its.b.moment slack second soon late) low) (next_sent since a.before.b.moment wait within now (wait_of setup line) a.its.b.moment slack second soon late)
         (over_twice a.before.b.moment wait within now slack small few a.before.over)) where
           of_it : IsOfLine setup w line a.before.b
           of_it =
@@ -176,22 +179,23 @@ module _ (setup : Setup) (steps : List WorldStep) (line since within slack : ℕ
               (began_before a.old a.its.mine a.before.b
               (is_begun a.old a.before.b (record { old = a.before.old; mine = a.before.mine; order = a.before.order; stretch = a.before.stretch }))))
 
-    by_first : (one : ℕ) → SaidOf a.its.mine a.its.b one → since ≤ a.its.b.moment + one → one ≡ 0 → (x : Bool) → nat_le (a.its.b.moment + one + 2 * within + slack) now ≡ x → ⊥
-    by_first one has past none true twice = not_sent a.old a.flight a.its a.flies one has past (leb-true (a.its.b.moment + one + 2 * within + slack) now twice)
-    by_first one has past none false fewer =
+    by_first : since ≤ a.its.b.moment + last_chance → (one : ℕ) → SaidOf a.its.mine a.its.b one → since ≤ a.its.b.moment + one → one ≡ 0 → (x : Bool) → nat_le (a.its.b.moment + one + 2 * within + slack) now ≡ x → ⊥
+    by_first recent one has past none true twice = not_sent a.old a.flight a.its a.flies recent one has past (leb-true (a.its.b.moment + one + 2 * within + slack) now twice)
+    by_first recent one has past none false fewer =
         before_it (not_twice a.its.b.moment one within now slack none (leb-false (a.its.b.moment + one + 2 * within + slack) now fewer))
 
-    by_soon : (one : ℕ) → SaidOf a.its.mine a.its.b one → since ≤ a.its.b.moment + one → (one ≡ 0) ⊎ (a.its.b.moment + one + 1 ≤ since + longest_pause) → ⊥
-    by_soon one has past (inl none) = by_first one has past none (nat_le (a.its.b.moment + one + 2 * within + slack) now) refl
-    by_soon one has past (inr next) =
-        not_sent a.old a.flight a.its a.flies one has past (next_twice since a.its.b.moment one wait within now (wait_of setup line) slack next low late)
+    by_soon : since ≤ a.its.b.moment + last_chance → (one : ℕ) → SaidOf a.its.mine a.its.b one → since ≤ a.its.b.moment + one → (one ≡ 0) ⊎ (a.its.b.moment + one + 1 ≤ since + longest_pause) → ⊥
+    by_soon recent one has past (inl none) = by_first recent one has past none (nat_le (a.its.b.moment + one + 2 * within + slack) now) refl
+    by_soon recent one has past (inr next) =
+        not_sent a.old a.flight a.its a.flies recent one has past (next_twice since a.its.b.moment one wait within now (wait_of setup line) slack next low late)
 
-    by_next : IsNext (SaidOf a.its.mine a.its.b) since a.its.b.moment → ⊥
-    by_next is = by_soon is.wait is.has is.late is.soon
+    by_next : since ≤ a.its.b.moment + last_chance → IsNext (SaidOf a.its.mine a.its.b) since a.its.b.moment → ⊥
+    by_next recent is = by_soon recent is.wait is.has is.late is.soon
 
     by_test : (x : Bool) → nat_le since (a.its.b.moment + wait) ≡ x → ⊥
     by_test true past =
-        by_next (next_send (SaidOf a.its.mine a.its.b) since a.its.b.moment (last_past since a.its.b.moment wait (leb-true since (a.its.b.moment + wait) past) low)
+        by_next (last_past since a.its.b.moment wait (leb-true since (a.its.b.moment + wait) past) low)
+        (next_send (SaidOf a.its.mine a.its.b) since a.its.b.moment (last_past since a.its.b.moment wait (leb-true since (a.its.b.moment + wait) past) low)
         (flight_said a.old a.flight a.its))
     by_test false before =
         too_late since a.its.b.moment wait within now (wait_of setup line) slack (flight_soon a.old a.flight a.its) (leb-false since (a.its.b.moment + wait) before) late
@@ -219,20 +223,22 @@ module _ (setup : Setup) (steps : List WorldStep) (line since within slack : ℕ
         subst (λ (p : Option InFlight). IfSome p (FliesSo setup line (Behind now) sent now)) flies
         (subst (λ (r : Restart). TracksBy setup line (Behind now) sent now r endpoint.post.pending) has_its_agent tracks.tracks)
 
-    old_by_soon : (old : List Sent) (flight : InFlight) (f : Flies setup line (Behind now) sent old now flight) → endpoint.post.pending ≡ Some flight → f.b.moment + 2 * within < now → (one : ℕ)
+    old_by_soon : (old : List Sent) (flight : InFlight) (f : Flies setup line (Behind now) sent old now flight) → endpoint.post.pending ≡ Some flight
+        → since ≤ f.b.moment + last_chance → f.b.moment + 2 * within < now → (one : ℕ)
         → SaidOf f.mine f.b one → since ≤ f.b.moment + one → (one ≡ 0) ⊎ (f.b.moment + one + 1 ≤ since + longest_pause) → ⊥
-    old_by_soon old flight f flies old_enough one has past (inl none) =
-        not_sent old flight f flies one has past
+    old_by_soon old flight f flies recent old_enough one has past (inl none) =
+        not_sent old flight f flies recent one has past
         (subst (λ (n : ℕ). f.b.moment + one + 2 * within + n ≤ now) (sym one_more) (first_twice f.b.moment one within now none old_enough))
-    old_by_soon old flight f flies old_enough one has past (inr next) =
-        not_sent old flight f flies one has past (next_twice since f.b.moment one wait within now (wait_of setup line) slack next low late)
+    old_by_soon old flight f flies recent old_enough one has past (inr next) =
+        not_sent old flight f flies recent one has past (next_twice since f.b.moment one wait within now (wait_of setup line) slack next low late)
 
     not_old : (flight : InFlight) → endpoint.post.pending ≡ Some flight → (f : FliesSo setup line (Behind now) sent now flight) → f.1.b.moment + 2 * within < now → ⊥
     not_old flight flies f old_enough =
         by_next_one (next_send (SaidOf f.1.mine f.1.b) since f.1.b.moment
         (old_past since f.1.b.moment within now (wait_of setup line) wait slack (flight_soon f.0 flight f.1) low late) (flight_said f.0 flight f.1)) where
           by_next_one : IsNext (SaidOf f.1.mine f.1.b) since f.1.b.moment → ⊥
-          by_next_one is = old_by_soon f.0 flight f.1 flies old_enough is.wait is.has is.late is.soon
+          by_next_one is = old_by_soon f.0 flight f.1 flies
+              (old_past since f.1.b.moment within now (wait_of setup line) wait slack (flight_soon f.0 flight f.1) low late) old_enough is.wait is.has is.late is.soon
 
     awaited_by : (flight : InFlight) → endpoint.post.pending ≡ Some flight → (f : FliesSo setup line (Behind now) sent now flight) → (x : Bool)
         → nat_le now (flight.first + 2 * within) ≡ x → now ≤ flight.first + 2 * within
@@ -262,20 +268,20 @@ with_none : (since pause other within now wait : ℕ) → other ≡ pause → si
 with_none since pause other within now wait same late = omega (arith, same, late)
 
 pub agent_is_there_by : (setup : Setup) (steps : List WorldStep) (since within wait line : ℕ) (endpoint : Endpoint) → IsSetUp setup → steps_are_taken setup world_opening steps ≡ true
-    → IsFairFrom setup steps since within → AgentHasRoomFrom setup steps since → let w = plain_world setup steps in ((b : Begun) → IsOfLine setup w line b → GoesToAgent setup w b.text)
+    → IsFairFrom setup steps since within → AgentHasRoomFrom setup steps since → let w = plain_world setup steps in ((b : Begun) → IsOfLine setup w line b → since ≤ b.moment + last_chance → GoesToAgent setup w b.text)
     → endpoint_at (gateway_in setup w).endpoints line ≡ Some endpoint → Any (λ (one : ℕ). one ≡ wait) chances → wait + 2 * within < answer_wait
     → since + answer_wait + setup.disconnected_wait + 2 * within ≤ now_in setup w + 1 + wait → endpoint.post.restart ≡ Serving
 agent_is_there_by setup steps since within wait line endpoint set_up taken fair roomy reach at among few late =
     let now = now_in setup (plain_world setup steps) in
     has_its_agent setup steps line since within 0 endpoint set_up taken at
-    (λ b one of past twice told. comes_behind setup steps since within line b set_up taken fair roomy of (reach b of) one told past (none_more b.moment one within now twice))
+    (λ b one of recent past twice told. comes_behind setup steps since within line b set_up taken fair roomy of (reach b of recent) one told past (none_more b.moment one within now twice))
     wait (one_from_any (λ (one : ℕ). one ≡ wait) chances among) few (omega arith)
     (with_none since setup.disconnected_wait (wait_of setup line) within now wait
     (wait_is setup line (place_of (gateway_in setup (plain_world setup steps)).endpoints line endpoint at).0) late)
 
 pub agent_is_there : (setup : Setup) (steps : List WorldStep) (since within line : ℕ) (endpoint : Endpoint) → IsSetUp setup → steps_are_taken setup world_opening steps ≡ true
     → IsQuick within → IsFairFrom setup steps since within → AgentHasRoomFrom setup steps since → let w = plain_world setup steps in
-    ((b : Begun) → IsOfLine setup w line b → GoesToAgent setup w b.text) → endpoint_at (gateway_in setup w).endpoints line ≡ Some endpoint
+    ((b : Begun) → IsOfLine setup w line b → since ≤ b.moment + last_chance → GoesToAgent setup w b.text) → endpoint_at (gateway_in setup w).endpoints line ≡ Some endpoint
     → since + gap_of within + setup.disconnected_wait + 2 * within ≤ now_in setup w + 1 → endpoint.post.restart ≡ Serving
 agent_is_there setup steps since within line endpoint set_up taken quick fair roomy reach at late =
     let last = last_in_time within 0 chances in

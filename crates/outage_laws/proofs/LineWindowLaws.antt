@@ -26,7 +26,7 @@ use Rattle.machine_laws.proofs.OwningLemmas.{of_both}
 use Rattle.machine_laws.proofs.WaitLaws.{opening_waits}
 use Rattle.agent_core.specs.World.{World, WorldStep, gateway_in, now_in, plain_world, steps_are_taken, world_opening}
 use Rattle.world_laws.proofs.WorldLaws.{gateway_alone}
-use Rattle.delivery_laws.specs.Chances.{chances}
+use Rattle.delivery_laws.specs.Chances.{chances, last_chance}
 use Rattle.delivery_laws.specs.Copies.{answer_wait}
 use Rattle.delivery_laws.specs.Course.{course_from}
 use Rattle.delivery_laws.specs.Dialled.{done_in}
@@ -62,7 +62,7 @@ gap_front since within pause before last few late = omega (arith, few, late)
 
 module _ (setup : Setup) (steps : List WorldStep) (since within line : ℕ) (before after : List GatewayEvent) (endpoint : Endpoint) (set_up : IsSetUp setup)
     (taken : steps_are_taken setup world_opening steps ≡ true) (fair : IsFairFrom setup steps since within) (roomy : AgentHasRoomFrom setup steps since)
-    (reach : (b : Begun) → IsOfLine setup (plain_world setup steps) line b → GoesToAgent setup (plain_world setup steps) b.text)
+    (reach : (b : Begun) → IsOfLine setup (plain_world setup steps) line b → since ≤ b.moment + last_chance → GoesToAgent setup (plain_world setup steps) b.text)
     (took : (plain_world setup steps).gateway_took ≡ before ++ after) (serving : serves (plain setup before).endpoints ≡ true)
     (there : endpoint_at (gateway_in setup (plain_world setup steps)).endpoints line ≡ Some endpoint) (wait : ℕ) (among : OneOf (λ (one : ℕ). one ≡ wait) chances)
     (few : wait + 2 * within < answer_wait) (late : since + answer_wait + setup.disconnected_wait + 2 * within ≤ (plain setup before).now + wait) where
@@ -108,9 +108,9 @@ module _ (setup : Setup) (steps : List WorldStep) (since within line : ℕ) (bef
     roomy_whole : AgentHasRoomFrom setup (t.first ++ t.later) since
     roomy_whole = subst (λ (x : List WorldStep). AgentHasRoomFrom setup x since) t.order roomy
 
-    reach_whole : (b : Begun) → IsOfLine setup (plain_world setup (t.first ++ t.later)) line b → GoesToAgent setup (plain_world setup (t.first ++ t.later)) b.text
+    reach_whole : (b : Begun) → IsOfLine setup (plain_world setup (t.first ++ t.later)) line b → since ≤ b.moment + last_chance → GoesToAgent setup (plain_world setup (t.first ++ t.later)) b.text
     reach_whole =
-        subst (λ (x : List WorldStep). (b : Begun) → IsOfLine setup (plain_world setup x) line b → GoesToAgent setup (plain_world setup x) b.text) t.order reach
+        subst (λ (x : List WorldStep). (b : Begun) → IsOfLine setup (plain_world setup x) line b → since ≤ b.moment + last_chance → GoesToAgent setup (plain_world setup x) b.text) t.order reach
 
     serves_then : s.post.restart ≡ Serving
     serves_then = serves_there setup t.first t.later since within line set_up whole_taken fair_whole roomy_whole reach_whole s at_first wait among few bound
@@ -243,7 +243,7 @@ module _ (setup : Setup) (steps : List WorldStep) (since within line : ℕ) (bef
 
 module _ (setup : Setup) (steps : List WorldStep) (since within line : ℕ) (before after : List GatewayEvent) (endpoint : Endpoint) (set_up : IsSetUp setup)
     (taken : steps_are_taken setup world_opening steps ≡ true) (quick : IsQuick within) (fair : IsFairFrom setup steps since within) (roomy : AgentHasRoomFrom setup steps since)
-    (reach : (b : Begun) → IsOfLine setup (plain_world setup steps) line b → GoesToAgent setup (plain_world setup steps) b.text)
+    (reach : (b : Begun) → IsOfLine setup (plain_world setup steps) line b → since ≤ b.moment + last_chance → GoesToAgent setup (plain_world setup steps) b.text)
     (took : (plain_world setup steps).gateway_took ≡ before ++ after) (serving : serves (plain setup before).endpoints ≡ true)
     (there : endpoint_at (gateway_in setup (plain_world setup steps)).endpoints line ≡ Some endpoint)
     (late : since + gap_of within + setup.disconnected_wait + 2 * within ≤ (plain setup before).now) where

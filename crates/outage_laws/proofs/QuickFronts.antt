@@ -147,10 +147,10 @@ module _ (setup : Setup) (steps : List WorldStep) (since within : ℕ) (taken : 
   pub roomy_there : AgentHasRoomFrom setup cut.front since
   roomy_there = λ before later order past. roomy before (later ++ cut.later) (cut.order ∙ ap (λ (s : List WorldStep). s ++ cut.later) order ∙ append_assoc before later cut.later) past
 
-  pub reach_there : (line : ℕ) → ((b : Begun) → IsOfLine setup (plain_world setup steps) line b → GoesToAgent setup (plain_world setup steps) b.text) → (b : Begun)
-      → IsOfLine setup (plain_world setup cut.front) line b → GoesToAgent setup (plain_world setup cut.front) b.text
-  reach_there line reach b of number post found end inside =
-      reach b (subst (λ (s : List WorldStep). IsOfLine setup (plain_world setup s) line b) (sym cut.order) (of_stays setup cut.front cut.later line b of)) number post
+  pub goes_there : (line : ℕ) (b : Begun) → IsOfLine setup (plain_world setup cut.front) line b
+      → (IsOfLine setup (plain_world setup steps) line b → GoesToAgent setup (plain_world setup steps) b.text) → GoesToAgent setup (plain_world setup cut.front) b.text
+  goes_there line b of goes number post found end inside =
+      goes (subst (λ (s : List WorldStep). IsOfLine setup (plain_world setup s) line b) (sym cut.order) (of_stays setup cut.front cut.later line b of)) number post
       (subst (λ (s : List WorldStep). slice_get (plain_world setup s).posted number ≡ Some post) (sym cut.order) (stays_found setup 0 cut.front cut.later number post found)) end inside
 
   -- What the gateway took by then begins with what it took sooner

@@ -17,7 +17,7 @@ use Rattle.delivery_laws.proofs.FrontSteps.{TookThem, took_them}
 use Rattle.delivery_laws.proofs.StepLemmas.{taken_front}
 use Rattle.outage_laws.specs.AfterOutage.{AgentHasRoomFrom, IsFairFrom, gap_of, last_in_time}
 use Rattle.outage_laws.proofs.FirstServes.{fair_on, first_serves_so, roomy_on}
-use Rattle.outage_laws.proofs.LineFrontLaws.{back}
+use Rattle.outage_laws.proofs.LineFrontLaws.{back, of_whole}
 use Rattle.outage_laws.proofs.ServesLaws.{IsInTime, IsQuick, first_few, in_time, one_of_chances, serves_so}
 
 gap_behind : (since within restart before now last : ℕ) → last + 2 * within < answer_wait → since + (answer_wait - last) + restart + 2 * within ≤ before → before ≡ now
@@ -31,7 +31,8 @@ pub serves_at_front : (setup : Setup) (first later : List WorldStep) (since with
     → since + answer_wait + setup.restart_wait + 2 * within + 1 ≤ now_in setup (plain_world setup first) + 1 + wait → serves (gateway_in setup (plain_world setup first)).endpoints ≡ true
 serves_at_front setup first later since within wait set_up taken some fair roomy reach among few late =
     serves_so setup first since within 1 wait set_up (taken_front setup world_opening first later taken) some
-    (λ b one of past twice told. (back setup first later since within 0 set_up taken fair roomy reach b one of past twice told).is) among few (omega arith) late
+    (λ b one of past twice told. (back setup first later since within 0 set_up taken fair roomy b one of
+    (reach b (of_whole setup first later since within 0 set_up taken fair roomy b of)) past twice told).is) among few (omega arith) late
 
 first_behind : (within restart before now last : ℕ) → last ≤ last_chance → 0 + (answer_wait - last) + restart + 2 * within ≤ before → before ≡ now → restart + 500 + 2 * within + 1 ≤ now
 first_behind within restart before now last low late same = omega (arith, low, late, same)
@@ -72,7 +73,9 @@ module _ (setup : Setup) (steps : List WorldStep) (within : ℕ) (before after :
       let roomy_whole : AgentHasRoomFrom setup (t.first ++ t.later) 0 = subst (λ (x : List WorldStep). AgentHasRoomFrom setup x 0) t.order roomy in
       at_front (first_serves_so setup t.first within 1 set_up (taken_front setup world_opening t.first t.later whole_taken)
       (λ b one of past twice told.
-      (back setup t.first t.later 1 within 0 set_up whole_taken (fair_on setup (t.first ++ t.later) within fair_whole) (roomy_on setup (t.first ++ t.later) roomy_whole) reach_whole b one of
+      (back setup t.first t.later 1 within 0 set_up whole_taken (fair_on setup (t.first ++ t.later) within fair_whole) (roomy_on setup (t.first ++ t.later) roomy_whole) b one of
+      (reach_whole b
+      (of_whole setup t.first t.later 1 within 0 set_up whole_taken (fair_on setup (t.first ++ t.later) within fair_whole) (roomy_on setup (t.first ++ t.later) roomy_whole) b of))
       past twice told).is) quick (omega arith)
       (first_behind within setup.restart_wait (plain setup before).now (now_in setup (plain_world setup t.first)) last low late same))
   serves_before (suc since) fair roomy late =

@@ -15,6 +15,7 @@ use Rattle.plain_machine.proofs.ListLaws.{machine_on}
 use Rattle.machine_laws.specs.Saying.{Begun}
 use Rattle.machine_laws.proofs.LineLemmas.{place_of}
 use Rattle.agent_core.specs.World.{WorldStep, gateway_in, now_in, plain_world, steps_are_taken, world_opening}
+use Rattle.delivery_laws.specs.Chances.{last_chance}
 use Rattle.delivery_laws.specs.Copies.{answer_wait}
 use Rattle.delivery_laws.specs.Course.{CourseStep, course_from}
 use Rattle.delivery_laws.specs.Dialled.{done_in}
@@ -27,7 +28,8 @@ use Rattle.delivery_laws.proofs.RoundTurns.{done_more}
 use Rattle.outage_laws.specs.AfterOutage.{AgentHasRoomFrom, IsFairFrom, gap_of, longer_wait, well_by}
 use Rattle.outage_laws.proofs.FewLemmas.{few_on}
 use Rattle.outage_laws.proofs.LineWindowLaws.{out_behind}
-use Rattle.outage_laws.proofs.QuickFronts.{asked_there, at_cut, both, cut, fair_there, gap_no_less, long_for, mine, no_longer, quick_there, reach_there, rest, roomy_there, same_end, short, taken_there, took_there}
+use Rattle.outage_laws.proofs.OwnReaches.{own_reaches}
+use Rattle.outage_laws.proofs.QuickFronts.{asked_there, at_cut, both, cut, fair_there, gap_no_less, goes_there, long_for, mine, no_longer, quick_there, rest, roomy_there, same_end, short, taken_there, took_there}
 use Rattle.outage_laws.proofs.ServesFrontLaws.{serves_before}
 use Rattle.outage_laws.proofs.WellLaws.{both_waits, shorter, well_out}
 
@@ -78,7 +80,7 @@ none_of (event ∷ events) count few none = absurd (omega (arith, few, none))
 
 module _ (setup : Setup) (steps : List WorldStep) (since within line asking : ℕ) (before after : List GatewayEvent) (was endpoint : Endpoint) (set_up : IsSetUp setup)
     (taken : steps_are_taken setup world_opening steps ≡ true) (many : nat_lt (500 + 2 * within) answer_wait ≡ false) (fair : IsFairFrom setup steps since within)
-    (roomy : AgentHasRoomFrom setup steps since) (reach : (b : Begun) → IsOfLine setup (plain_world setup steps) line b → GoesToAgent setup (plain_world setup steps) b.text)
+    (roomy : AgentHasRoomFrom setup steps since) (reach : (b : Begun) → IsOfLine setup (plain_world setup steps) line b → since ≤ b.moment + last_chance → GoesToAgent setup (plain_world setup steps) b.text)
     (took : (plain_world setup steps).gateway_took ≡ before ++ after) (at : endpoint_at (plain setup before).endpoints line ≡ Some was)
     (there : endpoint_at (gateway_in setup (plain_world setup steps)).endpoints line ≡ Some endpoint)
     (late : since + gap_of within + setup.disconnected_wait + 2 * within ≤ (plain setup before).now) (asked : IsAskedWithin setup line before after asking)
@@ -162,7 +164,8 @@ module _ (setup : Setup) (steps : List WorldStep) (since within line asking : �
     out_there =
         out_behind setup front since takes line before some then_there.0 set_up (taken_there setup steps since within taken fair roomy long_so deep_so)
         (quick_there setup steps since within taken fair roomy long_so deep_so) (fair_there setup steps since within taken fair roomy long_so deep_so)
-        (roomy_there setup steps since within taken fair roomy long_so deep_so) (reach_there setup steps since within taken fair roomy long_so deep_so line reach) took_then
+        (roomy_there setup steps since within taken fair roomy long_so deep_so)
+        (λ b of recent. goes_there setup steps since within taken fair roomy long_so deep_so line b of (λ whole. reach b whole recent)) took_then
         (serving early) at_front late_so was asking at (asked_there setup steps since within taken fair roomy long_so deep_so before after took early line asking asked) over
 
     grown : length (of_telephone endpoint.line.quarantined.events)
@@ -191,8 +194,7 @@ module _ (setup : Setup) (steps : List WorldStep) (since within line asking : �
 
   -- where the gateway had its time by then, too
 
-  module _ (own_late : since + gap_of within + setup.restart_wait + 2 * within ≤ (plain setup before).now)
-      (own_reach : (b : Begun) → IsOfLine setup (plain_world setup steps) 0 b → GoesToAgent setup (plain_world setup steps) b.text) where
+  module _ (own_late : since + gap_of within + setup.restart_wait + 2 * within ≤ (plain setup before).now) where
     abbrev then_steps : List WorldStep
     then_steps = (cut setup steps since within taken fair roomy long_so deep_so).front
 
@@ -203,7 +205,7 @@ module _ (setup : Setup) (steps : List WorldStep) (since within line asking : �
     serving_so early =
         serves_before setup then_steps then_takes before (mine setup steps since within taken fair roomy long_so deep_so before after took early) set_up
         (taken_there setup steps since within taken fair roomy long_so deep_so) (quick_there setup steps since within taken fair roomy long_so deep_so)
-        (reach_there setup steps since within taken fair roomy long_so deep_so 0 own_reach) (took_there setup steps since within taken fair roomy long_so deep_so before after took early)
+        (λ b of. own_reaches setup set_up then_steps b (taken_there setup steps since within taken fair roomy long_so deep_so) of) (took_there setup steps since within taken fair roomy long_so deep_so before after took early)
         since (fair_there setup steps since within taken fair roomy long_so deep_so) (roomy_there setup steps since within taken fair roomy long_so deep_so)
         (late_by since then_takes within (gap_of then_takes) (gap_of within) setup.restart_wait (plain setup before).now
         (no_longer setup steps since within taken fair roomy long_so deep_so) (gap_no_less then_takes within many) own_late)
@@ -215,7 +217,7 @@ module _ (setup : Setup) (steps : List WorldStep) (since within line asking : �
 
 module _ (setup : Setup) (steps : List WorldStep) (since within line asking : ℕ) (before after : List GatewayEvent) (was endpoint : Endpoint) (set_up : IsSetUp setup)
     (taken : steps_are_taken setup world_opening steps ≡ true) (fair : IsFairFrom setup steps since within) (roomy : AgentHasRoomFrom setup steps since)
-    (reach : (b : Begun) → IsOfLine setup (plain_world setup steps) line b → GoesToAgent setup (plain_world setup steps) b.text)
+    (reach : (b : Begun) → IsOfLine setup (plain_world setup steps) line b → since ≤ b.moment + last_chance → GoesToAgent setup (plain_world setup steps) b.text)
     (took : (plain_world setup steps).gateway_took ≡ before ++ after) (serving : serves (plain setup before).endpoints ≡ true)
     (at : endpoint_at (plain setup before).endpoints line ≡ Some was) (there : endpoint_at (gateway_in setup (plain_world setup steps)).endpoints line ≡ Some endpoint)
     (late : since + gap_of within + setup.disconnected_wait + 2 * within ≤ (plain setup before).now) (asked : IsAskedWithin setup line before after asking)
@@ -238,7 +240,7 @@ module _ (setup : Setup) (steps : List WorldStep) (since within line asking : �
 
 module _ (setup : Setup) (steps : List WorldStep) (since within line asking : ℕ) (before after : List GatewayEvent) (was endpoint : Endpoint) (set_up : IsSetUp setup)
     (taken : steps_are_taken setup world_opening steps ≡ true) (fair : IsFairFrom setup steps since within) (roomy : AgentHasRoomFrom setup steps since)
-    (reach : (line : ℕ) (b : Begun) → IsOfLine setup (plain_world setup steps) line b → GoesToAgent setup (plain_world setup steps) b.text)
+    (reach : (line : ℕ) (b : Begun) → IsOfLine setup (plain_world setup steps) line b → since ≤ b.moment + last_chance → GoesToAgent setup (plain_world setup steps) b.text)
     (took : (plain_world setup steps).gateway_took ≡ before ++ after) (at : endpoint_at (plain setup before).endpoints line ≡ Some was)
     (there : endpoint_at (gateway_in setup (plain_world setup steps)).endpoints line ≡ Some endpoint) (late : well_by setup since within ≤ (plain setup before).now)
     (asked : IsAskedWithin setup line before after asking)
@@ -255,7 +257,7 @@ module _ (setup : Setup) (steps : List WorldStep) (since within line asking : �
   by_well_quick true quick =
       well_out setup steps since within set_up taken (ltb-true (500 + 2 * within) answer_wait quick) fair roomy reach line before after endpoint took there late was asking at asked last
   by_well_quick false many =
-      slow_out_so setup steps since within line asking before after was endpoint set_up taken many fair roomy (reach line) took at there line_late asked last own_late (reach 0)
+      slow_out_so setup steps since within line asking before after was endpoint set_up taken many fair roomy (reach line) took at there line_late asked last own_late
 
   pub well_out_always : length (of_telephone endpoint.line.quarantined.events) ≤ length (done_in (course_from setup (plain setup before) line after))
   well_out_always = by_well_quick (nat_lt (500 + 2 * within) answer_wait) refl

@@ -18,6 +18,7 @@ use Rattle.machine_laws.proofs.LineLemmas.{place_of}
 use Rattle.machine_laws.proofs.PostLogs.{few_before}
 use Rattle.agent_core.specs.World.{World, WorldStep, gateway_in, now_in, plain_world, steps_are_taken, went, world_after, world_opening}
 use Rattle.world_laws.specs.Reached.{Reached, own_in, taken_in}
+use Rattle.delivery_laws.specs.Chances.{last_chance}
 use Rattle.delivery_laws.specs.Copies.{answer_wait}
 use Rattle.delivery_laws.specs.Course.{course_from}
 use Rattle.delivery_laws.specs.Dialled.{AskForAll, done_in}
@@ -43,7 +44,7 @@ use Rattle.told_laws.proofs.StretchCourses.{taken_then}
 use Rattle.outage_laws.specs.AfterOutage.{AgentHasRoomFrom, IsFairFrom, gap_of, longer_wait, well_by}
 use Rattle.outage_laws.specs.ToldSince.{IsAskedForAllSince, IsToldFrom}
 use Rattle.outage_laws.proofs.LostLemmas.{lost_on}
-use Rattle.outage_laws.proofs.QuickFronts.{asked_there, at_cut, both, cut, fair_there, gap_no_less, long_for, low, mine, no_longer, quick_there, reach_there, rest, roomy_there, same_end, short, taken_there, took_there}
+use Rattle.outage_laws.proofs.QuickFronts.{asked_there, at_cut, both, cut, fair_there, gap_no_less, goes_there, long_for, low, mine, no_longer, quick_there, rest, roomy_there, same_end, short, taken_there, took_there}
 use Rattle.outage_laws.proofs.SlowQuarantines.{each_less, late_by, times_no_less}
 use Rattle.outage_laws.proofs.ToldBehindLaws.{told_behind}
 
@@ -120,7 +121,7 @@ module _ (setup : Setup) (line : ℕ) (first pause stretch : List WorldStep) (wa
     (at_was : endpoint_at (gateway_in setup (plain_world setup (first ++ pause))).endpoints line ≡ Some was)
     (at_is : endpoint_at (gateway_in setup (plain_world setup ((first ++ pause) ++ stretch))).endpoints line ≡ Some is) (since within : ℕ)
     (fair : IsFairFrom setup ((first ++ pause) ++ stretch) since within) (roomy : AgentHasRoomFrom setup ((first ++ pause) ++ stretch) since)
-    (reach : (line : ℕ) (b : Begun) → IsOfLine setup (plain_world setup ((first ++ pause) ++ stretch)) line b
+    (reach : (line : ℕ) (b : Begun) → IsOfLine setup (plain_world setup ((first ++ pause) ++ stretch)) line b → since ≤ b.moment + last_chance
     → GoesToAgent setup (plain_world setup ((first ++ pause) ++ stretch)) b.text)
     (late : well_by setup since within ≤ now_in setup (plain_world setup first)) (front later : List GatewayEvent)
     (split : (plain_world setup ((first ++ pause) ++ stretch)).gateway_took ≡ ((plain_world setup (first ++ pause)).gateway_took ++ front) ++ later) (there : Endpoint) (asking : ℕ)
@@ -311,8 +312,8 @@ module _ (setup : Setup) (line : ℕ) (first pause stretch : List WorldStep) (wa
         (quick_there setup all since within taken fair roomy long_so deep_so)
         (subst (λ (s : List WorldStep). IsFairFrom setup s since takes) order (fair_there setup all since within taken fair roomy long_so deep_so))
         (subst (λ (s : List WorldStep). AgentHasRoomFrom setup s since) order (roomy_there setup all since within taken fair roomy long_so deep_so))
-        (subst (λ (s : List WorldStep). (n : ℕ) (b : Begun) → IsOfLine setup (plain_world setup s) n b → GoesToAgent setup (plain_world setup s) b.text) order
-        (λ n. reach_there setup all since within taken fair roomy long_so deep_so n (reach n)))
+        (subst (λ (s : List WorldStep). (n : ℕ) (b : Begun) → IsOfLine setup (plain_world setup s) n b → since ≤ b.moment + last_chance → GoesToAgent setup (plain_world setup s) b.text) order
+        (λ n b of recent. goes_there setup all since within taken fair roomy long_so deep_so n b of (λ whole. reach n b whole recent)))
         (late_by since takes within (gap_of takes) (gap_of within) (longer_wait setup) (now_in setup (plain_world setup first)) less (gap_no_less takes within many) late) front some then_took
         there asking
         (own_front setup then_steps (cut setup all since within taken fair roomy long_so deep_so).later

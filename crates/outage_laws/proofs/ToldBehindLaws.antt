@@ -13,6 +13,7 @@ use Rattle.machine_laws.specs.Saying.{Begun, HasNumbersLeft}
 use Rattle.machine_laws.proofs.LineLemmas.{place_of}
 use Rattle.agent_core.specs.World.{World, WorldStep, gateway_in, now_in, plain_world, steps_are_taken, world_after, world_opening}
 use Rattle.world_laws.specs.Reached.{own_in}
+use Rattle.delivery_laws.specs.Chances.{last_chance}
 use Rattle.delivery_laws.specs.Course.{course_from}
 use Rattle.delivery_laws.specs.Dialled.{done_in}
 use Rattle.delivery_laws.specs.Fairness.{GoesToAgent}
@@ -30,9 +31,13 @@ use Rattle.outage_laws.specs.ToldSince.{FlightsBeganSince, IsAskedForAllSince, I
 use Rattle.outage_laws.proofs.CalmStretches.{calm_back}
 use Rattle.outage_laws.proofs.FairStretchLaws.{fair_all_from, fair_told_from}
 use Rattle.outage_laws.proofs.LineWindowLaws.{calm_behind, serving_behind, since_behind}
+use Rattle.outage_laws.proofs.OwnReaches.{own_reaches}
 use Rattle.outage_laws.proofs.ServesFrontLaws.{serves_before}
 use Rattle.outage_laws.proofs.ServesLaws.{IsQuick}
 use Rattle.outage_laws.proofs.WellLaws.{both_waits, shorter}
+
+recent : (since moment : ℕ) → since ≤ moment → since ≤ moment + last_chance
+recent since moment past = omega (arith, past)
 
 early : (since gap longer within before : ℕ) → since + gap + longer + 2 * within ≤ before → since + 2 * within ≤ before
 early since gap longer within before late = omega (arith, late)
@@ -42,7 +47,7 @@ module _ (setup : Setup) (line : ℕ) (first pause stretch : List WorldStep) (wa
     (at_was : endpoint_at (gateway_in setup (plain_world setup (first ++ pause))).endpoints line ≡ Some was)
     (at_is : endpoint_at (gateway_in setup (plain_world setup ((first ++ pause) ++ stretch))).endpoints line ≡ Some is) (since within : ℕ) (quick : IsQuick within)
     (fair : IsFairFrom setup ((first ++ pause) ++ stretch) since within) (roomy : AgentHasRoomFrom setup ((first ++ pause) ++ stretch) since)
-    (reach : (line : ℕ) (b : Begun) → IsOfLine setup (plain_world setup ((first ++ pause) ++ stretch)) line b
+    (reach : (line : ℕ) (b : Begun) → IsOfLine setup (plain_world setup ((first ++ pause) ++ stretch)) line b → since ≤ b.moment + last_chance
     → GoesToAgent setup (plain_world setup ((first ++ pause) ++ stretch)) b.text)
     (late : well_by setup since within ≤ now_in setup (plain_world setup first)) (front later : List GatewayEvent)
     (split : (plain_world setup ((first ++ pause) ++ stretch)).gateway_took ≡ ((plain_world setup (first ++ pause)).gateway_took ++ front) ++ later) where
@@ -87,7 +92,7 @@ module _ (setup : Setup) (line : ℕ) (first pause stretch : List WorldStep) (wa
 
   serving : serves (plain setup v.gateway_took).endpoints ≡ true
   serving =
-      serves_before setup all within v.gateway_took behind set_up taken quick (reach 0) took since fair roomy
+      serves_before setup all within v.gateway_took behind set_up taken quick (λ b of. own_reaches setup set_up all b taken of) took since fair roomy
       (shorter since (gap_of within) setup.restart_wait (longer_wait setup) within (now_in setup v) (both_waits setup.restart_wait setup.disconnected_wait).0 late)
 
   line_late : since + gap_of within + setup.disconnected_wait + 2 * within ≤ (plain setup v.gateway_took).now
@@ -157,10 +162,10 @@ module _ (setup : Setup) (line : ℕ) (first pause stretch : List WorldStep) (wa
     pub told_behind : IsToldFrom was.post.pending done (taken_meanwhile setup line u w)
     told_behind =
         fair_told_from setup line one first pause stretch once.0 was is set_up taken few once.1 at_was at_is calm_before calm_since long since within asking front later there fair roomy
-        began (λ b of past. reach line b of) asked split at_there is_asked over more
+        began (λ b of past. reach line b of (recent since b.moment past)) asked split at_there is_asked over more
 
     pub all_behind : done_in (course_from setup (plain setup (u.gateway_took ++ front)) line later) ≡ []
         → (told : IsToldFrom was.post.pending done (taken_meanwhile setup line u w)) × (told.rest ≡ [])
     all_behind rests =
         fair_all_from setup line one first pause stretch once.0 was is set_up taken few once.1 at_was at_is calm_before calm_since long since within asking front later there fair roomy
-        began (λ b of past. reach line b of) asked split at_there is_asked over more rests
+        began (λ b of past. reach line b of (recent since b.moment past)) asked split at_there is_asked over more rests

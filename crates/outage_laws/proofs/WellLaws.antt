@@ -24,6 +24,7 @@ use Rattle.delivery_laws.proofs.OwnChanceLaws.{told_eight_times}
 use Rattle.outage_laws.specs.AfterOutage.{AgentHasRoomFrom, IsDone, IsFairFrom, IsWell, gap_of, last_in_time, longer_wait, longest_pause, well_by}
 use Rattle.outage_laws.proofs.LineServesLaws.{agent_is_there}
 use Rattle.outage_laws.proofs.LineWindowLaws.{answered_behind, out_behind, rests_behind}
+use Rattle.outage_laws.proofs.OwnReaches.{own_reaches}
 use Rattle.outage_laws.proofs.ServesFrontLaws.{serves_before}
 use Rattle.outage_laws.proofs.ServesByThen.{serves_behind_the_last}
 use Rattle.outage_laws.proofs.ServesLaws.{IsQuick, first_few, in_time, one_of_chances}
@@ -64,7 +65,7 @@ half_ago first within now late = omega (arith, late)
 
 module _ (setup : Setup) (steps : List WorldStep) (since within : ℕ) (set_up : IsSetUp setup) (taken : steps_are_taken setup world_opening steps ≡ true)
     (quick : IsQuick within) (fair : IsFairFrom setup steps since within) (roomy : AgentHasRoomFrom setup steps since)
-    (reach : (line : ℕ) (b : Begun) → IsOfLine setup (plain_world setup steps) line b → GoesToAgent setup (plain_world setup steps) b.text) where
+    (reach : (line : ℕ) (b : Begun) → IsOfLine setup (plain_world setup steps) line b → since ≤ b.moment + last_chance → GoesToAgent setup (plain_world setup steps) b.text) where
   abbrev w : World
   w = plain_world setup steps
 
@@ -78,21 +79,21 @@ module _ (setup : Setup) (steps : List WorldStep) (since within : ℕ) (set_up :
     line_done : (line : ℕ) (endpoint : Endpoint) (b : Begun) → endpoint_at (gateway_in setup w).endpoints line ≡ Some endpoint → IsOfLine setup w line b → since ≤ b.moment + last_chance
         → b.moment + 2 * within ≤ now → IsDone w b.id
     line_done line endpoint b at of last ago = (
-      taken_since setup steps since within line b set_up taken fair roomy of (reach line b of) (told_eight_times setup steps line endpoint b set_up taken at of) last
+      taken_since setup steps since within line b set_up taken fair roomy of (reach line b of last) (told_eight_times setup steps line endpoint b set_up taken at of) last
           (half_ago b.moment within now ago) (half since within now paused),
-      answered_since setup steps since within line b set_up taken fair roomy of (reach line b of) (told_eight_times setup steps line endpoint b set_up taken at of) last ago paused,
+      answered_since setup steps since within line b set_up taken fair roomy of (reach line b of last) (told_eight_times setup steps line endpoint b set_up taken at of) last ago paused,
     )
 
     own_done : (b : Begun) → IsOfLine setup w 0 b → since ≤ b.moment + last_chance → b.moment + 2 * within ≤ now → IsDone w b.id
     own_done b of last ago = (
-      taken_since setup steps since within 0 b set_up taken fair roomy of (reach 0 b of) (announced_eight_times setup steps b set_up taken of) last (half_ago b.moment within now ago)
+      taken_since setup steps since within 0 b set_up taken fair roomy of (reach 0 b of last) (announced_eight_times setup steps b set_up taken of) last (half_ago b.moment within now ago)
           (half since within now paused),
-      answered_since setup steps since within 0 b set_up taken fair roomy of (reach 0 b of) (announced_eight_times setup steps b set_up taken of) last ago paused,
+      answered_since setup steps since within 0 b set_up taken fair roomy of (reach 0 b of last) (announced_eight_times setup steps b set_up taken of) last ago paused,
     )
 
     pub is_well : IsWell setup w since within
     is_well = record {
-      serving = serves_behind_the_last setup steps within set_up taken (reach 0) since fair roomy
+      serving = serves_behind_the_last setup steps within set_up taken (λ b of. own_reaches setup set_up steps b taken of) since fair roomy
           (shorter since (gap_of within) setup.restart_wait (longer_wait setup) within (now + 1) (both_waits setup.restart_wait setup.disconnected_wait).0 late);
       lines = λ line endpoint at.
           agent_is_there setup steps since within line endpoint set_up taken quick fair roomy (reach line) at
@@ -105,7 +106,7 @@ module _ (setup : Setup) (steps : List WorldStep) (since within : ℕ) (set_up :
       (there : endpoint_at (gateway_in setup w).endpoints line ≡ Some endpoint) (late : well_by setup since within ≤ (plain setup before).now) where
     serving : serves (plain setup before).endpoints ≡ true
     serving =
-        serves_before setup steps within before after set_up taken quick (reach 0) took since fair roomy
+        serves_before setup steps within before after set_up taken quick (λ b of. own_reaches setup set_up steps b taken of) took since fair roomy
         (shorter since (gap_of within) setup.restart_wait (longer_wait setup) within (plain setup before).now (both_waits setup.restart_wait setup.disconnected_wait).0 late)
 
     line_late : since + gap_of within + setup.disconnected_wait + 2 * within ≤ (plain setup before).now

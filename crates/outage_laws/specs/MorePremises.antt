@@ -6,6 +6,7 @@ use Rattle.mg_line.specs.declared.phone.Key.TheVariants.{Five}
 use Rattle.plain_machine.specs.declared.setup.Setup.{Setup}
 use Rattle.plain_machine.specs.Event.{GatewayEvent, phone}
 use Rattle.plain_machine.specs.Example.{two_lines}
+use Rattle.machine_laws.specs.Saying.{Begun}
 use Rattle.agent_core.specs.World.{WorldStep, delivering, dialling, gateway_in, issuing, plain_world, ticking}
 use Rattle.world_laws.specs.Example.{announced}
 use Rattle.delivery_laws.specs.Course.{course_from, course_of}
@@ -114,6 +115,11 @@ repeated_elsewhere =
     elsewhere_twice ++ dialling 1 OffHook ∷ delivering 4 ∷ ticking 23001 ∷ delivering 5 ∷ ticking 24001 ∷ delivering 6 ∷ ticking 25001
     ∷ ticking 26001 ∷ delivering 7 ∷ seconds_from 27 4 ++ delivering 8 ∷ seconds_from 31 4 ++ delivering 9 ∷ seconds_from 35 4
     ++ delivering 10 ∷ seconds_from 39 4 ++ delivering 11 ∷ seconds_from 43 3
+
+-- as it began
+abbrev pub told_elsewhere : Begun
+told_elsewhere =
+    record { id = 10000000; moment = 22001; text = codes "NTFY 10000000 aaln/1@rgw.example.net MGCP 1.0\r\nX: C2\r\nO: L/hd\r\n" }
 
 -- it is asked to report to the agent again, packet 12, and accepts that, packet 13; it gives its notification up, and announces itself,
 -- packet 14, which is answered, packet 15

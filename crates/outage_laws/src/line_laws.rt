@@ -6,16 +6,13 @@ ghost use Rattle.plain_machine.specs.declared.setup.Setup.{Setup};
 ghost use Rattle.plain_machine.specs.Event.{GatewayEvent};
 ghost use Rattle.plain_machine.specs.Lists.{plain};
 ghost use Rattle.plain_machine.specs.Machine.{endpoint_at, serves};
-ghost use Rattle.machine_laws.specs.Saying.{Begun};
 ghost use Rattle.agent_core.specs.World.{WorldStep, gateway_in, now_in, oldest_packet, plain_world};
 ghost use Rattle.delivery_laws.specs.Chances.{chances};
 ghost use Rattle.delivery_laws.specs.Copies.{IsRun, answer_wait};
 ghost use Rattle.delivery_laws.specs.Course.{course_from};
 ghost use Rattle.delivery_laws.specs.Dialled.{done_in};
-ghost use Rattle.delivery_laws.specs.Fairness.{GoesToAgent};
-ghost use Rattle.delivery_laws.specs.OwnChances.{IsOfLine};
 ghost use Rattle.delivery_laws.specs.Rounds.{IsAnsweredWithin, IsAskedWithin, of_telephone, rounds_take};
-ghost use Rattle.outage_laws.specs.AfterOutage.{AgentHasRoomFrom, IsFairFrom, gap_of};
+ghost use Rattle.outage_laws.specs.AfterOutage.{AgentHasRoomFrom, IsFairFrom, ReachTheAgentSince, gap_of};
 
 /// A line that was disconnected when the network came back, or whose command is given up yet, has announced itself and was answered by
 /// then: that long behind it as a command is given up behind the last of its sends whose answer may still come in time, then the wait
@@ -24,12 +21,12 @@ ghost use Rattle.outage_laws.specs.AfterOutage.{AgentHasRoomFrom, IsFairFrom, ga
 pub fn a_line_has_its_agent_again_after_an_outage()
     ensures behind_the_last { (setup : Setup) (steps : List WorldStep) (since within line : ℕ) (endpoint : Endpoint) → IsRun setup steps →
         within ≤ oldest_packet → IsFairFrom setup steps since within → AgentHasRoomFrom setup steps since →
-        let w = plain_world setup steps in ((b : Begun) → IsOfLine setup w line b → GoesToAgent setup w b.text) →
+        let w = plain_world setup steps in ReachTheAgentSince setup w line since →
         endpoint_at (gateway_in setup w).endpoints line ≡ Some endpoint →
         since + gap_of within + setup.disconnected_wait + 2 * within ≤ now_in setup w + 1 → endpoint.post.restart ≡ Serving }
     ensures behind_any { (setup : Setup) (steps : List WorldStep) (since within wait line : ℕ) (endpoint : Endpoint) → IsRun setup steps →
         IsFairFrom setup steps since within → AgentHasRoomFrom setup steps since →
-        let w = plain_world setup steps in ((b : Begun) → IsOfLine setup w line b → GoesToAgent setup w b.text) →
+        let w = plain_world setup steps in ReachTheAgentSince setup w line since →
         endpoint_at (gateway_in setup w).endpoints line ≡ Some endpoint →
         Any (λ (one : ℕ). one ≡ wait) chances → wait + 2 * within < answer_wait →
         since + answer_wait + setup.disconnected_wait + 2 * within ≤ now_in setup w + 1 + wait → endpoint.post.restart ≡ Serving }
@@ -43,14 +40,14 @@ pub fn a_quarantine_is_out_after_an_outage()
     ensures answered { (setup : Setup) (steps : List WorldStep) (since within line : ℕ) (before after : List GatewayEvent)
         (endpoint : Endpoint) → IsRun setup steps → within ≤ oldest_packet → IsFairFrom setup steps since within →
         AgentHasRoomFrom setup steps since → let w = plain_world setup steps in
-        ((b : Begun) → IsOfLine setup w line b → GoesToAgent setup w b.text) → w.gateway_took ≡ before ++ after →
+        ReachTheAgentSince setup w line since → w.gateway_took ≡ before ++ after →
         serves (plain setup before).endpoints ≡ true → endpoint_at (gateway_in setup w).endpoints line ≡ Some endpoint →
         since + gap_of within + setup.disconnected_wait + 2 * within ≤ (plain setup before).now →
         IsAnsweredWithin setup line before after (2 * within) }
     ensures out { (setup : Setup) (steps : List WorldStep) (since within line asking : ℕ) (before after : List GatewayEvent)
         (was endpoint : Endpoint) → IsRun setup steps → IsFairFrom setup steps since within →
         AgentHasRoomFrom setup steps since → let w = plain_world setup steps in
-        ((b : Begun) → IsOfLine setup w line b → GoesToAgent setup w b.text) → w.gateway_took ≡ before ++ after →
+        ReachTheAgentSince setup w line since → w.gateway_took ≡ before ++ after →
         serves (plain setup before).endpoints ≡ true → endpoint_at (plain setup before).endpoints line ≡ Some was →
         endpoint_at (gateway_in setup w).endpoints line ≡ Some endpoint →
         since + gap_of within + setup.disconnected_wait + 2 * within ≤ (plain setup before).now →
@@ -60,7 +57,7 @@ pub fn a_quarantine_is_out_after_an_outage()
     ensures rests { (setup : Setup) (steps : List WorldStep) (since within line asking : ℕ) (before after : List GatewayEvent)
         (was endpoint : Endpoint) → IsRun setup steps → IsFairFrom setup steps since within →
         AgentHasRoomFrom setup steps since → let w = plain_world setup steps in
-        ((b : Begun) → IsOfLine setup w line b → GoesToAgent setup w b.text) → w.gateway_took ≡ before ++ after →
+        ReachTheAgentSince setup w line since → w.gateway_took ≡ before ++ after →
         serves (plain setup before).endpoints ≡ true → endpoint_at (plain setup before).endpoints line ≡ Some was →
         endpoint_at (gateway_in setup w).endpoints line ≡ Some endpoint →
         since + gap_of within + setup.disconnected_wait + 2 * within ≤ (plain setup before).now →

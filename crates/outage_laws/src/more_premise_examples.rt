@@ -3,6 +3,7 @@
 #![tactic(auto, unfolding(crate::proofs::Computing::on_examples))]
 
 ghost use Rattle.std.specs.Prelude.{◌≡◌, ◌≤◌, ◌<◌, ◌+◌, ◌*◌, ◌++◌, [], ◌∷◌, ℕ, length, false, true};
+ghost use Rattle.history.specs.Firsts.{young_of};
 ghost use Rattle.restart.specs.declared.restart.Restart.TheVariants.{Serving};
 ghost use Rattle.plain_machine.specs.Example.{two_lines};
 ghost use Rattle.plain_machine.specs.Lists.{plain, sent_from, sent_of};
@@ -25,7 +26,8 @@ ghost use Rattle.delivery_laws.specs.Rounds.{IsAnsweredWithin, IsAskedWithin, ro
 ghost use Rattle.told_laws.specs.Stretch.{outliving};
 ghost use Rattle.told_laws.specs.WorldExample.{gives_up_sooner};
 ghost use Rattle.told_laws.specs.WorldPremises.{gives_up_since, line_in, observed_in, unanswered};
-ghost use Rattle.outage_laws.specs.AfterOutage.{AgentHasRoomFrom, IsFairFrom, well_by};
+ghost use Rattle.outage_laws.specs.AfterOutage.{AgentHasRoomFrom, IsFairFrom, ReachTheAgentSince, grown_old, well_by};
+ghost use Rattle.outage_laws.specs.Example.{came_at, came_at_1_and_2};
 ghost use Rattle.outage_laws.specs.LinePremises.{answered_ever_later, held_with, long_winded};
 ghost use Rattle.outage_laws.specs.MorePremises.{CalmBetween, IsAskedSince, IsToldAt, IsToldFromThen, back_again, back_since, comes_before};
 ghost use Rattle.outage_laws.specs.MorePremises.{done_at_these, elsewhere_once, elsewhere_twice, forged, forged_lifted, forged_once};
@@ -381,4 +383,19 @@ pub fn else_a_line_that_gives_up_waits_longer()
     ensures not_answered { ¬ IsAnsweredWithin hasty 1 (took_with hasty lifted_there)
         (took_between_with hasty lifted_there answered_ever_later)
         (2 * 13501) }
+{}
+
+/// What a line began long before the network came back may go elsewhere: it is asked of what may be sent since alone.
+pub fn who_reported_elsewhere_before()
+    ensures not_yet { ¬ ReachTheAgentSince hasty (plain_world hasty back_since) 1 41501 }
+    ensures by_then { ReachTheAgentSince hasty (plain_world hasty back_since) 1 65102 }
+{}
+
+/// Of two firsts one grew old 30,000 ms later, and so one fewer is young; before, more may be.
+pub fn as_many_fewer_are_young_as_grew_old()
+    ensures none_yet { grown_old 30000 came_at_1_and_2 ≡ [] }
+    ensures one { grown_old 30001 came_at_1_and_2 ≡ came_at 1 ∷ [] }
+    ensures two { length (young_of 1 came_at_1_and_2) ≡ 2 }
+    ensures one_fewer { length (young_of 30001 came_at_1_and_2) ≡ 1 }
+    ensures none_then { length (young_of 40001 came_at_1_and_2) ≡ 0 }
 {}

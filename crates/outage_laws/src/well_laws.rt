@@ -5,18 +5,16 @@ ghost use Rattle.plain_machine.specs.declared.setup.Setup.{Setup};
 ghost use Rattle.plain_machine.specs.Event.{GatewayEvent};
 ghost use Rattle.plain_machine.specs.Lists.{plain};
 ghost use Rattle.plain_machine.specs.Machine.{endpoint_at};
-ghost use Rattle.machine_laws.specs.Saying.{Begun, HasNumbersLeft};
+ghost use Rattle.machine_laws.specs.Saying.{HasNumbersLeft};
 ghost use Rattle.agent_core.specs.World.{WorldStep, gateway_in, now_in, oldest_packet, plain_world};
 ghost use Rattle.world_laws.specs.Reached.{own_in};
 ghost use Rattle.delivery_laws.specs.Copies.{IsRun};
 ghost use Rattle.delivery_laws.specs.Course.{course_from};
 ghost use Rattle.delivery_laws.specs.Dialled.{done_in};
-ghost use Rattle.delivery_laws.specs.Fairness.{GoesToAgent};
 ghost use Rattle.delivery_laws.specs.Keeping.{happened_in};
-ghost use Rattle.delivery_laws.specs.OwnChances.{IsOfLine};
 ghost use Rattle.delivery_laws.specs.Rounds.{IsAnsweredWithin, IsAskedWithin, of_telephone, rounds_take};
 ghost use Rattle.told_laws.specs.Stretch.{outliving, taken_meanwhile};
-ghost use Rattle.outage_laws.specs.AfterOutage.{AgentHasRoomFrom, IsFairFrom, IsWell, well_by};
+ghost use Rattle.outage_laws.specs.AfterOutage.{AgentHasRoomFrom, IsFairFrom, IsWell, ReachTheAgentSince, well_by};
 ghost use Rattle.outage_laws.specs.ToldSince.{IsAskedForAllSince, IsToldFrom};
 
 /// Behind an outage of any length all is well by then: the gateway serves, each line has its agent, and each command of them is done. From
@@ -27,18 +25,18 @@ ghost use Rattle.outage_laws.specs.ToldSince.{IsAskedForAllSince, IsToldFrom};
 pub fn all_is_well_after_an_outage()
     ensures well { (setup : Setup) (steps : List WorldStep) (since within : ℕ) → IsRun setup steps → within ≤ oldest_packet →
         IsFairFrom setup steps since within → AgentHasRoomFrom setup steps since →
-        let w = plain_world setup steps in ((line : ℕ) (b : Begun) → IsOfLine setup w line b → GoesToAgent setup w b.text) →
+        let w = plain_world setup steps in ((line : ℕ) → ReachTheAgentSince setup w line since) →
         well_by setup since within ≤ now_in setup w + 1 → IsWell setup w since within }
     ensures answered { (setup : Setup) (steps : List WorldStep) (since within line : ℕ) (before after : List GatewayEvent)
         (endpoint : Endpoint) → IsRun setup steps → within ≤ oldest_packet → IsFairFrom setup steps since within →
         AgentHasRoomFrom setup steps since → let w = plain_world setup steps in
-        ((line : ℕ) (b : Begun) → IsOfLine setup w line b → GoesToAgent setup w b.text) → w.gateway_took ≡ before ++ after →
+        ((line : ℕ) → ReachTheAgentSince setup w line since) → w.gateway_took ≡ before ++ after →
         endpoint_at (gateway_in setup w).endpoints line ≡ Some endpoint → well_by setup since within ≤ (plain setup before).now →
         IsAnsweredWithin setup line before after (2 * within) }
     ensures out { (setup : Setup) (steps : List WorldStep) (since within line asking : ℕ) (before after : List GatewayEvent)
         (was endpoint : Endpoint) → IsRun setup steps → IsFairFrom setup steps since within →
         AgentHasRoomFrom setup steps since → let w = plain_world setup steps in
-        ((line : ℕ) (b : Begun) → IsOfLine setup w line b → GoesToAgent setup w b.text) → w.gateway_took ≡ before ++ after →
+        ((line : ℕ) → ReachTheAgentSince setup w line since) → w.gateway_took ≡ before ++ after →
         endpoint_at (plain setup before).endpoints line ≡ Some was → endpoint_at (gateway_in setup w).endpoints line ≡ Some endpoint →
         well_by setup since within ≤ (plain setup before).now → IsAskedWithin setup line before after asking →
         (plain setup before).now + rounds_take (length was.line.quarantined.events) (2 * within) asking < now_in setup w →
@@ -46,7 +44,7 @@ pub fn all_is_well_after_an_outage()
     ensures rests { (setup : Setup) (steps : List WorldStep) (since within line asking : ℕ) (before after : List GatewayEvent)
         (was endpoint : Endpoint) → IsRun setup steps → IsFairFrom setup steps since within →
         AgentHasRoomFrom setup steps since → let w = plain_world setup steps in
-        ((line : ℕ) (b : Begun) → IsOfLine setup w line b → GoesToAgent setup w b.text) → w.gateway_took ≡ before ++ after →
+        ((line : ℕ) → ReachTheAgentSince setup w line since) → w.gateway_took ≡ before ++ after →
         endpoint_at (plain setup before).endpoints line ≡ Some was → endpoint_at (gateway_in setup w).endpoints line ≡ Some endpoint →
         well_by setup since within ≤ (plain setup before).now → IsAskedWithin setup line before after asking →
         (plain setup before).now + rounds_take (length was.line.quarantined.events) (2 * within) asking < now_in setup w →
@@ -63,7 +61,7 @@ pub fn what_is_dialled_behind_an_outage_is_told()
         (front later : List GatewayEvent) (was is there : Endpoint) → let up = first ++ pause in let steps = up ++ stretch in
         IsRun setup steps → IsFairFrom setup steps since within → AgentHasRoomFrom setup steps since →
         let v = plain_world setup first in let u = plain_world setup up in let w = plain_world setup steps in
-        ((line : ℕ) (b : Begun) → IsOfLine setup w line b → GoesToAgent setup w b.text) → HasNumbersLeft (own_in setup w) →
+        ((line : ℕ) → ReachTheAgentSince setup w line since) → HasNumbersLeft (own_in setup w) →
         endpoint_at (gateway_in setup u).endpoints line ≡ Some was → endpoint_at (gateway_in setup w).endpoints line ≡ Some is →
         well_by setup since within ≤ now_in setup v → now_in setup v + outliving ≤ now_in setup u →
         IsAskedForAllSince was.line (course_from setup (gateway_in setup u) line (front ++ later)) is.line →
@@ -79,7 +77,7 @@ pub fn what_is_dialled_behind_an_outage_is_told()
         (front later : List GatewayEvent) (was is there : Endpoint) → let up = first ++ pause in let steps = up ++ stretch in
         IsRun setup steps → within ≤ oldest_packet → IsFairFrom setup steps since within → AgentHasRoomFrom setup steps since →
         let v = plain_world setup first in let u = plain_world setup up in let w = plain_world setup steps in
-        ((line : ℕ) (b : Begun) → IsOfLine setup w line b → GoesToAgent setup w b.text) → HasNumbersLeft (own_in setup w) →
+        ((line : ℕ) → ReachTheAgentSince setup w line since) → HasNumbersLeft (own_in setup w) →
         endpoint_at (gateway_in setup u).endpoints line ≡ Some was → endpoint_at (gateway_in setup w).endpoints line ≡ Some is →
         well_by setup since within ≤ now_in setup v → now_in setup v + outliving ≤ now_in setup u →
         IsAskedForAllSince was.line (course_from setup (gateway_in setup u) line (front ++ later)) is.line →

@@ -20,7 +20,7 @@ returns c = record {
   goes = λ line b of. to_agent two_lines another_lifted b.text refl;
   late = refl;
   well = is_well two_lines another_lifted 19502 300 two_lines_set_up refl (omega arith) (fair_from_is two_lines another_lifted 19502 300 refl)
-      (room_from two_lines another_lifted 19502 (agent_has_room two_lines another_lifted refl)) (λ line b of. to_agent two_lines another_lifted b.text refl) (leb-true _ _ refl);
+      (room_from two_lines another_lifted 19502 (agent_has_room two_lines another_lifted refl)) (λ line b of recent. to_agent two_lines another_lifted b.text refl) (leb-true _ _ refl);
   goes_on = λ line b of. to_agent two_lines asked_again b.text refl;
   late_then = refl;
 }
