@@ -36,7 +36,7 @@ use Rattle.outage_laws.specs.AfterOutage.{gap_of, last_in_time, longest_pause}
 use Rattle.outage_laws.proofs.FirstServes.{first_sent as next_there, first_twice, none_gone, not_yet, over_twice as next_over}
 use Rattle.outage_laws.proofs.NextSendLemmas.{IsNext, next_send}
 use Rattle.outage_laws.proofs.PlainArrivals.{IsPlain}
-use Rattle.outage_laws.proofs.ServesLaws.{IsInTime, at_first, before_twice, begins_by, compare, due_by, ends_by, first_few, first_late, first_sent, flies_few, flies_soon, gap_late, in_time, last_past, next_past, next_sent, next_twice, not_zero, one_of_chances, over_soon, over_twice, too_late, twice_past, waits_by, waits_same}
+use Rattle.outage_laws.proofs.ServesLaws.{IsInTime, at_first, before_twice, begins_by, compare, due_by, ends_by, first_late, first_sent, flies_few, flies_soon, gap_late, in_time, last_past, next_past, next_sent, next_twice, not_zero, one_of_chances, over_soon, over_twice, too_late, twice_past, waits_by, waits_same}
 use Rattle.outage_laws.proofs.TrackLaws.{Behind, Closed, IsTracked}
 use Rattle.outage_laws.proofs.TrackLemmas.{IsFlying, IsWaiting, Tracked, Went, announcement_at, start_first, start_next, start_of, start_rises}
 use Rattle.restart_laws.proofs.GatewayTracks.{ArePlain, IsTaken, alone, closed_before, last_plain, plain_before, taken_before, tracked}
@@ -311,6 +311,9 @@ module _ (setup : Setup) (took : List GatewayEvent) (within : ℕ) (set_up : IsS
 few_next : (within : ℕ) → within ≤ oldest_packet → 500 + 2 * within < answer_wait
 few_next within young = omega (arith, young)
 
+few_first : (within : ℕ) → within ≤ oldest_packet → 0 + 2 * within < answer_wait
+few_first within young = omega (arith, young)
+
 with_none : (since restart within now wait : ℕ) → since + answer_wait + restart + 2 * within ≤ now + 1 + wait → since + answer_wait + restart + 2 * within + 0 ≤ now + 1 + wait
 with_none since restart within now wait late = omega (arith, late)
 
@@ -333,7 +336,7 @@ module _ (setup : Setup) (took : List GatewayEvent) (since within : ℕ) (set_up
   last = last_in_time within 0 chances
 
   in_it : IsInTime within 0 chances last
-  in_it = in_time within 0 chances (first_few within young)
+  in_it = in_time within 0 chances (few_first within young)
 
   last_low : last ≤ last_chance
   last_low =

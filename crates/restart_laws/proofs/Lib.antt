@@ -5,5 +5,6 @@ pub mod LivesFronts
 pub mod LivesSays
 pub mod LivesTake
 pub mod LivesServe
+pub mod LivesTaken
 pub mod LivesInFlight
 pub mod LivesFairExamples

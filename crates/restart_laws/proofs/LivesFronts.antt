@@ -14,7 +14,7 @@ use Rattle.agent_core.specs.declared.packet.Packet.{Packet}
 use Rattle.agent_core.specs.World.{delivering, dialling, gateway_address, is_among, issuing, ticking}
 use Rattle.world_laws.proofs.AgentLaws.{never}
 use Rattle.delivery_laws.proofs.PlaceLemmas.{found_before}
-use Rattle.life_laws.specs.Lives.{Letter, Life, LivesStep, LivesWorld, agent_then, clock_of, handed, handed_from, lived, lived_refusal, lives_after, lives_are_taken, lives_opening, number_of, plain_lives, restarting, stepping, to_agent_of, to_life}
+use Rattle.life_laws.specs.Lives.{Brought, Letter, Life, LivesStep, LivesWorld, agent_then, clock_of, handed, handed_from, lived, lived_refusal, lives_after, lives_are_taken, lives_opening, number_of, plain_lives, restarting, stepping, to_agent_of, to_life}
 use Rattle.life_laws.proofs.HandedLaws.{Kept, lives_kept, side_clock}
 
 -- One list behind another
@@ -69,13 +69,15 @@ GoesOn w next = ((number_of next ≡ number_of w) × SameLife w.life next.life) 
 pub record Follows (w next : LivesWorld) : Type 0 where
   pub more : List Letter
   pub letters : next.letters ≡ w.letters ++ more
+  pub came : List Brought
+  pub brought : next.brought ≡ w.brought ++ came
   pub life : ((number_of next ≡ number_of w) × SameLife w.life next.life) ⊎ (number_of w < number_of next)
 
 same_yet : (life : Life) → SameLife life life
 same_yet life = record { setup = refl; start = refl; events = []; took = sym (append-nil life.took) }
 
 stays_so : (w : LivesWorld) → Follows w w
-stays_so w = record { more = []; letters = sym (append-nil w.letters); life = inl (refl, same_yet w.life) }
+stays_so w = record { more = []; letters = sym (append-nil w.letters); came = []; brought = sym (append-nil w.brought); life = inl (refl, same_yet w.life) }
 
 same_through : (one two three : Life) → SameLife one two → SameLife two three → SameLife one three
 same_through one two three a b = record {
@@ -104,14 +106,22 @@ follows_through : (w next last : LivesWorld) → Follows w next → Follows next
 follows_through w next last a b = record {
   more = a.more ++ b.more;
   letters = b.letters ∙ ap (λ (x : List Letter). x ++ b.more) a.letters ∙ append_assoc w.letters a.more b.more;
+  came = a.came ++ b.came;
+  brought = b.brought ∙ ap (λ (x : List Brought). x ++ b.came) a.brought ∙ append_assoc w.brought a.came b.came;
   life = goes_through w next last a.life b.life;
 }
 
 pub life_follows : (w : LivesWorld) (event : GatewayEvent) → Follows w (to_life w event)
-life_follows w event = record { more = _; letters = refl; life = inl (refl, record { setup = refl; start = refl; events = event ∷ []; took = refl }) }
+life_follows w event = record {
+  more = _;
+  letters = refl;
+  came = [];
+  brought = sym (append-nil w.brought);
+  life = inl (refl, record { setup = refl; start = refl; events = event ∷ []; took = refl });
+}
 
 agent_follows : (setup : Setup) (number : ℕ) (w : LivesWorld) (event : AgentEvent) → Follows w (to_agent_of setup number w event)
-agent_follows setup number w event = record { more = _; letters = refl; life = inl (refl, same_yet w.life) }
+agent_follows setup number w event = record { more = _; letters = refl; came = _; brought = refl; life = inl (refl, same_yet w.life) }
 
 handed_follows : (setup : Setup) (w : LivesWorld) (end : End) (number : ℕ) (packet : Packet) → Follows w (handed_from end setup number w packet)
 handed_follows setup w agent_end number packet = by_test (same_address packet.to (gateway_address w.life.setup)) where
@@ -125,7 +135,8 @@ handed_follows setup w gateway_end number packet = by_test (is_among setup.agent
 
 step_follows : (setup : Setup) (w : LivesWorld) (step : LivesStep) → Follows w (lived setup w step)
 unfolding lived
-step_follows setup w (restarting first) = record { more = []; letters = sym (append-nil w.letters); life = inr (longer w.over w.life) }
+step_follows setup w (restarting first) =
+    record { more = []; letters = sym (append-nil w.letters); came = []; brought = sym (append-nil w.brought); life = inr (longer w.over w.life) }
 step_follows setup w (stepping (issuing verb name rest)) = agent_follows setup (number_of w) w (issues verb name rest)
 step_follows setup w (stepping (dialling line act)) = life_follows w (phone line act)
 step_follows setup w (stepping (ticking moment)) =

@@ -92,6 +92,13 @@ pub record Keeps (setup : Setup) (w : LivesWorld) : Type 0 where
   pub posted : Each (IsPosted (number_of w) w.life.start w.letters) (sent_of w.life.setup w.life.took)
   pub same : w.life.setup ≡ record setup { first = w.life.setup.first }
 
+-- the texts of a packet of the agent's
+pub plain_of : (setup : Setup) (w : LivesWorld) (number : ℕ) (letter : Letter) → Keeps setup w → slice_get w.letters number ≡ Some letter → letter.post.end ≡ agent_end
+    → Each IsPlainText (texts_of letter.post.packet.bytes)
+plain_of setup w number letter keeps found sender =
+    let is : PlainLetter letter = subst (λ (o : Option Letter). IfSome o PlainLetter) found (each_at PlainLetter w.letters number keeps.plain) in
+    subst (λ (end : End). PostsPlain end letter.post.packet) sender is
+
 -- the gateway of each life has its address
 pub one_address : (setup : Setup) (w : LivesWorld) → Keeps setup w → gateway_address w.life.setup ≡ gateway_address setup
 one_address setup w keeps = ap (λ (s : Setup). gateway_address s) keeps.same

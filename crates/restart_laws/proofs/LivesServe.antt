@@ -40,6 +40,8 @@ use Rattle.restart_laws.proofs.GatewayServes.{CameBack, serves_by_then}
 use Rattle.restart_laws.proofs.GatewayTracks.{SaidGoes, said_goes}
 use Rattle.restart_laws.proofs.LivesFronts.{Follows, SameLife, delivered_clock, front_follows, life_more, lives_front, stays_sent}
 use Rattle.restart_laws.proofs.LivesSays.{IsPosted, Keeps, TellsOf, life_is, lives_keep, one_address}
+use Rattle.life_laws.specs.Apart.{firsts_of_lives}
+use Rattle.restart_laws.proofs.LivesTaken.{IsYoungFirst, firsts_stay, young_first}
 use Rattle.restart_laws.proofs.LivesTake.{IsReplied, handed_to_life, replied, sent_past}
 
 -- a response with this id came to the life that goes on, at this moment of the world or up to twice the network's time later
@@ -57,6 +59,9 @@ pub record CameTo (w : LivesWorld) (within id moment : ℕ) : Type 0 where
 
 -- the moments
 
+itself : (n : ℕ) → n ≤ n
+itself n = omega arith
+
 half : (moment within now : ℕ) → moment + 2 * within ≤ now → moment + within ≤ now
 half moment within now twice = omega (arith, twice)
 
@@ -72,6 +77,9 @@ not_sooner moment now reply back past same on = omega (arith, past, same, on)
 not_later : (moment within now reply back : ℕ) → now ≤ moment + within → reply ≡ now → back ≤ reply + within → back ≤ moment + 2 * within
 not_later moment within now reply back soon same on = omega (arith, soon, same, on)
 
+since_began : (start first wait moment reply : ℕ) → moment ≡ start + (first + wait) → moment ≤ reply → start + first ≤ reply
+since_began start first wait moment reply is on = omega (arith, is, on)
+
 no_other : (here number life last : ℕ) → number ≤ here → number ≡ life → life ≡ last → here < last → ⊥
 no_other here number life last few one two less = absurd (omega (arith, few, one, two, less))
 
@@ -85,24 +93,24 @@ module _ (setup : Setup) (steps : List LivesStep) (since within : ℕ) (set_up :
   module _ (number : ℕ) (letter : Letter) (id : ℕ) (name text : List ℕ) (found : slice_get w.letters number ≡ Some letter) (of : letter.life ≡ number_of w)
       (sender : letter.post.end ≡ gateway_end) (goes : is_among setup.agent.route letter.post.packet.to ≡ true)
       (inside : OneOf (λ (one : List ℕ). one ≡ text) (texts_of letter.post.packet.bytes)) (reads : is_command_as id name (read_text text) ≡ true)
-      (past : since ≤ letter.post.packet.moment) (twice : letter.post.packet.moment + 2 * within ≤ clock_of setup w) where
+      (past : since ≤ letter.post.packet.moment) (by : letter.post.packet.moment + within ≤ clock_of setup w) where
     abbrev moment : ℕ
     moment = letter.post.packet.moment
 
-    there : IsHandedOn setup steps within number letter
-    there = fair number letter found past (half moment within (clock_of setup w) twice)
+    pub there : IsHandedOn setup steps within number letter
+    there = fair number letter found past by
 
-    abbrev first : List LivesStep
+    abbrev pub first : List LivesStep
     first = there.before ++ stepping (delivering number) ∷ []
 
-    first_taken : lives_are_taken setup (lives_opening setup) first ≡ true
+    pub first_taken : lives_are_taken setup (lives_opening setup) first ≡ true
     first_taken =
         lives_front setup (lives_opening setup) first there.later (subst (λ (s : List LivesStep). lives_are_taken setup (lives_opening setup) s ≡ true) there.order taken)
 
     before_taken : lives_are_taken setup (lives_opening setup) there.before ≡ true
     before_taken = lives_front setup (lives_opening setup) there.before (stepping (delivering number) ∷ []) first_taken
 
-    handed_past : moment ≤ clock_of setup (plain_lives setup there.before)
+    pub handed_past : moment ≤ clock_of setup (plain_lives setup there.before)
     handed_past = sent_past setup there.before number letter text set_up before_taken there.sent inside
 
     room : AgentHasRoomNow setup (plain_lives setup first)
@@ -110,84 +118,94 @@ module _ (setup : Setup) (steps : List LivesStep) (since within : ℕ) (set_up :
         roomy first there.later there.order
         (since_now since moment (clock_of setup (plain_lives setup there.before)) (clock_of setup (plain_lives setup first)) past handed_past (delivered_clock setup there.before number before_taken))
 
-    reply : IsReplied setup (plain_lives setup first) letter.life id (clock_of setup (plain_lives setup there.before))
+    pub reply : IsReplied setup (plain_lives setup first) letter.life id (clock_of setup (plain_lives setup there.before))
     reply = replied setup there.before number letter id name text set_up first_taken there.sent sender goes inside reads room
 
-    follows : Follows (plain_lives setup first) w
+    pub follows : Follows (plain_lives setup first) w
     follows = subst (λ (s : List LivesStep). Follows (plain_lives setup first) (plain_lives setup s)) (sym there.order) (front_follows setup first there.later)
 
-    sent_then : reply.letter.post.packet.moment ≡ clock_of setup (plain_lives setup there.before)
+    pub sent_then : reply.letter.post.packet.moment ≡ clock_of setup (plain_lives setup there.before)
     sent_then = reply.replies.3
 
-    back : IsHandedOn setup steps within reply.number reply.letter
-    back =
-        fair reply.number reply.letter (stays_sent (plain_lives setup first) w reply.number reply.letter follows reply.found)
-        (since_now since moment (clock_of setup (plain_lives setup there.before)) reply.letter.post.packet.moment past handed_past sent_then)
-        (soon_back moment within (clock_of setup (plain_lives setup there.before)) reply.letter.post.packet.moment (clock_of setup w) there.soon sent_then twice)
+    pub reply_past : moment ≤ reply.letter.post.packet.moment
+    reply_past = since_now moment moment (clock_of setup (plain_lives setup there.before)) reply.letter.post.packet.moment (itself moment) handed_past sent_then
 
-    abbrev v : LivesWorld
-    v = plain_lives setup back.before
+    -- and taken
+    pub replied_young : OneOf (IsYoungFirst id reply.letter.post.packet.moment) (firsts_of_lives w)
+    replied_young =
+        firsts_stay (IsYoungFirst id reply.letter.post.packet.moment) (plain_lives setup first) w follows
+        (young_first setup first reply.number reply.letter id reply.text set_up first_taken reply.found reply.replies.1 reply.replies.4 reply.reads)
 
-    abbrev event : GatewayEvent
-    event = datagram reply.letter.post.packet.sender reply.letter.post.packet.bytes
+    module _ (twice : letter.post.packet.moment + 2 * within ≤ clock_of setup w) where
+      back : IsHandedOn setup steps within reply.number reply.letter
+      back =
+          fair reply.number reply.letter (stays_sent (plain_lives setup first) w reply.number reply.letter follows reply.found)
+          (since_now since moment (clock_of setup (plain_lives setup there.before)) reply.letter.post.packet.moment past handed_past sent_then)
+          (soon_back moment within (clock_of setup (plain_lives setup there.before)) reply.letter.post.packet.moment (clock_of setup w) there.soon sent_then twice)
 
-    abbrev back_first : List LivesStep
-    back_first = back.before ++ stepping (delivering reply.number) ∷ []
+      abbrev v : LivesWorld
+      v = plain_lives setup back.before
 
-    v_taken : lives_are_taken setup (lives_opening setup) back.before ≡ true
-    v_taken =
-        lives_front setup (lives_opening setup) back.before (stepping (delivering reply.number) ∷ [])
-        (lives_front setup (lives_opening setup) back_first back.later (subst (λ (s : List LivesStep). lives_are_taken setup (lives_opening setup) s ≡ true) back.order taken))
+      abbrev event : GatewayEvent
+      event = datagram reply.letter.post.packet.sender reply.letter.post.packet.bytes
 
-    v_keeps : Keeps setup v
-    v_keeps = lives_keep setup back.before set_up v_taken
+      abbrev back_first : List LivesStep
+      back_first = back.before ++ stepping (delivering reply.number) ∷ []
 
-    few : reply.letter.life ≤ number_of v
-    few =
-        subst (λ (o : Option Letter). IfSome o (λ (one : Letter). one.life ≤ number_of v)) back.sent
-        (each_at (λ (one : Letter). one.life ≤ number_of v) v.letters reply.number v_keeps.numbered)
+      v_taken : lives_are_taken setup (lives_opening setup) back.before ≡ true
+      v_taken =
+          lives_front setup (lives_opening setup) back.before (stepping (delivering reply.number) ∷ [])
+          (lives_front setup (lives_opening setup) back_first back.later (subst (λ (s : List LivesStep). lives_are_taken setup (lives_opening setup) s ≡ true) back.order taken))
 
-    goes_back : same_address reply.letter.post.packet.to (gateway_address v.life.setup) ≡ true
-    goes_back =
-        ap (λ (a : SocketAddrV4). same_address a (gateway_address v.life.setup)) (reply.replies.2 ∙ sym (one_address setup v v_keeps))
-        ∙ address_itself (gateway_address v.life.setup)
+      v_keeps : Keeps setup v
+      v_keeps = lives_keep setup back.before set_up v_taken
 
-    next_is : plain_lives setup back_first ≡ to_life v event
-    next_is = life_more setup back.before (stepping (delivering reply.number)) ∙ handed_to_life setup v reply.number reply.letter back.sent reply.replies.1 goes_back
+      few : reply.letter.life ≤ number_of v
+      few =
+          subst (λ (o : Option Letter). IfSome o (λ (one : Letter). one.life ≤ number_of v)) back.sent
+          (each_at (λ (one : Letter). one.life ≤ number_of v) v.letters reply.number v_keeps.numbered)
 
-    on : Follows (to_life v event) w
-    on =
-        subst (λ (x : LivesWorld). Follows x w) next_is
-        (subst (λ (s : List LivesStep). Follows (plain_lives setup back_first) (plain_lives setup s)) (sym back.order) (front_follows setup back_first back.later))
+      goes_back : same_address reply.letter.post.packet.to (gateway_address v.life.setup) ≡ true
+      goes_back =
+          ap (λ (a : SocketAddrV4). same_address a (gateway_address v.life.setup)) (reply.replies.2 ∙ sym (one_address setup v v_keeps))
+          ∙ address_itself (gateway_address v.life.setup)
 
-    clock : (same : SameLife (to_life v event).life w.life) → clock_of setup v ≡ w.life.start + (plain w.life.setup v.life.took).now
-    clock same =
-        (lives_kept setup back.before v_taken).clock ∙ ap (λ (start : ℕ). start + (gateway_of v.life).now) (sym same.start)
-        ∙ ap (λ (s : Setup). w.life.start + (plain s v.life.took).now) (sym same.setup)
+      next_is : plain_lives setup back_first ≡ to_life v event
+      next_is = life_more setup back.before (stepping (delivering reply.number)) ∙ handed_to_life setup v reply.number reply.letter back.sent reply.replies.1 goes_back
 
-    came : SameLife (to_life v event).life w.life → CameTo w within id moment
-    came same = record {
-      before = v.life.took;
-      source = reply.letter.post.packet.sender;
-      bytes = reply.letter.post.packet.bytes;
-      later = same.events;
-      order = same.took;
-      text = reply.text;
-      inside = reply.replies.4;
-      reads = reply.reads;
-      no_sooner = subst (λ (n : ℕ). moment ≤ n) (clock same)
-          (not_sooner moment (clock_of setup (plain_lives setup there.before)) reply.letter.post.packet.moment (clock_of setup v) handed_past sent_then
-          (sent_past setup back.before reply.number reply.letter reply.text set_up v_taken back.sent reply.replies.4));
-      no_later = subst (λ (n : ℕ). n ≤ moment + 2 * within) (clock same)
-          (not_later moment within (clock_of setup (plain_lives setup there.before)) reply.letter.post.packet.moment (clock_of setup v) there.soon sent_then back.soon);
-    }
+      on : Follows (to_life v event) w
+      on =
+          subst (λ (x : LivesWorld). Follows x w) next_is
+          (subst (λ (s : List LivesStep). Follows (plain_lives setup back_first) (plain_lives setup s)) (sym back.order) (front_follows setup back_first back.later))
 
-    by_life : ((number_of w ≡ number_of v) × SameLife (to_life v event).life w.life) ⊎ (number_of v < number_of w) → CameTo w within id moment
-    by_life (inl both) = came both.1
-    by_life (inr less) = absurd (no_other (number_of v) reply.letter.life letter.life (number_of w) few reply.replies.0 of less)
+      clock : (same : SameLife (to_life v event).life w.life) → clock_of setup v ≡ w.life.start + (plain w.life.setup v.life.took).now
+      clock same =
+          (lives_kept setup back.before v_taken).clock ∙ ap (λ (start : ℕ). start + (gateway_of v.life).now) (sym same.start)
+          ∙ ap (λ (s : Setup). w.life.start + (plain s v.life.took).now) (sym same.setup)
 
-    pub came_back : CameTo w within id moment
-    came_back = by_life on.life
+      came : SameLife (to_life v event).life w.life → CameTo w within id moment
+      came same = record {
+        before = v.life.took;
+        source = reply.letter.post.packet.sender;
+        bytes = reply.letter.post.packet.bytes;
+        later = same.events;
+        order = same.took;
+        text = reply.text;
+        inside = reply.replies.4;
+        reads = reply.reads;
+        no_sooner = subst (λ (n : ℕ). moment ≤ n) (clock same)
+            (not_sooner moment (clock_of setup (plain_lives setup there.before)) reply.letter.post.packet.moment (clock_of setup v) handed_past sent_then
+            (sent_past setup back.before reply.number reply.letter reply.text set_up v_taken back.sent reply.replies.4));
+        no_later = subst (λ (n : ℕ). n ≤ moment + 2 * within) (clock same)
+            (not_later moment within (clock_of setup (plain_lives setup there.before)) reply.letter.post.packet.moment (clock_of setup v) there.soon sent_then back.soon);
+      }
+
+      by_life : ((number_of w ≡ number_of v) × SameLife (to_life v event).life w.life) ⊎ (number_of v < number_of w) → CameTo w within id moment
+      by_life (inl both) = came both.1
+      by_life (inr less) = absurd (no_other (number_of v) reply.letter.life letter.life (number_of w) few reply.replies.0 of less)
+
+      pub came_back : CameTo w within id moment
+      came_back = by_life on.life
 
   -- Its gateway
 
@@ -209,9 +227,27 @@ module _ (setup : Setup) (steps : List LivesStep) (since within : ℕ) (set_up :
       (one : Sent) (number : ℕ) (letter : Letter) → slice_get w.letters number ≡ Some letter → SaidGoes w.life.setup one → SaysAt b.text (b.moment + wait) one
       → TellsOf (number_of w) w.life.start one letter → is_among setup.agent.route letter.post.packet.to ≡ true
 
+  -- so long behind its first send it is in a packet of the life's, that goes there
+  pub record IsTold (b : Begun) (wait : ℕ) : Type 0 where
+    pub number : ℕ
+    pub letter : Letter
+    pub found : slice_get w.letters number ≡ Some letter
+    pub of : letter.life ≡ number_of w
+    pub sender : letter.post.end ≡ gateway_end
+    pub goes : is_among setup.agent.route letter.post.packet.to ≡ true
+    pub moment : letter.post.packet.moment ≡ w.life.start + (b.moment + wait)
+    pub inside : OneOf (λ (text : List ℕ). text ≡ b.text) (texts_of letter.post.packet.bytes)
+    pub name : List ℕ
+    pub reads : is_command_as b.id name (read_text b.text) ≡ true
+
+  -- the agent took a first with its id, so late that what was sent behind its beginning may be the answer
+  pub record IsTakenYoung (b : Begun) : Type 0 where
+    pub moment : ℕ
+    pub past : w.life.start + b.moment ≤ moment
+    pub young : OneOf (IsYoungFirst b.id moment) (firsts_of_lives w)
+
   module _ (line : ℕ) (b : Begun) (wait : ℕ) (began : OneOf (λ (one : Begun). one ≡ b) (begun_in (of_line line (sent_of w.life.setup w.life.took))))
-      (reaches : Reaches b wait) (said : OneOf (SaysAt b.text (b.moment + wait)) (of_line line (sent_of w.life.setup w.life.took)))
-      (past : since ≤ w.life.start + (b.moment + wait)) (twice : w.life.start + (b.moment + wait) + 2 * within ≤ clock_of setup w) where
+      (reaches : Reaches b wait) (said : OneOf (SaysAt b.text (b.moment + wait)) (of_line line (sent_of w.life.setup w.life.took))) where
     was : WasBegun (gateway_of w.life).now b
     was =
         one_to (λ (one : Begun). WasBegun (gateway_of w.life).now one × (one ≡ b)) (WasBegun (gateway_of w.life).now b)
@@ -231,20 +267,51 @@ module _ (setup : Setup) (steps : List LivesStep) (since within : ℕ) (set_up :
         (one_unfiltered (SaysAt b.text (b.moment + wait)) (λ (one : Sent). is_of line one.owner) (sent_of w.life.setup w.life.took) said)
 
     by_letter : (one : Sent) → SaidGoes w.life.setup one → SaysAt b.text (b.moment + wait) one
-        → ((number : ℕ) × (letter : Letter) × (slice_get w.letters number ≡ Some letter) × TellsOf (number_of w) w.life.start one letter)
-        → CameTo w within b.id (w.life.start + (b.moment + wait))
-    by_letter one goes says at =
-        subst (CameTo w within b.id) sent_at
-        (came_back at.0 at.1 b.id was.name b.text at.2 at.3.0 at.3.1 (reaches one at.0 at.1 at.2 goes says at.3)
-        (subst (λ (t : List ℕ). OneOf (λ (x : List ℕ). x ≡ t) (texts_of at.1.post.packet.bytes)) says.0 at.3.4) was.reads
-        (subst (λ (n : ℕ). since ≤ n) (sym sent_at) past) (subst (λ (n : ℕ). n + 2 * within ≤ clock_of setup w) (sym sent_at) twice)) where
-          sent_at : at.1.post.packet.moment ≡ w.life.start + (b.moment + wait)
-          sent_at = at.3.2 ∙ ap (λ (n : ℕ). w.life.start + n) says.1
+        → ((number : ℕ) × (letter : Letter) × (slice_get w.letters number ≡ Some letter) × TellsOf (number_of w) w.life.start one letter) → IsTold b wait
+    by_letter one goes says at = record {
+      number = at.0;
+      letter = at.1;
+      found = at.2;
+      of = at.3.0;
+      sender = at.3.1;
+      goes = reaches one at.0 at.1 at.2 goes says at.3;
+      moment = at.3.2 ∙ ap (λ (n : ℕ). w.life.start + n) says.1;
+      inside = subst (λ (t : List ℕ). OneOf (λ (x : List ℕ). x ≡ t) (texts_of at.1.post.packet.bytes)) says.0 at.3.4;
+      name = was.name;
+      reads = was.reads;
+    }
 
-    pub line_came : CameTo w within b.id (w.life.start + (b.moment + wait))
-    line_came =
-        one_to (λ (one : Sent). Ready one × SaysAt b.text (b.moment + wait) one) (CameTo w within b.id (w.life.start + (b.moment + wait)))
+    pub is_told : IsTold b wait
+    is_told =
+        one_to (λ (one : Sent). Ready one × SaysAt b.text (b.moment + wait) one) (IsTold b wait)
         (λ one all. by_letter one all.0.0 all.1 (one_at (TellsOf (number_of w) w.life.start one) w.letters all.0.1)) (sent_of w.life.setup w.life.took) ready
+
+    -- it is taken
+    module _ (past : since ≤ w.life.start + (b.moment + wait)) (by : w.life.start + (b.moment + wait) + within ≤ clock_of setup w) where
+      there_past : since ≤ is_told.letter.post.packet.moment
+      there_past = subst (λ (n : ℕ). since ≤ n) (sym is_told.moment) past
+
+      there_by : is_told.letter.post.packet.moment + within ≤ clock_of setup w
+      there_by = subst (λ (n : ℕ). n + within ≤ clock_of setup w) (sym is_told.moment) by
+
+      pub line_taken : IsTakenYoung b
+      line_taken = record {
+        moment = _;
+        past = since_began w.life.start b.moment wait is_told.letter.post.packet.moment _ is_told.moment
+            (reply_past is_told.number is_told.letter b.id is_told.name b.text is_told.found is_told.of is_told.sender is_told.goes is_told.inside is_told.reads there_past there_by);
+        young = replied_young is_told.number is_told.letter b.id is_told.name b.text is_told.found is_told.of is_told.sender is_told.goes is_told.inside is_told.reads there_past there_by;
+      }
+
+    -- and the answer to it comes
+    module _ (past : since ≤ w.life.start + (b.moment + wait)) (twice : w.life.start + (b.moment + wait) + 2 * within ≤ clock_of setup w) where
+      there_twice : is_told.letter.post.packet.moment + 2 * within ≤ clock_of setup w
+      there_twice = subst (λ (n : ℕ). n + 2 * within ≤ clock_of setup w) (sym is_told.moment) twice
+
+      pub line_came : CameTo w within b.id (w.life.start + (b.moment + wait))
+      line_came =
+          subst (CameTo w within b.id) is_told.moment
+          (came_back is_told.number is_told.letter b.id is_told.name b.text is_told.found is_told.of is_told.sender is_told.goes is_told.inside is_told.reads
+          (subst (λ (n : ℕ). since ≤ n) (sym is_told.moment) past) (half is_told.letter.post.packet.moment within (clock_of setup w) there_twice) there_twice)
 
   -- an announcement of the gateway itself does
   pub own_reaches : (b : Begun) (wait : ℕ) → OneOf (λ (one : Begun). one ≡ b) (begun_in (of_line 0 (sent_of w.life.setup w.life.took))) → Reaches b wait
@@ -328,9 +395,6 @@ serves_since setup steps since within set_up taken fair roomy young on late =
 
 past_start : (since start moment : ℕ) → since < start → start ≤ moment → since ≤ moment
 past_start since start moment less past = omega (arith, less, past)
-
-itself : (n : ℕ) → n ≤ n
-itself n = omega arith
 
 -- and so it does by that long behind the later of the two
 pub serves_after : (setup : Setup) (steps : List LivesStep) (since within : ℕ) → IsSetUp setup → lives_are_taken setup (lives_opening setup) steps ≡ true

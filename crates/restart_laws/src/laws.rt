@@ -1,5 +1,5 @@
 //! Laws of a network that was down and came back where the gateway started again.
-ghost use Rattle.std.specs.Prelude.{◌≡◌, ◌≤◌, ◌+◌, ◌*◌, ℕ, List, true};
+ghost use Rattle.std.specs.Prelude.{◌≡◌, ◌⊎◌, ◌≤◌, ◌+◌, ◌*◌, ℕ, List, Any, true};
 ghost use Rattle.plain_machine.specs.declared.setup.Setup.{Setup};
 ghost use Rattle.plain_machine.specs.Machine.{serves};
 ghost use Rattle.machine_laws.specs.Saying.{Begun};
@@ -7,7 +7,8 @@ ghost use Rattle.agent_core.specs.World.{oldest_packet};
 ghost use Rattle.delivery_laws.specs.Chances.{last_chance};
 ghost use Rattle.outage_laws.specs.AfterOutage.{gap_of, longest_pause};
 ghost use Rattle.outage_laws.specs.Alone.{HasBegun, HasResponse};
-ghost use Rattle.life_laws.specs.Lives.{LivesStep, clock_of, gateway_of, plain_lives};
+ghost use Rattle.life_laws.specs.Lives.{Brought, LivesStep, clock_of, gateway_of, lives_of, number_of, plain_lives};
+ghost use Rattle.life_laws.specs.Apart.{LieApart, firsts_of_lives};
 ghost use Rattle.restart_laws.specs.AfterRestart.{AgentHasRoomThen, IsRunOfLives, LifeGoesToAgent, LivesAreFairFrom};
 
 /// However often the gateway started before, and whatever its lives had sent, that of the life that goes on serves by then: behind the
@@ -22,10 +23,34 @@ pub fn a_new_life_serves_after_an_outage()
         serves (gateway_of w.life).endpoints ≡ true }
 {}
 
-/// What the life that goes on has in flight when the network is there again, or begins since, is answered: a response to it comes to that
-/// life 3,999 ms and twice the network's time behind that moment at the latest, or twice that time behind its first send; unless the last of
-/// its eight sends was before. So it is of its announcements, and of a line's command that goes to the agent (RFC 3435, 3.5.3).
-pub fn what_a_new_life_has_in_flight_is_answered_after_an_outage()
+/// What the life that goes on has in flight when the network is there again, or begins since, is taken 3,999 ms and the network's time behind
+/// that moment at the latest, or that time behind its first send, and a response to it comes to that life by twice that time; unless the
+/// last of its eight sends was before. Taken is a first of the agent's with its id; where lives' ids lie apart it is of this life. That is
+/// said unless a response with its id came already, such as one to an earlier life's, which may come before the command begins. It is so
+/// of announcements of the gateway itself, and of what of a line goes to the agent (RFC 3435, 3.5.3).
+pub fn what_a_new_life_has_in_flight_is_taken_after_an_outage()
+    ensures line_taken { (setup : Setup) (steps : List LivesStep) (since within line : ℕ) (b : Begun) → IsRunOfLives setup steps →
+        LivesAreFairFrom setup steps since within → AgentHasRoomThen setup steps since → let w = plain_lives setup steps in
+        HasBegun w.life.setup w.life.took line b → LifeGoesToAgent setup w b.text → since ≤ w.life.start + b.moment + last_chance →
+        w.life.start + b.moment + within ≤ clock_of setup w → since + longest_pause + within ≤ clock_of setup w + 1 →
+        HasResponse w.life.took b.id ⊎ Any (λ (one : Brought). one.reached.asked.id ≡ b.id) (firsts_of_lives w) }
+    ensures own_taken { (setup : Setup) (steps : List LivesStep) (since within : ℕ) (b : Begun) → IsRunOfLives setup steps →
+        LivesAreFairFrom setup steps since within → AgentHasRoomThen setup steps since → let w = plain_lives setup steps in
+        HasBegun w.life.setup w.life.took 0 b → since ≤ w.life.start + b.moment + last_chance →
+        w.life.start + b.moment + within ≤ clock_of setup w → since + longest_pause + within ≤ clock_of setup w + 1 →
+        HasResponse w.life.took b.id ⊎ Any (λ (one : Brought). one.reached.asked.id ≡ b.id) (firsts_of_lives w) }
+    ensures line_of_this_life { (setup : Setup) (steps : List LivesStep) (since within line : ℕ) (b : Begun) → IsRunOfLives setup steps →
+        LivesAreFairFrom setup steps since within → AgentHasRoomThen setup steps since → let w = plain_lives setup steps in
+        HasBegun w.life.setup w.life.took line b → LifeGoesToAgent setup w b.text → since ≤ w.life.start + b.moment + last_chance →
+        LieApart (lives_of w) → w.life.start + b.moment + within ≤ clock_of setup w → since + longest_pause + within ≤ clock_of setup w + 1 →
+        HasResponse w.life.took b.id
+        ⊎ Any (λ (one : Brought). (one.life ≡ number_of w) × (one.reached.asked.id ≡ b.id)) (firsts_of_lives w) }
+    ensures own_of_this_life { (setup : Setup) (steps : List LivesStep) (since within : ℕ) (b : Begun) → IsRunOfLives setup steps →
+        LivesAreFairFrom setup steps since within → AgentHasRoomThen setup steps since → let w = plain_lives setup steps in
+        HasBegun w.life.setup w.life.took 0 b → since ≤ w.life.start + b.moment + last_chance →
+        LieApart (lives_of w) → w.life.start + b.moment + within ≤ clock_of setup w → since + longest_pause + within ≤ clock_of setup w + 1 →
+        HasResponse w.life.took b.id
+        ⊎ Any (λ (one : Brought). (one.life ≡ number_of w) × (one.reached.asked.id ≡ b.id)) (firsts_of_lives w) }
     ensures line_answered { (setup : Setup) (steps : List LivesStep) (since within line : ℕ) (b : Begun) → IsRunOfLives setup steps →
         LivesAreFairFrom setup steps since within → AgentHasRoomThen setup steps since → let w = plain_lives setup steps in
         HasBegun w.life.setup w.life.took line b → LifeGoesToAgent setup w b.text → since ≤ w.life.start + b.moment + last_chance →
