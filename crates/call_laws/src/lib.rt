@@ -7,3 +7,4 @@ pub mod code_examples;
 pub mod examples;
 pub mod laws;
 pub mod premise_examples;
+pub mod record_examples;
