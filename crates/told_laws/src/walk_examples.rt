@@ -11,7 +11,7 @@ ghost use Rattle.delivery_laws.specs.OnceExample.{five, hung_up, lifted, six};
 ghost use Rattle.told_laws.specs.Among.{IsToldInOrder, kept_by};
 ghost use Rattle.told_laws.specs.Example.{discards_then, flash_carries, flash_drops, flashed, has_keys_collected, has_lifting_told};
 ghost use Rattle.told_laws.specs.Example.{has_return_told, waits};
-ghost use Rattle.told_laws.specs.WalkExample.{keeping, shut_place};
+ghost use Rattle.told_laws.specs.WalkExample.{keeping, lifting_first, shut_place};
 ghost use Rattle.told_laws.specs.Walking.{behind_request, nothing_asked, reaction_to, Brings, Stays, TellsAFront, TellsWhatWasKept, Walks};
 
 /// What R ignores isn't told, though it waits; and what is carried on is told once.
@@ -23,7 +23,8 @@ pub fn what_is_ignored_isnt_told_and_what_is_carried_is_once()
         (waits []) }
 {}
 
-/// By an event one request comes into force, and so much is carried on, and no other. Behind a notification, in step, none does.
+/// By an event one request comes into force, and so much is carried on, and no other. Behind a notification, in step, none does, nor behind
+/// what R has told at once.
 pub fn one_request_comes_into_force()
     ensures dropped { (request other : EmbeddedRequest) (carried more : List Observed) →
         Brings (reaction_to flash_drops.events flashed) (lifted ∷ []) request carried →
@@ -33,10 +34,12 @@ pub fn one_request_comes_into_force()
         Brings (reaction_to flash_carries.events flashed) (lifted ∷ []) other more → (request ≡ other) × (carried ≡ more) }
     ensures open { Walks (behind_request flash_drops) (flashed ∷ []) [] (waits []) }
     ensures shut { ¬ Walks shut_place (flashed ∷ []) [] (waits []) }
+    ensures behind_a_quiet_one { Walks (behind_request flash_drops) (lifted ∷ flashed ∷ []) [] (waits []) }
+    ensures behind_a_loud_one { ¬ Walks (behind_request lifting_first) (lifted ∷ flashed ∷ []) [] (waits []) }
 {}
 
 /// What a line keeps stands behind what it told, and what is accumulated before what is quarantined. At the end what had occurred is
-/// accumulated, where R has that told; and of it R has none told at once.
+/// accumulated, where R has that told; and of it R has none told at once, nor a request embedded at one.
 pub fn what_is_kept_stands_behind_what_is_told()
     ensures kept { kept_by (keeping (five ∷ []) (six ∷ [])) ≡ five ∷ six ∷ [] }
     ensures in_order { IsToldInOrder (does acts.OffHook ∷ notifies (codes "0") (lifted ∷ []) ∷ does (acts.Key keys.Five)
@@ -46,6 +49,8 @@ pub fn what_is_kept_stands_behind_what_is_told()
     ensures accumulated { Stays (keeping (five ∷ []) []) (behind_request has_keys_collected) (five ∷ []) }
     ensures not_done { ¬ Stays (keeping (five ∷ []) []) (behind_request has_keys_collected) [] }
     ensures at_once { ¬ Stays (keeping (lifted ∷ []) []) (behind_request has_lifting_told) (lifted ∷ []) }
+    ensures embedded { ¬ Stays (keeping [] []) (behind_request flash_drops) (flashed ∷ []) }
+    ensures embedded_too { ¬ Stays (keeping (flashed ∷ []) []) (behind_request flash_carries) (flashed ∷ []) }
 {}
 
 /// A request that discards has nothing told of what was done before it; one that doesn't has.

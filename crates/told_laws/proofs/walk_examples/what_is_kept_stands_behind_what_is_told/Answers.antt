@@ -1,7 +1,7 @@
 use Rattle.std.proofs.Common.{◌≡◌, [], ◌∷◌, ◌++◌, refl, sym}
 use Rattle.quarantine.specs.Given.{none, kept}
 use Rattle.delivery_laws.specs.OnceExample.{five, lifted, six}
-use Rattle.told_laws.specs.Example.{has_keys_collected, has_lifting_told}
+use Rattle.told_laws.specs.Example.{flash_carries, flash_drops, flashed, has_keys_collected, has_lifting_told}
 use Rattle.told_laws.specs.WalkExample.{keeping}
 use Rattle.told_laws.specs.Walking.{behind_request, Stays}
 use Rattle.told_laws.proofs.Computing.{on_examples}
@@ -40,3 +40,20 @@ loud_waits (occurred, held, order, told, quiet, same) =
 
 pub returns-clause-at_once : goal.returns-clause-at_once
 returns-clause-at_once c = λ stays. loud_waits stays
+
+-- what brings a request into force doesn't stay so
+drops_not : Stays (keeping [] []) (behind_request flash_drops) (flashed ∷ []) → ⊥
+unfolding on_examples
+drops_not (occurred, held, order, told, quiet, same) =
+    at_once_stays flash_drops.events flashed occurred held [] (λ more. refl) order quiet (sym same)
+
+carries_not : Stays (keeping (flashed ∷ []) []) (behind_request flash_carries) (flashed ∷ []) → ⊥
+unfolding on_examples
+carries_not (occurred, held, order, told, quiet, same) =
+    at_once_stays flash_carries.events flashed occurred held [] (λ more. refl) order quiet (sym same)
+
+pub returns-clause-embedded : goal.returns-clause-embedded
+returns-clause-embedded c = λ stays. drops_not stays
+
+pub returns-clause-embedded_too : goal.returns-clause-embedded_too
+returns-clause-embedded_too c = λ stays. carries_not stays
