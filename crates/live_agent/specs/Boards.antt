@@ -1,14 +1,16 @@
 -- What is asked of the gateways of a board, and of the lines of its exchange.
-use Rattle.std.specs.Prelude.{◌≡◌, ℕ, Bool, true, length, Option, Some, None, IsSomeAnd}
+use Rattle.std.specs.Prelude.{◌≡◌, ◌⊎◌, ℕ, Bool, true, List, [], ◌∷◌, ◌++◌, length, Option, Some, None, IsSomeAnd, slice_get}
 use Rattle.std.specs.Global.{Box}
 use Rattle.std.specs.declared.net.socket_addr.SocketAddrV4.{SocketAddrV4}
 use Rattle.transmission.specs.Packing.{same_address}
+use Rattle.live_agent.specs.declared.care.Care.{Care}
 use Rattle.live_agent.specs.declared.gateway.Gateway.{Gateway}
 use Rattle.live_agent.specs.declared.gateway.Wake.{Wake}
 use Rattle.live_agent.specs.declared.office.Office.{Office}
 use Rattle.live_agent.specs.declared.worklist.Worklist.{Worklist}
 use Rattle.live_agent.specs.Duties.{woken}
-use Rattle.live_agent.specs.Orders.{cared}
+use Rattle.live_agent.specs.Orders.{again_of, cared, is_outlived}
+use Rattle.live_agent.specs.Turns.{TakesAnswer}
 use Rattle.live_agent.specs.Waiting.{waits, settling, Settles}
 use Rattle.live_agent.specs.Wakes.{first_woken}
 
@@ -47,3 +49,17 @@ WakesIn (Some wake) (Some was) is =
     IsSomeAnd is (λ office. (office.value.exchange ≡ was.value.exchange)
     × ((office.value.cares.items ≡ cared (woken wake.moment) was.value.cares.items wake.line)
     × (waits office.value.worklist.waiting.items office.value.worklist.is_all wake.line ≡ true)))
+
+-- what was put off of a line is sent again at a moment, if anything was: that is kept; or it is sent again at once, where memory is refused
+abbrev pub Holds : Option ℕ → ℕ → List Care → List Wake → List Care → List Wake → Type 0
+Holds None line cares wakes kept held = (kept ≡ cares) × (held ≡ wakes)
+Holds (Some moment) line cares wakes kept held =
+    ((kept ≡ cares) × (held ≡ wakes ++ (record { moment = moment; line = line }) ∷ []))
+    ⊎ ((kept ≡ cared (woken moment) cares line) × (held ≡ wakes))
+
+-- The command in flight to a line of the gateway was answered so, at the moment of its clock.
+abbrev pub Answers : ℕ → ℕ → List ℕ → Gateway → Office → Gateway → Office → Type 0
+Answers line code text gateway was after is =
+    (cares : List Care)
+    × TakesAnswer (is_outlived (slice_get was.cares.items line)) line gateway.ticked code text was.exchange was.cares.items is.exchange cares
+    × Holds (again_of (slice_get cares line)) line cares gateway.wakes.items is.cares.items after.wakes.items

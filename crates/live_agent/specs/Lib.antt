@@ -14,3 +14,5 @@ pub mod Example
 pub mod Clock
 pub mod Report
 pub mod Wiring
+pub mod Announcing
+pub mod Meaning

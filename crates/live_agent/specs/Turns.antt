@@ -9,9 +9,9 @@ use Rattle.call_routing.specs.Exchange.{ExchangeState, phase_of, line_of, flight
 use Rattle.live_agent.specs.declared.care.Duty.{Duty}
 use Rattle.live_agent.specs.declared.care.Duty.TheVariants.{Clear, Audit, Route}
 use Rattle.live_agent.specs.declared.care.Care.{Care}
-use Rattle.live_agent.specs.Duties.{found, duty_answered, routed_by}
+use Rattle.live_agent.specs.Duties.{found, landed, lost, duty_answered, routed_by}
 use Rattle.live_agent.specs.Hooks.{hook_by, was_off, told_by_hook, is_off_hook}
-use Rattle.live_agent.specs.Orders.{has_told, is_put_off_in, cared}
+use Rattle.live_agent.specs.Orders.{flight_of, has_told, is_put_off_in, cared}
 use Rattle.live_agent.specs.Responses.{outcome_by}
 
 -- a command to the line that was for this was given up: one of the exchange's own is answered so
@@ -78,3 +78,12 @@ TakesResponse (Some Audit) line moment code text was cares is kept =
     AnswersAudit (is_put_off_in code (slice_get cares line)) line text was (kept_behind Audit line moment code cares) is kept
 TakesResponse (Some Route) line moment code text was cares is kept =
     Routes (outcome_with was line code text) line moment was cares is kept ⊎ Routes GivenUp line moment was cares is kept
+
+-- The command in flight to the line was answered so, whose gateway has started again since, or hasn't: it counts as given up, or its answer
+-- is taken.
+abbrev pub TakesAnswer :
+    Bool → ℕ → ℕ → ℕ → List ℕ → ExchangeState → List Care → ExchangeState → List Care → Type 0
+TakesAnswer true line moment code text was cares is kept =
+    (is ≡ forsaken was line (flight_of (slice_get cares line))) × (kept ≡ cared lost cares line)
+TakesAnswer false line moment code text was cares is kept =
+    TakesResponse (flight_of (slice_get cares line)) line moment code text was (cared landed cares line) is kept

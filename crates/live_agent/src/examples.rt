@@ -15,6 +15,8 @@ ghost use Rattle.live_agent.specs.declared.care.Duty.TheVariants.{Clear, Audit, 
 ghost use Rattle.live_agent.specs.Waiting.{waits, settling, settled_at};
 ghost use Rattle.live_agent.specs.Flights.{end_of_time, most_steps, falls, over_by};
 ghost use Rattle.live_agent.specs.AgentClock.{first_id, tick_to};
+ghost use Rattle.live_agent.specs.Announcing.{is_new, last_new};
+ghost use Rattle.live_agent.specs.Meaning.{meant};
 ghost use Rattle.agent_texts.specs.Refusals.{no_refusals};
 ghost use Rattle.agent_texts.specs.Example.{refused_with};
 ghost use Rattle.live_agent.specs.Duties.{new_care, duty_begun, begun, landed, owed, lost, outlived, announced, found, told_of, told_care, again_at, held_from, woken, duty_answered, routed_by, fixed_order};
@@ -343,4 +345,21 @@ pub fn lines_are_woken_in_their_order()
     ensures no_gateway { woken_at None ≡ None }
     ensures nothing_woken { (office : Option (Box Office)) → WakesIn None office office }
     ensures no_exchange { WakesIn (Some (wake_at 7 0)) None None }
+{}
+
+/// Each sentence at an example.
+pub fn what_comes_again_or_is_typed_is_known()
+    // An announcement is new but where one with the same id was so within half a minute.
+    ensures first { is_new None 7 1000 ≡ true }
+    ensures again { is_new (Some (7, 1000)) 7 30999 ≡ false }
+    ensures later { is_new (Some (7, 1000)) 7 31000 ≡ true }
+    ensures other { is_new (Some (7, 1000)) 8 1001 ≡ true }
+    ensures counts_from_the_first { last_new (Some (7, 1000)) 7 30999 ≡ Some (7, 1000) }
+    ensures begins_anew { last_new (Some (7, 1000)) 8 30999 ≡ Some (8, 30999) }
+    // A name means the gateway of its domain, in letters of either case; without one the only gateway.
+    ensures named { (one other : Gateway) → meant (record one { domain = codes "gw1" } ∷ record other { domain = codes "gw2" } ∷ [])
+        (codes "aaln/1@GW2") ≡ Some (1, codes "aaln/1") }
+    ensures unknown { (one : Gateway) → meant (record one { domain = codes "gw1" } ∷ []) (codes "aaln/1@gw2") ≡ None }
+    ensures unnamed { (one : Gateway) → meant (one ∷ []) (codes "aaln/1") ≡ Some (0, codes "aaln/1") }
+    ensures which { (one other : Gateway) → meant (one ∷ other ∷ []) (codes "aaln/1") ≡ None }
 {}

@@ -2,9 +2,11 @@
 ghost use Rattle.std.specs.Prelude.{◌≡◌, ◌≤◌, [], ◌∷◌, ◌++◌, None, IfOk, OnOk, OnErr};
 ghost use Rattle.endpoint_names.specs.declared.route.Route.TheVariants as routes;
 ghost use Rattle.plain_machine.specs.Event.{tick};
-ghost use Rattle.call_agent.specs.Hearing.{hears};
+ghost use Rattle.call_agent.specs.Hearing.{hears, issues};
+ghost use Rattle.outbound.specs.Flight.{sent_first};
 ghost use Rattle.call_agent.specs.AgentStands.{AgentStands, AgentTook, AgentStays};
 ghost use Rattle.live_agent.specs.AgentClock.{first_id, tick_to};
+ghost use Rattle.live_agent.specs.Announcing.{is_new, last_new};
 ghost use Rattle.live_agent.specs.Wakes.{first_moment, first_woken, behind_woken};
 
 use crate::flight::Flight;
@@ -95,6 +97,16 @@ fn agent_of(
     }
 }
 
+// Whether an announcement under this id is new at a moment, in ms, behind the last one that was.
+fn is_new(announced: Option<(u32, u64)>, id: u32, now: u64) -> bool
+    ensures { result ≡ is_new announced id now }
+{
+    match announced {
+        None => true,
+        Some((last, first)) => last != id || now.saturating_sub(first) >= REPEAT_TIME,
+    }
+}
+
 impl Gateway {
     /// A gateway at this address with this domain and so many lines, of which the first has this place. The agent has this address of
     /// its own. It is this time of day, in ms: an agent that is started again issues its commands behind the ids of the one before, of
@@ -145,7 +157,13 @@ impl Gateway {
         name: &[u8],
         rest: &[u8],
         line: Option<usize>,
-    ) -> Result<Issued, IssueFault> {
+    ) -> Result<Issued, IssueFault>
+        ensures took { IfOk result (λ issued. AgentTook self.old.agent.value (issues verb.now name.now rest.now) self.new.agent.value
+            (issued.datagram ∷ [])) }
+        ensures flight { IfOk result (λ issued. (flight : Flight) × (flight.line ≡ line) × (flight.pending
+            ≡ sent_first issued.id (routes.One issued.datagram.to) issued.datagram.bytes issued.datagram.moment)
+            × (self.new.flights.items ≡ self.old.flights.items ++ flight ∷ [])) }
+    {
         let issued = self.agent.issue(verb, name, rest)?;
         let flight = Flight::begin(alloc, &issued, line)?;
         match self.flights.push(flight) {
@@ -227,15 +245,15 @@ impl Gateway {
     }
 
     /// Something is announced under this id: whether that is new.
-    pub(crate) fn announces(&mut self, id: TransactionId) -> bool {
-        let now = self.ticked;
-        if let Some((last, first)) = self.announced
-            && last == id.number()
-            && now.saturating_sub(first) < REPEAT_TIME
-        {
-            return false;
+    pub(crate) fn announces(&mut self, id: TransactionId) -> bool
+        ensures new { result ≡ is_new self.old.announced id self.old.ticked }
+        ensures last { self.new ≡ record self.old { announced = last_new self.old.announced id self.old.ticked } }
+    {
+        let (id, now) = (id.number(), self.ticked);
+        let is_new = is_new(self.announced, id, now);
+        if is_new {
+            self.announced = Some((id, now));
         }
-        self.announced = Some((id.number(), now));
-        true
+        is_new
     }
 }

@@ -13,7 +13,7 @@ ghost use Rattle.live_agent.specs.Duties.{new_care, landed, owed, lost, announce
 ghost use Rattle.live_agent.specs.Hooks.{notified};
 ghost use Rattle.live_agent.specs.Orders.{shown, duty_of, flight_of, was_found_off, is_outlived, has_told, again_of, is_put_off_in, cared, routed, ordered};
 ghost use Rattle.live_agent.specs.Showing.{shown_in, Shows};
-ghost use Rattle.live_agent.specs.Turns.{forsaken, heard_by, announced_by, outcome_with, told_by_audit, kept_behind, cleared_by, Routes, TakesAudit, AnswersAudit, TakesResponse};
+ghost use Rattle.live_agent.specs.Turns.{forsaken, heard_by, announced_by, outcome_with, told_by_audit, kept_behind, cleared_by, Routes, TakesAudit, AnswersAudit, TakesResponse, TakesAnswer};
 ghost use Rattle.live_agent.specs.Waiting.{waits, settling, settled_at, Settles};
 
 use crate::care::{Care, Change, Duty, NEW_CARE, Shown, fixed_order};
@@ -544,6 +544,8 @@ impl Office {
         ensures taken { is_outlived (slice_get self.old.cares.items line) ≡ false
             → TakesResponse (flight_of (slice_get self.old.cares.items line)) line moment code text.now
             self.old.exchange (cared landed self.old.cares.items line) self.new.exchange self.new.cares.items }
+        ensures answer { TakesAnswer (is_outlived (slice_get self.old.cares.items line)) line moment code text.now
+            self.old.exchange self.old.cares.items self.new.exchange self.new.cares.items }
         ensures waits { waits self.new.worklist.waiting.items self.new.worklist.is_all line ≡ true }
     {
         if is_outlived(care_at(self.cares.as_slice(), line)) {
@@ -580,6 +582,8 @@ impl Office {
         ensures taken { is_outlived (slice_get self.old.cares.items line) ≡ false
             → TakesResponse (flight_of (slice_get self.old.cares.items line)) line moment code text.now
             self.old.exchange (cared landed self.old.cares.items line) self.new.exchange self.new.cares.items }
+        ensures answer { TakesAnswer (is_outlived (slice_get self.old.cares.items line)) line moment code text.now
+            self.old.exchange self.old.cares.items self.new.exchange self.new.cares.items }
         ensures waits { waits self.new.worklist.waiting.items self.new.worklist.is_all line ≡ true }
         ensures again { result ≡ again_of (slice_get self.new.cares.items line) }
     {

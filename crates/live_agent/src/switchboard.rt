@@ -1,6 +1,7 @@
 //! The gateways that a call agent works with, and their lines.
-ghost use Rattle.std.specs.Prelude.{◌≡◌, is_some, length, position, slice_get};
-ghost use Rattle.live_agent.specs.Boards.{is_at, settling_in, SettlesIn, taking_in, woken_at, WakesIn};
+ghost use Rattle.std.specs.Prelude.{◌≡◌, ◌∷◌, ◌++◌, IfOk, is_some, length, option_map, position, slice_get};
+ghost use Rattle.live_agent.specs.Boards.{is_at, settling_in, SettlesIn, taking_in, woken_at, WakesIn, Answers};
+ghost use Rattle.live_agent.specs.Meaning.{has_domain, meant};
 ghost use Rattle.live_agent.specs.Waiting.{Settles};
 
 use crate::flight::Flight;
@@ -77,7 +78,9 @@ fn plan_of(alloc: Global, stations: &[Station]) -> Result<NumberPlan, OutOfMemor
 }
 
 // The whole name of an endpoint.
-fn whole_name(alloc: Global, local: &[u8], domain: &[u8]) -> Result<Vec<u8>, OutOfMemory> {
+fn whole_name(alloc: Global, local: &[u8], domain: &[u8]) -> Result<Vec<u8>, OutOfMemory>
+    ensures { IfOk result (λ name. name.items ≡ local.now ++ 64 ∷ domain.now) }
+{
     let mut name = Draft::new(alloc);
     name.put(local);
     name.put_byte(b'@');
@@ -89,6 +92,33 @@ fn is_at(gateway: &Gateway, address: SocketAddrV4) -> bool
     ensures { result ≡ is_at address gateway.now }
 {
     same_address(gateway.address, address)
+}
+
+// The exchange's command to a line of a gateway was answered. Where memory is refused for keeping when it is sent again, it is so at once.
+fn answer_at(
+    alloc: Global,
+    gateway: &mut Gateway,
+    office: &mut Office,
+    line: usize,
+    code: u16,
+    text: &[u8],
+)
+    ensures { Answers line code text.now gateway.old office.old gateway.new office.new }
+{
+    let moment = gateway.ticked();
+    let Some(again) = office.answered(alloc, line, moment, code, text) else {
+        return;
+    };
+    match gateway.put_off(line, again) {
+        Ok(()) => {}
+        Err(_) => office.wake(line, again),
+    }
+}
+
+fn has_domain(gateway: &Gateway, domain: &[u8]) -> bool
+    ensures { result ≡ has_domain domain.now gateway.now }
+{
+    same_no_case(gateway.domain.as_bytes(), domain)
 }
 
 impl Switchboard {
@@ -231,25 +261,31 @@ impl Switchboard {
     }
 
     // The place of the gateway with this domain.
-    fn place_named(&self, domain: &[u8]) -> Option<usize> {
-        for (place, gateway) in self.gateways.iter().enumerate() {
-            if same_no_case(gateway.domain.as_bytes(), domain) {
-                return Some(place);
-            }
-        }
-        None
+    fn place_named(&self, domain: &[u8]) -> Option<usize>
+        ensures { result ≡ position (has_domain domain.now) self.now.gateways.items }
+    {
+        self.gateways
+            .iter()
+            .position(|gateway| has_domain(gateway, domain))
     }
 
     // The place of the gateway that an endpoint's name means, and the name without its domain. Where there is one gateway alone its
     // domain may be left out.
-    fn meant<'t>(&self, name: &'t [u8]) -> Option<(usize, &'t [u8])> {
+    fn meant<'t>(&self, name: &'t [u8]) -> Option<(usize, &'t [u8])>
+        ensures { option_map (λ found. (found.0, found.1.now)) result ≡ meant self.now.gateways.items name.now }
+    {
         match split_once(name, b'@') {
             Some((local, domain)) => match self.place_named(domain) {
                 Some(place) => Some((place, local)),
                 None => None,
             },
-            None if self.gateways.len() == 1 => Some((0, name)),
-            None => None,
+            None => {
+                if self.gateways.len() == 1 {
+                    Some((0, name))
+                } else {
+                    None
+                }
+            }
         }
     }
 
@@ -357,22 +393,15 @@ impl Switchboard {
         true
     }
 
-    // The exchange's command to a line of the gateway at this place was answered. Where memory is refused for keeping when it is sent
-    // again, it is so at once.
+    // The exchange's command to a line of the gateway at this place was answered.
     fn answer(&mut self, place: usize, line: usize, code: u16, text: &[u8]) {
         let Some(gateway) = self.gateways.get_mut(place) else {
             return;
         };
-        let moment = gateway.ticked();
         let Some(office) = &mut self.office else {
             return;
         };
-        let Some(again) = office.answered(self.alloc, line, moment, code, text) else {
-            return;
-        };
-        if gateway.put_off(line, again).is_err() {
-            office.wake(line, again);
-        }
+        answer_at(self.alloc, gateway, &mut **office, line, code, text);
     }
 
     // The next line of the gateway at this place to which a command is sent again by now. It isn't put off any more.
