@@ -1,6 +1,10 @@
--- How the program ends by words that are refused, and by a configuration that is.
+-- How the program ends by words that are refused, by a configuration that is, and by what can't be done.
+use Rattle.std.specs.Prelude.{◌≡◌, ◌≢◌, ◌⊎◌, ℕ, codes, decimal, List, ◌++◌}
+use Rattle.std.specs.declared.io.ErrorKind.TheVariants as kinds
+use Rattle.std.specs.declared.net.socket_addr.SocketAddrV4.{SocketAddrV4}
 use Rattle.agent_texts.specs.declared.config_fault.ConfigRefusal.{ConfigRefusal}
 use Rattle.agent_texts.specs.declared.config_fault.ConfigRefusal.TheVariants as refusals
+use Rattle.live_ends.specs.declared.address_words.AddressWord.TheVariants.{Own}
 use Rattle.live_ends.specs.declared.ending.CommonEnding.TheVariants as endings
 use Rattle.rgca.specs.declared.words.WordFault.{WordFault}
 use Rattle.rgca.specs.declared.words.WordFault.TheVariants as faults
@@ -8,12 +12,21 @@ use Rattle.rgca.specs.declared.phone_words.PhoneWordFault.{PhoneWordFault}
 use Rattle.rgca.specs.declared.phone_words.PhoneWordFault.TheVariants as phone_faults
 use Rattle.rgca.specs.declared.load_words.LoadWordFault.{LoadWordFault}
 use Rattle.rgca.specs.declared.load_words.LoadWordFault.TheVariants as number_faults
+use Rattle.live_agent.specs.declared.check_fault.CheckFault.{CheckFault}
+use Rattle.live_agent.specs.declared.check_fault.CheckFault.TheVariants as check_faults
+use Rattle.live_agent.specs.declared.phones.Played.{Played as Play}
+use Rattle.live_agent.specs.declared.phones.Played.TheVariants as plays
 use Rattle.live_agent.specs.declared.loading.LoadEnding.{LoadEnding}
 use Rattle.live_agent.specs.declared.loading.LoadEnding.TheVariants as loads
 use Rattle.load_bench.specs.declared.settings.LoadFault.{LoadFault}
 use Rattle.load_bench.specs.declared.settings.LoadFault.TheVariants as load_faults
+use Rattle.phone_scripts.specs.declared.failure.Failure.{Failure}
+use Rattle.phone_scripts.specs.declared.failure.Failure.TheVariants as failures
+use Rattle.phone_scripts.specs.Wording.{failure_lines}
+use Rattle.rgca.specs.declared.phone_files.FileFault.{FileFault}
+use Rattle.rgca.specs.declared.phone_files.FileFault.TheVariants as file_faults
 use Rattle.rgca.specs.declared.ending.Ending.{Ending}
-use Rattle.rgca.specs.declared.ending.Ending.TheVariants.{Common, OfCheck, OfPhones, OfLoads, Loaded, BadNumber, Untold, NoLines, NoAnswer, BadGateway, BadLine, SameLine, NoCheck, Config}
+use Rattle.rgca.specs.declared.ending.Ending.TheVariants.{Common, OfCheck, OfPhones, OfLoads, Played, Unexpected, Unplayed, BadScript, Loaded, BadNumber, Untold, NoLines, NoAnswer, NotServing, NoSuchLine, InUse, System, BadGateway, BadLine, SameLine, NoCheck, Config}
 
 abbrev pub word_ending : WordFault → Ending
 word_ending (faults.Common ending) = Common ending
@@ -55,3 +68,48 @@ load_by (loads.Unmade fault) = unmade_by fault
 abbrev pub config_by : ConfigRefusal → Ending
 config_by refusals.OutOfMemory = Common endings.OutOfMemory
 config_by (refusals.Told line) = Config line
+
+-- where this gateway can't be checked from that address of its own: there is no socket there, or the gateway says why
+abbrev pub Unchecked : SocketAddrV4 → SocketAddrV4 → CheckFault → Ending → Type 0
+Unchecked gateway own (check_faults.Unbound kind) ending =
+    (kind ≡ kinds.OutOfMemory → ending ≡ Common endings.OutOfMemory)
+    × (kind ≢ kinds.OutOfMemory → ending ≡ Common (endings.Unbound Own own kind))
+Unchecked gateway own check_faults.NoAnswer ending = ending ≡ NoAnswer gateway
+Unchecked gateway own check_faults.NotServing ending = ending ≡ NotServing gateway
+Unchecked gateway own (check_faults.NoSuchLine is_other) ending = ending ≡ NoSuchLine is_other
+Unchecked gateway own (check_faults.InUse is_other) ending = ending ≡ InUse is_other
+Unchecked gateway own check_faults.System ending = ending ≡ System
+Unchecked gateway own check_faults.Write ending = ending ≡ Common endings.Write
+Unchecked gateway own check_faults.OutOfMemory ending = ending ≡ Common endings.OutOfMemory
+
+-- what is said of a file that is longer than this
+abbrev pub too_long_text : ℕ → List ℕ → List ℕ
+too_long_text limit path = ((path ++ codes ": longer than ") ++ decimal limit) ++ codes " bytes\n"
+
+-- where a script can't have the file of this name, which the system refuses, or which is longer than this
+abbrev pub FileEnds : ℕ → List ℕ → FileFault → Ending → Type 0
+FileEnds limit path (file_faults.Refused kind) ending =
+    (kind ≡ kinds.OutOfMemory → ending ≡ Common endings.OutOfMemory)
+    × (kind ≢ kinds.OutOfMemory → ending ≡ Common (endings.Unreadable kind))
+FileEnds limit path file_faults.TooLong ending =
+    (ending ≡ BadScript (too_long_text limit path)) ⊎ (ending ≡ Common endings.OutOfMemory)
+
+-- a telephone that isn't as was expected is told so, and else that the script wasn't played to its end
+abbrev pub failed_by : Failure → List ℕ → Ending
+failed_by (failures.Unmet unmet) text = Unexpected text
+failed_by (failures.Refused place answer) text = Unplayed text
+failed_by (failures.TooMany place) text = Unplayed text
+failed_by (failures.NoAnswer gateway) text = Unplayed text
+failed_by (failures.Unwatched gateway answer) text = Unplayed text
+failed_by (failures.Lost gateway number) text = Unplayed text
+
+-- of a script with these files, at gateways with these names
+abbrev pub FailureEnds : List (List ℕ) → List (List ℕ) → Failure → Ending → Type 0
+FailureEnds files names failure ending =
+    (ending ≡ failed_by failure (failure_lines files names failure)) ⊎ (ending ≡ Common endings.OutOfMemory)
+
+-- by a play: all was as expected, or the clock failed, or the play did
+abbrev pub PlayEnds : List (List ℕ) → List (List ℕ) → Play → Ending → Type 0
+PlayEnds files names plays.Done ending = ending ≡ Played
+PlayEnds files names plays.Clock ending = ending ≡ Common endings.Clock
+PlayEnds files names (plays.Failed failure) ending = FailureEnds files names failure ending

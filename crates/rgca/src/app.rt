@@ -1,5 +1,5 @@
 //! The program: reads its words and its configuration, and serves, checks, plays or makes a load.
-ghost use Rattle.std.specs.Prelude.{[], IfOk};
+ghost use Rattle.std.specs.Prelude.{◌≡◌, [], None, is_some, IfOk, IfSome};
 ghost use Rattle.rgca.specs.Names.{name_of, Says};
 
 use crate::checks::checked;
@@ -18,7 +18,14 @@ use std::os::fd::AsRawFd;
 use std::rt::{Clock, Env, Files};
 
 // How the wire is opened.
-fn wire_settings(settings: &Settings<'_>, config: &AgentConfig) -> WireSettings {
+fn wire_settings(settings: &Settings<'_>, config: &AgentConfig) -> WireSettings
+    ensures listen { IfSome settings.now.listen (λ address. result.listen ≡ record { word = AddressWord.Listen; address = address }) }
+    ensures own { settings.now.listen ≡ None → result.listen ≡ record { word = AddressWord.OwnKey; address = config.now.own } }
+    ensures control { result.control ≡ record { word = AddressWord.Control; address = settings.now.control } }
+    ensures network { result.network ≡ settings.now.network }
+    ensures kept { (result.has_log ≡ settings.now.log) × (result.has_capture ≡ is_some settings.now.capture) }
+    ensures end { result.end ≡ settings.now.stop_after }
+{
     let listen = match settings.listen {
         Some(address) => SocketWanted {
             word: AddressWord::Listen,

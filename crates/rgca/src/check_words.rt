@@ -1,7 +1,8 @@
 //! Reads the words behind `check`.
-ghost use Rattle.std.specs.Prelude.{◌≡◌, [], IfOk, codes, option_map};
-ghost use Rattle.clap.specs.Matches.{found_of, first_value};
+ghost use Rattle.std.specs.Prelude.{◌≡◌, [], Some, is_some, IfOk, codes, option_map};
+ghost use Rattle.clap.specs.Matches.{found_of, first_value, one_text};
 ghost use Rattle.rgca.specs.Names.{name_of, HasNames};
+ghost use Rattle.rgca.specs.Words.{IsBehind, SaysFlag, IsWorked};
 
 use crate::ending::Named;
 use crate::help::CHECK_USAGE;
@@ -38,7 +39,9 @@ fn address_in(
     matches: &ArgMatches<'_>,
     name: &str,
     word: AddressWord,
-) -> Result<SocketAddrV4, WordFault> {
+) -> Result<SocketAddrV4, WordFault>
+    ensures { IfOk result (λ address. IsBehind (first_value (found_of matches.now) name.now) (Some address)) }
+{
     match address_behind(matches, name, word) {
         Ok(Some(address)) => Ok(address),
         Ok(None) => Err(WordFault::Common(CommonEnding::Usage)),
@@ -67,7 +70,10 @@ fn is_name(text: &str) -> bool {
 }
 
 // The name of another line than this, if that stands there. Case makes no difference between names.
-fn other_in<'a>(matches: &ArgMatches<'a>, line: &str) -> Result<Option<&'a str>, WordFault> {
+fn other_in<'a>(matches: &ArgMatches<'a>, line: &str) -> Result<Option<&'a str>, WordFault>
+    ensures { IfOk result (λ other.
+        first_value (found_of matches.now) (codes "more-lines") ≡ option_map (λ name. name.now) other) }
+{
     let Some(text) = matches.get_str("more-lines") else {
         return Ok(None);
     };
@@ -91,7 +97,9 @@ fn are_checks(names: &str) -> bool {
 }
 
 // The names behind `--only`, each of which is that of a check.
-fn names_in<'a>(matches: &ArgMatches<'a>) -> Result<Option<&'a str>, WordFault> {
+fn names_in<'a>(matches: &ArgMatches<'a>) -> Result<Option<&'a str>, WordFault>
+    ensures { IfOk result (λ only. first_value (found_of matches.now) (codes "only") ≡ option_map (λ names. names.now) only) }
+{
     let Some(names) = matches.get_str("only") else {
         return Ok(None);
     };
@@ -106,7 +114,10 @@ fn names_in<'a>(matches: &ArgMatches<'a>) -> Result<Option<&'a str>, WordFault> 
 fn telephone_in<'a>(
     matches: &ArgMatches<'_>,
     line: &'a str,
-) -> Result<Option<Telephone<'a>>, WordFault> {
+) -> Result<Option<Telephone<'a>>, WordFault>
+    ensures { IfOk result (λ found. IsWorked line.now (first_value (found_of matches.now) (codes "phones"))
+        (first_value (found_of matches.now) (codes "hook")) found) }
+{
     let phones = match address_behind(matches, "phones", AddressWord::Phones) {
         Ok(phones) => phones,
         Err(fault) => return Err(fault),
@@ -152,8 +163,21 @@ fn settings_of<'a>(
     domain: &'a str,
     line: &'a str,
 ) -> Result<Box<CheckWords<'a>>, WordFault>
-    ensures { IfOk result (λ words.
+    ensures junit { IfOk result (λ words.
         first_value (found_of matches.now) (codes "junit") ≡ option_map (λ name. name.now) words.value.junit) }
+    ensures named { IfOk result (λ words. (words.value.settings.domain.now ≡ domain.now) × (words.value.settings.line.now ≡ line.now)) }
+    ensures other { IfOk result (λ words.
+        first_value (found_of matches.now) (codes "more-lines") ≡ option_map (λ name. name.now) words.value.settings.other) }
+    ensures only { IfOk result (λ words.
+        first_value (found_of matches.now) (codes "only") ≡ option_map (λ names. names.now) words.value.settings.only) }
+    ensures gateway { IfOk result (λ words.
+        IsBehind (first_value (found_of matches.now) (codes "address")) (Some words.value.settings.gateway)) }
+    ensures own { IfOk result (λ words. IsBehind (first_value (found_of matches.now) (codes "own")) (Some words.value.settings.own)) }
+    ensures telephone { IfOk result (λ words. IsWorked line.now (first_value (found_of matches.now) (codes "phones"))
+        (first_value (found_of matches.now) (codes "hook")) words.value.settings.telephone) }
+    ensures slow { IfOk result (λ words. SaysFlag (one_text (found_of matches.now) (codes "slow")) words.value.settings.is_slow) }
+    ensures json { IfOk result (λ words. SaysFlag (one_text (found_of matches.now) (codes "json")) words.value.settings.is_json) }
+    ensures kept { IfOk result (λ words. words.value.settings.is_junit ≡ is_some words.value.junit) }
 {
     let gateway = match address_in(matches, "address", AddressWord::Gateway) {
         Ok(gateway) => gateway,
@@ -198,8 +222,15 @@ fn settings_in<'a>(
     alloc: Global,
     matches: &ArgMatches<'a>,
 ) -> Result<Box<CheckWords<'a>>, WordFault>
-    ensures { IfOk result (λ words.
+    ensures junit { IfOk result (λ words.
         first_value (found_of matches.now) (codes "junit") ≡ option_map (λ name. name.now) words.value.junit) }
+    ensures domain { IfOk result (λ words.
+        first_value (found_of matches.now) (codes "domain") ≡ Some words.value.settings.domain.now) }
+    ensures line { IfOk result (λ words.
+        first_value (found_of matches.now) (codes "line") ≡ Some words.value.settings.line.now) }
+    ensures gateway { IfOk result (λ words.
+        IsBehind (first_value (found_of matches.now) (codes "address")) (Some words.value.settings.gateway)) }
+    ensures own { IfOk result (λ words. IsBehind (first_value (found_of matches.now) (codes "own")) (Some words.value.settings.own)) }
 {
     let (Some(domain), Some(line)) = (matches.get_str("domain"), matches.get_str("line")) else {
         return Err(WordFault::Common(CommonEnding::Usage));

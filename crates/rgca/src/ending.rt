@@ -3,7 +3,7 @@ ghost use Rattle.std.specs.Prelude.{◌≡◌, ℕ, List, ◌++◌, ◌∷◌, [
 ghost use Rattle.std.specs.Net.Text.{socket_v4_text};
 ghost use Rattle.live_ends.specs.Wording.{joined};
 ghost use Rattle.rgca.specs.Statuses.{load_status, status_of, is_asked};
-ghost use Rattle.rgca.specs.Endings.{word_ending, check_ending, phone_ending, load_word_ending, load_by, config_by};
+ghost use Rattle.rgca.specs.Endings.{word_ending, check_ending, phone_ending, load_word_ending, load_by, config_by, Unchecked};
 ghost use Rattle.rgca.specs.Texts.{line_word, number_text, ending_text};
 ghost use Rattle.rgca.specs.Names.{gateway_of, HasNames, Says};
 
@@ -369,7 +369,9 @@ pub(crate) fn unchecked_ending(
     fault: CheckFault,
     gateway: SocketAddrV4,
     own: SocketAddrV4,
-) -> Ending {
+) -> Ending
+    ensures { Unchecked gateway own fault result }
+{
     match fault {
         CheckFault::Unbound { kind } => {
             Ending::Common(CommonEnding::unbound(AddressWord::Own, own, kind))

@@ -1,28 +1,40 @@
 //! Worked examples of the definitions, as theorems.
 #![tactic(auto, unfolding(crate::specs::Texts::ending_text))]
 
-ghost use Rattle.std.specs.Prelude.{◌≡◌, ℕ, Bool, codes, true, false, List, [], ◌∷◌, ◌++◌, map, Some, None};
+ghost use Rattle.std.specs.Prelude.{◌≡◌, ◌≢◌, ℕ, Bool, codes, decimal, true, false, List, [], ◌∷◌, ◌++◌, map, Option, Some, None};
 ghost use Rattle.std.specs.Borrow.{Bor};
+ghost use Rattle.std.specs.Net.Grammar.{IsSocketV4Text};
 ghost use Rattle.std.specs.Net.Text.{socket_v4_text};
 ghost use Rattle.std.specs.declared.io.ErrorKind.{ErrorKind};
+ghost use Rattle.std.specs.declared.io.ErrorKind.TheVariants as kinds;
 ghost use Rattle.std.specs.declared.net.socket_addr.SocketAddrV4.{SocketAddrV4};
 ghost use Rattle.live_ends.specs.declared.ending.CommonEnding.{CommonEnding};
-ghost use Rattle.live_ends.specs.declared.ending.CommonEnding.TheVariants.{Unreadable, Unwritable};
+ghost use Rattle.live_ends.specs.declared.address_words.AddressWord.TheVariants.{Own};
+ghost use Rattle.live_ends.specs.declared.ending.CommonEnding.TheVariants.{Unreadable, Unwritable, Unbound};
 ghost use Rattle.live_ends.specs.Ending.{status_of as common_status, is_asked as is_commonly_asked, ending_text as common_text};
 ghost use Rattle.live_ends.specs.Reasons.{reason_of};
 ghost use Rattle.rgca.specs.declared.words.WordFault.TheVariants as faults;
 ghost use Rattle.rgca.specs.declared.phone_words.PhoneWordFault.TheVariants as phone_faults;
 ghost use Rattle.rgca.specs.declared.load_words.LoadWordFault.TheVariants as number_faults;
+ghost use Rattle.live_agent.specs.declared.check_fault.CheckFault.TheVariants as check_faults;
 ghost use Rattle.live_agent.specs.declared.loading.LoadEnding.TheVariants as loads;
+ghost use Rattle.live_agent.specs.declared.phones.Played.TheVariants as plays;
+ghost use Rattle.live_agent.specs.declared.telephone.Telephone.{Telephone};
+ghost use Rattle.phone_scripts.specs.declared.failure.Failure.{Failure};
+ghost use Rattle.phone_scripts.specs.declared.failure.Failure.TheVariants as failures;
+ghost use Rattle.phone_scripts.specs.Wording.{failure_lines};
+ghost use Rattle.rgca.specs.declared.phone_files.FileFault.TheVariants as file_faults;
+ghost use Rattle.rgca.specs.declared.ending.Ending.{Ending};
 ghost use Rattle.load_bench.specs.declared.settings.LoadFault.TheVariants as load_faults;
 ghost use Rattle.load_bench.specs.declared.settings.LoadNumber.TheVariants as numbers;
 ghost use Rattle.rgca.specs.declared.ending.Abouts.{Abouts};
 ghost use Rattle.rgca.specs.declared.ending.Named.{Named};
 ghost use Rattle.rgca.specs.declared.ending.Ending.TheVariants.{Common, OfCheck, OfPhones, OfLoads, Checked, Played, Loaded, Unexpected, Unplayed, BadScript, BadGateway, BadNumber, Untold, NoLines, BadLine, SameLine, NoCheck, Config, NoAnswer, NotServing, NoSuchLine, InUse, System};
 ghost use Rattle.rgca.specs.Statuses.{status_of, is_asked};
-ghost use Rattle.rgca.specs.Endings.{word_ending, check_ending, phone_ending, load_word_ending, load_by};
+ghost use Rattle.rgca.specs.Endings.{word_ending, check_ending, phone_ending, load_word_ending, load_by, Unchecked, too_long_text, FileEnds, failed_by, FailureEnds, PlayEnds};
 ghost use Rattle.rgca.specs.Texts.{ending_text};
 ghost use Rattle.rgca.specs.Names.{name_of, gateway_of, Says};
+ghost use Rattle.rgca.specs.Words.{IsBehind, SaysFlag, IsWorked};
 
 /// Each sentence at an example.
 pub fn each_sentence_has_an_example()
@@ -158,4 +170,68 @@ pub fn an_ending_names_what_fails()
     ensures file { (name : Bor (List ℕ)) → name_of (Some name) ≡ name.now }
     ensures word { (word : Bor (List ℕ)) → gateway_of (phone_faults.BadGateway word) ≡ word.now }
     ensures other_word { (ending : CommonEnding) → gateway_of (phone_faults.Common ending) ≡ [] }
+{}
+
+/// Each sentence at an example.
+pub fn what_cant_be_done_ends_so()
+    // A gateway that isn't checked is told by its address, and a socket that isn't had by the own one.
+    ensures unbound { (gateway own : SocketAddrV4) (kind : ErrorKind) (ending : Ending) → kind ≢ kinds.OutOfMemory
+        → Unchecked gateway own (check_faults.Unbound kind) ending → ending ≡ Common (Unbound Own own kind) }
+    ensures unbound_memory { (gateway own : SocketAddrV4) (ending : Ending) →
+        Unchecked gateway own (check_faults.Unbound kinds.OutOfMemory) ending → ending ≡ Common CommonEnding.OutOfMemory }
+    ensures unanswered { (gateway own : SocketAddrV4) (ending : Ending) → Unchecked gateway own check_faults.NoAnswer ending
+        → ending ≡ NoAnswer gateway }
+    ensures unserved { (gateway own : SocketAddrV4) (ending : Ending) → Unchecked gateway own check_faults.NotServing ending
+        → ending ≡ NotServing gateway }
+    ensures no_line { (gateway own : SocketAddrV4) (ending : Ending) → Unchecked gateway own (check_faults.NoSuchLine true) ending
+        → ending ≡ NoSuchLine true }
+    ensures in_use { (gateway own : SocketAddrV4) (ending : Ending) → Unchecked gateway own (check_faults.InUse false) ending
+        → ending ≡ InUse false }
+    ensures system { (gateway own : SocketAddrV4) (ending : Ending) → Unchecked gateway own check_faults.System ending → ending ≡ System }
+    ensures write { (gateway own : SocketAddrV4) (ending : Ending) → Unchecked gateway own check_faults.Write ending
+        → ending ≡ Common CommonEnding.Write }
+    ensures memory { (gateway own : SocketAddrV4) (ending : Ending) → Unchecked gateway own check_faults.OutOfMemory ending
+        → ending ≡ Common CommonEnding.OutOfMemory }
+    // A script can't have a file that the system refuses, or that is too long.
+    ensures refused { (limit : ℕ) (path : List ℕ) (kind : ErrorKind) (ending : Ending) → kind ≢ kinds.OutOfMemory
+        → FileEnds limit path (file_faults.Refused kind) ending → ending ≡ Common (Unreadable kind) }
+    ensures refused_memory { (limit : ℕ) (path : List ℕ) (ending : Ending) →
+        FileEnds limit path (file_faults.Refused kinds.OutOfMemory) ending → ending ≡ Common CommonEnding.OutOfMemory }
+    ensures too_long { (limit : ℕ) (path : List ℕ) → FileEnds limit path file_faults.TooLong (BadScript (too_long_text limit path)) }
+    ensures too_long_text { (limit : ℕ) (path : List ℕ) → too_long_text limit path
+        ≡ ((path ++ codes ": longer than ") ++ decimal limit) ++ codes " bytes\n" }
+    // What isn't as was expected is told so; whatever else keeps a script from its end, that it wasn't played.
+    ensures unmet { (unmet : _) (text : List ℕ) → failed_by (failures.Unmet unmet) text ≡ Unexpected text }
+    ensures act { (place : _) (answer text : List ℕ) → failed_by (failures.Refused place answer) text ≡ Unplayed text }
+    ensures many { (place : _) (text : List ℕ) → failed_by (failures.TooMany place) text ≡ Unplayed text }
+    ensures silent { (gateway : ℕ) (text : List ℕ) → failed_by (failures.NoAnswer gateway) text ≡ Unplayed text }
+    ensures unwatched { (gateway : ℕ) (answer text : List ℕ) → failed_by (failures.Unwatched gateway answer) text ≡ Unplayed text }
+    ensures lost { (gateway number : ℕ) (text : List ℕ) → failed_by (failures.Lost gateway number) text ≡ Unplayed text }
+    ensures names { (files names : List (List ℕ)) (failure : Failure) →
+        FailureEnds files names failure (failed_by failure (failure_lines files names failure)) }
+    ensures done { (files names : List (List ℕ)) (ending : Ending) → PlayEnds files names plays.Done ending → ending ≡ Played }
+    ensures clock { (files names : List (List ℕ)) (ending : Ending) → PlayEnds files names plays.Clock ending
+        → ending ≡ Common CommonEnding.Clock }
+    ensures failed { (files names : List (List ℕ)) (failure : Failure) (ending : Ending) →
+        PlayEnds files names (plays.Failed failure) ending → FailureEnds files names failure ending }
+{}
+
+/// Each sentence at an example.
+pub fn what_stands_behind_words_is_meant()
+    // An address is what the text behind its word says, and a word stands there or doesn't.
+    ensures nothing { IsBehind None None }
+    ensures something { (text : List ℕ) → IsBehind (Some text) None → ⊥ }
+    ensures address { (text : List ℕ) (address : SocketAddrV4) → IsSocketV4Text text address → IsBehind (Some text) (Some address) }
+    ensures no_flag { (flag : Bool) → SaysFlag None flag → flag ≡ false }
+    ensures flag { (flag : Bool) → SaysFlag (Some (codes "true")) flag → flag ≡ true }
+    ensures flag_not { (flag : Bool) → SaysFlag (Some (codes "false")) flag → flag ≡ false }
+    // One word says who works the line's telephone, or none.
+    ensures nobody_by_phones { (line : List ℕ) (phones hook : Option (List ℕ)) → IsWorked line phones hook None → phones ≡ None }
+    ensures nobody_by_hook { (line : List ℕ) (phones hook : Option (List ℕ)) → IsWorked line phones hook None → hook ≡ None }
+    ensures line { (line : List ℕ) (phones hook : Option (List ℕ)) (telephone : Telephone) →
+        IsWorked line phones hook (Some telephone) → telephone.line.now ≡ line }
+    ensures by_phones { (line : List ℕ) (phones hook : Option (List ℕ)) (telephone : Telephone) →
+        IsWorked line phones hook (Some (record telephone { is_hook = false })) → IsBehind phones (Some telephone.address) × (hook ≡ None) }
+    ensures by_hook { (line : List ℕ) (phones hook : Option (List ℕ)) (telephone : Telephone) →
+        IsWorked line phones hook (Some (record telephone { is_hook = true })) → (phones ≡ None) × IsBehind hook (Some telephone.address) }
 {}

@@ -1,6 +1,7 @@
 //! Reads a script of telephones, with all files that it brings.
-ghost use Rattle.std.specs.Prelude.{◌≡◌, ◌≢◌, ℕ, List, [], ◌++◌, IfOk};
+ghost use Rattle.std.specs.Prelude.{◌≡◌, ◌≢◌, ◌⊎◌, ℕ, List, [], ◌++◌, IfOk, MatchResult};
 ghost use Rattle.phone_scripts.specs.Wording.{place_text};
+ghost use Rattle.rgca.specs.Endings.{too_long_text, FileEnds};
 ghost use Rattle.rgca.specs.Names.{Says};
 
 use crate::ending::{Ending, Named};
@@ -16,21 +17,35 @@ use std::io::ErrorKind;
 use std::rt::Files;
 
 // How the program ends where a script can't be played, of which this is said.
-fn bad_script(said: Result<Text, OutOfMemory>) -> Ending {
+fn bad_script(said: Result<Text, OutOfMemory>) -> Ending
+    ensures { MatchResult said (λ text. result ≡ Ending.BadScript text) (λ _. result ≡ Ending.Common CommonEnding.OutOfMemory) }
+{
     match said {
         Ok(text) => Ending::BadScript { text },
         Err(_) => Ending::Common(CommonEnding::OutOfMemory),
     }
 }
 
-// How the program ends by a file that is too long.
-fn too_long(alloc: Global, path: &str) -> Ending {
+// What is said of a file that is too long.
+fn long_text(alloc: Global, path: &str) -> Result<Text, OutOfMemory>
+    ensures { IfOk result (λ text. text ≡ too_long_text LIMIT path.now) }
+{
     let mut said = Draft::new(alloc);
     said.put(path.as_bytes());
     said.put(b": longer than ");
     said.put_decimal(LIMIT as u64);
     said.put(b" bytes\n");
-    bad_script(said.into_text())
+    said.into_text()
+}
+
+// How the program ends by a file that is too long.
+fn too_long(alloc: Global, path: &str) -> Ending
+    ensures { (result ≡ Ending.BadScript (too_long_text LIMIT path.now)) ⊎ (result ≡ Ending.Common CommonEnding.OutOfMemory) }
+{
+    match long_text(alloc, path) {
+        Ok(text) => Ending::BadScript { text },
+        Err(_) => Ending::Common(CommonEnding::OutOfMemory),
+    }
 }
 
 // Why a file can't be had.
@@ -44,8 +59,9 @@ enum FileFault {
 
 // How the program ends where this is why the script in this file can't be had.
 fn file_ending(alloc: Global, path: &str, fault: FileFault) -> Ending
-    ensures { (kind : _) → fault ≡ FileFault.Refused kind → kind ≢ ErrorKind.OutOfMemory
+    ensures unreadable { (kind : _) → fault ≡ FileFault.Refused kind → kind ≢ ErrorKind.OutOfMemory
         → result ≡ Ending.Common (CommonEnding.Unreadable kind) }
+    ensures ends { FileEnds LIMIT path.now fault result }
 {
     match fault {
         FileFault::Refused { kind } => Ending::Common(CommonEnding::unreadable(kind)),
@@ -82,8 +98,8 @@ fn include_text(
     path: &str,
     fault: FileFault,
 ) -> Result<Text, OutOfMemory>
-    ensures { IfOk result (λ said. (ending : _) × (line : List ℕ) × Says path.now [] [] ending line
-        × (said ≡ place_text files.now place ++ line)) }
+    ensures { IfOk result (λ said. (ending : _) × (line : List ℕ) × FileEnds LIMIT path.now fault ending
+        × Says path.now [] [] ending line × (said ≡ place_text files.now place ++ line)) }
 {
     let ending = file_ending(alloc, path, fault);
     if let Ending::Common(CommonEnding::OutOfMemory) = &ending {

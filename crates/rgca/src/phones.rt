@@ -1,5 +1,6 @@
 //! Plays a script of telephones.
 ghost use Rattle.std.specs.Prelude.{[], IfOk};
+ghost use Rattle.rgca.specs.Endings.{FailureEnds, PlayEnds};
 ghost use Rattle.rgca.specs.Names.{Says};
 
 use crate::ending::{Ending, Named, Said, phone_words_said};
@@ -14,7 +15,9 @@ use std::net::{Ipv4Addr, Net, SocketAddrV4};
 use std::rt::{Clock, Files};
 
 // How the program ends by a play that failed.
-fn failure_ending(alloc: Global, files: &[Text], names: &[Text], failure: &Failure) -> Ending {
+fn failure_ending(alloc: Global, files: &[Text], names: &[Text], failure: &Failure) -> Ending
+    ensures { FailureEnds files.now names.now failure.now result }
+{
     let Ok(text) = failure_text(alloc, files, names, failure) else {
         return Ending::Common(CommonEnding::OutOfMemory);
     };
@@ -25,7 +28,9 @@ fn failure_ending(alloc: Global, files: &[Text], names: &[Text], failure: &Failu
 }
 
 // How the program ends by a play of these files at these gateways.
-fn play_ending(alloc: Global, files: &[Text], names: &[Text], played: &Played) -> Ending {
+fn play_ending(alloc: Global, files: &[Text], names: &[Text], played: &Played) -> Ending
+    ensures { PlayEnds files.now names.now played.now result }
+{
     match played {
         Played::Done => Ending::Played,
         Played::Clock => Ending::Common(CommonEnding::Clock),

@@ -1,8 +1,9 @@
 //! Reads the words of the command line.
-ghost use Rattle.std.specs.Prelude.{◌≡◌, [], Some, None, IfOk, IfErr, IfSome, codes, option_map};
+ghost use Rattle.std.specs.Prelude.{◌≡◌, [], Some, None, Ok, IfOk, IfErr, IfSome, codes, option_map};
 ghost use Rattle.std.specs.Net.Grammar.{IsSocketV4Text};
-ghost use Rattle.clap.specs.Matches.{found_of, first_value};
+ghost use Rattle.clap.specs.Matches.{found_of, first_value, one_text};
 ghost use Rattle.rgca.specs.Names.{name_of, HasNames};
+ghost use Rattle.rgca.specs.Words.{IsBehind, SaysFlag};
 
 use crate::ending::Named;
 use crate::help::{CONTROL, USAGE};
@@ -78,7 +79,11 @@ pub fn address_behind(
     ensures stands { IfOk result (λ found. IfSome found (λ address.
         IfSome (first_value (found_of matches.now) name.now) (λ text. IsSocketV4Text text address))) }
     ensures stands_not { IfOk result (λ found. found ≡ None → first_value (found_of matches.now) name.now ≡ None) }
+    ensures behind { IfOk result (λ found. IsBehind (first_value (found_of matches.now) name.now) found) }
+    ensures none { first_value (found_of matches.now) name.now ≡ None → result ≡ Ok None }
     ensures other { IfErr result (λ fault. fault ≡ WordFault.Common (CommonEnding.BadAddress word)) }
+    ensures no_address { IfErr result (λ _. IfSome (first_value (found_of matches.now) name.now) (λ text.
+        (address : SocketAddrV4) → ¬ (IsSocketV4Text text address))) }
 {
     match matches.get_str(name) {
         Some(text) => match address_in(word, text) {
@@ -96,6 +101,12 @@ fn settings_in<'a>(alloc: Global, matches: &ArgMatches<'a>) -> Result<Box<Settin
         first_value (found_of matches.now) (codes "config") ≡ Some settings.value.config.now) }
     ensures capture { IfOk result (λ settings.
         first_value (found_of matches.now) (codes "capture") ≡ option_map (λ name. name.now) settings.value.capture) }
+    ensures control { IfOk result (λ settings.
+        IsBehind (first_value (found_of matches.now) (codes "control")) (Some settings.value.control)) }
+    ensures listen { IfOk result (λ settings.
+        IsBehind (first_value (found_of matches.now) (codes "listen")) settings.value.listen) }
+    ensures route { IfOk result (λ settings. SaysFlag (one_text (found_of matches.now) (codes "route")) settings.value.route) }
+    ensures log { IfOk result (λ settings. SaysFlag (one_text (found_of matches.now) (codes "log")) settings.value.log) }
 {
     let Some(config) = matches.get_str("config") else {
         return Err(WordFault::Common(CommonEnding::Usage));

@@ -1,0 +1,26 @@
+-- What stands behind words of the command line.
+use Rattle.std.specs.Prelude.{◌≡◌, ℕ, Bool, true, false, codes, List, Option, None, Some}
+use Rattle.std.specs.Net.Grammar.{IsSocketV4Text}
+use Rattle.std.specs.declared.net.socket_addr.SocketAddrV4.{SocketAddrV4}
+use Rattle.live_agent.specs.declared.telephone.Telephone.{Telephone}
+
+-- the address that a text behind a word says; none where nothing stands there
+abbrev pub IsBehind : Option (List ℕ) → Option SocketAddrV4 → Type 0
+IsBehind said None = said ≡ None
+IsBehind said (Some address) = (text : List ℕ) × (said ≡ Some text) × IsSocketV4Text text address
+
+-- a word that stands there or doesn't
+abbrev pub SaysFlag : Option (List ℕ) → Bool → Type 0
+SaysFlag said flag =
+    (said ≡ None → flag ≡ false) × (said ≡ Some (codes "true") → flag ≡ true) × (said ≡ Some (codes "false") → flag ≡ false)
+
+-- the telephone is worked at the address behind one of the two words, and nothing stands behind the other one
+abbrev pub WorksBy : Bool → Option (List ℕ) → Option (List ℕ) → SocketAddrV4 → Type 0
+WorksBy false phones hook address = IsBehind phones (Some address) × (hook ≡ None)
+WorksBy true phones hook address = (phones ≡ None) × IsBehind hook (Some address)
+
+-- who works a line's telephone: an rgwd, or any program; nobody where neither word stands there
+abbrev pub IsWorked : List ℕ → Option (List ℕ) → Option (List ℕ) → Option Telephone → Type 0
+IsWorked line phones hook None = (phones ≡ None) × (hook ≡ None)
+IsWorked line phones hook (Some telephone) =
+    (telephone.line.now ≡ line) × WorksBy telephone.is_hook phones hook telephone.address
