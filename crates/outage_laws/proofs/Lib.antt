@@ -12,7 +12,6 @@ pub mod TrackLemmas
 pub mod TrackLaws
 pub mod ServesLaws
 pub mod StretchLemmas
-pub mod LineEvents
 pub mod LineTracks
 pub mod LineTrackLaws
 pub mod PostedSince

@@ -57,7 +57,7 @@ use Rattle.delivery_laws.proofs.RoundTurns.{has_announced}
 use Rattle.delivery_laws.proofs.StepLemmas.{taken_front}
 use Rattle.outage_laws.specs.AfterOutage.{AgentHasRoomFrom, IsFairFrom}
 use Rattle.outage_laws.proofs.LineBackLaws.{same_rest}
-use Rattle.outage_laws.proofs.LineEvents.{TurnKeeps, TurnsAt, datagram_holds, phone_holds, tick_holds}
+use Rattle.told_laws.proofs.LineEvents.{TurnKeeps, TurnsAt, datagram_holds, phone_holds, tick_holds}
 use Rattle.outage_laws.proofs.LineServesLaws.{has_its_agent, is_awaited}
 use Rattle.outage_laws.proofs.LineTrackLaws.{line_says}
 use Rattle.outage_laws.proofs.PostedSince.{line_since, posts_since}

@@ -35,7 +35,7 @@ use Rattle.delivery_laws.proofs.CourseLemmas.{AllHear, Hears}
 use Rattle.delivery_laws.proofs.FairLaws.{taken_last}
 use Rattle.delivery_laws.proofs.PostedLemmas.{sent_more}
 use Rattle.delivery_laws.proofs.StepLemmas.{step_more, taken_front}
-use Rattle.outage_laws.proofs.LineEvents.{datagram_holds, phone_holds, tick_holds}
+use Rattle.told_laws.proofs.LineEvents.{datagram_holds, phone_holds, tick_holds}
 use Rattle.outage_laws.proofs.LineTracks.{Anytime, Behind, IsPlainResponse, LineTracks, anytime, happens_tracks, none_tracks, now_turns, rested}
 use Rattle.outage_laws.proofs.PlainArrivals.{IsPlain, plain_texts}
 

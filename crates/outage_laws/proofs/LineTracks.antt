@@ -53,7 +53,7 @@ use Rattle.delivery_laws.proofs.LineLaws.{heard_is}
 use Rattle.delivery_laws.proofs.OnTurns.{IsIt, IsOn, WentOut, all_out, its_sends, on_again, on_begins, on_more, went_on}
 use Rattle.delivery_laws.proofs.PostedLemmas.{SaysAt}
 use Rattle.delivery_laws.proofs.RestLemmas.{Rests, answer_begins, asked_awaits, flight_waits, noted_silent, rests_again, rests_is, rests_on}
-use Rattle.outage_laws.proofs.LineEvents.{TurnKeeps, TurnsAt}
+use Rattle.told_laws.proofs.LineEvents.{TurnKeeps, TurnsAt}
 use Rattle.outage_laws.proofs.StretchLemmas.{IsStretch, order_on, stretch_begins, stretch_on}
 use Rattle.outage_laws.proofs.TrackLemmas.{last_due, none_by}
 

@@ -30,51 +30,10 @@ use Rattle.delivery_laws.proofs.FrontSteps.{took_more}
 use Rattle.delivery_laws.proofs.RestLemmas.{begun_both}
 use Rattle.delivery_laws.proofs.RoundLaws.{sent_on}
 use Rattle.delivery_laws.proofs.StepLemmas.{step_more, steps_more, taken_front}
+use Rattle.told_laws.proofs.ClockSteps.{step_soon}
 use Rattle.outage_laws.specs.AfterOutage.{AgentHasRoomFrom, IsFairFrom}
 use Rattle.outage_laws.proofs.ServesLaws.{serves_by}
 use Rattle.outage_laws.proofs.TrackLaws.{Closed, closed_front}
-
--- A step takes the clock 1,000 ms further at most
-
-same_soon : (a b : ℕ) → a ≡ b → a ≤ b + 1000
-same_soon a b same = omega (arith, same)
-
-tick_soon : (now moment : ℕ) → tick_refusal now moment ≡ None → moment ≤ now + 1000
-tick_soon now moment none = by_far (nat_lt (now + 1000) moment) refl none where
-  by_far : (far : Bool) → nat_lt (now + 1000) moment ≡ far
-      → (if far || nat_le (2 ^ 62) moment then Some TickTooFar else (if nat_lt moment now then Some ClockBack else None)) ≡ None → moment ≤ now + 1000
-  by_far true is none = absurd (none-some TickTooFar (sym none))
-  by_far false is none = ltb-false (now + 1000) moment is
-
-issued_soon : (setup : Setup) (w : World) (verb name rest : List ℕ) → now_in setup (went setup w (issuing verb name rest)) ≤ now_in setup w + 1000
-unfolding went
-issued_soon setup w verb name rest = omega arith
-
-dialled_soon : (setup : Setup) (w : World) (line : ℕ) (act : Act) → now_in setup (went setup w (dialling line act)) ≤ now_in setup w + 1000
-unfolding went
-dialled_soon setup w line act = same_soon _ _ (gateway_clock setup w (phone line act))
-
-ticked_soon : (setup : Setup) (w : World) (moment : ℕ) → step_refusal setup w (ticking moment) ≡ None → now_in setup (went setup w (ticking moment)) ≤ now_in setup w + 1000
-unfolding went step_refusal
-ticked_soon setup w moment none =
-    subst (λ (n : ℕ). n ≤ now_in setup w + 1000) (sym (gateway_clock setup w (tick moment)))
-    (tick_soon (now_in setup w) moment (tick_is (gateway_in setup w) moment (gateway_taken (refusal_of (gateway_in setup w) (tick moment)) none)))
-
-step_soon : (setup : Setup) (front : List WorldStep) (step : WorldStep) → steps_are_taken setup world_opening (front ++ step ∷ []) ≡ true
-    → now_in setup (plain_world setup (front ++ step ∷ [])) ≤ now_in setup (plain_world setup front) + 1000
-step_soon setup front step taken = by_step step taken where
-  Soon : WorldStep → Type 0
-  Soon one = now_in setup (plain_world setup (front ++ one ∷ [])) ≤ now_in setup (plain_world setup front) + 1000
-
-  so : (one : WorldStep) → now_in setup (went setup (plain_world setup front) one) ≤ now_in setup (plain_world setup front) + 1000 → Soon one
-  so one soon = subst (λ (w : World). now_in setup w ≤ now_in setup (plain_world setup front) + 1000) (sym (step_more setup front one)) soon
-
-  by_step : (one : WorldStep) → steps_are_taken setup world_opening (front ++ one ∷ []) ≡ true → Soon one
-  by_step (issuing verb name rest) taken = so (issuing verb name rest) (issued_soon setup (plain_world setup front) verb name rest)
-  by_step (dialling line act) taken = so (dialling line act) (dialled_soon setup (plain_world setup front) line act)
-  by_step (ticking moment) taken =
-      so (ticking moment) (ticked_soon setup (plain_world setup front) moment (taken_last setup world_opening front (ticking moment) taken))
-  by_step (delivering number) taken = same_soon _ _ (handed_now setup front number)
 
 -- A beginning at which the clock is at a moment, or 1,000 ms before it at most
 

@@ -17,6 +17,8 @@ pub mod SettlingLemmas
 pub mod SettledLemmas
 pub mod OverLemmas
 pub mod LaterTakes
+pub mod ClockSteps
+pub mod LineEvents
 pub mod LateLemmas
 pub mod StretchLemmas
 pub mod StretchCourses
