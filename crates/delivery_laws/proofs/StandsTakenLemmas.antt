@@ -32,19 +32,14 @@ use Rattle.delivery_laws.proofs.StepLemmas.{steps_more}
 still_late : (moment now came : ℕ) → moment ≡ now → moment < came + memory_time → now < came + 40000
 still_late moment now came same young = omega (arith, same, young)
 
-pub stands_taken : (setup : Setup) (line id : ℕ) (was : World) (steps : List WorldStep) → IsSetUp setup
-    → steps_are_taken setup world_opening steps ≡ true → IsTaken setup was (plain_world setup steps) id → line_of_id id ≡ line
-    → StandsLate (line_taken line (taken_in (plain_world setup steps))) id
-stands_taken setup line id was steps set_up taken took mine =
-    stands_late line (now_in setup w) id arrived (subst (λ (n : ℕ). Rises n arrived) l.sound.clock l.links.rises) mine lately where
+pub taken_lately : (setup : Setup) (id : ℕ) (was : World) (steps : List WorldStep) → IsSetUp setup → steps_are_taken setup world_opening steps ≡ true
+    → IsTaken setup was (plain_world setup steps) id
+    → OneOf (λ (one : Reached). (one.asked.id ≡ id) × (now_in setup (plain_world setup steps) < one.asked.moment + 40000)) (taken_in (plain_world setup steps))
+taken_lately setup id was steps set_up taken took =
+    one_weaker (IsYoungAt id moment) (λ (one : Reached). (one.asked.id ≡ id) × (now_in setup w < one.asked.moment + 40000))
+    (λ one is. (is.0, still_late moment (now_in setup w) one.asked.moment took.moment is.1)) (taken_in w) young where
       w : World
       w = plain_world setup steps
-
-      l : Linked setup w
-      l = world_linked setup steps set_up taken
-
-      arrived : List Reached
-      arrived = flat_map reached (arrivals_of (heard_in w))
 
       moment : ℕ
       moment = took.copy.post.packet.moment
@@ -68,10 +63,15 @@ stands_taken setup line id was steps set_up taken took mine =
           took.copy.found took.copy.sender
           (one_from_any (λ (one : List ℕ). one ≡ took.text) (texts_of took.copy.post.packet.bytes) took.copy.inside) answers.reads high
 
-      lately : OneOf (λ (one : Reached). (one.asked.id ≡ id) × (now_in setup w < one.asked.moment + 40000)) (taken_in w)
-      lately =
-          one_weaker (IsYoungAt id moment) (λ (one : Reached). (one.asked.id ≡ id) × (now_in setup w < one.asked.moment + 40000))
-          (λ one is. (is.0, still_late moment (now_in setup w) one.asked.moment took.moment is.1)) (taken_in w) young
+pub stands_taken : (setup : Setup) (line id : ℕ) (was : World) (steps : List WorldStep) → IsSetUp setup
+    → steps_are_taken setup world_opening steps ≡ true → IsTaken setup was (plain_world setup steps) id → line_of_id id ≡ line
+    → StandsLate (line_taken line (taken_in (plain_world setup steps))) id
+stands_taken setup line id was steps set_up taken took mine =
+    let w = plain_world setup steps in
+    let l : Linked setup w = world_linked setup steps set_up taken in
+    let arrived : List Reached = flat_map reached (arrivals_of (heard_in w)) in
+    stands_late line (now_in setup w) id arrived (subst (λ (n : ℕ). Rises n arrived) l.sound.clock l.links.rises) mine
+    (taken_lately setup id was steps set_up taken took)
 
 -- What was taken of a line is the first of what is taken
 
