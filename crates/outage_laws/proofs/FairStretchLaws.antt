@@ -12,9 +12,8 @@ use Rattle.plain_machine.specs.Machine.{endpoint_at, serves}
 use Rattle.plain_machine.specs.Setup.{IsSetUp}
 use Rattle.machine_laws.proofs.AnnouncementLaws.{serving_lasts}
 use Rattle.machine_laws.proofs.EachLemmas.{any_from_one}
-use Rattle.machine_laws.specs.Saying.{Begun, HasNumbersLeft, OneOf}
+use Rattle.machine_laws.specs.Saying.{Begun, OneOf}
 use Rattle.agent_core.specs.World.{World, WorldStep, gateway_in, now_in, plain_world, steps_are_taken, world_opening}
-use Rattle.world_laws.specs.Reached.{own_in}
 use Rattle.delivery_laws.specs.Course.{course_from, course_of}
 use Rattle.delivery_laws.specs.Dialled.{IsAskedForAll, done_in, told_along}
 use Rattle.delivery_laws.specs.Fairness.{GoesToAgent}
@@ -118,7 +117,6 @@ module _ (setup : Setup) (line : ℕ) (some : 1 ≤ line) (first pause stretch :
 
 module _ (setup : Setup) (line : ℕ) (some : 1 ≤ line) (first pause stretch : List WorldStep) (once was is : Endpoint) (set_up : IsSetUp setup)
     (taken : steps_are_taken setup world_opening ((first ++ pause) ++ stretch) ≡ true)
-    (few : HasNumbersLeft (own_in setup (plain_world setup ((first ++ pause) ++ stretch))))
     (at_once : endpoint_at (gateway_in setup (plain_world setup first)).endpoints line ≡ Some once)
     (at_was : endpoint_at (gateway_in setup (plain_world setup (first ++ pause))).endpoints line ≡ Some was)
     (at_is : endpoint_at (gateway_in setup (plain_world setup ((first ++ pause) ++ stretch))).endpoints line ≡ Some is)
@@ -143,7 +141,7 @@ module _ (setup : Setup) (line : ℕ) (some : 1 ≤ line) (first pause stretch :
   pub fair_told_since : IsToldSince was.post.pending (told_along (course_of setup line (plain_world setup (first ++ pause)).gateway_took))
       (done_in (course_of setup line ((plain_world setup (first ++ pause)).gateway_took ++ front))) (taken_meanwhile setup line (plain_world setup (first ++ pause)) (plain_world setup ((first ++ pause) ++ stretch)))
   fair_told_since =
-      told_since setup line some first pause stretch once was is set_up taken few at_once at_was at_is calm_before calm_since long since within (2 * within) asking before after front
+      told_since setup line some first pause stretch once was is set_up taken at_once at_was at_is calm_before calm_since long since within (2 * within) asking before after front
       later there fair roomy
       (fair_flew setup line some first pause stretch was is set_up taken at_was at_is calm_since since within front later there fair roomy serves_then began reach split at_there)
       took asked split at_there
@@ -154,7 +152,6 @@ module _ (setup : Setup) (line : ℕ) (some : 1 ≤ line) (first pause stretch :
 
 module _ (setup : Setup) (line : ℕ) (some : 1 ≤ line) (first pause stretch : List WorldStep) (once was is : Endpoint) (set_up : IsSetUp setup)
     (taken : steps_are_taken setup world_opening ((first ++ pause) ++ stretch) ≡ true)
-    (few : HasNumbersLeft (own_in setup (plain_world setup ((first ++ pause) ++ stretch))))
     (at_once : endpoint_at (gateway_in setup (plain_world setup first)).endpoints line ≡ Some once)
     (at_was : endpoint_at (gateway_in setup (plain_world setup (first ++ pause))).endpoints line ≡ Some was)
     (at_is : endpoint_at (gateway_in setup (plain_world setup ((first ++ pause) ++ stretch))).endpoints line ≡ Some is)
@@ -180,7 +177,7 @@ module _ (setup : Setup) (line : ℕ) (some : 1 ≤ line) (first pause stretch :
   pub fair_told_from : IsToldFrom was.post.pending (happened_in was.line.quarantined.events ++ done_in (course_from setup (plain setup (plain_world setup (first ++ pause)).gateway_took) line front))
       (taken_meanwhile setup line (plain_world setup (first ++ pause)) (plain_world setup ((first ++ pause) ++ stretch)))
   fair_told_from =
-      told_from setup line some first pause stretch once was is set_up taken few at_once at_was at_is calm_before calm_since long since within (2 * within) asking front later there fair
+      told_from setup line some first pause stretch once was is set_up taken at_once at_was at_is calm_before calm_since long since within (2 * within) asking front later there fair
       roomy
       (fair_flew setup line some first pause stretch was is set_up taken at_was at_is calm_since since within front later there fair roomy serves_then began reach split at_there)
       asked split at_there
@@ -191,7 +188,7 @@ module _ (setup : Setup) (line : ℕ) (some : 1 ≤ line) (first pause stretch :
       → (told : IsToldFrom was.post.pending (happened_in was.line.quarantined.events ++ done_in (course_from setup (plain setup (plain_world setup (first ++ pause)).gateway_took) line front))
       (taken_meanwhile setup line (plain_world setup (first ++ pause)) (plain_world setup ((first ++ pause) ++ stretch)))) × (told.rest ≡ [])
   fair_all_from =
-      all_from setup line some first pause stretch once was is set_up taken few at_once at_was at_is calm_before calm_since long since within (2 * within) asking front later there fair
+      all_from setup line some first pause stretch once was is set_up taken at_once at_was at_is calm_before calm_since long since within (2 * within) asking front later there fair
       roomy
       (fair_flew setup line some first pause stretch was is set_up taken at_was at_is calm_since since within front later there fair roomy serves_then began reach split at_there)
       asked split at_there

@@ -1,25 +1,21 @@
 -- No packet is handed over that is older than 10,000 ms. So over a network that is fair, but takes longer, a gateway serves at a beginning of
 -- the world, which is over then.
-use Rattle.std.proofs.Common.{◌≡◌, ℕ, ◌+◌, ◌-◌, ◌*◌, ◌<◌, ◌≤◌, ◌^◌, Bool, true, false, ◌||◌, if◌then◌else◌, List, [], ◌∷◌, ◌++◌, Option, Some, None, inl, inr, refl, sym, ap, ◌∙◌, subst, arith, append-nil, append_assoc}
+use Rattle.std.proofs.Common.{◌≡◌, ℕ, ◌+◌, ◌-◌, ◌*◌, ◌<◌, ◌≤◌, Bool, true, false, if◌then◌else◌, List, [], ◌∷◌, ◌++◌, Option, Some, None, inl, inr, refl, sym, ap, ◌∙◌, subst, arith, append-nil, append_assoc}
 use Rattle.std.specs.Prelude.{◌⊎◌, nat_le, nat_lt, slice_get}
 use Rattle.std.proofs.lemmas.Bool.{leb-true, leb-false, ltb-false}
 use Rattle.std.proofs.lemmas.Option.{none-some}
-use Rattle.mg_line.specs.declared.phone.Act.{Act}
-use Rattle.gateway_rules.specs.declared.refusal.Refusal.TheVariants.{ClockBack, TickTooFar}
 use Rattle.plain_machine.specs.declared.setup.Setup.{Setup}
-use Rattle.plain_machine.specs.Event.{GatewayEvent, phone, tick}
+use Rattle.plain_machine.specs.Event.{GatewayEvent}
 use Rattle.plain_machine.specs.Lists.{machine_after, plain, sent_from, sent_of}
 use Rattle.plain_machine.specs.Machine.{opening, serves}
 use Rattle.plain_machine.specs.Message.{Sent}
-use Rattle.plain_machine.specs.Refusing.{refusal_of, tick_refusal}
 use Rattle.plain_machine.specs.Setup.{IsSetUp}
 use Rattle.machine_laws.specs.Belonging.{of_line}
 use Rattle.machine_laws.specs.Saying.{Begun, OneOf, begun_in}
 use Rattle.machine_laws.proofs.EachLemmas.{any_from_one, one_before, one_from_any}
 use Rattle.machine_laws.proofs.OwningLemmas.{of_both}
 use Rattle.agent_core.specs.declared.packet.Posted.{Posted}
-use Rattle.agent_core.specs.World.{World, WorldStep, delivering, delivery_refusal, dialling, gateway_in, issuing, now_in, oldest_packet, packet_too_old, plain_world, step_refusal, steps_are_taken, ticking, went, world_after, world_opening}
-use Rattle.world_laws.proofs.WorldLaws.{gateway_clock, gateway_taken, tick_is}
+use Rattle.agent_core.specs.World.{World, WorldStep, delivering, delivery_refusal, gateway_in, now_in, oldest_packet, packet_too_old, plain_world, step_refusal, steps_are_taken, world_after, world_opening}
 use Rattle.delivery_laws.specs.Chances.{chances}
 use Rattle.delivery_laws.specs.Copies.{answer_wait}
 use Rattle.delivery_laws.specs.Fairness.{GoesToAgent, IsHandedOver}
@@ -29,7 +25,7 @@ use Rattle.delivery_laws.proofs.FairLaws.{IsBefore, one_first, stays_found, take
 use Rattle.delivery_laws.proofs.FrontSteps.{took_more}
 use Rattle.delivery_laws.proofs.RestLemmas.{begun_both}
 use Rattle.delivery_laws.proofs.RoundLaws.{sent_on}
-use Rattle.delivery_laws.proofs.StepLemmas.{step_more, steps_more, taken_front}
+use Rattle.delivery_laws.proofs.StepLemmas.{steps_more, taken_front}
 use Rattle.told_laws.proofs.ClockSteps.{step_soon}
 use Rattle.outage_laws.specs.AfterOutage.{AgentHasRoomFrom, IsFairFrom}
 use Rattle.outage_laws.proofs.ServesLaws.{serves_by}

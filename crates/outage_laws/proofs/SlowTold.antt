@@ -9,15 +9,13 @@ use Rattle.outbound.specs.Flight.{InFlight}
 use Rattle.plain_machine.specs.declared.endpoint.Endpoint.{Endpoint}
 use Rattle.plain_machine.specs.declared.setup.Setup.{Setup}
 use Rattle.plain_machine.specs.Event.{GatewayEvent}
-use Rattle.plain_machine.specs.Lists.{machine_after, plain, sent_from, sent_of}
-use Rattle.plain_machine.specs.Machine.{endpoint_at, opening}
-use Rattle.plain_machine.specs.Message.{Sent}
+use Rattle.plain_machine.specs.Lists.{machine_after, plain}
+use Rattle.plain_machine.specs.Machine.{endpoint_at}
 use Rattle.plain_machine.specs.Setup.{IsSetUp}
-use Rattle.machine_laws.specs.Saying.{Begun, HasNumbersLeft, begun_in}
+use Rattle.machine_laws.specs.Saying.{Begun}
 use Rattle.machine_laws.proofs.LineLemmas.{place_of}
-use Rattle.machine_laws.proofs.PostLogs.{few_before}
 use Rattle.agent_core.specs.World.{World, WorldStep, gateway_in, now_in, plain_world, steps_are_taken, went, world_after, world_opening}
-use Rattle.world_laws.specs.Reached.{Reached, own_in, taken_in}
+use Rattle.world_laws.specs.Reached.{Reached, taken_in}
 use Rattle.delivery_laws.specs.Chances.{last_chance}
 use Rattle.delivery_laws.specs.Copies.{answer_wait}
 use Rattle.delivery_laws.specs.Course.{course_from}
@@ -30,12 +28,11 @@ use Rattle.delivery_laws.proofs.ClockLemmas.{front_forward}
 use Rattle.delivery_laws.proofs.DialledLemmas.{ask_front}
 use Rattle.delivery_laws.proofs.DialledTakenLemmas.{told_taken}
 use Rattle.delivery_laws.proofs.FairLaws.{IsBefore, one_first}
-use Rattle.delivery_laws.proofs.FrontSteps.{TookMore, TookThem, took_more, took_them}
+use Rattle.delivery_laws.proofs.FrontSteps.{TookThem, took_them}
 use Rattle.delivery_laws.proofs.GivenUpFronts.{was_there}
 use Rattle.delivery_laws.proofs.KeepingLemmas.{happened_both}
 use Rattle.delivery_laws.proofs.MoveLemmas.{Move, agent_took, gateway_took, step_moves}
-use Rattle.delivery_laws.proofs.RestLemmas.{begun_both}
-use Rattle.delivery_laws.proofs.RoundLaws.{course_on, sent_on}
+use Rattle.delivery_laws.proofs.RoundLaws.{course_on}
 use Rattle.delivery_laws.proofs.StepLemmas.{steps_more, taken_front}
 use Rattle.delivery_laws.proofs.WorldLemmas.{line_taken}
 use Rattle.told_laws.specs.Stretch.{outliving, taken_meanwhile}
@@ -66,24 +63,6 @@ takes_behind : (setup : Setup) (some more : List WorldStep) → TakesMore (plain
 takes_behind setup some more =
     let takes = takes_more setup (plain_world setup some) more in
     (takes.0, ap (λ (w : World). taken_in w) (steps_more setup world_opening some more) ∙ takes.1)
-
--- numbers were left before
-
-own_front : (setup : Setup) (some more : List WorldStep) → HasNumbersLeft (own_in setup (plain_world setup (some ++ more))) → HasNumbersLeft (own_in setup (plain_world setup some))
-own_front setup some more few = λ line. few_before line (own_in setup w) (begun_in since) (subst HasNumbersLeft is few line) where
-  w : World
-  w = plain_world setup some
-
-  t : TookMore w (world_after setup w more)
-  t = took_more setup w more
-
-  since : List Sent
-  since = sent_from setup (plain setup w.gateway_took) t.0
-
-  is : own_in setup (plain_world setup (some ++ more)) ≡ own_in setup w ++ begun_in since
-  is =
-      ap (λ (x : World). own_in setup x) (steps_more setup world_opening some more) ∙ ap (λ (x : List GatewayEvent). begun_in (sent_of setup x)) t.1
-      ∙ ap begun_in (sent_on setup (opening setup) w.gateway_took t.0) ∙ begun_both (sent_of setup w.gateway_took) since
 
 -- more is told later on
 more_told : (first : Option InFlight) (done taken more all : List Observed) → IsToldFrom first done taken → all ≡ taken ++ more → IsToldFrom first done all
@@ -125,7 +104,6 @@ module _ (setup : Setup) (line : ℕ) (first pause stretch : List WorldStep) (wa
     → GoesToAgent setup (plain_world setup ((first ++ pause) ++ stretch)) b.text)
     (late : well_by setup since within ≤ now_in setup (plain_world setup first)) (front later : List GatewayEvent)
     (split : (plain_world setup ((first ++ pause) ++ stretch)).gateway_took ≡ ((plain_world setup (first ++ pause)).gateway_took ++ front) ++ later) (there : Endpoint) (asking : ℕ)
-    (few : HasNumbersLeft (own_in setup (plain_world setup ((first ++ pause) ++ stretch))))
     (long : now_in setup (plain_world setup first) + outliving ≤ now_in setup (plain_world setup (first ++ pause)))
     (asked : IsAskedForAllSince was.line (course_from setup (plain setup (plain_world setup (first ++ pause)).gateway_took) line (front ++ later)) is.line)
     (at_there : endpoint_at (plain setup ((plain_world setup (first ++ pause)).gateway_took ++ front)).endpoints line ≡ Some there)
@@ -315,9 +293,7 @@ module _ (setup : Setup) (line : ℕ) (first pause stretch : List WorldStep) (wa
         (subst (λ (s : List WorldStep). (n : ℕ) (b : Begun) → IsOfLine setup (plain_world setup s) n b → since ≤ b.moment + last_chance → GoesToAgent setup (plain_world setup s) b.text) order
         (λ n b of recent. goes_there setup all since within taken fair roomy long_so deep_so n b of (λ whole. reach n b whole recent)))
         (late_by since takes within (gap_of takes) (gap_of within) (longer_wait setup) (now_in setup (plain_world setup first)) less (gap_no_less takes within many) late) front some then_took
-        there asking
-        (own_front setup then_steps (cut setup all since within taken fair roomy long_so deep_so).later
-        (subst (λ (s : List WorldStep). HasNumbersLeft (own_in setup (plain_world setup s))) whole_order few)) long asked_then at_there
+        there asking long asked_then at_there
         (asked_there setup all since within taken fair roomy long_so deep_so took later split early line asking is_asked)
         (subst (λ (n : ℕ). (plain setup took).now + rounds_take held (2 * takes) asking < n) then_now over_then)
         (subst (λ (n : ℕ). (plain setup took).now + rounds_take held (2 * takes) asking + takes ≤ n) then_now more_then)
@@ -354,7 +330,7 @@ module _ (setup : Setup) (line : ℕ) (first pause stretch : List WorldStep) (wa
   by_quick : (b : Bool) → nat_lt (500 + 2 * within) answer_wait ≡ b → ToldBy w
   by_quick true quick =
       told_behind setup line first pause stretch was is set_up taken at_was at_is since within (ltb-true (500 + 2 * within) answer_wait quick) fair roomy reach late front later split there
-      asking few long asked at_there is_asked over more
+      asking long asked at_there is_asked over more
   by_quick false many = slow_told many
 
   pub told_always : ToldBy w

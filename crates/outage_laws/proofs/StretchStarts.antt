@@ -10,7 +10,7 @@ use Rattle.agent_core.specs.World.{World, WorldStep, gateway_in, plain_world}
 use Rattle.delivery_laws.proofs.GivenUpFronts.{was_there}
 use Rattle.told_laws.specs.Stretch.{AnnouncesNothing, GivesNothingUp, took_meanwhile}
 use Rattle.told_laws.proofs.StretchCourses.{serves_then}
-use Rattle.told_laws.proofs.StretchLemmas.{events_behind}
+use Rattle.told_laws.proofs.CalmLemmas.{events_behind}
 
 pub there_at_first : (setup : Setup) (line : ℕ) → 1 ≤ line → (first more : List WorldStep) (was : Endpoint)
     → endpoint_at (gateway_in setup (plain_world setup (first ++ more))).endpoints line ≡ Some was

@@ -9,10 +9,9 @@ use Rattle.plain_machine.specs.Lists.{plain, sent_from}
 use Rattle.plain_machine.specs.Machine.{endpoint_at, serves}
 use Rattle.plain_machine.specs.Setup.{IsSetUp}
 use Rattle.machine_laws.specs.Belonging.{of_line}
-use Rattle.machine_laws.specs.Saying.{Begun, HasNumbersLeft}
+use Rattle.machine_laws.specs.Saying.{Begun}
 use Rattle.machine_laws.proofs.LineLemmas.{place_of}
 use Rattle.agent_core.specs.World.{World, WorldStep, gateway_in, now_in, plain_world, steps_are_taken, world_after, world_opening}
-use Rattle.world_laws.specs.Reached.{own_in}
 use Rattle.delivery_laws.specs.Chances.{last_chance}
 use Rattle.delivery_laws.specs.Course.{course_from}
 use Rattle.delivery_laws.specs.Dialled.{done_in}
@@ -151,7 +150,7 @@ module _ (setup : Setup) (line : ℕ) (first pause stretch : List WorldStep) (wa
       (early since (gap_of within) (longer_wait setup) within (now_in setup v) late) ((paused ++ front) ++ some) more s (parts some more order)
       (subst (λ (x : List GatewayEvent). endpoint_at (plain setup x).endpoints line ≡ Some s) (places some) at)
 
-  module _ (there : Endpoint) (asking : ℕ) (few : HasNumbersLeft (own_in setup w)) (long : now_in setup v + outliving ≤ now_in setup u)
+  module _ (there : Endpoint) (asking : ℕ) (long : now_in setup v + outliving ≤ now_in setup u)
       (asked : IsAskedForAllSince was.line (course_from setup (plain setup u.gateway_took) line (front ++ later)) is.line)
       (at_there : endpoint_at (plain setup (u.gateway_took ++ front)).endpoints line ≡ Some there) (is_asked : IsAskedWithin setup line (u.gateway_took ++ front) later asking)
       (over : (plain setup (u.gateway_took ++ front)).now + rounds_take (length there.line.quarantined.events) (2 * within) asking < now_in setup w)
@@ -161,11 +160,11 @@ module _ (setup : Setup) (line : ℕ) (first pause stretch : List WorldStep) (wa
 
     pub told_behind : IsToldFrom was.post.pending done (taken_meanwhile setup line u w)
     told_behind =
-        fair_told_from setup line one first pause stretch once.0 was is set_up taken few once.1 at_was at_is calm_before calm_since long since within asking front later there fair roomy
+        fair_told_from setup line one first pause stretch once.0 was is set_up taken once.1 at_was at_is calm_before calm_since long since within asking front later there fair roomy
         began (λ b of past. reach line b of (recent since b.moment past)) asked split at_there is_asked over more
 
     pub all_behind : done_in (course_from setup (plain setup (u.gateway_took ++ front)) line later) ≡ []
         → (told : IsToldFrom was.post.pending done (taken_meanwhile setup line u w)) × (told.rest ≡ [])
     all_behind rests =
-        fair_all_from setup line one first pause stretch once.0 was is set_up taken few once.1 at_was at_is calm_before calm_since long since within asking front later there fair roomy
+        fair_all_from setup line one first pause stretch once.0 was is set_up taken once.1 at_was at_is calm_before calm_since long since within asking front later there fair roomy
         began (λ b of past. reach line b of (recent since b.moment past)) asked split at_there is_asked over more rests

@@ -11,10 +11,9 @@ use Rattle.plain_machine.specs.Lists.{plain, machine_after}
 use Rattle.plain_machine.specs.Machine.{endpoint_at, opening, Machine, serves}
 use Rattle.plain_machine.specs.Setup.{IsSetUp}
 use Rattle.plain_machine.proofs.ListLaws.{machine_on}
-use Rattle.machine_laws.specs.Saying.{Begun, HasNumbersLeft}
+use Rattle.machine_laws.specs.Saying.{Begun}
 use Rattle.machine_laws.proofs.AnnouncementLaws.{serving_lasts}
 use Rattle.agent_core.specs.World.{World, WorldStep, gateway_in, now_in, plain_world, steps_are_taken, world_opening}
-use Rattle.world_laws.specs.Reached.{own_in}
 use Rattle.delivery_laws.specs.Course.{CourseStep, course_from, course_of}
 use Rattle.delivery_laws.specs.Dialled.{done_in, told_along, AskForAll}
 use Rattle.delivery_laws.specs.GivenUp.{has_given_up}
@@ -68,7 +67,6 @@ no_more_behind n m k same some = absurd (omega (arith, same, some))
 
 module _ (setup : Setup) (line : ℕ) (some : 1 ≤ line) (first pause stretch : List WorldStep) (once was is : Endpoint) (set_up : IsSetUp setup)
     (taken : steps_are_taken setup world_opening ((first ++ pause) ++ stretch) ≡ true)
-    (few : HasNumbersLeft (own_in setup (plain_world setup ((first ++ pause) ++ stretch))))
     (at_once : endpoint_at (gateway_in setup (plain_world setup first)).endpoints line ≡ Some once)
     (at_was : endpoint_at (gateway_in setup (plain_world setup (first ++ pause))).endpoints line ≡ Some was)
     (at_is : endpoint_at (gateway_in setup (plain_world setup ((first ++ pause) ++ stretch))).endpoints line ≡ Some is)
@@ -233,7 +231,7 @@ module _ (setup : Setup) (line : ℕ) (some : 1 ≤ line) (first pause stretch :
 
   is_out : OutSince was.post.pending Out (taken_meanwhile setup line u w)
   is_out =
-      told_out setup line some first pause stretch once was is set_up taken few at_once at_was at_is calm_before calm_since long since within fair roomy flew rounds
+      told_out setup line some first pause stretch once was is set_up taken at_once at_was at_is calm_before calm_since long since within fair roomy flew rounds
       (length done_since) more Out few_left young assembled
 
   pub told_from : IsToldFrom was.post.pending (held ++ done_in (course front)) (taken_meanwhile setup line u w)

@@ -8,9 +8,8 @@ ghost use Rattle.plain_machine.specs.Lists.{plain, sent_from};
 ghost use Rattle.plain_machine.specs.Machine.{endpoint_at, serves};
 ghost use Rattle.plain_machine.specs.Setup.{IsSetUp};
 ghost use Rattle.machine_laws.specs.Belonging.{of_line};
-ghost use Rattle.machine_laws.specs.Saying.{Begun, HasNumbersLeft};
+ghost use Rattle.machine_laws.specs.Saying.{Begun};
 ghost use Rattle.agent_core.specs.World.{WorldStep, gateway_in, now_in, plain_world, steps_are_taken, world_opening};
-ghost use Rattle.world_laws.specs.Reached.{own_in};
 ghost use Rattle.delivery_laws.specs.Copies.{IsRun};
 ghost use Rattle.delivery_laws.specs.Course.{course_from, course_of};
 ghost use Rattle.delivery_laws.specs.Dialled.{IsAskedForAll, done_in, told_along};
@@ -26,15 +25,13 @@ ghost use Rattle.outage_laws.specs.ToldSince.{FlightBeganSince, FlightsBeganSinc
 /// Whatever was lost and given up before: over a stretch in which a line gives nothing up, nor in the 10,500 ms before it, and over a
 /// network that is fair from some moment on, what its telephone had done by a moment of the stretch the agent was told, so many rounds and
 /// once the network's time later, or it was told at its first send before the stretch. What is in flight at the end may be young, and is to
-/// have begun since the network is fair; what was on its way at the beginning may come, too. For that the line's numbers aren't used up.
-/// Where all that the line sends since the network is fair goes to the agent, and the gateway serves, an answer takes twice the network's
-/// time at most (RFC 3435, 4.3 and 4.4.1).
+/// have begun since the network is fair; what was on its way at the beginning may come, too. Where all that the line sends since the
+/// network is fair goes to the agent, and the gateway serves, an answer takes twice the network's time at most (RFC 3435, 4.3 and 4.4.1).
 pub fn what_is_dialled_over_a_stretch_is_told()
     ensures told { (setup : Setup) (line since within answering asking : ℕ) (first pause stretch : List WorldStep)
         (before after front later : List GatewayEvent) (was is there : Endpoint) → IsSetUp setup →
         let up = first ++ pause in let steps = up ++ stretch in steps_are_taken setup world_opening steps ≡ true →
         let v = plain_world setup first in let u = plain_world setup up in let w = plain_world setup steps in
-        HasNumbersLeft (own_in setup w) →
         endpoint_at (gateway_in setup u).endpoints line ≡ Some was →
         endpoint_at (gateway_in setup w).endpoints line ≡ Some is →
         AnnouncesNothing setup line v u was → AnnouncesNothing setup line u w is → now_in setup v + outliving ≤ now_in setup u →
@@ -52,7 +49,6 @@ pub fn what_is_dialled_over_a_stretch_is_told()
         (before after front later : List GatewayEvent) (was is there : Endpoint) → IsSetUp setup →
         let up = first ++ pause in let steps = up ++ stretch in steps_are_taken setup world_opening steps ≡ true →
         let v = plain_world setup first in let u = plain_world setup up in let w = plain_world setup steps in
-        HasNumbersLeft (own_in setup w) →
         endpoint_at (gateway_in setup u).endpoints line ≡ Some was →
         endpoint_at (gateway_in setup w).endpoints line ≡ Some is →
         AnnouncesNothing setup line v u was → AnnouncesNothing setup line u w is → now_in setup v + outliving ≤ now_in setup u →
@@ -79,7 +75,6 @@ pub fn what_is_dialled_since_then_is_told()
         (front later : List GatewayEvent) (was is there : Endpoint) → IsSetUp setup →
         let up = first ++ pause in let steps = up ++ stretch in steps_are_taken setup world_opening steps ≡ true →
         let v = plain_world setup first in let u = plain_world setup up in let w = plain_world setup steps in
-        HasNumbersLeft (own_in setup w) →
         endpoint_at (gateway_in setup u).endpoints line ≡ Some was →
         endpoint_at (gateway_in setup w).endpoints line ≡ Some is →
         AnnouncesNothing setup line v u was → AnnouncesNothing setup line u w is → now_in setup v + outliving ≤ now_in setup u →
@@ -97,7 +92,6 @@ pub fn what_is_dialled_since_then_is_told()
         (front later : List GatewayEvent) (was is there : Endpoint) → IsSetUp setup →
         let up = first ++ pause in let steps = up ++ stretch in steps_are_taken setup world_opening steps ≡ true →
         let v = plain_world setup first in let u = plain_world setup up in let w = plain_world setup steps in
-        HasNumbersLeft (own_in setup w) →
         endpoint_at (gateway_in setup u).endpoints line ≡ Some was →
         endpoint_at (gateway_in setup w).endpoints line ≡ Some is →
         AnnouncesNothing setup line v u was → AnnouncesNothing setup line u w is → now_in setup v + outliving ≤ now_in setup u →
@@ -116,7 +110,6 @@ pub fn what_is_dialled_since_then_is_told()
         (front later : List GatewayEvent) (was is there : Endpoint) → IsSetUp setup →
         let up = first ++ pause in let steps = up ++ stretch in steps_are_taken setup world_opening steps ≡ true →
         let v = plain_world setup first in let u = plain_world setup up in let w = plain_world setup steps in
-        HasNumbersLeft (own_in setup w) →
         endpoint_at (gateway_in setup u).endpoints line ≡ Some was →
         endpoint_at (gateway_in setup w).endpoints line ≡ Some is →
         AnnouncesNothing setup line v u was → AnnouncesNothing setup line u w is → now_in setup v + outliving ≤ now_in setup u →
@@ -136,7 +129,6 @@ pub fn what_is_dialled_since_then_is_told()
         (front later : List GatewayEvent) (was is there : Endpoint) → IsSetUp setup →
         let up = first ++ pause in let steps = up ++ stretch in steps_are_taken setup world_opening steps ≡ true →
         let v = plain_world setup first in let u = plain_world setup up in let w = plain_world setup steps in
-        HasNumbersLeft (own_in setup w) →
         endpoint_at (gateway_in setup u).endpoints line ≡ Some was →
         endpoint_at (gateway_in setup w).endpoints line ≡ Some is →
         AnnouncesNothing setup line v u was → AnnouncesNothing setup line u w is → now_in setup v + outliving ≤ now_in setup u →

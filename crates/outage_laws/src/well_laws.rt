@@ -5,9 +5,7 @@ ghost use Rattle.plain_machine.specs.declared.setup.Setup.{Setup};
 ghost use Rattle.plain_machine.specs.Event.{GatewayEvent};
 ghost use Rattle.plain_machine.specs.Lists.{plain};
 ghost use Rattle.plain_machine.specs.Machine.{endpoint_at};
-ghost use Rattle.machine_laws.specs.Saying.{HasNumbersLeft};
 ghost use Rattle.agent_core.specs.World.{WorldStep, gateway_in, now_in, oldest_packet, plain_world};
-ghost use Rattle.world_laws.specs.Reached.{own_in};
 ghost use Rattle.delivery_laws.specs.Copies.{IsRun};
 ghost use Rattle.delivery_laws.specs.Course.{course_from};
 ghost use Rattle.delivery_laws.specs.Dialled.{done_in};
@@ -55,13 +53,13 @@ pub fn all_is_well_after_an_outage()
 /// all that its telephone does, is asked for all since, loses nothing more, and isn't left without a request for longer than so many ms,
 /// what was quarantined at that moment, and what its telephone had done since by a later one, the agent was told since, as many rounds
 /// later as there were events in its quarantine, and once the time of the network; and that is all, where the telephone rests from that
-/// moment on, and a packet is handed over while it lasts. For that the line's numbers aren't used up (RFC 3435, 3.5, 4.3 and 4.4).
+/// moment on, and a packet is handed over while it lasts (RFC 3435, 3.5, 4.3 and 4.4).
 pub fn what_is_dialled_behind_an_outage_is_told()
     ensures told { (setup : Setup) (line since within asking : ℕ) (first pause stretch : List WorldStep)
         (front later : List GatewayEvent) (was is there : Endpoint) → let up = first ++ pause in let steps = up ++ stretch in
         IsRun setup steps → IsFairFrom setup steps since within → AgentHasRoomFrom setup steps since →
         let v = plain_world setup first in let u = plain_world setup up in let w = plain_world setup steps in
-        ((line : ℕ) → ReachTheAgentSince setup w line since) → HasNumbersLeft (own_in setup w) →
+        ((line : ℕ) → ReachTheAgentSince setup w line since) →
         endpoint_at (gateway_in setup u).endpoints line ≡ Some was → endpoint_at (gateway_in setup w).endpoints line ≡ Some is →
         well_by setup since within ≤ now_in setup v → now_in setup v + outliving ≤ now_in setup u →
         IsAskedForAllSince was.line (course_from setup (gateway_in setup u) line (front ++ later)) is.line →
@@ -77,7 +75,7 @@ pub fn what_is_dialled_behind_an_outage_is_told()
         (front later : List GatewayEvent) (was is there : Endpoint) → let up = first ++ pause in let steps = up ++ stretch in
         IsRun setup steps → within ≤ oldest_packet → IsFairFrom setup steps since within → AgentHasRoomFrom setup steps since →
         let v = plain_world setup first in let u = plain_world setup up in let w = plain_world setup steps in
-        ((line : ℕ) → ReachTheAgentSince setup w line since) → HasNumbersLeft (own_in setup w) →
+        ((line : ℕ) → ReachTheAgentSince setup w line since) →
         endpoint_at (gateway_in setup u).endpoints line ≡ Some was → endpoint_at (gateway_in setup w).endpoints line ≡ Some is →
         well_by setup since within ≤ now_in setup v → now_in setup v + outliving ≤ now_in setup u →
         IsAskedForAllSince was.line (course_from setup (gateway_in setup u) line (front ++ later)) is.line →

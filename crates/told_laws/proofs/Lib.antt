@@ -19,7 +19,12 @@ pub mod OverLemmas
 pub mod LaterTakes
 pub mod ClockSteps
 pub mod LineEvents
+pub mod DueLemmas
+pub mod PassedTurns
+pub mod PassedLemmas
+pub mod ReturnLemmas
 pub mod LateLemmas
+pub mod CalmLemmas
 pub mod StretchLemmas
 pub mod StretchCourses
 pub mod Computing

@@ -50,7 +50,7 @@ use Rattle.delivery_laws.proofs.WorldLemmas.{WasTaken}
 
 -- Each response that comes to the gateway is final.
 
-abbrev IsFinalArrival : TextArrival → Type 0
+abbrev pub IsFinalArrival : TextArrival → Type 0
 IsFinalArrival a =
     (code id : ℕ) (params : List Param) (body : List ℕ) → a.outcome ≡ message (messages.Response code id params body) → 200 ≤ code
 
@@ -58,7 +58,7 @@ high_code : (code : ℕ) → is_final code ≡ true → 200 ≤ code
 high_code code final = leb-true 200 code (and_parts (nat_le 200 code) (nat_le code 999) final).0
 
 module _ (setup : Setup) (set_up : IsSetUp setup) where
-  abbrev AllFinal : World → Type 0
+  abbrev pub AllFinal : World → Type 0
   AllFinal w = Each IsFinalArrival (arrivals_of w.gateway_took)
 
   took_final : (w : World) (event : GatewayEvent) → Each IsFinalArrival (arrivals_at (now_in setup w) event) → AllFinal w → AllFinal (to_gateway setup w event)
@@ -116,7 +116,7 @@ module _ (setup : Setup) (set_up : IsSetUp setup) where
   unfolding world_after arrivals_from
   opening_final = tt
 
-  all_final : (steps : List WorldStep) → steps_are_taken setup world_opening steps ≡ true → AllFinal (plain_world setup steps)
+  pub all_final : (steps : List WorldStep) → steps_are_taken setup world_opening steps ≡ true → AllFinal (plain_world setup steps)
   all_final steps taken = steps_final [] steps taken opening_final
 
 -- So each of them answers what was taken.
@@ -134,7 +134,7 @@ all_heard setup A (a ∷ arrivals) each = (by_outcome a.outcome each.0, all_hear
   by_outcome (message (messages.Command verb id name params body)) all = tt
   by_outcome (message (messages.Response code id params body)) all = all code id params body refl
 
-each_pair : {X : Type 0} (P Q : X → Type 0) (xs : List X) → Each P xs → Each Q xs → Each (λ (x : X). P x × Q x) xs
+pub each_pair : {X : Type 0} (P Q : X → Type 0) (xs : List X) → Each P xs → Each Q xs → Each (λ (x : X). P x × Q x) xs
 each_pair P Q [] one two = tt
 each_pair P Q (x ∷ xs) one two = ((one.0, two.0), each_pair P Q xs one.1 two.1)
 

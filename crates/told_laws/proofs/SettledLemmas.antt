@@ -72,7 +72,7 @@ finals setup steps set_up taken =
     (λ a all. λ code id params body is high. one_from_any (λ (one : Reached). one.asked.id ≡ id) (taken_in w) (all code id params body is high)) (arrivals_of w.gateway_took)
     (each_from_all P (arrivals_of w.gateway_took) (heard_was_taken setup steps set_up taken)))
 
-clock_on : (setup : Setup) (took : List GatewayEvent) (event : GatewayEvent) → (plain setup (took ++ event ∷ [])).now ≡ clock_after (plain setup took).now event
+pub clock_on : (setup : Setup) (took : List GatewayEvent) (event : GatewayEvent) → (plain setup (took ++ event ∷ [])).now ≡ clock_after (plain setup took).now event
 clock_on setup took event =
     ap (λ (m : Machine). m.now) (machine_on setup (opening setup) took (event ∷ []) ∙ gateway_alone setup (plain setup took) event)
     ∙ effect_now setup (plain setup took) event

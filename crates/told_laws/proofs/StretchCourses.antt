@@ -12,11 +12,10 @@ use Rattle.plain_machine.specs.declared.post.Post.{Post}
 use Rattle.plain_machine.specs.Message.{Sent}
 use Rattle.restart.specs.Restarting.{is_serving}
 use Rattle.plain_machine.specs.Event.{GatewayEvent}
-use Rattle.plain_machine.specs.Lists.{plain, sent_from, sent_of}
+use Rattle.plain_machine.specs.Lists.{plain, sent_of}
 use Rattle.plain_machine.specs.Machine.{endpoint_at, opening}
 use Rattle.plain_machine.specs.Setup.{IsSetUp}
-use Rattle.machine_laws.specs.Belonging.{of_line}
-use Rattle.machine_laws.specs.Saying.{HasNumbersLeft, Begun, OneOf}
+use Rattle.machine_laws.specs.Saying.{Begun, OneOf}
 use Rattle.machine_laws.proofs.EachLemmas.{each_from_all, each_weaker, one_from_any}
 use Rattle.machine_laws.proofs.LineLemmas.{place_of}
 use Rattle.call_agent.specs.Agent.{observed_on}
@@ -34,11 +33,12 @@ use Rattle.delivery_laws.proofs.StepLemmas.{taken_front}
 use Rattle.delivery_laws.proofs.ToldLemmas.{begun_tell, course_tells, told_by}
 use Rattle.delivery_laws.proofs.WellLemmas.{IsWell, sent_well}
 use Rattle.delivery_laws.proofs.WorldLemmas.{line_begun, line_taken}
-use Rattle.told_laws.specs.Stretch.{AnnouncesNothing, GivesNothingUp, IsWhole, course_meanwhile, outliving, taken_meanwhile, took_meanwhile}
+use Rattle.told_laws.specs.Stretch.{AnnouncesNothing, IsWhole, course_meanwhile, outliving, taken_meanwhile}
 use Rattle.told_laws.proofs.AskedCourses.{course_on}
 use Rattle.told_laws.proofs.LateLemmas.{cancel, line_both}
 use Rattle.told_laws.proofs.SettledLemmas.{began_at, begun_on}
-use Rattle.told_laws.proofs.StretchLemmas.{events_behind, matched, meanwhile_is, whole_of}
+use Rattle.told_laws.proofs.CalmLemmas.{events_behind}
+use Rattle.told_laws.proofs.StretchLemmas.{in_pairs, meanwhile_is, whole_of}
 
 -- what the course of a line tells is what the commands tell that it began
 
@@ -97,7 +97,6 @@ serves_then sent post none = by_both (list_any (λ one. announces one.said) sent
 
 pub stretch_whole : (setup : Setup) (line : ℕ) (first pause stretch : List WorldStep) (was is : Endpoint) → IsSetUp setup
     → steps_are_taken setup world_opening ((first ++ pause) ++ stretch) ≡ true
-    → HasNumbersLeft (own_in setup (plain_world setup ((first ++ pause) ++ stretch)))
     → endpoint_at (gateway_in setup (plain_world setup (first ++ pause))).endpoints line ≡ Some was
     → endpoint_at (gateway_in setup (plain_world setup ((first ++ pause) ++ stretch))).endpoints line ≡ Some is
     → AnnouncesNothing setup line (plain_world setup first) (plain_world setup (first ++ pause)) was
@@ -106,19 +105,16 @@ pub stretch_whole : (setup : Setup) (line : ℕ) (first pause stretch : List Wor
     → IsWhole was.post.pending is.post.pending
     (told_along (course_meanwhile setup line (plain_world setup (first ++ pause)) (plain_world setup ((first ++ pause) ++ stretch))))
     (taken_meanwhile setup line (plain_world setup (first ++ pause)) (plain_world setup ((first ++ pause) ++ stretch)))
-stretch_whole setup line first pause stretch was is set_up taken few at_was at_is calm_before calm long =
+stretch_whole setup line first pause stretch was is set_up taken at_was at_is calm_before calm long =
     let up : List WorldStep = first ++ pause in
-    let v = plain_world setup first in
     let u = plain_world setup up in
     let w = plain_world setup (up ++ stretch) in
     let some = (place_of (gateway_in setup u).endpoints line was at_was).0 in
-    let calm_since : GivesNothingUp setup line u w was is = (serves_then (of_line line (sent_from setup (gateway_in setup v) (took_meanwhile v u))) was.post calm_before, calm) in
     let paused = events_behind setup first pause in
     let before = was_there setup line some (plain_world setup first).gateway_took paused.0 was
     (subst (λ (events : List GatewayEvent). endpoint_at (plain setup events).endpoints line ≡ Some was) paused.1 at_was) in
-    let m = matched setup line some first pause stretch before.0 was is set_up taken few before.1 at_was at_is calm_before calm_since long in
-    whole_of setup line some first pause stretch before.0 was is set_up taken few before.1 at_was at_is calm_before calm_since long
-    (told_along (course_meanwhile setup line u w)) (taken_meanwhile setup line u w)
+    let m = in_pairs setup line some first pause stretch before.0 was is set_up taken before.1 at_was at_is calm_before calm long in
+    whole_of setup line u w was.post.pending is.post.pending m (told_along (course_meanwhile setup line u w)) (taken_meanwhile setup line u w)
     (ap (λ (events : List GatewayEvent). told_along (course_from setup (gateway_in setup u) line events)) (meanwhile_is u w m.events m.took)
     ∙ told_then setup line some set_up u.gateway_took m.events was is at_was
     (subst (λ (events : List GatewayEvent). endpoint_at (plain setup events).endpoints line ≡ Some is) m.took at_is))

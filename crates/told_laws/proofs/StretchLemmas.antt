@@ -1,64 +1,43 @@
--- Over a stretch in which a line gives nothing up, nor for a while before, the agent takes what the line begins, and in that order.
-use Rattle.std.proofs.Common.{◌≡◌, ℕ, ◌+◌, ◌≤◌, true, false, List, [], ◌∷◌, ◌++◌, length, drop, Option, Some, None, inl, inr, refl, sym, ap, ◌∙◌, subst, arith, append-nil, append_assoc}
-use Rattle.std.specs.Prelude.{◌⊎◌, flat_map}
+-- Over a stretch in which a line gives nothing up, nor for a while before, the agent takes what the line begins, in that order and in pairs,
+-- but for what is in flight; and no numbers of its commands need be left for that.
+use Rattle.std.proofs.Common.{◌≡◌, ℕ, ◌+◌, ◌<◌, ◌≤◌, Bool, true, false, ◌==◌, List, [], ◌∷◌, ◌++◌, length, drop, Option, Some, None, inl, inr, refl, sym, ap, ◌∙◌, subst, arith, append-nil, append_assoc}
+use Rattle.std.specs.Prelude.{◌⊎◌, flat_map, nat_le}
 use Rattle.std.proofs.Math.Seq.{drop-append_seam}
+use Rattle.std.proofs.lemmas.Bool.{eqb-false, eqb-true, leb-false, leb-true}
 use Rattle.std.proofs.lemmas.Grind.{flat_map-append}
 use Rattle.event_values.specs.declared.observed.Observed.{Observed}
 use Rattle.outbound.specs.Flight.{InFlight}
 use Rattle.plain_machine.specs.declared.setup.Setup.{Setup}
 use Rattle.plain_machine.specs.declared.endpoint.Endpoint.{Endpoint}
 use Rattle.plain_machine.specs.Event.{GatewayEvent}
-use Rattle.plain_machine.specs.Lists.{sent_from}
 use Rattle.plain_machine.specs.Machine.{endpoint_at}
 use Rattle.plain_machine.specs.Posting.{line_of_id}
 use Rattle.plain_machine.specs.Setup.{IsSetUp}
-use Rattle.machine_laws.specs.Saying.{HasNumbersLeft, Begun, OneOf, begun_in}
-use Rattle.machine_laws.proofs.EachLemmas.{Each, each_back, each_both, each_front, each_mapped, each_unmapped, each_weaker, one_before, one_of_each, one_to, one_weaker}
+use Rattle.machine_laws.specs.Saying.{Begun, OneOf}
+use Rattle.machine_laws.proofs.EachLemmas.{Each, each_back, each_both, each_front, each_weaker, one_before, one_of_each, one_to, one_weaker}
 use Rattle.agent_core.specs.World.{World, WorldStep, gateway_in, now_in, plain_world, steps_are_taken, world_opening}
-use Rattle.world_laws.specs.Reached.{Reached, own_in, taken_in}
+use Rattle.world_laws.specs.Reached.{Reached, taken_in}
+use Rattle.world_laws.proofs.ReachedLaws.{Apart}
 use Rattle.world_laws.proofs.WorldLaws.{Came, Comes}
 use Rattle.delivery_laws.specs.Chances.{last_chance}
+use Rattle.delivery_laws.specs.Copies.{answer_wait}
 use Rattle.delivery_laws.specs.GivenUp.{has_given_up}
-use Rattle.delivery_laws.proofs.BeganLemmas.{began_more, line_began}
+use Rattle.delivery_laws.proofs.BeganLemmas.{line_began}
 use Rattle.delivery_laws.proofs.DialledFlightLemmas.{flying}
-use Rattle.delivery_laws.proofs.DialledTakenLemmas.{is_of_line, told_taken}
-use Rattle.delivery_laws.proofs.FrontSteps.{took_more}
-use Rattle.delivery_laws.proofs.GivenUpFronts.{was_there}
-use Rattle.delivery_laws.proofs.MatchLemmas.{Apart, In, Matches, apart_clash, apart_front, begun_free, begun_one, each_in, each_two, ends_same, in_mapped, in_of_each, last_of, taken_matches}
-use Rattle.delivery_laws.proofs.MoveLemmas.{Move, agent_took, gateway_took, step_moves}
-use Rattle.delivery_laws.proofs.OnTurns.{FliesIn}
-use Rattle.delivery_laws.proofs.PairedSteps.{Stood, stood}
-use Rattle.delivery_laws.proofs.StandsTakenLemmas.{front_takes, line_took}
-use Rattle.delivery_laws.proofs.StepLemmas.{steps_more, taken_front}
+use Rattle.delivery_laws.proofs.DialledTakenLemmas.{told_taken}
+use Rattle.delivery_laws.proofs.MatchLemmas.{each_two}
+use Rattle.delivery_laws.proofs.PairLemmas.{Paired, Pairs, Spaced, pairs_tell, taken_pairs}
+use Rattle.delivery_laws.proofs.PairedSteps.{stood}
+use Rattle.delivery_laws.proofs.StepLemmas.{taken_front}
 use Rattle.delivery_laws.proofs.ToldLemmas.{told_by}
-use Rattle.delivery_laws.proofs.WorldLemmas.{Known, WasTaken, begun_ids, known, line_begun, line_taken, settled_taken, taken_ids, taken_mine, world_one}
-use Rattle.told_laws.specs.Stretch.{AnnouncesNothing, GivesNothingUp, IsOnItsWay, IsWhole, outliving, took_meanwhile}
+use Rattle.delivery_laws.proofs.WorldLemmas.{line_begun, line_taken}
+use Rattle.told_laws.specs.Stretch.{AnnouncesNothing, IsOnItsWay, IsWhole, outliving, took_meanwhile}
+use Rattle.told_laws.proofs.CalmLemmas.{CalmTurns, KeptIn, Took, all_keep, events_behind, never_behind, one_of_line, returns_back}
+use Rattle.told_laws.proofs.LateLemmas.{cancel, line_both, none_left, one_of_both}
 use Rattle.told_laws.proofs.LaterTakes.{TakesFrom, takes_since}
-use Rattle.told_laws.proofs.OverLemmas.{over_then}
-use Rattle.told_laws.proofs.SettledLemmas.{IsThere, Settles, Start, began_at, began_both, begun_on, begun_then, finals_since, sent_at, serving_is, settles, start}
-use Rattle.told_laws.proofs.LateLemmas.{all_tell, apart_back, cancel, each_kept, early_apart, early_begun, early_flies, early_late, early_of, early_taken, first_matches, front_tells, ids_both, in_back, in_both, in_early, in_front, late_apart, late_begun, late_came, late_is, late_more, late_same, line_both, none_among, none_left, one_of_both, self_in, taken_both}
-
--- What began since, beside what was taken since
-
-abbrev pub since_ids : Setup → ℕ → World → Option InFlight → List GatewayEvent → List ℕ
-since_ids setup line from pending events = begun_ids (flying pending ++ began_at setup line from.gateway_took events)
-
-abbrev pub took_ids : ℕ → World → Option InFlight → List Reached → List ℕ
-took_ids line from pending more = early_of pending (taken_in from) ++ taken_ids (line_taken line more)
-
-pub record Matched (setup : Setup) (line : ℕ) (from : World) (pending : Option InFlight) (w : World) : Type 0 where
-  pub events : List GatewayEvent
-  pub took : w.gateway_took ≡ from.gateway_took ++ events
-  pub more : List Reached
-  pub came : taken_in w ≡ taken_in from ++ more
-  pub matches : Matches (since_ids setup line from pending events) (took_ids line from pending more)
-
--- what the gateway took of some steps behind others
-pub events_behind : (setup : Setup) (some more : List WorldStep)
-    → (events : List GatewayEvent) × ((plain_world setup (some ++ more)).gateway_took ≡ (plain_world setup some).gateway_took ++ events)
-events_behind setup some more =
-    let m = took_more setup (plain_world setup some) more in
-    (m.0, ap (λ (x : World). x.gateway_took) (steps_more setup world_opening some more) ∙ m.1)
+use Rattle.told_laws.proofs.PassedLemmas.{AllSettled, IsLately, Settled, world_past}
+use Rattle.told_laws.proofs.ReturnLemmas.{ReturnLate, ids_return_late, return_time}
+use Rattle.told_laws.proofs.SettledLemmas.{began_at, begun_on, sent_at}
 
 pub meanwhile_is : (was is : World) (events : List GatewayEvent) → is.gateway_took ≡ was.gateway_took ++ events → took_meanwhile was is ≡ events
 meanwhile_is was is events same = ap (drop (length was.gateway_took)) same ∙ drop-append_seam was.gateway_took events
@@ -67,14 +46,318 @@ meanwhile_is was is events same = ap (drop (length was.gateway_took)) same ∙ d
 too_old : (b : Begun) (one : Reached) (was now : ℕ) → Comes one b → b.moment + last_chance ≤ was → was + outliving ≤ now → now ≤ one.asked.moment → ⊥
 too_old b one was now comes low long late = (let within = comes.within in omega (arith, within, low, long, late))
 
+-- What was taken isn't taken again
+
+too_near : (b : Begun) (first later : Reached) → Comes first b → Comes later b → Apart first later → ⊥
+too_near b first later one two apart =
+    let far = apart (sym one.id ∙ two.id) in
+    let begins = one.since in
+    let ends = two.within in
+    omega (arith, far, begins, ends)
+
+never_again : (taken more : List Reached) (b : Begun) → Spaced (taken ++ more) → Took taken b → Each (λ (one : Reached). Comes one b → ⊥) more
+never_again [] more b spaced took = absurd took
+never_again (x ∷ taken) more b spaced (inl comes) =
+    each_weaker (Apart x) (λ (one : Reached). Comes one b → ⊥) (λ one apart two. too_near b x one comes two apart) more (each_back (Apart x) taken more spaced.0)
+never_again (x ∷ taken) more b spaced (inr there) = never_again taken more b spaced.1 there
+
+spaced_behind : (taken more : List Reached) → Spaced (taken ++ more) → Spaced more
+spaced_behind [] more spaced = spaced
+spaced_behind (x ∷ taken) more spaced = spaced_behind taken more spaced.1
+
+-- Each command that is over was taken, or was given up
+
+abbrev IsOld : ℕ → List Reached → Begun → Type 0
+IsOld now taken b = Took taken b ⊎ (b.moment + last_chance ≤ now)
+
+module _ (line : ℕ) (all : List Reached) (now : ℕ) where
+  abbrev of_it : List Reached
+  of_it = line_taken line all
+
+  abbrev IsAt : ℕ → ℕ → Reached → Type 0
+  IsAt at id one = (one.asked.id ≡ id) × ((at < one.asked.moment + 40000) × (one.asked.moment ≤ at))
+
+  its_own : (before rest : List Begun) (b : Begun) (at : ℕ) (one : Reached) → ReturnLate (before ++ b ∷ rest) → b.moment ≤ at + 1000 → at ≤ b.moment + answer_wait → IsAt at b.id one
+      → OneOf (Comes one) before ⊎ OneOf (Comes one) (b ∷ rest) → Comes one b
+  its_own before rest b at one returns rises short is (inl early) =
+      absurd (never_behind before (b ∷ rest) b returns
+      (one_weaker (Comes one) (λ (x : Begun). (x.id ≡ b.id) × (b.moment < x.moment + return_time))
+      (λ x comes. (comes.id ∙ is.0, (let within = comes.within in let young : at < one.asked.moment + 40000 = is.1.0 in omega (arith, within, young, rises)))) before early) (inl refl))
+  its_own before rest b at one returns rises short is (inr (inl comes)) = comes
+  its_own before rest b at one returns rises short is (inr (inr behind)) =
+      absurd (one_to (λ (c : Begun). (b.id ≡ c.id → b.moment + return_time ≤ c.moment) × Comes one c) ⊥
+      (λ c both. (let late : b.moment + return_time ≤ c.moment = both.0 (sym is.0 ∙ sym both.1.id) in
+      let since : c.moment ≤ one.asked.moment = both.1.since in
+      let by : one.asked.moment ≤ at = is.1.1 in
+      omega (arith, late, since, by, short))) rest
+      (one_of_each (λ (c : Begun). b.id ≡ c.id → b.moment + return_time ≤ c.moment) (Comes one) rest (returns_back before (b ∷ rest) returns).0 behind))
+
+  took_each : (before done tail : List Begun) → ReturnLate (before ++ (done ++ tail)) → Each (Came (before ++ (done ++ tail))) of_it → Each (λ (b : Begun). line_of_id b.id ≡ line) done
+      → AllSettled all now done tail → Each (IsOld now of_it) done
+  took_each before [] tail returns came mine settled = tt
+  took_each before (b ∷ done) tail returns came mine settled =
+      (by_so one.so, took_each (before ++ b ∷ []) done tail (subst ReturnLate (sym order) returns) (subst (λ (x : List Begun). Each (Came x) of_it) (sym order) came) mine.1 settled.1) where
+        rest : List Begun
+        rest = done ++ tail
+
+        one : Settled all now b rest
+        one = settled.0
+
+        order : (before ++ b ∷ []) ++ rest ≡ before ++ b ∷ rest
+        order = append_assoc before (b ∷ []) rest
+
+        by_so : IsLately one.at all b.id ⊎ ((b.moment + last_chance ≤ now) × (b.moment + last_chance ≤ one.at + 1000)) → IsOld now of_it b
+        by_so (inl late) =
+            inl (one_weaker (λ (x : Reached). Came (before ++ b ∷ rest) x × IsAt one.at b.id x) (λ (x : Reached). Comes x b)
+            (λ x is. its_own before rest b one.at x returns one.rises one.short is.1 (one_of_both (Comes x) before (b ∷ rest) is.0)) of_it
+            (one_of_each (Came (before ++ b ∷ rest)) (IsAt one.at b.id) of_it came
+            (one_of_line line (IsAt one.at b.id) all (λ x is. ap (λ (id : ℕ). line_of_id id) is.0 ∙ mine.0) late)))
+        by_so (inr up) = inr up.0
+
+-- so it stays where nothing is given up
+
+record Old (now : ℕ) (begun : List Begun) (taken : List Reached) (pending : Option InFlight) : Type 0 where
+  done : List Begun
+  split : begun ≡ done ++ flying pending
+  each : Each (IsOld now taken) done
+
+old_turns : (now since : ℕ) → CalmTurns since (Old now)
+old_turns now since = record {
+  agent = λ begun taken more pending spaced came late old. record {
+    done = old.done;
+    split = old.split;
+    each = each_weaker (IsOld now taken) (IsOld now (taken ++ more)) (λ b is. grown taken more b is) old.done old.each;
+  };
+  stays = λ begun taken was is same old. record { done = old.done; split = old.split ∙ ap (λ (x : List Begun). old.done ++ x) (sym same); each = old.each };
+  begins = λ begun done taken was is returns order took old. record {
+    done = begun;
+    split = refl;
+    each = subst (Each (IsOld now taken)) (sym old.split)
+        (each_both (IsOld now taken) old.done (flying was) old.each (each_weaker (Took taken) (IsOld now taken) (λ b there. inl there) (flying was) took));
+  };
+} where
+  grown : (taken more : List Reached) (b : Begun) → IsOld now taken b → IsOld now (taken ++ more) b
+  grown taken more b (inl took) = inl (one_before (λ (one : Reached). Comes one b) taken more took)
+  grown taken more b (inr low) = inr low
+
+-- Since a time, in pairs, behind what began before
+
+record Beside (before : List Begun) (early : List Reached) (begun : List Begun) (taken : List Reached) (pending : Option InFlight) : Type 0 where
+  since : List Begun
+  more : List Reached
+  begun_is : begun ≡ before ++ since
+  taken_is : taken ≡ early ++ more
+  pairs : Paired since more pending
+
+pairs_came : (begun : List Begun) (taken : List Reached) → Pairs begun taken → Each (Came begun) taken
+pairs_came [] [] pairs = tt
+pairs_came [] (one ∷ taken) pairs = absurd pairs
+pairs_came (b ∷ begun) [] pairs = absurd pairs
+pairs_came (b ∷ begun) (one ∷ taken) pairs =
+    (inl pairs.0, each_weaker (Came begun) (Came (b ∷ begun)) (λ other came. inr came) taken (pairs_came begun taken pairs.1))
+
+again_near : (b x : Begun) (one : Reached) → Comes one b → Comes one x → (x.id ≡ b.id) × (b.moment < x.moment + return_time)
+again_near b x one comes other = (other.id ∙ sym comes.id, (let since = comes.since in let within = other.within in omega (arith, since, within)))
+
+module _ (before : List Begun) (early : List Reached) (old now : ℕ) (is_old : Each (IsOld old early) before) (came : Each (Came before) early) (long : old + outliving ≤ now) where
+  none_of : (some : List Begun) (taken more : List Reached) → Each (IsOld old early) some → Spaced (early ++ (taken ++ more)) → Each (λ (one : Reached). now ≤ one.asked.moment) more
+      → Each (λ (one : Reached). OneOf (Comes one) some → ⊥) more
+  none_of [] taken more each spaced late = each_weaker (λ (one : Reached). now ≤ one.asked.moment) (λ (one : Reached). OneOf (Comes one) [] → ⊥) (λ one far none. none) more late
+  none_of (b ∷ some) taken more each spaced late =
+      each_weaker (λ (one : Reached). (Comes one b → ⊥) × (OneOf (Comes one) some → ⊥)) (λ (one : Reached). OneOf (Comes one) (b ∷ some) → ⊥) by_place more
+      (each_two (λ (one : Reached). Comes one b → ⊥) (λ (one : Reached). OneOf (Comes one) some → ⊥) more (by_old each.0) (none_of some taken more each.1 spaced late)) where
+        by_place : (one : Reached) → (Comes one b → ⊥) × (OneOf (Comes one) some → ⊥) → OneOf (Comes one) (b ∷ some) → ⊥
+        by_place one never (inl comes) = never.0 comes
+        by_place one never (inr there) = never.1 there
+
+        by_old : IsOld old early b → Each (λ (one : Reached). Comes one b → ⊥) more
+        by_old (inl took) = each_back (λ (one : Reached). Comes one b → ⊥) taken more (never_again early (taken ++ more) b spaced took)
+        by_old (inr low) =
+            each_weaker (λ (one : Reached). now ≤ one.asked.moment) (λ (one : Reached). Comes one b → ⊥) (λ one far comes. too_old b one old now comes low long far) more late
+
+  -- the one in flight, which wasn't taken, isn't taken
+  untaken : (since front : List Begun) (more : List Reached) (flight : InFlight) → ReturnLate (before ++ since) → since ≡ front ++ flying (Some flight) → Pairs front more
+      → Took (early ++ more) (record { id = flight.id; moment = flight.first; text = flight.text }) → ⊥
+  untaken since front more flight returns is pairs took = by_place (one_of_both (λ (one : Reached). Comes one b) early more took) where
+    b : Begun
+    b = record { id = flight.id; moment = flight.first; text = flight.text }
+
+    last : OneOf (λ (c : Begun). c ≡ b) since
+    last = subst (OneOf (λ (c : Begun). c ≡ b)) (sym is) (at_end front) where
+      at_end : (some : List Begun) → OneOf (λ (c : Begun). c ≡ b) (some ++ b ∷ [])
+      at_end [] = inl refl
+      at_end (x ∷ some) = inr (at_end some)
+
+    near : (some : List Begun) (taken : List Reached) → Each (Came some) taken → OneOf (λ (one : Reached). Comes one b) taken → OneOf (λ (x : Begun). (x.id ≡ b.id) × (b.moment < x.moment + return_time)) some
+    near some taken came there =
+        one_to (λ (one : Reached). Came some one × Comes one b) (OneOf (λ (x : Begun). (x.id ≡ b.id) × (b.moment < x.moment + return_time)) some)
+        (λ one both. one_weaker (Comes one) (λ (x : Begun). (x.id ≡ b.id) × (b.moment < x.moment + return_time)) (λ x other. again_near b x one both.1 other) some both.0) taken
+        (one_of_each (Came some) (λ (one : Reached). Comes one b) taken came there)
+
+    by_place : OneOf (λ (one : Reached). Comes one b) early ⊎ OneOf (λ (one : Reached). Comes one b) more → ⊥
+    by_place (inl there) = never_behind before since b returns (near before early came there) last
+    by_place (inr there) =
+        never_behind front (b ∷ []) b (subst ReturnLate is (returns_back before since returns)) (near front more (pairs_came front more pairs) there) (inl refl)
+
+  beside_turns : CalmTurns now (Beside before early)
+  beside_turns = record { agent = agent; stays = stays; begins = begins } where
+    agent : (begun : List Begun) (taken more : List Reached) (pending : Option InFlight) → Spaced (taken ++ more) → Each (Came begun) more
+        → Each (λ (one : Reached). now ≤ one.asked.moment) more → Beside before early begun taken pending → Beside before early begun (taken ++ more) pending
+    agent begun taken more pending spaced comes late b = record {
+      since = b.since;
+      more = b.more ++ more;
+      begun_is = b.begun_is;
+      taken_is = ap (λ (x : List Reached). x ++ more) b.taken_is ∙ append_assoc early b.more more;
+      pairs = taken_pairs b.since b.more more pending b.pairs (spaced_behind early (b.more ++ more) apart)
+          (each_weaker (λ (one : Reached). Came (before ++ b.since) one × (OneOf (Comes one) before → ⊥)) (Came b.since) (λ one is. by_place one is.1 (one_of_both (Comes one) before b.since is.0)) more
+          (each_two (Came (before ++ b.since)) (λ (one : Reached). OneOf (Comes one) before → ⊥) more (subst (λ (x : List Begun). Each (Came x) more) b.begun_is comes)
+          (none_of before b.more more is_old apart late)));
+    } where
+      apart : Spaced (early ++ (b.more ++ more))
+      apart = subst Spaced (ap (λ (x : List Reached). x ++ more) b.taken_is ∙ append_assoc early b.more more) spaced
+
+      by_place : (one : Reached) → (OneOf (Comes one) before → ⊥) → OneOf (Comes one) before ⊎ OneOf (Comes one) b.since → Came b.since one
+      by_place one never (inl there) = absurd (never there)
+      by_place one never (inr there) = there
+
+    still : (since : List Begun) (more : List Reached) (was is : Option InFlight) → flying is ≡ flying was → Paired since more was → Paired since more is
+    still since more was is same (inl pairs) = inl pairs
+    still since more was None same (inr last) =
+        absurd (let clash : [] ≡ flying (Some last.flight) = same ∙ ap flying last.flies in cc)
+    still since more was (Some other) same (inr last) =
+        inr (record { flight = other; flies = refl; front = last.front; is = last.is ∙ ap (λ (x : List Begun). last.front ++ x) (ap flying (sym last.flies) ∙ sym same); pairs = last.pairs })
+
+    stays : (begun : List Begun) (taken : List Reached) (was is : Option InFlight) → flying is ≡ flying was → Beside before early begun taken was → Beside before early begun taken is
+    stays begun taken was is same b =
+        record { since = b.since; more = b.more; begun_is = b.begun_is; taken_is = b.taken_is; pairs = still b.since b.more was is same b.pairs }
+
+    next : (since : List Begun) (more : List Reached) (is : Option InFlight) → Pairs since more → Paired (since ++ flying is) more is
+    next since more None pairs = inl (subst (λ (x : List Begun). Pairs x more) (sym (append-nil since)) pairs)
+    next since more (Some flight) pairs = inr (record { flight = flight; flies = refl; front = since; is = refl; pairs = pairs })
+
+    begins : (begun done : List Begun) (taken : List Reached) (was is : Option InFlight) → ReturnLate begun → begun ≡ done ++ flying was → Each (Took taken) (flying was)
+        → Beside before early begun taken was → Beside before early (begun ++ flying is) taken is
+    begins begun done taken was is returns order took b = record {
+      since = b.since ++ flying is;
+      more = b.more;
+      begun_is = ap (λ (x : List Begun). x ++ flying is) b.begun_is ∙ append_assoc before b.since (flying is);
+      taken_is = b.taken_is;
+      pairs = next b.since b.more is (by_pairs b.pairs);
+    } where
+      by_pairs : Paired b.since b.more was → Pairs b.since b.more
+      by_pairs (inl pairs) = pairs
+      by_pairs (inr last) =
+          absurd (untaken b.since last.front b.more last.flight (subst ReturnLate b.begun_is returns) last.is last.pairs
+          (subst (λ (x : List Reached). Took x (record { id = last.flight.id; moment = last.flight.first; text = last.flight.text })) b.taken_is
+          (subst (λ (p : Option InFlight). Each (Took taken) (flying p)) last.flies took).0))
+
+-- What is in flight was taken, or no copy of it
+
+abbrev IsItsCopy : InFlight → Reached → Type 0
+IsItsCopy flight one = (one.asked.id ≡ flight.id) × (flight.first ≤ one.asked.moment)
+
+decided : (flight : InFlight) (taken : List Reached) → OneOf (IsItsCopy flight) taken ⊎ Each (λ (one : Reached). IsItsCopy flight one → ⊥) taken
+decided flight [] = inr tt
+decided flight (one ∷ taken) = by_tests (one.asked.id == flight.id) (nat_le flight.first one.asked.moment) refl refl (decided flight taken) where
+  by_rest : (IsItsCopy flight one → ⊥) → OneOf (IsItsCopy flight) taken ⊎ Each (λ (x : Reached). IsItsCopy flight x → ⊥) taken
+      → OneOf (IsItsCopy flight) (one ∷ taken) ⊎ Each (λ (x : Reached). IsItsCopy flight x → ⊥) (one ∷ taken)
+  by_rest never (inl there) = inl (inr there)
+  by_rest never (inr none) = inr (never, none)
+
+  by_tests : (a b : Bool) → (one.asked.id == flight.id) ≡ a → nat_le flight.first one.asked.moment ≡ b → OneOf (IsItsCopy flight) taken ⊎ Each (λ (x : Reached). IsItsCopy flight x → ⊥) taken
+      → OneOf (IsItsCopy flight) (one ∷ taken) ⊎ Each (λ (x : Reached). IsItsCopy flight x → ⊥) (one ∷ taken)
+  by_tests true true same since rest = inl (inl (eqb-true one.asked.id flight.id same, leb-true flight.first one.asked.moment since))
+  by_tests true false same sooner rest =
+      by_rest (λ is. absurd (let late = leb-false flight.first one.asked.moment sooner in let since : flight.first ≤ one.asked.moment = is.1 in omega (arith, late, since))) rest
+  by_tests false b other since rest = by_rest (λ is. absurd (eqb-false one.asked.id flight.id other is.0)) rest
+
+-- what began before, and what is on its way
+record Starts (old : ℕ) (begun : List Begun) (taken : List Reached) (pending : Option InFlight) : Type 0 where
+  before : List Begun
+  late : List Begun
+  split : begun ≡ before ++ late
+  late_is : (late ≡ []) ⊎ (late ≡ flying pending)
+  each : Each (IsOld old taken) before
+  came : Each (Came before) taken
+  pairs : Paired late [] pending
+
+starts : (old : ℕ) (begun : List Begun) (taken : List Reached) (pending : Option InFlight) → ReturnLate begun → Each (Came begun) taken → Old old begun taken pending → Starts old begun taken pending
+starts old begun taken None returns came o = record {
+  before = o.done;
+  late = [];
+  split = o.split;
+  late_is = inl refl;
+  each = o.each;
+  came = subst (λ (x : List Begun). Each (Came x) taken) (o.split ∙ append-nil o.done) came;
+  pairs = inl tt;
+}
+starts old begun taken (Some flight) returns came o = by_copy (decided flight taken) where
+  b : Begun
+  b = record { id = flight.id; moment = flight.first; text = flight.text }
+
+  came_so : Each (Came (o.done ++ b ∷ [])) taken
+  came_so = subst (λ (x : List Begun). Each (Came x) taken) o.split came
+
+  its : (one : Reached) → IsItsCopy flight one → OneOf (Comes one) o.done ⊎ OneOf (Comes one) (b ∷ []) → Comes one b
+  its one is (inl there) =
+      absurd (never_behind o.done (b ∷ []) b (subst ReturnLate o.split returns)
+      (one_weaker (Comes one) (λ (x : Begun). (x.id ≡ b.id) × (b.moment < x.moment + return_time))
+      (λ x comes. (comes.id ∙ is.0, (let within = comes.within in let since : flight.first ≤ one.asked.moment = is.1 in omega (arith, within, since)))) o.done there) (inl refl))
+  its one is (inr (inl comes)) = comes
+  its one is (inr (inr none)) = absurd none
+
+  early : (one : Reached) → (IsItsCopy flight one → ⊥) → OneOf (Comes one) o.done ⊎ OneOf (Comes one) (b ∷ []) → Came o.done one
+  early one never (inl there) = there
+  early one never (inr (inl comes)) = absurd (never (sym comes.id, comes.since))
+  early one never (inr (inr none)) = absurd none
+
+  by_copy : OneOf (IsItsCopy flight) taken ⊎ Each (λ (one : Reached). IsItsCopy flight one → ⊥) taken → Starts old begun taken (Some flight)
+  by_copy (inl there) = record {
+    before = o.done ++ b ∷ [];
+    late = [];
+    split = o.split ∙ sym (append-nil (o.done ++ b ∷ []));
+    late_is = inl refl;
+    each = each_both (IsOld old taken) o.done (b ∷ []) o.each (inl took, tt);
+    came = came_so;
+    pairs = inl tt;
+  } where
+    took : Took taken b
+    took =
+        one_weaker (λ (one : Reached). Came (o.done ++ b ∷ []) one × IsItsCopy flight one) (λ (one : Reached). Comes one b)
+        (λ one is. its one is.1 (one_of_both (Comes one) o.done (b ∷ []) is.0)) taken (one_of_each (Came (o.done ++ b ∷ [])) (IsItsCopy flight) taken came_so there)
+  by_copy (inr none) = record {
+    before = o.done;
+    late = b ∷ [];
+    split = o.split;
+    late_is = inr refl;
+    each = o.each;
+    came = each_weaker (λ (one : Reached). Came (o.done ++ b ∷ []) one × (IsItsCopy flight one → ⊥)) (Came o.done)
+        (λ one is. early one is.1 (one_of_both (Comes one) o.done (b ∷ []) is.0)) taken
+        (each_two (Came (o.done ++ b ∷ [])) (λ (one : Reached). IsItsCopy flight one → ⊥) taken came_so none);
+    pairs = inr (record { flight = flight; flies = refl; front = []; is = refl; pairs = tt });
+  }
+
+-- Over the stretch
+
+-- what was on its way at first, and what began since, in pairs with what was taken since
+pub record InPairs (setup : Setup) (line : ℕ) (u w : World) (was is : Option InFlight) : Type 0 where
+  pub events : List GatewayEvent
+  pub took : w.gateway_took ≡ u.gateway_took ++ events
+  pub more : List Reached
+  pub came : taken_in w ≡ taken_in u ++ more
+  pub late : List Begun
+  pub late_is : (late ≡ []) ⊎ (late ≡ flying was)
+  pub pairs : Paired (late ++ began_at setup line u.gateway_took events) (line_taken line more) is
+  pub untaken : (front : List Begun) (flight : InFlight) → late ++ began_at setup line u.gateway_took events ≡ front ++ flying (Some flight) → Pairs front (line_taken line more)
+      → Took (line_taken line (taken_in w)) (record { id = flight.id; moment = flight.first; text = flight.text }) → ⊥
+
 module _ (setup : Setup) (line : ℕ) (some : 1 ≤ line) (first pause stretch : List WorldStep) (before was is : Endpoint) (set_up : IsSetUp setup)
     (taken : steps_are_taken setup world_opening ((first ++ pause) ++ stretch) ≡ true)
-    (few : HasNumbersLeft (own_in setup (plain_world setup ((first ++ pause) ++ stretch))))
     (at_before : endpoint_at (gateway_in setup (plain_world setup first)).endpoints line ≡ Some before)
     (at_was : endpoint_at (gateway_in setup (plain_world setup (first ++ pause))).endpoints line ≡ Some was)
     (at_is : endpoint_at (gateway_in setup (plain_world setup ((first ++ pause) ++ stretch))).endpoints line ≡ Some is)
     (calm_before : AnnouncesNothing setup line (plain_world setup first) (plain_world setup (first ++ pause)) was)
-    (calm_since : GivesNothingUp setup line (plain_world setup (first ++ pause)) (plain_world setup ((first ++ pause) ++ stretch)) was is)
+    (calm_since : AnnouncesNothing setup line (plain_world setup (first ++ pause)) (plain_world setup ((first ++ pause) ++ stretch)) is)
     (long : now_in setup (plain_world setup first) + outliving ≤ now_in setup (plain_world setup (first ++ pause))) where
   -- the steps up to the stretch and to its end, and the worlds at its beginning, so long before, and at its end
   abbrev up : List WorldStep
@@ -98,553 +381,123 @@ module _ (setup : Setup) (line : ℕ) (some : 1 ≤ line) (first pause stretch :
   taken_first : steps_are_taken setup world_opening first ≡ true
   taken_first = taken_front setup world_opening first pause taken_up
 
-  meant : Known setup line w
-  meant = known setup line some all set_up taken few
-
-  -- What began before the stretch
-
-  paused : (events : List GatewayEvent) × (u.gateway_took ≡ v.gateway_took ++ events)
-  paused = events_behind setup first pause
-
-  there_up : IsThere setup line (v.gateway_took ++ paused.0) was
-  there_up = subst (λ (x : List GatewayEvent). IsThere setup line x was) paused.1 at_was
-
-  none_up : has_given_up (sent_at setup line v.gateway_took (paused.0 ++ [])) was.post ≡ false
-  none_up =
-      subst (λ (x : List GatewayEvent). has_given_up (sent_at setup line v.gateway_took x) was.post ≡ false)
-      (meanwhile_is v u paused.0 paused.1 ∙ sym (append-nil paused.0)) calm_before
-
-  settled_up : Settles (WasTaken (taken_in u)) before.post.pending (began_at setup line v.gateway_took paused.0) was.post.pending
-  settled_up =
-      settles setup line some (WasTaken (taken_in u)) v.gateway_took paused.0 [] before was was at_before there_up
-      (subst (λ (x : List GatewayEvent). IsThere setup line x was) (sym (append-nil (v.gateway_took ++ paused.0))) there_up)
-      ((stood setup line some first set_up taken_first).flies before at_before).rests (finals_since setup up v.gateway_took paused.0 set_up taken_up paused.1) none_up
-
-  start_up : Start setup line u.gateway_took was
-  start_up = start setup line some u.gateway_took was at_was (serving_is was.post.restart calm_since.0)
-
-  abbrev old : List Begun
-  old = begun_in start_up.front
-
-  abbrev Mine : Begun → Type 0
-  Mine b = line_of_id b.id ≡ line
-
-  -- it began before, or is in flight
-  begun_up : line_begun setup line u.gateway_took ≡ old ++ flying was.post.pending
-  begun_up = begun_then setup line u.gateway_took was start_up
-
-  up_mine : Each Mine (old ++ flying was.post.pending)
-  up_mine = subst (Each Mine) begun_up (stood setup line some up set_up taken_up).mine
-
-  up_apart : Apart (begun_ids old ++ begun_ids (flying was.post.pending))
-  up_apart =
-      let later = began_more setup line up stretch in
-      subst Apart (ap begun_ids begun_up ∙ ids_both old (flying was.post.pending))
-      (apart_front (begun_ids (line_began setup line up)) (begun_ids later.0)
-      (subst Apart (ap begun_ids later.1 ∙ ids_both (line_began setup line up) later.0) meant.apart))
-
-  -- it was taken by then, or sent last long before
-  abbrev IsOld : Begun → Type 0
-  IsOld b = WasTaken (taken_in u) b.id ⊎ (b.moment + last_chance ≤ now_in setup v)
-
-  abbrev FliesNow : ℕ → Type 0
-  FliesNow id = In id (begun_ids (flying was.post.pending))
-
-  -- what was in flight so long before, and what began since, was taken, or is in flight
-  abbrev TakenOrFlies : ℕ → Type 0
-  TakenOrFlies id = WasTaken (taken_in u) id ⊎ FliesNow id
-
-  meanwhile_taken : Each (λ (b : Begun). TakenOrFlies b.id) (flying before.post.pending ++ began_at setup line v.gateway_took paused.0)
-  meanwhile_taken =
-      subst (Each (λ (b : Begun). TakenOrFlies b.id)) (sym settled_up.split)
-      (each_both (λ (b : Begun). TakenOrFlies b.id) settled_up.settled (flying was.post.pending)
-      (each_weaker (λ (b : Begun). WasTaken (taken_in u) b.id) (λ (b : Begun). TakenOrFlies b.id) (λ b was. inl was) settled_up.settled settled_up.answered)
-      (each_weaker (λ (b : Begun). FliesNow b.id) (λ (b : Begun). TakenOrFlies b.id) (λ b flies. inr flies) (flying was.post.pending)
-      (each_in (λ (b : Begun). b.id) (flying was.post.pending))))
-
-  first_taken : (flight : InFlight) → before.post.pending ≡ Some flight → TakenOrFlies flight.id
-  first_taken flight flies =
-      (subst (λ (p : Option InFlight). Each (λ (b : Begun). TakenOrFlies b.id) (flying p)) flies
-      (each_front (λ (b : Begun). TakenOrFlies b.id) (flying before.post.pending) (began_at setup line v.gateway_took paused.0) meanwhile_taken)).0
-
-  still_taken : (id : ℕ) → WasTaken (taken_in v) id → WasTaken (taken_in u) id
-  still_taken id was =
-      let since = takes_since setup first pause set_up taken_up in
-      subst (λ (x : List Reached). WasTaken x id) (sym since.grown) (one_before (λ (x : Reached). x.asked.id ≡ id) (taken_in v) since.more was)
-
-  abbrev IsOldOrFlies : Begun → Type 0
-  IsOldOrFlies b = IsOld b ⊎ FliesNow b.id
-
-  then_old : (b : Begun) → WasTaken (taken_in v) b.id ⊎ ((b.moment + last_chance ≤ now_in setup v) ⊎ FliesIn (WasTaken (taken_in v)) before.post.pending b) → IsOldOrFlies b
-  then_old b (inl was) = inl (inl (still_taken b.id was))
-  then_old b (inr (inl low)) = inl (inr low)
-  then_old b (inr (inr (flight, flies, it))) = by_taken (subst TakenOrFlies it.id (first_taken flight flies)) where
-    by_taken : TakenOrFlies b.id → IsOldOrFlies b
-    by_taken (inl was) = inl (inl was)
-    by_taken (inr now) = inr now
-
-  since_old : (b : Begun) → TakenOrFlies b.id → IsOldOrFlies b
-  since_old b (inl was) = inl (inl was)
-  since_old b (inr now) = inr now
-
-  all_old : Each IsOldOrFlies (line_begun setup line u.gateway_took)
-  all_old =
-      subst (Each IsOldOrFlies) (sym (ap (line_begun setup line) paused.1 ∙ begun_on setup line v.gateway_took paused.0))
-      (each_both IsOldOrFlies (line_begun setup line v.gateway_took) (began_at setup line v.gateway_took paused.0)
-      (each_weaker (λ (b : Begun). WasTaken (taken_in v) b.id ⊎ ((b.moment + last_chance ≤ now_in setup v) ⊎ FliesIn (WasTaken (taken_in v)) before.post.pending b))
-      IsOldOrFlies then_old (line_begun setup line v.gateway_took) (over_then setup line some first set_up taken_first before at_before))
-      (each_weaker (λ (b : Begun). TakenOrFlies b.id) IsOldOrFlies since_old (began_at setup line v.gateway_took paused.0)
-      (each_back (λ (b : Begun). TakenOrFlies b.id) (flying before.post.pending) (began_at setup line v.gateway_took paused.0) meanwhile_taken)))
-
-  old_is : Each IsOld old
-  old_is =
-      each_weaker (λ (b : Begun). IsOldOrFlies b × In b.id (begun_ids old)) IsOld (λ b is. by_case b is.1 is.0) old
-      (each_two IsOldOrFlies (λ (b : Begun). In b.id (begun_ids old)) old
-      (each_front IsOldOrFlies old (flying was.post.pending) (subst (Each IsOldOrFlies) begun_up all_old))
-      (each_in (λ (b : Begun). b.id) old)) where
-        by_case : (b : Begun) → In b.id (begun_ids old) → IsOld b ⊎ FliesNow b.id → IsOld b
-        by_case b inside (inl is) = is
-        by_case b inside (inr now) = absurd (apart_clash (begun_ids old) (begun_ids (flying was.post.pending)) b.id up_apart inside now)
-
-  -- Behind some steps of the stretch
-
-  abbrev pending : Option InFlight
-  pending = was.post.pending
-
-  abbrev In_u : ℕ → Type 0
-  In_u id = In id (taken_ids (line_taken line (taken_in u)))
-
-  -- those of its commands that it took by then
-  taken_apart : (s after : List WorldStep) (more : List Reached) → s ++ after ≡ all → taken_in (plain_world setup s) ≡ taken_in u ++ more
-      → Apart (taken_ids (line_taken line (taken_in u)) ++ taken_ids (line_taken line more))
-  taken_apart s after more whole came =
-      let later = front_takes setup line s all (after, sym whole) in
-      let order : line_took setup line all ≡ (line_taken line (taken_in u) ++ line_taken line more) ++ later.0 =
-      later.1 ∙ ap (λ (x : List Reached). x ++ later.0) (ap (line_taken line) came ∙ line_both line (taken_in u) more) in
-      subst Apart (taken_both (line_taken line (taken_in u)) (line_taken line more))
-      (apart_front (taken_ids (line_taken line (taken_in u) ++ line_taken line more)) (taken_ids later.0)
-      (subst Apart (ap taken_ids order ∙ taken_both (line_taken line (taken_in u) ++ line_taken line more) later.0) meant.once))
-
-  -- and those that it began
-  begun_since : (s : List WorldStep) (events : List GatewayEvent) → (plain_world setup s).gateway_took ≡ u.gateway_took ++ events
-      → line_began setup line s ≡ old ++ (flying pending ++ began_at setup line u.gateway_took events)
-  begun_since s events took =
-      ap (line_begun setup line) took
-      ∙ begun_on setup line u.gateway_took events
-      ∙ ap (λ (x : List Begun). x ++ began_at setup line u.gateway_took events) begun_up
-      ∙ append_assoc old (flying pending) (began_at setup line u.gateway_took events)
-
-  begun_apart : (s after : List WorldStep) (events : List GatewayEvent) → s ++ after ≡ all
-      → (plain_world setup s).gateway_took ≡ u.gateway_took ++ events → Apart (begun_ids (line_began setup line s))
-  begun_apart s after events whole took =
-      let later = began_more setup line s after in
-      let order : line_begun setup line w.gateway_took ≡ line_began setup line s ++ later.0 = ap (line_began setup line) (sym whole) ∙ later.1 in
-      apart_front (begun_ids (line_began setup line s)) (begun_ids later.0)
-      (subst Apart (ap begun_ids order ∙ ids_both (line_began setup line s) later.0) meant.apart)
-
-  since_apart : (s after : List WorldStep) (events : List GatewayEvent) → s ++ after ≡ all
-      → (plain_world setup s).gateway_took ≡ u.gateway_took ++ events → Apart (since_ids setup line u pending events)
-  since_apart s after events whole took =
-      apart_back (begun_ids old) (since_ids setup line u pending events)
-      (subst Apart (ap begun_ids (begun_since s events took) ∙ ids_both old (flying pending ++ began_at setup line u.gateway_took events))
-      (begun_apart s after events whole took))
-
-  -- What is taken in the stretch began in it, or was in flight at first.
-
-  from_there : (s : List WorldStep) (events : List GatewayEvent) (one : Reached) → (plain_world setup s).gateway_took ≡ u.gateway_took ++ events
-      → Came (line_began setup line s) one → now_in setup u ≤ one.asked.moment → (In_u one.asked.id → ⊥)
-      → Came (flying pending ++ began_at setup line u.gateway_took events) one
-  from_there s events one took came late never =
-      by_place (one_of_both (Comes one) old new (subst (OneOf (Comes one)) (begun_since s events took) came)) where
-        new : List Begun
-        new = flying pending ++ began_at setup line u.gateway_took events
-
-        by_old : (b : Begun) → IsOld b → line_of_id b.id ≡ line → Comes one b → ⊥
-        by_old b (inl was) mine comes = never (subst In_u comes.id (taken_mine line b.id (taken_in u) mine was))
-        by_old b (inr low) mine comes = too_old b one (now_in setup v) (now_in setup u) comes low long late
-
-        in_old : OneOf (Comes one) old → ⊥
-        in_old comes =
-            one_to (λ (b : Begun). (IsOld b × Mine b) × Comes one b) ⊥ (λ b both. by_old b both.0.0 both.0.1 both.1) old
-            (one_of_each (λ (b : Begun). IsOld b × Mine b) (Comes one) old
-            (each_two IsOld Mine old old_is (each_front Mine old (flying was.post.pending) up_mine)) comes)
-
-        by_place : OneOf (Comes one) old ⊎ OneOf (Comes one) new → Came new one
-        by_place (inl comes) = absurd (in_old comes)
-        by_place (inr comes) = comes
-
-  -- each of them
-  came_there : (s done after : List WorldStep) (events : List GatewayEvent) (more : List Reached) → s ≡ up ++ done → s ++ after ≡ all
-      → (plain_world setup s).gateway_took ≡ u.gateway_took ++ events → taken_in (plain_world setup s) ≡ taken_in u ++ more
-      → Each (λ (one : Reached). Came (flying pending ++ began_at setup line u.gateway_took events) one × (In_u one.asked.id → ⊥)) (line_taken line more)
-  came_there s done after events more is_up whole took came =
-      each_weaker All3 (λ (one : Reached). Came (flying pending ++ began_at setup line u.gateway_took events) one × (In_u one.asked.id → ⊥))
-      (λ one is. (from_there s events one took is.0.0 is.0.1 is.1, is.1)) (line_taken line more) three where
-        taken_s : steps_are_taken setup world_opening s ≡ true
-        taken_s = taken_front setup world_opening s after (ap (steps_are_taken setup world_opening) whole ∙ taken)
-
-        came_all : Each (Came (line_began setup line s)) (line_taken line more)
-        came_all =
-            each_back (Came (line_began setup line s)) (line_taken line (taken_in u)) (line_taken line more)
-            (subst (Each (Came (line_began setup line s))) (ap (line_taken line) came ∙ line_both line (taken_in u) more)
-            (stood setup line some s set_up taken_s).came)
-
-        since : TakesFrom (now_in setup u) (taken_in u) (taken_in (plain_world setup s))
-        since =
-            subst (λ (x : List WorldStep). TakesFrom (now_in setup u) (taken_in u) (taken_in (plain_world setup x))) (sym is_up)
-            (takes_since setup up done set_up (subst (λ (x : List WorldStep). steps_are_taken setup world_opening x ≡ true) is_up taken_s))
-
-        late : Each (λ (one : Reached). now_in setup u ≤ one.asked.moment) (line_taken line more)
-        late =
-            each_kept (λ (one : Reached). now_in setup u ≤ one.asked.moment) (is_of_line line) more
-            (subst (Each (λ (one : Reached). now_in setup u ≤ one.asked.moment)) (cancel (taken_in u) since.more more (sym since.grown ∙ came)) since.later)
-
-        never : Each (λ (one : Reached). In_u one.asked.id → ⊥) (line_taken line more)
-        never =
-            each_unmapped (λ (id : ℕ). In_u id → ⊥) (λ (one : Reached). one.asked.id) (line_taken line more)
-            (none_among (taken_ids (line_taken line (taken_in u))) (taken_ids (line_taken line more)) (taken_apart s after more whole came))
-
-        All3 : Reached → Type 0
-        All3 one = (Came (line_began setup line s) one × (now_in setup u ≤ one.asked.moment)) × (In_u one.asked.id → ⊥)
-
-        three : Each All3 (line_taken line more)
-        three =
-            each_two (λ (one : Reached). Came (line_began setup line s) one × (now_in setup u ≤ one.asked.moment)) (λ (one : Reached). In_u one.asked.id → ⊥)
-            (line_taken line more)
-            (each_two (Came (line_began setup line s)) (λ (one : Reached). now_in setup u ≤ one.asked.moment) (line_taken line more) came_all late) never
-
-  taken_there : (s done after : List WorldStep) (events : List GatewayEvent) (more : List Reached) → s ≡ up ++ done → s ++ after ≡ all
-      → (plain_world setup s).gateway_took ≡ u.gateway_took ++ events → taken_in (plain_world setup s) ≡ taken_in u ++ more
-      → Each (λ (id : ℕ). In id (since_ids setup line u pending events)) (taken_ids (line_taken line more))
-  taken_there s done after events more is_up whole took came =
-      let new : List Begun = flying pending ++ began_at setup line u.gateway_took events in
-      each_mapped (λ (id : ℕ). In id (since_ids setup line u pending events)) (λ (one : Reached). one.asked.id) (line_taken line more)
-      (each_weaker (λ (one : Reached). Came new one × (In_u one.asked.id → ⊥)) (λ (one : Reached). In one.asked.id (since_ids setup line u pending events))
-      (λ one is. in_mapped (λ (b : Begun). b.id) one.asked.id new
-      (one_weaker (Comes one) (λ (b : Begun). b.id ≡ one.asked.id) (λ b c. c.id) new is.0)) (line_taken line more)
-      (came_there s done after events more is_up whole took came))
-
-  flying_mine : Each Mine (flying pending)
-  flying_mine = each_back Mine old (flying pending) up_mine
-
-  early_in_u : Each In_u (early_of pending (taken_in u))
-  early_in_u = early_taken line pending (taken_in u) flying_mine
-
-  -- all that the agent took, of what counts, began
-  took_there : (s done after : List WorldStep) (events : List GatewayEvent) (more : List Reached) → s ≡ up ++ done → s ++ after ≡ all
-      → (plain_world setup s).gateway_took ≡ u.gateway_took ++ events → taken_in (plain_world setup s) ≡ taken_in u ++ more
-      → Each (λ (id : ℕ). In id (since_ids setup line u pending events)) (took_ids line u pending more)
-  took_there s done after events more is_up whole took came =
-      each_both (λ (id : ℕ). In id (since_ids setup line u pending events)) (early_of pending (taken_in u)) (taken_ids (line_taken line more))
-      (each_weaker (λ (id : ℕ). In id (begun_ids (flying pending))) (λ (id : ℕ). In id (since_ids setup line u pending events))
-      (λ id here. subst (In id) (sym (ids_both (flying pending) (began_at setup line u.gateway_took events)))
-      (in_front id (begun_ids (flying pending)) (begun_ids (began_at setup line u.gateway_took events)) here))
-      (early_of pending (taken_in u)) (early_flies pending (taken_in u)))
-      (taken_there s done after events more is_up whole took came)
-
-  -- The agent takes more.
-
-  agent_step : (s next done after : List WorldStep) (new : List Reached) → next ≡ up ++ done → next ++ after ≡ all
-      → (plain_world setup next).gateway_took ≡ (plain_world setup s).gateway_took → taken_in (plain_world setup next) ≡ taken_in (plain_world setup s) ++ new
-      → Matched setup line u pending (plain_world setup s) → Matched setup line u pending (plain_world setup next)
-  agent_step s next done after new is_up whole took takes m = record {
-    events = m.events;
-    took = took_is;
-    more = m.more ++ new;
-    came = came_is;
-    matches = subst (Matches (since_ids setup line u pending m.events)) (sym ids)
-        (taken_matches (since_ids setup line u pending m.events) (took_ids line u pending m.more) (taken_ids (line_taken line new)) m.matches
-        (subst Apart ids
-        (early_apart pending (taken_in u) (taken_ids (line_taken line (taken_in u))) (taken_ids (line_taken line (m.more ++ new))) early_in_u
-        (taken_apart next after (m.more ++ new) whole came_is)))
-        (each_back P (taken_ids (line_taken line m.more)) (taken_ids (line_taken line new))
-        (subst (Each P) parts (taken_there next done after m.events (m.more ++ new) is_up whole took_is came_is))));
-  } where
-    P : ℕ → Type 0
-    P id = In id (since_ids setup line u pending m.events)
-
-    took_is : (plain_world setup next).gateway_took ≡ u.gateway_took ++ m.events
-    took_is = took ∙ m.took
-
-    came_is : taken_in (plain_world setup next) ≡ taken_in u ++ (m.more ++ new)
-    came_is = takes ∙ ap (λ (x : List Reached). x ++ new) m.came ∙ append_assoc (taken_in u) m.more new
-
-    parts : taken_ids (line_taken line (m.more ++ new)) ≡ taken_ids (line_taken line m.more) ++ taken_ids (line_taken line new)
-    parts = ap taken_ids (line_both line m.more new) ∙ taken_both (line_taken line m.more) (line_taken line new)
-
-    ids : took_ids line u pending (m.more ++ new) ≡ took_ids line u pending m.more ++ taken_ids (line_taken line new)
-    ids =
-        ap (λ (x : List ℕ). early_of pending (taken_in u) ++ x) parts
-        ∙ sym (append_assoc (early_of pending (taken_in u)) (taken_ids (line_taken line m.more)) (taken_ids (line_taken line new)))
-
-  -- The gateway takes an event.
-
-  -- none that began in the stretch was taken before
-  never_both : (s after : List WorldStep) (events : List GatewayEvent) (id : ℕ) → s ++ after ≡ all
-      → (plain_world setup s).gateway_took ≡ u.gateway_took ++ events → In id (begun_ids (began_at setup line u.gateway_took events)) → In_u id → ⊥
-  never_both s after events id whole took here there =
-      apart_clash (begun_ids (line_begun setup line u.gateway_took)) (begun_ids (began_at setup line u.gateway_took events)) id
-      (subst Apart (ap begun_ids (ap (line_begun setup line) took ∙ begun_on setup line u.gateway_took events)
-      ∙ ids_both (line_begun setup line u.gateway_took) (began_at setup line u.gateway_took events)) (begun_apart s after events whole took))
-      (in_of_each (λ (i : ℕ). In i (begun_ids (line_begun setup line u.gateway_took))) id (taken_ids (line_taken line (taken_in u)))
-      (each_mapped (λ (i : ℕ). In i (begun_ids (line_begun setup line u.gateway_took))) (λ (one : Reached). one.asked.id) (line_taken line (taken_in u))
-      (each_weaker (Came (line_begun setup line u.gateway_took)) (λ (one : Reached). In one.asked.id (begun_ids (line_begun setup line u.gateway_took)))
-      (λ one came. in_mapped (λ (b : Begun). b.id) one.asked.id (line_begun setup line u.gateway_took)
-      (one_weaker (Comes one) (λ (b : Begun). b.id ≡ one.asked.id) (λ b c. c.id) (line_begun setup line u.gateway_took) came))
-      (line_taken line (taken_in u)) (stood setup line some up set_up taken_up).came)) there) here
-
-  -- what was answered counts as taken
-  pub answered_taken : (s done after : List WorldStep) (events : List GatewayEvent) (more : List Reached) (settled : List Begun) (flies : Option InFlight) → s ++ after ≡ all
-      → (plain_world setup s).gateway_took ≡ u.gateway_took ++ events → taken_in (plain_world setup s) ≡ taken_in u ++ more
-      → flying pending ++ began_at setup line u.gateway_took events ≡ settled ++ flying flies
-      → Each (λ (b : Begun). WasTaken (taken_in (plain_world setup s)) b.id) settled
-      → Each (λ (id : ℕ). In id (took_ids line u pending more)) (begun_ids settled)
-  answered_taken s done after events more settled flies whole took came split answered =
-      each_weaker Both (λ (id : ℕ). In id (took_ids line u pending more)) (λ id is. by_taken id (in_both id (taken_ids (line_taken line (taken_in u))) (taken_ids (line_taken line more)) is.0) is.1)
-      (begun_ids settled) both where
-        new : List Begun
-        new = began_at setup line u.gateway_took events
-
-        taken_s : steps_are_taken setup world_opening s ≡ true
-        taken_s = taken_front setup world_opening s after (ap (steps_are_taken setup world_opening) whole ∙ taken)
-
-        mine : Each Mine settled
-        mine =
-            each_front Mine settled (flying flies)
-            (subst (Each Mine) split
-            (each_back Mine old (flying pending ++ new)
-            (subst (Each Mine) (begun_since s events took) (stood setup line some s set_up taken_s).mine)))
-
-        Both : ℕ → Type 0
-        Both id = In id (taken_ids (line_taken line (taken_in u)) ++ taken_ids (line_taken line more)) × In id (begun_ids (flying pending) ++ begun_ids new)
-
-        by_new : (id : ℕ) → In_u id → In id (begun_ids (flying pending)) ⊎ In id (begun_ids new) → In id (took_ids line u pending more)
-        by_new id there (inl here) = in_front id (early_of pending (taken_in u)) (taken_ids (line_taken line more)) (in_early line pending (taken_in u) id here there)
-        by_new id there (inr here) = absurd (never_both s after events id whole took here there)
-
-        by_taken : (id : ℕ) → In_u id ⊎ In id (taken_ids (line_taken line more)) → In id (begun_ids (flying pending) ++ begun_ids new)
-            → In id (took_ids line u pending more)
-        by_taken id (inl there) began = by_new id there (in_both id (begun_ids (flying pending)) (begun_ids new) began)
-        by_taken id (inr there) began = in_back id (early_of pending (taken_in u)) (taken_ids (line_taken line more)) there
-
-        were_taken : Each (λ (id : ℕ). In id (taken_ids (line_taken line (taken_in u)) ++ taken_ids (line_taken line more))) (begun_ids settled)
-        were_taken =
-            subst (λ (x : List ℕ). Each (λ (id : ℕ). In id x) (begun_ids settled))
-            (ap (λ (x : List Reached). taken_ids (line_taken line x)) came ∙ ap taken_ids (line_both line (taken_in u) more)
-            ∙ taken_both (line_taken line (taken_in u)) (line_taken line more))
-            (settled_taken line (taken_in (plain_world setup s)) settled answered mine)
-
-        began : Each (λ (id : ℕ). In id (begun_ids (flying pending) ++ begun_ids new)) (begun_ids settled)
-        began =
-            each_weaker (λ (id : ℕ). In id (begun_ids settled)) (λ (id : ℕ). In id (begun_ids (flying pending) ++ begun_ids new))
-            (λ id here. subst (In id) (sym (ids_both settled (flying flies)) ∙ ap begun_ids (sym split) ∙ ids_both (flying pending) new)
-            (in_front id (begun_ids settled) (begun_ids (flying flies)) here)) (begun_ids settled) (self_in (begun_ids settled))
-
-        both : Each Both (begun_ids settled)
-        both =
-            each_two (λ (id : ℕ). In id (taken_ids (line_taken line (taken_in u)) ++ taken_ids (line_taken line more)))
-            (λ (id : ℕ). In id (begun_ids (flying pending) ++ begun_ids new)) (begun_ids settled) were_taken began
-
-  -- and the line in flight there
-  settled_then : (s after : List WorldStep) (events : List GatewayEvent) → s ++ after ≡ all → (plain_world setup s).gateway_took ≡ u.gateway_took ++ events
-      → (next : Endpoint) × IsThere setup line (u.gateway_took ++ events) next
-      × Settles (WasTaken (taken_in (plain_world setup s))) pending (began_at setup line u.gateway_took events) next.post.pending
-  settled_then s after events whole took = (next.0, next.1, (settles setup line some (WasTaken (taken_in (plain_world setup s))) u.gateway_took events rest.0 was next.0 is at_was next.1 last (stood_up.flies was at_was).rests (finals_since setup s u.gateway_took events set_up taken_s took) none)) where
-    taken_s : steps_are_taken setup world_opening s ≡ true
-    taken_s = taken_front setup world_opening s after (ap (steps_are_taken setup world_opening) whole ∙ taken)
-
-    rest : (later : List GatewayEvent) × ((plain_world setup (s ++ after)).gateway_took ≡ (plain_world setup s).gateway_took ++ later)
-    rest = events_behind setup s after
-
-    took_all : w.gateway_took ≡ (u.gateway_took ++ events) ++ rest.0
-    took_all =
-        ap (λ (x : List WorldStep). (plain_world setup x).gateway_took) (sym whole) ∙ rest.1 ∙ ap (λ (x : List GatewayEvent). x ++ rest.0) took
-
-    last : IsThere setup line ((u.gateway_took ++ events) ++ rest.0) is
-    last = subst (λ (x : List GatewayEvent). IsThere setup line x is) took_all at_is
-
-    next : (s' : Endpoint) × IsThere setup line (u.gateway_took ++ events) s'
-    next = was_there setup line some (u.gateway_took ++ events) rest.0 is last
-
-    stood_up : Stood setup line u
-    stood_up = stood setup line some up set_up taken_up
-
-    none : has_given_up (sent_at setup line u.gateway_took (events ++ rest.0)) is.post ≡ false
-    none =
-        subst (λ (x : List GatewayEvent). has_given_up (sent_at setup line u.gateway_took x) is.post ≡ false)
-        (meanwhile_is u w (events ++ rest.0) (took_all ∙ append_assoc u.gateway_took events rest.0)) calm_since.1
-
-  gateway_step : (s next done after : List WorldStep) (event : GatewayEvent) → s ≡ up ++ done → next ++ after ≡ all
-      → (after' : List WorldStep) → s ++ after' ≡ all
-      → (plain_world setup next).gateway_took ≡ (plain_world setup s).gateway_took ++ event ∷ [] → taken_in (plain_world setup next) ≡ taken_in (plain_world setup s)
-      → Matched setup line u pending (plain_world setup s) → Matched setup line u pending (plain_world setup next)
-  gateway_step s next done after event is_up whole after' whole' took takes m = record {
-    events = events;
-    took = took_is;
-    more = m.more;
-    came = came_is;
-    matches = subst (λ (x : List ℕ). Matches x (took_ids line u pending m.more)) (sym ids) (by_pending behind.0.post.pending behind.2);
-  } where
-    events : List GatewayEvent
-    events = m.events ++ event ∷ []
-
-    new : List Begun
-    new = began_at setup line (u.gateway_took ++ m.events) (event ∷ [])
-
-    took_is : (plain_world setup next).gateway_took ≡ u.gateway_took ++ events
-    took_is = took ∙ ap (λ (x : List GatewayEvent). x ++ event ∷ []) m.took ∙ append_assoc u.gateway_took m.events (event ∷ [])
-
-    came_is : taken_in (plain_world setup next) ≡ taken_in u ++ m.more
-    came_is = takes ∙ m.came
-
-    behind : (s' : Endpoint) × IsThere setup line (u.gateway_took ++ events) s' × Settles (WasTaken (taken_in (plain_world setup next))) pending (began_at setup line u.gateway_took events) s'.post.pending
-    behind = settled_then next after events whole took_is
-
-    ids : since_ids setup line u pending events ≡ since_ids setup line u pending m.events ++ begun_ids new
-    ids =
-        ap begun_ids
-        (ap (λ (x : List Begun). flying pending ++ x) (began_both setup line u.gateway_took m.events (event ∷ []))
-        ∙ sym (append_assoc (flying pending) (began_at setup line u.gateway_took m.events) new))
-        ∙ ids_both (flying pending ++ began_at setup line u.gateway_took m.events) new
-
-    far : Apart (since_ids setup line u pending m.events ++ begun_ids new)
-    far = subst Apart ids (since_apart next after events whole took_is)
-
-    there : Each (λ (id : ℕ). In id (since_ids setup line u pending m.events)) (took_ids line u pending m.more)
-    there = took_there s done after' m.events m.more is_up whole' m.took m.came
-
-    by_pending : (flies : Option InFlight) → Settles (WasTaken (taken_in (plain_world setup next))) pending (began_at setup line u.gateway_took events) flies
-        → Matches (since_ids setup line u pending m.events ++ begun_ids new) (took_ids line u pending m.more)
-    by_pending None st =
-        begun_free (since_ids setup line u pending m.events) (begun_ids new) (took_ids line u pending m.more) (begun_ids st.settled) m.matches far there
-        (sym ids ∙ ap begun_ids (st.split ∙ append-nil st.settled))
-        (answered_taken next done after events m.more st.settled None whole took_is came_is st.split st.answered)
-    by_pending (Some flight) st =
-        begun_one (since_ids setup line u pending m.events) (begun_ids new) (took_ids line u pending m.more) (begun_ids st.settled) flight.id m.matches far there
-        (sym ids ∙ ap begun_ids st.split ∙ ids_both st.settled (flying (Some flight)))
-        (answered_taken next done after events m.more st.settled (Some flight) whole took_is came_is st.split st.answered)
-
-  -- All steps
-
-  one_step : (s done after : List WorldStep) (step : WorldStep) → s ≡ up ++ done → (s ++ step ∷ []) ++ after ≡ all → s ++ step ∷ after ≡ all
-      → Move (plain_world setup s) (plain_world setup (s ++ step ∷ []))
-      → Matched setup line u pending (plain_world setup s) → Matched setup line u pending (plain_world setup (s ++ step ∷ []))
-  one_step s done after step is_up whole whole' (gateway_took event took takes) m =
-      gateway_step s (s ++ step ∷ []) done after event is_up whole (step ∷ after) whole' took takes m
-  one_step s done after step is_up whole whole' (agent_took more took takes) m =
-      agent_step s (s ++ step ∷ []) (done ++ step ∷ []) after more
-      (ap (λ (x : List WorldStep). x ++ step ∷ []) is_up ∙ append_assoc up done (step ∷ [])) whole took takes m
-
-  all_steps : (s done after : List WorldStep) → s ≡ up ++ done → s ++ after ≡ all → Matched setup line u pending (plain_world setup s)
-      → Matched setup line u pending w
-  all_steps s done [] is_up whole m =
-      subst (λ (x : List WorldStep). Matched setup line u pending (plain_world setup x)) (sym (append-nil s) ∙ whole) m
-  all_steps s done (step ∷ after) is_up whole m =
-      let order : (s ++ step ∷ []) ++ after ≡ all = append_assoc s (step ∷ []) after ∙ whole in
-      let move : Move (plain_world setup s) (plain_world setup (s ++ step ∷ [])) =
-      subst (Move (plain_world setup s)) (sym (world_one setup s step)) (step_moves setup (plain_world setup s) step) in
-      all_steps (s ++ step ∷ []) (done ++ step ∷ []) after
-      (ap (λ (x : List WorldStep). x ++ step ∷ []) is_up ∙ append_assoc up done (step ∷ [])) order
-      (one_step s done after step is_up order whole move m)
-
-  at_first : Matched setup line u pending u
-  unfolding sent_from
-  at_first = record {
-    events = [];
-    took = sym (append-nil u.gateway_took);
-    more = [];
-    came = sym (append-nil (taken_in u));
-    matches = first_matches pending (taken_in u);
+  abbrev OldAt : List Begun → List Reached → Option InFlight → Type 0
+  OldAt = Old (now_in setup v)
+
+  old_first : KeptIn setup line some set_up first OldAt (old_turns (now_in setup v) (now_in setup v)) first
+  old_first x there =
+      let p = world_past setup line some set_up first taken_first x there in
+      let k = stood setup line some first set_up taken_first in
+      let returns = subst ReturnLate p.split (ids_return_late setup line some first set_up taken_first x there) in
+      record {
+        done = p.done;
+        split = p.split;
+        each = took_each line (taken_in v) (now_in setup v) [] p.done (flying x.post.pending) returns
+            (subst (λ (z : List Begun). Each (Came z) (line_taken line (taken_in v))) p.split k.came)
+            (each_front (λ (b : Begun). line_of_id b.id ≡ line) p.done (flying x.post.pending) (subst (Each (λ (b : Begun). line_of_id b.id ≡ line)) p.split k.mine)) p.each;
+      }
+
+  old_up : OldAt (line_began setup line up) (line_taken line (taken_in u)) was.post.pending
+  old_up =
+      all_keep setup line some set_up first OldAt (old_turns (now_in setup v) (now_in setup v)) up taken_up was at_was
+      (λ events took. subst (λ (x : List GatewayEvent). has_given_up (sent_at setup line v.gateway_took x) was.post ≡ false) (meanwhile_is v u events took) calm_before)
+      pause refl old_first was at_was
+
+  st : Starts (now_in setup v) (line_began setup line up) (line_taken line (taken_in u)) was.post.pending
+  st =
+      starts (now_in setup v) (line_began setup line up) (line_taken line (taken_in u)) was.post.pending (ids_return_late setup line some up set_up taken_up was at_was)
+      (stood setup line some up set_up taken_up).came old_up
+
+  abbrev BesideIt : List Begun → List Reached → Option InFlight → Type 0
+  BesideIt = Beside st.before (line_taken line (taken_in u))
+
+  turns : CalmTurns (now_in setup u) BesideIt
+  turns = beside_turns st.before (line_taken line (taken_in u)) (now_in setup v) (now_in setup u) st.each st.came long
+
+  beside_first : KeptIn setup line some set_up up BesideIt turns up
+  beside_first x there =
+      let both : Some was ≡ Some x = sym at_was ∙ there in
+      let same : was ≡ x = cc in
+      subst (λ (s : Endpoint). BesideIt (line_began setup line up) (line_taken line (taken_in u)) s.post.pending) same
+      (record { since = st.late; more = []; begun_is = st.split; taken_is = sym (append-nil (line_taken line (taken_in u))); pairs = st.pairs })
+
+  beside_last : BesideIt (line_began setup line all) (line_taken line (taken_in w)) is.post.pending
+  beside_last =
+      all_keep setup line some set_up up BesideIt turns all taken is at_is
+      (λ events took. subst (λ (x : List GatewayEvent). has_given_up (sent_at setup line u.gateway_took x) is.post ≡ false) (meanwhile_is u w events took) calm_since)
+      stretch refl beside_first is at_is
+
+  -- of all that was taken
+  since_up : TakesFrom (now_in setup u) (taken_in u) (taken_in w)
+  since_up = takes_since setup up stretch set_up taken
+
+  pub in_pairs : InPairs setup line u w was.post.pending is.post.pending
+  in_pairs =
+      let e = events_behind setup up stretch in
+      let b = beside_last in
+      let new : List Begun = began_at setup line u.gateway_took e.0 in
+      let began : b.since ≡ st.late ++ new =
+      cancel st.before b.since (st.late ++ new)
+      (sym b.begun_is ∙ ap (line_begun setup line) e.1 ∙ begun_on setup line u.gateway_took e.0 ∙ ap (λ (x : List Begun). x ++ new) st.split ∙ append_assoc st.before st.late new) in
+      let takes : b.more ≡ line_taken line since_up.more =
+      cancel (line_taken line (taken_in u)) b.more (line_taken line since_up.more) (sym b.taken_is ∙ ap (line_taken line) since_up.grown ∙ line_both line (taken_in u) since_up.more) in
+      record {
+        events = e.0;
+        took = e.1;
+        more = since_up.more;
+        came = since_up.grown;
+        late = st.late;
+        late_is = st.late_is;
+        pairs = subst (λ (x : List Begun). Paired x (line_taken line since_up.more) is.post.pending) began
+            (subst (λ (x : List Reached). Paired b.since x is.post.pending) takes b.pairs);
+        untaken = λ front flight order pairs took.
+            untaken st.before (line_taken line (taken_in u)) (now_in setup v) (now_in setup u) st.each st.came long (st.late ++ new) front (line_taken line since_up.more) flight
+            (subst (λ (x : List Begun). ReturnLate (st.before ++ x)) began (subst ReturnLate b.begun_is (ids_return_late setup line some all set_up taken is at_is))) order pairs
+            (subst (λ (x : List Reached). Took x (record { id = flight.id; moment = flight.first; text = flight.text })) (ap (line_taken line) since_up.grown ∙ line_both line (taken_in u) since_up.more) took);
+      }
+
+-- What they tell
+
+flying_tells : (pending : Option InFlight) → IsOnItsWay pending (flat_map told_by (flying pending))
+flying_tells None = refl
+flying_tells (Some flight) = inr (append-nil (told_by (record { id = flight.id; moment = flight.first; text = flight.text })))
+
+pub late_tells : (pending : Option InFlight) (late : List Begun) → (late ≡ []) ⊎ (late ≡ flying pending) → IsOnItsWay pending (flat_map told_by late)
+late_tells pending late (inl none) = subst (λ (x : List Begun). IsOnItsWay pending (flat_map told_by x)) (sym none) (none_left pending)
+late_tells pending late (inr same) = subst (λ (x : List Begun). IsOnItsWay pending (flat_map told_by x)) (sym same) (flying_tells pending)
+
+-- what the line told, and what the agent took
+pub whole_of : (setup : Setup) (line : ℕ) (u w : World) (was is : Option InFlight) → (m : InPairs setup line u w was is) → (told taken_now : List Observed)
+    → told ≡ flat_map told_by (began_at setup line u.gateway_took m.events) → taken_now ≡ flat_map told_taken (line_taken line m.more) → IsWhole was is told taken_now
+whole_of setup line u w was is m told taken_now tells takes = by_pairs m.pairs where
+  new : List Begun
+  new = began_at setup line u.gateway_took m.events
+
+  of : List Reached
+  of = line_taken line m.more
+
+  both : flat_map told_by m.late ++ told ≡ flat_map told_by (m.late ++ new)
+  both = ap (λ (x : List Observed). flat_map told_by m.late ++ x) tells ∙ sym (flat_map-append told_by m.late new)
+
+  by_pairs : Paired (m.late ++ new) of is → IsWhole was is told taken_now
+  by_pairs (inl pairs) = record {
+    late = flat_map told_by m.late;
+    left = [];
+    late_is = late_tells was m.late m.late_is;
+    left_is = none_left is;
+    whole = both ∙ pairs_tell (m.late ++ new) of pairs ∙ sym takes ∙ sym (append-nil taken_now);
   }
-
-  pub matched : Matched setup line u pending w
-  matched = all_steps up [] stretch (sym (append-nil up)) refl at_first
-
-  -- What they tell
-
-  -- it is of the line that there is then
-  pub settled_last : Settles (WasTaken (taken_in w)) pending (began_at setup line u.gateway_took matched.events) is.post.pending
-  settled_last =
-      let at = settled_then all [] matched.events (append-nil all) matched.took in
-      let there : IsThere setup line w.gateway_took at.0 = subst (λ (x : List GatewayEvent). IsThere setup line x at.0) (sym matched.took) at.1 in
-      let both : Some at.0 ≡ Some is = sym there ∙ at_is in
-      let same : at.0 ≡ is = cc in
-      subst (λ (s : Endpoint). Settles (WasTaken (taken_in w)) pending (began_at setup line u.gateway_took matched.events) s.post.pending) same at.2
-
-  pub last_apart : Apart (since_ids setup line u pending matched.events)
-  last_apart = since_apart all [] matched.events (append-nil all) matched.took
-
-  pub last_came : Each (Came (late_begun pending (taken_in u) ++ began_at setup line u.gateway_took matched.events)) (line_taken line matched.more)
-  last_came =
-      late_came line pending (taken_in u) (began_at setup line u.gateway_took matched.events) (line_taken line matched.more) flying_mine
-      (came_there all stretch [] matched.events matched.more refl (append-nil all) matched.took matched.came)
-
-  -- where one more began than was taken it is in flight
-  pub last_flies : (last : ℕ) → since_ids setup line u pending matched.events ≡ took_ids line u pending matched.more ++ last ∷ []
-      → (flight : InFlight) × (is.post.pending ≡ Some flight)
-      × ((settled : List Begun) × (flying pending ++ began_at setup line u.gateway_took matched.events ≡ settled ++ flying (Some flight)))
-  last_flies last ends = by_pending is.post.pending refl settled_last where
-    by_pending : (flies : Option InFlight) → is.post.pending ≡ flies
-        → Settles (WasTaken (taken_in w)) pending (began_at setup line u.gateway_took matched.events) flies
-        → (flight : InFlight) × (is.post.pending ≡ Some flight)
-        × ((settled : List Begun) × (flying pending ++ began_at setup line u.gateway_took matched.events ≡ settled ++ flying (Some flight)))
-    by_pending None none st =
-        absurd (
-        let inside : In last (begun_ids st.settled) =
-        subst (In last) (sym ends ∙ ap begun_ids (st.split ∙ append-nil st.settled)) (in_back last (took_ids line u pending matched.more) (last ∷ []) (inl refl)) in
-        apart_clash (took_ids line u pending matched.more) (last ∷ []) last (subst Apart ends last_apart)
-        (in_of_each (λ (id : ℕ). In id (took_ids line u pending matched.more)) last (begun_ids st.settled)
-        (answered_taken all stretch [] matched.events matched.more st.settled None (append-nil all) matched.took matched.came st.split st.answered) inside)
-        (inl refl))
-    by_pending (Some flight) flies st = (flight, flies, (st.settled, st.split))
-
-  -- what the line told, and what the agent took
-  pub whole_of : (told taken_now : List Observed) → told ≡ flat_map told_by (began_at setup line u.gateway_took matched.events)
-      → taken_now ≡ flat_map told_taken (line_taken line matched.more) → IsWhole pending is.post.pending told taken_now
-  whole_of told taken_now tells takes = by_matches matched.matches where
-    new : List Begun
-    new = began_at setup line u.gateway_took matched.events
-
-    late : List Begun
-    late = late_begun pending (taken_in u)
-
-    apart : Apart (begun_ids (late ++ new))
-    apart = late_apart pending (taken_in u) new last_apart
-
-    of : List Reached
-    of = line_taken line matched.more
-
-    by_matches : Matches (since_ids setup line u pending matched.events) (took_ids line u pending matched.more) → IsWhole pending is.post.pending told taken_now
-    by_matches (inl same) = record {
-      late = flat_map told_by late;
-      left = [];
-      late_is = late_is pending (taken_in u);
-      left_is = none_left is.post.pending;
-      whole = ap (λ (x : List Observed). flat_map told_by late ++ x) tells
-          ∙ sym (flat_map-append told_by late new)
-          ∙ all_tell (late ++ new) of (late_same pending (taken_in u) new (taken_ids of) same) apart last_came
-          ∙ sym takes
-          ∙ sym (append-nil taken_now);
-    }
-    by_matches (inr one) =
-        let flies = last_flies one.last one.is in
-        let l = last_of (λ (b : Begun). b.id) (late ++ new) (taken_ids of) one.last (late_more pending (taken_in u) new (taken_ids of) one.last one.is) in
-        let b : Begun = record { id = flies.0.id; moment = flies.0.first; text = flies.0.text } in
-        let is_it : l.last ≡ b =
-        (ends_same (early_begun pending (taken_in u) ++ l.front) flies.2.0 l.last b
-        (append_assoc (early_begun pending (taken_in u)) l.front (l.last ∷ [])
-        ∙ ap (λ (x : List Begun). early_begun pending (taken_in u) ++ x) (sym l.is)
-        ∙ sym (early_late pending (taken_in u) new) ∙ flies.2.1)).1 in
-        record {
-          late = flat_map told_by late;
-          left = told_by l.last;
-          late_is = late_is pending (taken_in u);
-          left_is = subst (λ (p : Option InFlight). IsOnItsWay p (told_by l.last)) (sym flies.1) (inr (ap told_by is_it));
-          whole = ap (λ (x : List Observed). flat_map told_by late ++ x) tells
-              ∙ sym (flat_map-append told_by late new)
-              ∙ ap (flat_map told_by) l.is
-              ∙ flat_map-append told_by l.front (l.last ∷ [])
-              ∙ ap (λ (x : List Observed). x ++ (told_by l.last ++ [])) (front_tells (late ++ new) of one.last l apart last_came)
-              ∙ ap (λ (x : List Observed). flat_map told_taken of ++ x) (append-nil (told_by l.last))
-              ∙ ap (λ (x : List Observed). x ++ told_by l.last) (sym takes);
-        }
+  by_pairs (inr last) =
+      let b : Begun = record { id = last.flight.id; moment = last.flight.first; text = last.flight.text } in
+      record {
+        late = flat_map told_by m.late;
+        left = told_by b;
+        late_is = late_tells was m.late m.late_is;
+        left_is = subst (λ (p : Option InFlight). IsOnItsWay p (told_by b)) (sym last.flies) (inr refl);
+        whole = both
+            ∙ ap (flat_map told_by) last.is
+            ∙ flat_map-append told_by last.front (b ∷ [])
+            ∙ ap (λ (x : List Observed). x ++ (told_by b ++ [])) (pairs_tell last.front of last.pairs)
+            ∙ ap (λ (x : List Observed). flat_map told_taken of ++ x) (append-nil (told_by b))
+            ∙ ap (λ (x : List Observed). x ++ told_by b) (sym takes);
+      }

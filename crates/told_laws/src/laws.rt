@@ -10,10 +10,8 @@ ghost use Rattle.plain_machine.specs.Lists.{plain, sent_of};
 ghost use Rattle.plain_machine.specs.Machine.{endpoint_at};
 ghost use Rattle.plain_machine.specs.Setup.{IsSetUp};
 ghost use Rattle.machine_laws.specs.Belonging.{of_line};
-ghost use Rattle.machine_laws.specs.Saying.{HasNumbersLeft};
 ghost use Rattle.call_agent.specs.Agent.{observed_on};
 ghost use Rattle.agent_core.specs.World.{WorldStep, agent_in, gateway_in, now_in, plain_world, steps_are_taken, world_opening};
-ghost use Rattle.world_laws.specs.Reached.{own_in};
 ghost use Rattle.delivery_laws.specs.GivenUp.{has_given_up};
 ghost use Rattle.delivery_laws.specs.Course.{CourseStep, accepts, notifies, course_from, course_of};
 ghost use Rattle.delivery_laws.specs.Rounds.{of_telephone};
@@ -100,11 +98,10 @@ pub fn what_the_agent_took_was_done_in_that_order()
 
 /// So over a stretch, whatever was before it: where the line gives nothing up in it, nor in the 10,500 ms before it, what the agent took of
 /// it in the stretch is what the line told in it, each once and in that order: but first what was on its way at its beginning, if it came,
-/// and without what is on its way at its end. For that the line's numbers aren't used up.
+/// and without what is on its way at its end. No numbers need be left: an id comes back later than anything of it is remembered.
 pub fn what_the_agent_took_over_a_stretch_is_whole()
     ensures { (setup : Setup) (line : ℕ) (first pause stretch : List WorldStep) (was is : Endpoint) → IsSetUp setup →
         steps_are_taken setup world_opening ((first ++ pause) ++ stretch) ≡ true →
-        HasNumbersLeft (own_in setup (plain_world setup ((first ++ pause) ++ stretch))) →
         endpoint_at (gateway_in setup (plain_world setup (first ++ pause))).endpoints line ≡ Some was →
         endpoint_at (gateway_in setup (plain_world setup ((first ++ pause) ++ stretch))).endpoints line ≡ Some is →
         AnnouncesNothing setup line (plain_world setup first) (plain_world setup (first ++ pause)) was →

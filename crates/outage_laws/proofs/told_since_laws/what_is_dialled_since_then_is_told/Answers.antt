@@ -7,41 +7,41 @@ use Rattle.outage_laws.proofs.ToldFromLaws.{all_from, told_from}
 use Rattle.outage_laws.proofs.told_since_laws.what_is_dialled_since_then_is_told.Goals as goal
 
 pub returns-clause-told : goal.returns-clause-told
-returns-clause-told c = λ setup line since within answering asking first pause stretch front later was is there set_up taken few at_was at_is calm_before calm_since long
+returns-clause-told c = λ setup line since within answering asking first pause stretch front later was is there set_up taken at_was at_is calm_before calm_since long
     asked fair roomy flew split at_there is_answered is_asked late more.
     let some = (place_of (gateway_in setup (plain_world setup (first ++ pause))).endpoints line was at_was).0 in
     let at_first = there_at_first setup line some first pause was at_was in
     let calm =
     calm_on setup line (plain_world setup first) (plain_world setup (first ++ pause)) (plain_world setup ((first ++ pause) ++ stretch)) was is calm_before calm_since in
-    told_from setup line some first pause stretch at_first.0 was is set_up taken few at_first.1 at_was at_is calm_before calm long since within answering asking front
+    told_from setup line some first pause stretch at_first.0 was is set_up taken at_first.1 at_was at_is calm_before calm long since within answering asking front
     later there fair roomy flew asked split at_there is_answered is_asked late more
 
 pub returns-clause-rests : goal.returns-clause-rests
-returns-clause-rests c = λ setup line since within answering asking first pause stretch front later was is there set_up taken few at_was at_is calm_before calm_since long
+returns-clause-rests c = λ setup line since within answering asking first pause stretch front later was is there set_up taken at_was at_is calm_before calm_since long
     asked fair roomy flew split at_there is_answered is_asked late more.
     let some = (place_of (gateway_in setup (plain_world setup (first ++ pause))).endpoints line was at_was).0 in
     let at_first = there_at_first setup line some first pause was at_was in
     let calm =
     calm_on setup line (plain_world setup first) (plain_world setup (first ++ pause)) (plain_world setup ((first ++ pause) ++ stretch)) was is calm_before calm_since in
-    all_from setup line some first pause stretch at_first.0 was is set_up taken few at_first.1 at_was at_is calm_before calm long since within answering asking front
+    all_from setup line some first pause stretch at_first.0 was is set_up taken at_first.1 at_was at_is calm_before calm long since within answering asking front
     later there fair roomy flew asked split at_there is_answered is_asked late more
 
 pub returns-clause-fair : goal.returns-clause-fair
-returns-clause-fair c = λ setup line since within asking first pause stretch front later was is there set_up taken few at_was at_is calm_before calm_since long
+returns-clause-fair c = λ setup line since within asking first pause stretch front later was is there set_up taken at_was at_is calm_before calm_since long
     asked fair roomy split at_there began reach is_asked late more.
     let some = (place_of (gateway_in setup (plain_world setup (first ++ pause))).endpoints line was at_was).0 in
     let at_first = there_at_first setup line some first pause was at_was in
     let calm =
     calm_on setup line (plain_world setup first) (plain_world setup (first ++ pause)) (plain_world setup ((first ++ pause) ++ stretch)) was is calm_before calm_since in
-    fair_told_from setup line some first pause stretch at_first.0 was is set_up taken few at_first.1 at_was at_is calm_before calm long since within asking front later
+    fair_told_from setup line some first pause stretch at_first.0 was is set_up taken at_first.1 at_was at_is calm_before calm long since within asking front later
     there fair roomy began reach asked split at_there is_asked late more
 
 pub returns-clause-fair_rests : goal.returns-clause-fair_rests
-returns-clause-fair_rests c = λ setup line since within asking first pause stretch front later was is there set_up taken few at_was at_is calm_before calm_since long
+returns-clause-fair_rests c = λ setup line since within asking first pause stretch front later was is there set_up taken at_was at_is calm_before calm_since long
     asked fair roomy split at_there began reach is_asked late more.
     let some = (place_of (gateway_in setup (plain_world setup (first ++ pause))).endpoints line was at_was).0 in
     let at_first = there_at_first setup line some first pause was at_was in
     let calm =
     calm_on setup line (plain_world setup first) (plain_world setup (first ++ pause)) (plain_world setup ((first ++ pause) ++ stretch)) was is calm_before calm_since in
-    fair_all_from setup line some first pause stretch at_first.0 was is set_up taken few at_first.1 at_was at_is calm_before calm long since within asking front later
+    fair_all_from setup line some first pause stretch at_first.0 was is set_up taken at_first.1 at_was at_is calm_before calm long since within asking front later
     there fair roomy began reach asked split at_there is_asked late more
