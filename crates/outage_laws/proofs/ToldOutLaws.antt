@@ -38,11 +38,10 @@ use Rattle.delivery_laws.proofs.ToldLemmas.{told_by}
 use Rattle.delivery_laws.proofs.WorldLemmas.{line_begun, line_taken}
 use Rattle.told_laws.specs.Stretch.{AnnouncesNothing, GivesNothingUp, IsOnItsWay, outliving, taken_meanwhile}
 use Rattle.told_laws.proofs.CalmLemmas.{Took, last_took, one_of_line}
-use Rattle.told_laws.proofs.LateLemmas.{none_left}
 use Rattle.told_laws.proofs.ReturnLemmas.{ReturnLate, ids_return_late}
 use Rattle.told_laws.proofs.SettledLemmas.{began_at, begun_on}
 use Rattle.told_laws.proofs.StretchCourses.{taken_then, told_then}
-use Rattle.told_laws.proofs.StretchLemmas.{InPairs, in_pairs, late_tells}
+use Rattle.told_laws.proofs.StretchLemmas.{InPairs, in_pairs, late_tells, none_left}
 use Rattle.outage_laws.specs.AfterOutage.{AgentHasRoomFrom, IsFairFrom}
 use Rattle.outage_laws.specs.ToldSince.{FlightBeganSince}
 use Rattle.outage_laws.proofs.BeganEvents.{last_among}

@@ -37,7 +37,7 @@ use Rattle.delivery_laws.proofs.PairedWorlds.{given_back}
 use Rattle.delivery_laws.proofs.StepLemmas.{steps_more, taken_front}
 use Rattle.delivery_laws.proofs.WorldLemmas.{IsFinal, hear_finals, line_begun, line_taken, world_one}
 use Rattle.told_laws.proofs.ClockSteps.{step_soon}
-use Rattle.told_laws.proofs.LateLemmas.{cancel, each_kept, one_of_both}
+use Rattle.told_laws.proofs.ListLemmas.{cancel, each_kept, one_of_both}
 use Rattle.told_laws.proofs.LaterTakes.{TakesFrom, takes_since}
 use Rattle.told_laws.proofs.PassedLemmas.{IsLately, IsResponseTo, Past, Passed, clock_is, event_answers, event_passes, hear_these, heard_so, world_past}
 use Rattle.told_laws.proofs.ReturnLemmas.{ReturnLate, ids_return_late, one_kept, return_time}

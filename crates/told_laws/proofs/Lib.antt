@@ -15,7 +15,7 @@ pub mod PhoneLemmas
 pub mod LastTurns
 pub mod SettlingLemmas
 pub mod SettledLemmas
-pub mod OverLemmas
+pub mod FinalArrivals
 pub mod LaterTakes
 pub mod ClockSteps
 pub mod LineEvents
@@ -23,7 +23,7 @@ pub mod DueLemmas
 pub mod PassedTurns
 pub mod PassedLemmas
 pub mod ReturnLemmas
-pub mod LateLemmas
+pub mod ListLemmas
 pub mod CalmLemmas
 pub mod StretchLemmas
 pub mod StretchCourses

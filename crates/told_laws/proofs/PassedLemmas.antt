@@ -38,6 +38,7 @@ use Rattle.delivery_laws.specs.Copies.{answer_wait}
 use Rattle.delivery_laws.proofs.ClockLemmas.{front_forward}
 use Rattle.delivery_laws.proofs.CourseLemmas.{AllHear, Hears}
 use Rattle.delivery_laws.proofs.DialledFlightLemmas.{flying}
+use Rattle.delivery_laws.proofs.MatchLemmas.{each_two}
 use Rattle.delivery_laws.proofs.MoveLemmas.{Move, agent_took, gateway_took, step_moves}
 use Rattle.delivery_laws.proofs.RestLemmas.{Rests}
 use Rattle.delivery_laws.proofs.StepLemmas.{taken_front}
@@ -45,7 +46,7 @@ use Rattle.delivery_laws.proofs.WorldLemmas.{line_begun, none_comes, world_one}
 use Rattle.told_laws.proofs.ClockSteps.{step_soon}
 use Rattle.told_laws.proofs.DueLemmas.{DuesBehind, left_behind}
 use Rattle.told_laws.proofs.LineEvents.{Holds, TurnKeeps, datagram_holds, phone_holds, tick_holds}
-use Rattle.told_laws.proofs.OverLemmas.{IsFinalArrival, all_final, each_pair}
+use Rattle.told_laws.proofs.FinalArrivals.{IsFinalArrival, all_final}
 use Rattle.told_laws.proofs.PassedTurns.{Goes, IsTimely, goes_turns, happened_goes, soon_due}
 use Rattle.told_laws.proofs.SettledLemmas.{began_at, begun_on, clock_on}
 
@@ -367,7 +368,7 @@ heard_so setup steps set_up taken =
           (is.0 code id params body reads,
           one_from_any (λ (one : Reached). (one.asked.id ≡ id) × (a.moment < one.asked.moment + 40000)) (taken_in w)
           (is.1 code id params body reads (is.0 code id params body reads)))) (arrivals_of w.gateway_took)
-          (each_pair IsFinalArrival P (arrivals_of w.gateway_took) (all_final setup set_up steps taken) (each_from_all P (arrivals_of w.gateway_took) (heard_lately setup steps set_up taken)));
+          (each_two IsFinalArrival P (arrivals_of w.gateway_took) (all_final setup set_up steps taken) (each_from_all P (arrivals_of w.gateway_took) (heard_lately setup steps set_up taken)));
       past = executed_each (λ (one : Reached). one.asked.moment ≤ now_in setup w) arrived
           (past_all (now_in setup w) arrived (subst (λ (n : ℕ). Rises n arrived) l.sound.clock l.links.rises));
     }

@@ -1,9 +1,6 @@
 -- What a line that serves begins, and gives nothing up of, was answered, but for what is in flight.
-use Rattle.std.proofs.Common.{◌≡◌, ℕ, ◌≤◌, Bool, true, false, ◌||◌, List, [], ◌∷◌, ◌++◌, Option, Some, None, inl, inr, refl, sym, ap, ◌∙◌, subst, append-nil, append_assoc}
-use Rattle.std.specs.Prelude.{◌⊎◌, Any, not}
-use Rattle.mgcp_text.specs.declared.message.Message.TheVariants as messages
-use Rattle.mgcp_text.specs.declared.message.Param.{Param}
-use Rattle.mgcp_text.specs.Reading.{message}
+use Rattle.std.proofs.Common.{◌≡◌, ℕ, ◌≤◌, Bool, true, false, ◌||◌, List, [], ◌∷◌, ◌++◌, Option, Some, None, inl, inr, refl, sym, ap, ◌∙◌, subst, append-nil}
+use Rattle.std.specs.Prelude.{◌⊎◌, not}
 use Rattle.outbound.specs.Flight.{InFlight}
 use Rattle.restart.specs.declared.restart.Restart.{Restart}
 use Rattle.restart.specs.declared.restart.Restart.TheVariants.{Waiting, Announced, Serving}
@@ -11,28 +8,24 @@ use Rattle.restart.specs.Restarting.{is_serving}
 use Rattle.plain_machine.specs.declared.post.Post.{Post}
 use Rattle.plain_machine.specs.declared.setup.Setup.{Setup}
 use Rattle.plain_machine.specs.declared.endpoint.Endpoint.{Endpoint}
-use Rattle.plain_machine.specs.Arriving.{TextArrival, arrivals_at, arrivals_from, arrivals_of, clock_after}
+use Rattle.plain_machine.specs.Arriving.{arrivals_from, clock_after}
 use Rattle.plain_machine.specs.Event.{GatewayEvent}
 use Rattle.plain_machine.specs.Lists.{plain, sent_from, sent_of}
 use Rattle.plain_machine.specs.Machine.{Machine, endpoint_at, opening}
 use Rattle.plain_machine.specs.Message.{Sent}
-use Rattle.plain_machine.specs.Setup.{IsSetUp}
 use Rattle.plain_machine.proofs.EffectLaws.{effect_now}
-use Rattle.plain_machine.proofs.ListLaws.{arrivals_on, machine_on}
+use Rattle.plain_machine.proofs.ListLaws.{machine_on}
 use Rattle.machine_laws.specs.Belonging.{of_line}
 use Rattle.machine_laws.specs.Saying.{Begun, begun_in}
-use Rattle.machine_laws.proofs.EachLemmas.{Each, each_back, each_from_all, each_weaker, one_from_any}
+use Rattle.machine_laws.proofs.EachLemmas.{Each}
 use Rattle.machine_laws.proofs.OwningLemmas.{of_both}
 use Rattle.machine_laws.proofs.WaitLaws.{events_wait}
-use Rattle.agent_core.specs.World.{WorldStep, plain_world, steps_are_taken, world_opening}
-use Rattle.world_laws.specs.Reached.{Reached, taken_in}
-use Rattle.world_laws.proofs.TakenLaws.{heard_was_taken}
 use Rattle.world_laws.proofs.WorldLaws.{gateway_alone}
 use Rattle.delivery_laws.specs.GivenUp.{announces, has_given_up}
-use Rattle.delivery_laws.proofs.CourseLemmas.{AllHear, Hears, events_stand, hear_all}
+use Rattle.delivery_laws.proofs.CourseLemmas.{AllHear, events_stand, hear_all}
 use Rattle.delivery_laws.proofs.DialledFlightLemmas.{Flies as GivesUp, FliesBeside as GivesUpBeside, Gone, flight_turns as given_up_turns, flying, has_announced, stays_gone}
 use Rattle.delivery_laws.proofs.RestLemmas.{Rests, begun_both}
-use Rattle.delivery_laws.proofs.WorldLemmas.{IsFinal, WasTaken, hear_finals, line_begun, sent_on}
+use Rattle.delivery_laws.proofs.WorldLemmas.{IsFinal, line_begun, sent_on}
 use Rattle.told_laws.proofs.SettlingLemmas.{Fine, Flies, FliesBeside, flight_turns}
 use Rattle.told_laws.proofs.LastTurns.{LastOf, line_last}
 
@@ -58,44 +51,10 @@ pub record Settles (A : ℕ → Type 0) (was : Option InFlight) (new : List Begu
   pub split : flying was ++ new ≡ settled ++ flying is
   pub answered : Each (λ (b : Begun). A b.id) settled
 
--- Final responses
-
--- they answer what was taken
-finals : (setup : Setup) (steps : List WorldStep) → IsSetUp setup → steps_are_taken setup world_opening steps ≡ true
-    → AllHear setup (IsFinal (WasTaken (taken_in (plain_world setup steps)))) (arrivals_of (plain_world setup steps).gateway_took)
-finals setup steps set_up taken =
-    let w = plain_world setup steps in
-    let A : ℕ → Type 0 = WasTaken (taken_in w) in
-    let P : TextArrival → Type 0 = λ a. (code id : ℕ) (params : List Param) (body : List ℕ) → a.outcome ≡ message (messages.Response code id params body) → 200 ≤ code → Any (λ (one : Reached). one.asked.id ≡ id) (taken_in w) in
-    hear_finals setup A (arrivals_of w.gateway_took)
-    (each_weaker P (λ (a : TextArrival). (code id : ℕ) (params : List Param) (body : List ℕ) → a.outcome ≡ message (messages.Response code id params body) → 200 ≤ code → A id)
-    (λ a all. λ code id params body is high. one_from_any (λ (one : Reached). one.asked.id ≡ id) (taken_in w) (all code id params body is high)) (arrivals_of w.gateway_took)
-    (each_from_all P (arrivals_of w.gateway_took) (heard_was_taken setup steps set_up taken)))
-
 pub clock_on : (setup : Setup) (took : List GatewayEvent) (event : GatewayEvent) → (plain setup (took ++ event ∷ [])).now ≡ clock_after (plain setup took).now event
 clock_on setup took event =
     ap (λ (m : Machine). m.now) (machine_on setup (opening setup) took (event ∷ []) ∙ gateway_alone setup (plain setup took) event)
     ∙ effect_now setup (plain setup took) event
-
-arrivals_all : (setup : Setup) (took more : List GatewayEvent) → arrivals_of (took ++ more) ≡ arrivals_of took ++ arrivals_from (plain setup took).now more
-unfolding arrivals_from
-arrivals_all setup took [] = ap arrivals_of (append-nil took) ∙ sym (append-nil (arrivals_of took))
-arrivals_all setup took (event ∷ more) =
-    let now = (plain setup took).now in
-    ap arrivals_of (sym (append_assoc took (event ∷ []) more))
-    ∙ arrivals_all setup (took ++ event ∷ []) more
-    ∙ ap (λ (x : List TextArrival). x ++ arrivals_from (plain setup (took ++ event ∷ [])).now more) (arrivals_on setup (opening setup) took event)
-    ∙ append_assoc (arrivals_of took) (arrivals_at now event) (arrivals_from (plain setup (took ++ event ∷ [])).now more)
-    ∙ ap (λ (n : ℕ). arrivals_of took ++ (arrivals_at now event ++ arrivals_from n more)) (clock_on setup took event)
-
--- behind some events
-pub finals_since : (setup : Setup) (steps : List WorldStep) (took events : List GatewayEvent) → IsSetUp setup → steps_are_taken setup world_opening steps ≡ true
-    → (plain_world setup steps).gateway_took ≡ took ++ events
-    → AllHear setup (IsFinal (WasTaken (taken_in (plain_world setup steps)))) (arrivals_from (plain setup took).now events)
-finals_since setup steps took events set_up taken is =
-    let Q : TextArrival → Type 0 = λ a. Hears setup (IsFinal (WasTaken (taken_in (plain_world setup steps)))) a.outcome in
-    each_back Q (arrivals_of took) (arrivals_from (plain setup took).now events)
-    (subst (Each Q) (ap arrivals_of is ∙ arrivals_all setup took events) (finals setup steps set_up taken))
 
 -- From a moment at which it serves
 
@@ -117,9 +76,6 @@ module _ (setup : Setup) (line : ℕ) where
       ∙ ap (λ (m : Machine). sent_from setup (plain setup took) events ++ sent_from setup m later) (sym (machine_on setup (opening setup) took events)))
       ∙ of_both line (sent_from setup (plain setup took) events) (sent_from setup (plain setup (took ++ events)) later)
 
-  pub began_both : (took events later : List GatewayEvent) → began_at took (events ++ later) ≡ began_at took events ++ began_at (took ++ events) later
-  began_both took events later = ap begun_in (sent_both took events later) ∙ begun_both (sent_at took events) (sent_at (took ++ events) later)
-
   pub begun_on : (took events : List GatewayEvent) → line_begun setup line (took ++ events) ≡ line_begun setup line took ++ began_at took events
   begun_on took events =
       ap begun_in (ap (of_line line) (sent_on setup (opening setup) took events) ∙ of_both line (sent_of setup took) (sent_from setup (plain setup took) events))
@@ -132,10 +88,6 @@ module _ (setup : Setup) (line : ℕ) where
     pub order : of_line line (sent_of setup took) ≡ front ++ back
     pub begins : begun_in back ≡ flying s.post.pending
     pub calm : has_announced back ≡ false
-
-  pub begun_then : (took : List GatewayEvent) (s : Endpoint) → (st : Start took s) → line_begun setup line took ≡ begun_in st.front ++ flying s.post.pending
-  begun_then took s st =
-      ap begun_in st.order ∙ begun_both st.front st.back ∙ ap (λ (x : List Begun). begun_in st.front ++ x) st.begins
 
 module _ (setup : Setup) (line : ℕ) (some : 1 ≤ line) where
   pub start : (took : List GatewayEvent) (s : Endpoint) → IsThere setup line took s → s.post.restart ≡ Serving → Start setup line took s

@@ -35,7 +35,7 @@ use Rattle.delivery_laws.proofs.WellLemmas.{IsWell, sent_well}
 use Rattle.delivery_laws.proofs.WorldLemmas.{line_begun, line_taken}
 use Rattle.told_laws.specs.Stretch.{AnnouncesNothing, IsWhole, course_meanwhile, outliving, taken_meanwhile}
 use Rattle.told_laws.proofs.AskedCourses.{course_on}
-use Rattle.told_laws.proofs.LateLemmas.{cancel, line_both}
+use Rattle.told_laws.proofs.ListLemmas.{cancel, line_both}
 use Rattle.told_laws.proofs.SettledLemmas.{began_at, begun_on}
 use Rattle.told_laws.proofs.CalmLemmas.{events_behind}
 use Rattle.told_laws.proofs.StretchLemmas.{in_pairs, meanwhile_is, whole_of}

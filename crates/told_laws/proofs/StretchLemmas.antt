@@ -33,7 +33,7 @@ use Rattle.delivery_laws.proofs.ToldLemmas.{told_by}
 use Rattle.delivery_laws.proofs.WorldLemmas.{line_begun, line_taken}
 use Rattle.told_laws.specs.Stretch.{AnnouncesNothing, IsOnItsWay, IsWhole, outliving, took_meanwhile}
 use Rattle.told_laws.proofs.CalmLemmas.{CalmTurns, KeptIn, Took, all_keep, events_behind, never_behind, one_of_line, returns_back}
-use Rattle.told_laws.proofs.LateLemmas.{cancel, line_both, none_left, one_of_both}
+use Rattle.told_laws.proofs.ListLemmas.{cancel, line_both, one_of_both}
 use Rattle.told_laws.proofs.LaterTakes.{TakesFrom, takes_since}
 use Rattle.told_laws.proofs.PassedLemmas.{AllSettled, IsLately, Settled, world_past}
 use Rattle.told_laws.proofs.ReturnLemmas.{ReturnLate, ids_return_late, return_time}
@@ -457,6 +457,10 @@ module _ (setup : Setup) (line : ℕ) (some : 1 ≤ line) (first pause stretch :
       }
 
 -- What they tell
+
+pub none_left : (pending : Option InFlight) → IsOnItsWay pending []
+none_left None = refl
+none_left (Some flight) = inl refl
 
 flying_tells : (pending : Option InFlight) → IsOnItsWay pending (flat_map told_by (flying pending))
 flying_tells None = refl
