@@ -120,9 +120,11 @@ module _ (setup : Setup) (steps : List WorldStep) (since within line : ℕ) (b :
         (taken_stays (λ (one : Reached). (one.asked.id ≡ b.id) × (b.moment < one.asked.moment + 40000)) setup front there.later
         (one_weaker (λ (one : Reached). (one.asked.id ≡ b.id) × (now_in setup (plain_world setup front) < one.asked.moment + 40000))
         (λ (one : Reached). (one.asked.id ≡ b.id) × (b.moment < one.asked.moment + 40000))
-        (λ one is. (is.0,
-        began_before b.moment wait told.post.packet.moment (now_in setup (plain_world setup there.before)) (now_in setup (plain_world setup front)) one.asked.moment told.moment past
-        (handed_now setup there.before told.number) is.1)) (taken_in (plain_world setup front))
+        (λ one is. (
+          is.0,
+          began_before b.moment wait told.post.packet.moment (now_in setup (plain_world setup there.before)) (now_in setup (plain_world setup front)) one.asked.moment told.moment past
+              (handed_now setup there.before told.number) is.1,
+        )) (taken_in (plain_world setup front))
         (taken_lately setup b.id (plain_world setup there.before) front set_up
         (taken_front setup world_opening front there.later (subst (λ (s : List WorldStep). steps_are_taken setup world_opening s ≡ true) there.order taken)) took))) where
           front : List WorldStep

@@ -172,7 +172,7 @@ module _ (line : ℕ) (all : List Reached) (now : ℕ) (done : List Begun) (was 
         let b : Begun = record { id = flight.id; moment = flight.first; text = flight.text } in (
           (
             (each_back (λ (x : Begun). line_of_id x.id ≡ line) done (b ∷ new)
-            (subst (Each (λ (x : Begun). line_of_id x.id ≡ line)) (append_assoc done (flying was) new ∙ ap (λ (x : List Begun). done ++ (x ++ new)) (flown flight e)) mine)).0,
+                (subst (Each (λ (x : Begun). line_of_id x.id ≡ line)) (append_assoc done (flying was) new ∙ ap (λ (x : List Begun). done ++ (x ++ new)) (flown flight e)) mine)).0,
             (subst (λ (x : List Begun). Each (λ (y : Begun). y.moment ≤ now + 1000) (x ++ new)) (flown flight e) near).0,
           ),
           tt,

@@ -342,10 +342,12 @@ answers_now taken now source [] past each = tt
 answers_now taken now source (text ∷ texts) past each =
     (λ code id params body reads. late id code (each.0 code id params body reads), answers_now taken now source texts past each.1) where
       late : (id code : ℕ) → (200 ≤ code) × OneOf (λ (one : Reached). (one.asked.id ≡ id) × (now < one.asked.moment + 40000)) taken → (200 ≤ code) × IsLately now taken id
-      late id code is = (is.0,
+      late id code is = (
+        is.0,
         one_weaker (λ (one : Reached). (one.asked.moment ≤ now) × ((one.asked.id ≡ id) × (now < one.asked.moment + 40000)))
-        (λ (one : Reached). (one.asked.id ≡ id) × ((now < one.asked.moment + 40000) × (one.asked.moment ≤ now))) (λ one both. (both.1.0, (both.1.1, both.0))) taken
-        (one_of_each (λ (one : Reached). one.asked.moment ≤ now) (λ (one : Reached). (one.asked.id ≡ id) × (now < one.asked.moment + 40000)) taken past is.1))
+            (λ (one : Reached). (one.asked.id ≡ id) × ((now < one.asked.moment + 40000) × (one.asked.moment ≤ now))) (λ one both. (both.1.0, (both.1.1, both.0))) taken
+            (one_of_each (λ (one : Reached). one.asked.moment ≤ now) (λ (one : Reached). (one.asked.id ≡ id) × (now < one.asked.moment + 40000)) taken past is.1),
+      )
 
 pub record HeardIn (setup : Setup) (w : World) : Type 0 where
   pub answers : Each (AnswersLately (taken_in w)) (arrivals_of w.gateway_took)
@@ -364,10 +366,11 @@ heard_so setup steps set_up taken =
     → Any (λ (one : Reached). (one.asked.id ≡ id) × (a.moment < one.asked.moment + 40000)) (taken_in w) in
     record {
       answers = each_weaker (λ (a : TextArrival). IsFinalArrival a × P a) (AnswersLately (taken_in w))
-          (λ a is code id params body reads.
-          (is.0 code id params body reads,
-          one_from_any (λ (one : Reached). (one.asked.id ≡ id) × (a.moment < one.asked.moment + 40000)) (taken_in w)
-          (is.1 code id params body reads (is.0 code id params body reads)))) (arrivals_of w.gateway_took)
+          (λ a is code id params body reads. (
+            is.0 code id params body reads,
+            one_from_any (λ (one : Reached). (one.asked.id ≡ id) × (a.moment < one.asked.moment + 40000)) (taken_in w)
+                (is.1 code id params body reads (is.0 code id params body reads)),
+          )) (arrivals_of w.gateway_took)
           (each_two IsFinalArrival P (arrivals_of w.gateway_took) (all_final setup set_up steps taken) (each_from_all P (arrivals_of w.gateway_took) (heard_lately setup steps set_up taken)));
       past = executed_each (λ (one : Reached). one.asked.moment ≤ now_in setup w) arrived
           (past_all (now_in setup w) arrived (subst (λ (n : ℕ). Rises n arrived) l.sound.clock l.links.rises));
@@ -426,11 +429,14 @@ module _ (setup : Setup) (line : ℕ) (some : 1 ≤ line) (set_up : IsSetUp setu
   none_contained a P (k, below, here) = absurd (omega arith)
 
   opening_fresh : (i : ℕ) → IsFresh (opening_endpoint setup i)
-  opening_fresh i = (refl, record {
-    rests = tt;
-    timely = tt;
-    dues = record { ends = record { timer = tt; signals = λ a there. none_contained a _ there }; command = tt; announcement = tt };
-  })
+  opening_fresh i = (
+    refl,
+    record {
+      rests = tt;
+      timely = tt;
+      dues = record { ends = record { timer = tt; signals = λ a there. none_contained a _ there }; command = tt; announcement = tt };
+    },
+  )
 
   opening_past : PastIn (plain_world setup [])
   unfolding world_after machine_after sent_from arrivals_from

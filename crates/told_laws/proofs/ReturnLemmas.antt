@@ -210,10 +210,16 @@ in_four id from until taken at one =
 
 few_in_four : (arrived : List Reached) (from : ℕ) → length (four_times from (fold executed_with [] arrived)) ≤ 16384
 few_in_four arrived from =
-    omega (arith, few_within from arrived, few_within (from + 30000) arrived, few_within (from + 60000) arrived, few_within (from + 60000 + 30000) arrived,
-    length-append (those_within from taken) (those_within (from + 30000) taken),
-    length-append (those_within (from + 60000) taken) (those_within (from + 60000 + 30000) taken),
-    length-append (two_times from taken) (two_times (from + 60000) taken)) where
+    omega (
+      arith,
+      few_within from arrived,
+      few_within (from + 30000) arrived,
+      few_within (from + 60000) arrived,
+      few_within (from + 60000 + 30000) arrived,
+      length-append (those_within from taken) (those_within (from + 30000) taken),
+      length-append (those_within (from + 60000) taken) (those_within (from + 60000 + 30000) taken),
+      length-append (two_times from taken) (two_times (from + 60000) taken),
+    ) where
       taken : List Reached
       taken = fold executed_with [] arrived
 
@@ -240,10 +246,13 @@ module _ (taken : List Reached) (now from high : ℕ) where
       in_mapped (λ (x : Reached). x.asked.id) id (four_times from taken)
       (in_four id from (from + 120000) taken refl
       (one_weaker (λ (x : Reached). (x.asked.id ≡ id) × ((at < x.asked.moment + 40000) × (x.asked.moment ≤ at))) (CameIn id from (from + 120000))
-      (λ x is. (is.0, (
-        (let young : at < x.asked.moment + 40000 = is.1.0 in omega (arith, early, since, rises, young)),
-        (let past : x.asked.moment ≤ at = is.1.1 in omega (arith, past, by, late)),
-      ))) taken one))
+      (λ x is. (
+        is.0,
+        (
+          (let young : at < x.asked.moment + 40000 = is.1.0 in omega (arith, early, since, rises, young)),
+          (let past : x.asked.moment ≤ at = is.1.1 in omega (arith, past, by, late)),
+        ),
+      )) taken one))
 
   parts : (done tail : List Begun) (low : ℕ) → ((at : ℕ) → Each (SoLate at) tail → at ≤ high) → from ≤ low - 41000 → high < from + 120000 → AllSettled taken now done tail
       → Each (SoLate low) (done ++ tail) → Parts ids low high done
@@ -359,25 +368,26 @@ module _ (arrived : List Reached) (now : ℕ) where
   return_late number free [] [] one all numbered = tt
   return_late number free [] (y ∷ []) one all numbered = (tt, tt)
   return_late number free [] (y ∷ z ∷ tail) one all numbered = absurd (omega (arith, one))
-  return_late number free (b ∷ done) tail one all numbered =
-      (each_parted (λ (c : Begun). b.id ≡ c.id → b.moment + return_time ≤ c.moment) (done ++ tail) (λ between y after is same. far between y after is same),
-      return_late numbered.1.0 free done tail one all.1 numbered.1.1.1) where
-        clash : (between : List Begun) (y : Begun) (after : List Begun) → done ++ tail ≡ between ++ y ∷ after → b.id ≡ y.id → y.moment < b.moment + return_time → ⊥
-        clash between y after is same soon =
-            let n = numbered_to number b between y after (done ++ tail) free numbered is in
-            let many : 9999998 ≤ length between = far_apart number b between y n.0 n.1 same in
-            let p = prefix done tail between y after one is in
-            let c = cut_at 30000 between (omega (arith, many)) in
-            let whole : done ≡ c.front ++ (c.back ++ p.more) = p.is ∙ ap (λ (z : List Begun). z ++ p.more) c.is ∙ append_assoc c.front c.back p.more in
-            too_many number free b c.front c.back p.more tail y after p.rest c.many (subst (λ (z : List Begun). AllSettled taken now (b ∷ z) tail) whole all)
-            (subst (λ (z : List Begun). Numbered number (b ∷ z) free)
-            (ap (λ (z : List Begun). z ++ tail) whole ∙ append_assoc c.front (c.back ++ p.more) tail ∙ ap (λ (z : List Begun). c.front ++ z) (append_assoc c.back p.more tail)) numbered) soon
+  return_late number free (b ∷ done) tail one all numbered = (
+    each_parted (λ (c : Begun). b.id ≡ c.id → b.moment + return_time ≤ c.moment) (done ++ tail) (λ between y after is same. far between y after is same),
+    return_late numbered.1.0 free done tail one all.1 numbered.1.1.1,
+  ) where
+    clash : (between : List Begun) (y : Begun) (after : List Begun) → done ++ tail ≡ between ++ y ∷ after → b.id ≡ y.id → y.moment < b.moment + return_time → ⊥
+    clash between y after is same soon =
+        let n = numbered_to number b between y after (done ++ tail) free numbered is in
+        let many : 9999998 ≤ length between = far_apart number b between y n.0 n.1 same in
+        let p = prefix done tail between y after one is in
+        let c = cut_at 30000 between (omega (arith, many)) in
+        let whole : done ≡ c.front ++ (c.back ++ p.more) = p.is ∙ ap (λ (z : List Begun). z ++ p.more) c.is ∙ append_assoc c.front c.back p.more in
+        too_many number free b c.front c.back p.more tail y after p.rest c.many (subst (λ (z : List Begun). AllSettled taken now (b ∷ z) tail) whole all)
+        (subst (λ (z : List Begun). Numbered number (b ∷ z) free)
+        (ap (λ (z : List Begun). z ++ tail) whole ∙ append_assoc c.front (c.back ++ p.more) tail ∙ ap (λ (z : List Begun). c.front ++ z) (append_assoc c.back p.more tail)) numbered) soon
 
-        far : (between : List Begun) (y : Begun) (after : List Begun) → done ++ tail ≡ between ++ y ∷ after → b.id ≡ y.id → b.moment + return_time ≤ y.moment
-        far between y after is same = by_test (nat_le (b.moment + return_time) y.moment) refl where
-          by_test : (t : Bool) → nat_le (b.moment + return_time) y.moment ≡ t → b.moment + return_time ≤ y.moment
-          by_test true late = leb-true (b.moment + return_time) y.moment late
-          by_test false early = absurd (clash between y after is same (leb-false (b.moment + return_time) y.moment early))
+    far : (between : List Begun) (y : Begun) (after : List Begun) → done ++ tail ≡ between ++ y ∷ after → b.id ≡ y.id → b.moment + return_time ≤ y.moment
+    far between y after is same = by_test (nat_le (b.moment + return_time) y.moment) refl where
+      by_test : (t : Bool) → nat_le (b.moment + return_time) y.moment ≡ t → b.moment + return_time ≤ y.moment
+      by_test true late = leb-true (b.moment + return_time) y.moment late
+      by_test false early = absurd (clash between y after is same (leb-false (b.moment + return_time) y.moment early))
 
 one_flies : (pending : Option InFlight) → length (flying pending) ≤ 1
 one_flies None = omega arith
