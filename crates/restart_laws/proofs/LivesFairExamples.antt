@@ -1,6 +1,6 @@
 -- Whether a network of lives is fair from a moment on, and its agent has room, computed; for worked examples.
 use Rattle.std.proofs.Common.{◌≡◌, ℕ, zero, suc, ◌+◌, ◌<◌, ◌≤◌, Bool, true, false, ◌||◌, ◌&&◌, ◌==◌, List, [], ◌∷◌, ◌++◌, length, Option, Some, refl, sym, ap, ◌∙◌, subst, arith, append_assoc}
-use Rattle.std.specs.Prelude.{nat_le, nat_lt, slice_get}
+use Rattle.std.specs.Prelude.{All, nat_le, nat_lt, slice_get}
 use Rattle.std.specs.Option.{unwrap_or}
 use Rattle.std.proofs.lemmas.Bool.{and_parts, eqb-true, leb-true, ltb-true}
 use Rattle.std.proofs.lemmas.Bool.Decides.{Decides-eqb}
@@ -8,12 +8,20 @@ use Rattle.std.proofs.lemmas.Option.{none-some}
 use Rattle.history.specs.Kept.{young_firsts}
 use Rattle.history.specs.Memory.{most_firsts}
 use Rattle.plain_machine.specs.declared.setup.Setup.{Setup}
-use Rattle.agent_core.specs.World.{delivering, dialling, issuing, ticking}
+use Rattle.transmission.specs.Texts.{texts_of}
+use Rattle.machine_laws.specs.Saying.{Begun, OneOf}
+use Rattle.machine_laws.proofs.EachLemmas.{Each, all_from_each, any_from_one}
+use Rattle.agent_core.specs.declared.packet.End.{End}
+use Rattle.agent_core.specs.declared.packet.End.TheVariants.{AgentEnd as agent_end, GatewayEnd as gateway_end}
+use Rattle.agent_core.specs.declared.packet.Packet.{Packet}
+use Rattle.agent_core.specs.World.{delivering, dialling, is_among, issuing, ticking}
 use Rattle.delivery_laws.proofs.FairExamples.{not_young}
 use Rattle.delivery_laws.proofs.FrontLemmas.{front_holds, on_fronts}
 use Rattle.delivery_laws.proofs.PlaceLemmas.{found_before}
-use Rattle.life_laws.specs.Lives.{Letter, LivesStep, LivesWorld, agent_then, clock_of, lived, lives_after, lives_opening, plain_lives, restarting, stepping}
-use Rattle.restart_laws.specs.AfterRestart.{AgentHasRoomThen, IsHandedOn, LivesAreFairFrom}
+use Rattle.life_laws.proofs.PairLemmas.{Pairs, pairs_to}
+use Rattle.life_laws.specs.Apart.{AreApart, BeginsLater, LieApart, begun_of}
+use Rattle.life_laws.specs.Lives.{Letter, Life, LivesStep, LivesWorld, agent_then, clock_of, lived, lives_after, lives_of, lives_opening, number_of, plain_lives, restarting, stepping}
+use Rattle.restart_laws.specs.AfterRestart.{AgentHasRoomThen, IsHandedOn, LifeGoesToAgent, LivesAreFairFrom}
 use Rattle.restart_laws.proofs.LivesFronts.{front_follows, life_more}
 
 -- this step hands the packet with this number over
@@ -165,3 +173,49 @@ pub lives_roomy : (setup : Setup) (steps : List LivesStep) (since : ℕ) → on_
 lives_roomy setup steps since all = λ before later order past.
     let w = plain_lives setup before in
     ltb-true (length (young_firsts (clock_of setup w) (agent_then setup w).history)) most_firsts (front_holds (room_after setup) steps before later all order)
+
+-- Whether all packets of the gateway go to the agent
+
+abbrev goes_by : End → Setup → Packet → Bool
+goes_by agent_end setup packet = true
+goes_by gateway_end setup packet = is_among setup.agent.route packet.to
+
+abbrev pub all_go : Setup → List Letter → Bool
+all_go setup [] = true
+all_go setup (letter ∷ letters) = goes_by letter.post.end setup letter.post.packet && all_go setup letters
+
+it_goes : (setup : Setup) (letters : List Letter) (number : ℕ) (letter : Letter) → all_go setup letters ≡ true → slice_get letters number ≡ Some letter
+    → letter.post.end ≡ gateway_end → is_among setup.agent.route letter.post.packet.to ≡ true
+it_goes setup [] number letter all found from = absurd (none-some letter found)
+it_goes setup (one ∷ letters) zero letter all found from =
+    let both = and_parts (goes_by one.post.end setup one.post.packet) (all_go setup letters) all in
+    let same : one ≡ letter = ap (λ (o : Option Letter). unwrap_or o one) found in
+    subst (λ (e : End). goes_by e setup letter.post.packet ≡ true) from (subst (λ (x : Letter). goes_by x.post.end setup x.post.packet ≡ true) same both.0)
+it_goes setup (one ∷ letters) (suc number) letter all found from =
+    it_goes setup letters number letter (and_parts (goes_by one.post.end setup one.post.packet) (all_go setup letters) all).1 found from
+
+pub life_goes : (setup : Setup) (w : LivesWorld) (text : List ℕ) → all_go setup w.letters ≡ true → LifeGoesToAgent setup w text
+life_goes setup w text all = λ number letter found of from inside. it_goes setup w.letters number letter all found from
+
+-- where one goes elsewhere, what is in it doesn't reach the agent
+pub lives_astray : (setup : Setup) (w : LivesWorld) (text : List ℕ) (number : ℕ) (letter : Letter) → slice_get w.letters number ≡ Some letter → (letter.life == number_of w) ≡ true
+    → letter.post.end ≡ gateway_end → is_among setup.agent.route letter.post.packet.to ≡ false → OneOf (λ (one : List ℕ). one ≡ text) (texts_of letter.post.packet.bytes)
+    → LifeGoesToAgent setup w text → ⊥
+lives_astray setup w text number letter found of from astray inside goes =
+    absurd (
+    let there = goes number letter found (eqb-true letter.life (number_of w) of) from (any_from_one (λ (one : List ℕ). one ≡ text) (texts_of letter.post.packet.bytes) inside) in
+    let clash : true ≡ false = sym there ∙ astray in cc)
+
+-- Whether the ids of two lives lie apart
+
+pub two_apart : (w : LivesWorld) (earlier : Life) (a b c : Begun) → w.over ≡ earlier ∷ [] → begun_of earlier ≡ a ∷ [] → begun_of w.life ≡ b ∷ c ∷ [] → BeginsLater a b
+    → BeginsLater a c → LieApart (lives_of w)
+two_apart w earlier a b c one first second next last =
+    pairs_to AreApart (lives_of w) (subst (λ (over : List Life). Pairs AreApart (over ++ w.life ∷ [])) (sym one) ((here, tt), (tt, tt))) where
+      later : All (BeginsLater a) (begun_of w.life)
+      later = all_from_each (BeginsLater a) (begun_of w.life) (subst (Each (BeginsLater a)) (sym second) (next, (last, tt)))
+
+      here : AreApart earlier w.life
+      here =
+          all_from_each (λ (x : Begun). All (BeginsLater x) (begun_of w.life)) (begun_of earlier)
+          (subst (Each (λ (x : Begun). All (BeginsLater x) (begun_of w.life))) (sym first) (later, tt))

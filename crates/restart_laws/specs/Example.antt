@@ -1,10 +1,17 @@
 -- The worlds of the worked examples: the gateway of two lines starts again, while the network is down or where it is fair.
-use Rattle.std.specs.Prelude.{List, [], ◌∷◌, ◌++◌}
-use Rattle.agent_core.specs.World.{delivering, ticking}
+use Rattle.std.specs.Prelude.{ℕ, codes, List, [], ◌∷◌, ◌++◌, flat_map}
+use Rattle.mg_line.specs.declared.phone.Act.TheVariants.{OffHook}
+use Rattle.mgcp_text.specs.declared.message.Message.TheVariants as messages
+use Rattle.mgcp_text.specs.Reading.{Outcome, bad_body, bad_version, message, no_header}
+use Rattle.plain_machine.specs.Arriving.{arrivals_of}
+use Rattle.machine_laws.specs.Saying.{Begun}
+use Rattle.agent_core.specs.World.{delivering, dialling, ticking}
 use Rattle.world_laws.specs.Example.{announced, seconds}
+use Rattle.delivery_laws.specs.Example.{up_to}
+use Rattle.outage_laws.specs.Example.{all_lost, sent_elsewhere}
 use Rattle.outage_laws.specs.Premises.{announced_four_times}
 use Rattle.life_laws.specs.Lives.{LivesStep, restarting, stepping}
-use Rattle.life_laws.specs.Example.{in_one_life}
+use Rattle.life_laws.specs.Example.{in_one_life, lives}
 
 -- its first life announces itself at 1, by packet 0, which is lost, and it starts again; the eight copies of the announcement of the next
 -- life, packets 1 to 8, from 2 on, are lost, and it is given up at 23,502; 1 ms later it goes out anew, packet 9, and a packet takes
@@ -39,3 +46,56 @@ served_never_again =
 -- Where the gateway isn't set up well: its announcement is as long as a datagram may be, and longer, and none comes
 abbrev pub never_heard : List LivesStep
 never_heard = in_one_life announced_four_times
+
+-- In flight
+
+-- the next life announces itself at 2, by packets 1 and 2, and line 1 is lifted: the copies of its notification of 2, 502, 1,502 and 3,502,
+-- packets 3 to 6, are lost; from 3,503 on each packet is handed over 300 ms after it was sent: that of 7,502, packet 7, at 7,802
+abbrev pub lifted_anew : Begun
+lifted_anew = record { id = 10000020; moment = 1; text = codes "NTFY 10000020 aaln/1@rgw.example.net MGCP 1.0\r\nX: 0\r\nO: L/hd\r\n" }
+
+abbrev pub lost_anew : List LivesStep
+lost_anew =
+    stepping (ticking 1) ∷ restarting 20
+    ∷ in_one_life (ticking 2 ∷ delivering 1 ∷ delivering 2 ∷ dialling 1 OffHook ∷ up_to 7 ++ ticking 7502 ∷ ticking 7802 ∷ [])
+
+-- and its answer, packet 8, at 8,102
+abbrev pub taken_anew : List LivesStep
+taken_anew = lost_anew ++ in_one_life (delivering 7 ∷ ticking 8102 ∷ [])
+
+abbrev pub answered_anew : List LivesStep
+answered_anew = taken_anew ++ stepping (delivering 8) ∷ []
+
+-- or nothing is handed over
+abbrev pub lost_still : List LivesStep
+lost_still = lost_anew ++ stepping (ticking 8102) ∷ []
+
+-- line 1 reports to another address; or the last copy of its notification is lost, too
+abbrev pub lifted_elsewhere : List LivesStep
+lifted_elsewhere = in_one_life sent_elsewhere
+
+abbrev pub lost_for_good : List LivesStep
+lost_for_good = in_one_life all_lost
+
+-- the gateway is announced, and starts again with the same number: four copies of its announcement, packets 2 to 5, come at 4,002, and are
+-- taken for repeats of the first life's; the answers take 4,000 ms
+abbrev pub started_alike_slowly : List LivesStep
+started_alike_slowly =
+    in_one_life announced ++ restarting 0
+    ∷ in_one_life (ticking 2 ∷ up_to 4 ++ ticking 4002 ∷ delivering 2 ∷ delivering 3 ∷ delivering 4 ∷ delivering 5 ∷ ticking 5001 ∷ ticking 6001
+    ∷ ticking 7001 ∷ ticking 8001 ∷ [])
+
+-- which that life announces at its moment 1
+abbrev pub announced_alike : Begun
+announced_alike = record { id = 1; moment = 1; text = codes "RSIP 1 *@rgw.example.net MGCP 1.0\r\nRM: restart\r\n" }
+
+-- the ids of the responses that came to the life that goes on
+abbrev pub responding : Outcome → List ℕ
+responding no_header = []
+responding (bad_version id) = []
+responding (bad_body id) = []
+responding (message (messages.Command verb id name params body)) = []
+responding (message (messages.Response code id params body)) = id ∷ []
+
+abbrev pub responses_after : List LivesStep → List ℕ
+responses_after steps = flat_map (λ a. responding a.outcome) (arrivals_of (lives steps).life.took)

@@ -3,19 +3,23 @@
 //! for one.
 #![tactic(auto, unfolding(crate::proofs::Computing::on_examples))]
 
-ghost use Rattle.std.specs.Prelude.{◌≡◌, ◌≤◌, ◌+◌, ◌*◌, [], ◌∷◌, true, false};
+ghost use Rattle.std.specs.Prelude.{◌≡◌, ◌≤◌, ◌<◌, ◌+◌, ◌*◌, [], ◌∷◌, true, false};
 ghost use Rattle.plain_machine.specs.Example.{two_lines};
 ghost use Rattle.plain_machine.specs.Machine.{serves};
 ghost use Rattle.plain_machine.specs.Setup.{IsSetUp};
 ghost use Rattle.agent_core.specs.World.{oldest_packet};
-ghost use Rattle.delivery_laws.specs.Example.{endless};
-ghost use Rattle.outage_laws.specs.AfterOutage.{gap_of};
+ghost use Rattle.delivery_laws.specs.Chances.{last_chance};
+ghost use Rattle.delivery_laws.specs.Example.{endless, lifted};
+ghost use Rattle.outage_laws.specs.AfterOutage.{gap_of, longest_pause};
+ghost use Rattle.outage_laws.specs.Alone.{HasBegun};
+ghost use Rattle.outage_laws.specs.Premises.{reported_elsewhere};
 ghost use Rattle.life_laws.specs.Lives.{clock_of, gateway_of, lives_are_taken, lives_of, lives_opening, number_of, plain_lives};
 ghost use Rattle.life_laws.specs.Apart.{LieApart};
 ghost use Rattle.life_laws.specs.Example.{brought_after, firsts_after, lives, moments_after, owners_after, serves_after};
-ghost use Rattle.restart_laws.specs.AfterRestart.{AgentHasRoomThen, IsRunOfLives, LivesAreFairFrom};
+ghost use Rattle.restart_laws.specs.AfterRestart.{AgentHasRoomThen, IsRunOfLives, LifeGoesToAgent, LivesAreFairFrom};
 ghost use Rattle.restart_laws.specs.Example.{answered_at_last, down_at_first, never_heard, served_never_again, started_alike_once};
-ghost use Rattle.restart_laws.specs.Example.{started_anew, unanswered_yet};
+ghost use Rattle.restart_laws.specs.Example.{announced_alike, answered_anew, lifted_anew, lifted_elsewhere, lost_anew, lost_for_good, lost_still};
+ghost use Rattle.restart_laws.specs.Example.{responses_after, started_alike_slowly, started_anew, taken_anew, unanswered_yet};
 
 /// The gateway starts again at 1, while the network is down. The eight sends of its announcement are lost, and the network is there again
 /// 1 ms behind the last, with 300 ms for a packet; the announcement is given up, and goes out anew 1 ms later. The gateway serves 4,000
@@ -74,4 +78,56 @@ pub fn else_a_new_life_does_not_serve()
     ensures late_anew { 19503 + gap_of 300 + two_lines.restart_wait + 2 * 300 ≤ clock_of two_lines (lives started_anew) + 1 }
     ensures started { (lives started_anew).life.start ≡ clock_of two_lines (lives started_anew) }
     ensures serves_not_anew { serves_after started_anew ≡ false }
+{}
+
+/// In its second life the gateway notifies that line 1 is lifted. Four copies of that are lost, and the network is there again 1 ms behind the
+/// fourth, with 300 ms for a packet: it is taken 3,999 + 300 ms behind that, as a first of that life, and answered 300 ms later, and no
+/// sooner. All that the law asks for holds at once, and lives' ids lie apart.
+pub fn what_a_new_life_lost_is_taken_at_the_next_send()
+    ensures run { IsRunOfLives two_lines answered_anew }
+    ensures second_life { number_of (lives answered_anew) ≡ 1 }
+    ensures start { (lives answered_anew).life.start ≡ 1 }
+    ensures moments { moments_after taken_anew ≡ 1 ∷ 2 ∷ 2 ∷ 2 ∷ 502 ∷ 1502 ∷ 3502 ∷ 7502 ∷ 7802 ∷ [] }
+    ensures fair { LivesAreFairFrom two_lines answered_anew 3503 300 }
+    ensures fair_not_before { ¬ LivesAreFairFrom two_lines answered_anew 3502 300 }
+    ensures room { AgentHasRoomThen two_lines answered_anew 3503 }
+    ensures begun { HasBegun (lives answered_anew).life.setup (lives answered_anew).life.took 1 lifted_anew }
+    ensures goes { LifeGoesToAgent two_lines (lives answered_anew) lifted_anew.text }
+    ensures apart { LieApart (lives_of (lives answered_anew)) }
+    ensures in_flight { 3503 ≤ (lives answered_anew).life.start + lifted_anew.moment + last_chance }
+    ensures late { 3503 + longest_pause + 300 ≡ clock_of two_lines (lives lost_anew) + 1 }
+    ensures not_yet { firsts_after lost_anew ≡ (1, 21) ∷ [] }
+    ensures taken { firsts_after taken_anew ≡ (1, 21) ∷ (1, 10000020) ∷ [] }
+    ensures late_too { 3503 + longest_pause + 2 * 300 ≡ clock_of two_lines (lives taken_anew) + 1 }
+    ensures not_answered { responses_after taken_anew ≡ 21 ∷ [] }
+    ensures answered { responses_after answered_anew ≡ 21 ∷ 10000020 ∷ [] }
+{}
+
+/// It isn't taken where nothing is handed over, where it goes elsewhere, or where the last of its sends was before; nor as one of its life
+/// where an earlier life had its id.
+pub fn else_what_a_new_life_sends_is_not_taken()
+    ensures run { IsRunOfLives two_lines lost_still }
+    ensures unfair { ¬ LivesAreFairFrom two_lines lost_still 3503 300 }
+    ensures goes { LifeGoesToAgent two_lines (lives lost_still) lifted_anew.text }
+    ensures late { 3503 + longest_pause + 2 * 300 ≤ clock_of two_lines (lives lost_still) + 1 }
+    ensures none_taken { firsts_after lost_still ≡ (1, 21) ∷ [] }
+    ensures none_answered { responses_after lost_still ≡ 21 ∷ [] }
+    ensures run_elsewhere { IsRunOfLives two_lines lifted_elsewhere }
+    ensures fair_elsewhere { LivesAreFairFrom two_lines lifted_elsewhere 0 0 }
+    ensures late_elsewhere { 0 + longest_pause + 0 ≤ clock_of two_lines (lives lifted_elsewhere) + 1 }
+    ensures goes_elsewhere { ¬ LifeGoesToAgent two_lines (lives lifted_elsewhere) reported_elsewhere.text }
+    ensures none_there { firsts_after lifted_elsewhere ≡ (0, 1) ∷ [] }
+    ensures run_for_good { IsRunOfLives two_lines lost_for_good }
+    ensures fair_since { LivesAreFairFrom two_lines lost_for_good 19502 0 }
+    ensures late_since { 19502 + longest_pause + 0 ≤ clock_of two_lines (lives lost_for_good) + 1 }
+    ensures too_late { lifted.moment + last_chance < 19502 }
+    ensures none_left { firsts_after lost_for_good ≡ (0, 1) ∷ [] }
+    ensures run_alike { IsRunOfLives two_lines started_alike_slowly }
+    ensures fair_alike { LivesAreFairFrom two_lines started_alike_slowly 2 4000 }
+    ensures room_alike { AgentHasRoomThen two_lines started_alike_slowly 2 }
+    ensures begun_alike { HasBegun (lives started_alike_slowly).life.setup (lives started_alike_slowly).life.took 0 announced_alike }
+    ensures late_alike { 2 + longest_pause + 4000 ≤ clock_of two_lines (lives started_alike_slowly) + 1 }
+    ensures not_apart { ¬ LieApart (lives_of (lives started_alike_slowly)) }
+    ensures none_of_this_life { firsts_after started_alike_slowly ≡ (0, 1) ∷ [] }
+    ensures none_came_alike { responses_after started_alike_slowly ≡ [] }
 {}
