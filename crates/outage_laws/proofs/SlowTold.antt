@@ -36,7 +36,7 @@ use Rattle.delivery_laws.proofs.RoundLaws.{course_on}
 use Rattle.delivery_laws.proofs.StepLemmas.{steps_more, taken_front}
 use Rattle.delivery_laws.proofs.WorldLemmas.{line_taken}
 use Rattle.told_laws.specs.Stretch.{outliving, taken_meanwhile}
-use Rattle.told_laws.proofs.LateLemmas.{line_both}
+use Rattle.told_laws.proofs.ListLemmas.{line_both}
 use Rattle.told_laws.proofs.StretchCourses.{taken_then}
 use Rattle.outage_laws.specs.AfterOutage.{AgentHasRoomFrom, IsFairFrom, gap_of, longer_wait, well_by}
 use Rattle.outage_laws.specs.ToldSince.{IsAskedForAllSince, IsToldFrom}
