@@ -1,13 +1,17 @@
 -- What is told of what happened, as it is gone through from the oldest.
-use Rattle.std.proofs.Common.{◌≡◌, ℕ, suc, ◌+◌, ◌-◌, ◌<◌, ◌≤◌, refl, List, [], ◌∷◌, ◌++◌, length, map, nat_lt, true, false, append_assoc, length-append, arith}
+use Rattle.std.proofs.Common.{◌≡◌, ℕ, suc, ◌+◌, ◌-◌, ◌<◌, ◌≤◌, refl, codes, List, [], ◌∷◌, ◌++◌, length, map, nat_lt, true, false, Option, Some, None, append_assoc, length-append, arith}
 use Rattle.std.proofs.lemmas.List.{map-append}
 use Rattle.std.proofs.lemmas.Bool.Decides.{nat_tests}
 use Rattle.serde_json.specs.declared.value.Value.{Value}
-use Rattle.serde_json.specs.Data.{Data}
+use Rattle.hex.specs.Hex.{encode_lower}
+use Rattle.serde_json.specs.Data.{Data, string, object, no_members, put}
 use Rattle.serde_json.specs.View.{view, items_of}
 use Rattle.serde_json.specs.Written.{has_float, items_have_float, compact_text}
+use Rattle.page_answers.specs.declared.label.MessageLabel.{MessageLabel}
 use Rattle.page_answers.specs.Keeping.{Event, RingState}
-use Rattle.page_answers.specs.Telling.{event_data, told_after, last_number, events_data}
+use Rattle.page_answers.specs.Labelling.{label_data, with_said}
+use Rattle.page_answers.specs.Telling.{event_data, put_circumstances, told_after, last_number, events_data}
+use Rattle.page_answers.specs.Texts.{number_data}
 
 is_newer : (after n : ℕ) → after < n → nat_lt after n ≡ true
 is_newer after n h = grind (arith, nat_tests)
@@ -54,10 +58,26 @@ pub goes_on_from : (most after : ℕ) (list : List Value) (v : Value) (last next
 goes_on_from most after list v last next e es newer room told =
     rw (length-append list (v ∷ [])) (rw (told_next most (length list) after e es newer room) at told)
 
--- nothing that is told is a number with a fraction
+-- no number that is told has a fraction
+number_whole : (number : Option ℕ) → has_float (number_data number) ≡ false
+number_whole None = refl
+number_whole (Some n) = refl
+
+label_whole : (label : MessageLabel) → has_float (label_data label) ≡ false
+label_whole label = rw (number_whole label.code, number_whole label.id, number_whole label.line, number_whole label.send) refl
+
+labels_whole : (labels : List MessageLabel) → items_have_float (items_of (map label_data labels)) ≡ false
+labels_whole [] = refl
+labels_whole (label ∷ labels) = rw (label_whole label, labels_whole labels) refl
+
+event_whole : (said : List MessageLabel) (e : Event)
+    → has_float (object (with_said said (put (codes "hex") (string (encode_lower e.text)) (put_circumstances e no_members)))) ≡ false
+event_whole [] e = refl
+event_whole (label ∷ labels) e = rw (label_whole label, labels_whole labels) refl
+
 items_whole : (es : List Event) → items_have_float (items_of (map event_data es)) ≡ false
 items_whole [] = refl
-items_whole (e ∷ es) = rw (items_whole es) refl
+items_whole (e ∷ es) = rw (event_whole e.said e, items_whole es) refl
 
 pub events_whole : (ring : RingState) (after version clock : ℕ) → has_float (events_data ring after version clock) ≡ false
 events_whole ring after version clock = rw (items_whole _) refl

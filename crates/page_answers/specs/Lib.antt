@@ -8,5 +8,6 @@ pub mod Showing
 pub mod Health
 pub mod Outcomes
 pub mod Texts
+pub mod Labelling
 pub mod Telling
 pub mod Example

@@ -6,9 +6,10 @@ use Rattle.serde_json.specs.Data.{Data, boolean, string, array, object, Members,
 use Rattle.serde_json.specs.View.{items_of}
 use Rattle.serde_json.specs.Written.{compact_text}
 use Rattle.page_answers.specs.declared.ring.Kind.{Kind}
-use Rattle.page_answers.specs.declared.ring.Kind.TheVariants.{Received, Sent, Act, Told}
+use Rattle.page_answers.specs.declared.ring.Kind.TheVariants.{Received, Sent, Act, Told, GivenUp}
 use Rattle.page_answers.specs.declared.telling.TheConstants.{MOST_TOLD}
 use Rattle.page_answers.specs.Keeping.{Event, RingState, next_number}
+use Rattle.page_answers.specs.Labelling.{with_said}
 use Rattle.page_answers.specs.Texts.{put_number, put_shown}
 
 abbrev pub kind_word : Kind → List ℕ
@@ -16,6 +17,7 @@ kind_word Received = codes "in"
 kind_word Sent = codes "out"
 kind_word Act = codes "act"
 kind_word Told = codes "told"
+kind_word GivenUp = codes "given up"
 
 -- when something happened, what it was, and with whom
 abbrev pub put_circumstances : Event → Members → Members
@@ -23,9 +25,10 @@ put_circumstances e members =
     put (codes "peer") (string (socket_v4_text e.peer)) (put (codes "kind") (string (kind_word e.kind))
     (put_number (codes "at") e.moment (put_number (codes "n") e.number members)))
 
--- what came from outside goes in hexadecimal digits alone
+-- what came from outside goes in hexadecimal digits alone; beside it stands what its messages are
 abbrev pub event_data : Event → Data
-event_data e = object (put (codes "hex") (string (encode_lower e.text)) (put_circumstances e no_members))
+event_data e =
+    object (with_said e.said (put (codes "hex") (string (encode_lower e.text)) (put_circumstances e no_members)))
 
 -- those behind a number, from the oldest, at most so many
 abbrev pub told_after : ℕ → ℕ → List Event → List Event

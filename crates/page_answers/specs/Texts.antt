@@ -25,17 +25,17 @@ put_number name n members = put name (number (unsigned n)) members
 abbrev pub put_shown : ℕ → ℕ → Members → Members
 put_shown version clock members = put_number (codes "clock") clock (put_number (codes "version") version members)
 
--- a moment, where there is one
-abbrev pub moment_data : Option ℕ → Data
-moment_data None = null
-moment_data (Some moment) = number (unsigned moment)
+-- a number, where there is one
+abbrev pub number_data : Option ℕ → Data
+number_data None = null
+number_data (Some n) = number (unsigned n)
 
 -- what a gateway is: with which number its ids began, whether it serves (RFC 3435, 4.4.6), whether its agent answers, and since when it
 -- owes an answer, its lines, how many of their events were lost, and what was counted
 abbrev pub state_data : ℕ → ℕ → ℕ → Bool → Option ℕ → ℕ → Data → Data → Data
 state_data version clock first is_serving unanswered lost lines counts =
     object (put (codes "counts") counts (put (codes "lines") lines (put_number (codes "lost") lost
-    (put (codes "unanswered_since") (moment_data unanswered)
+    (put (codes "unanswered_since") (number_data unanswered)
     (put (codes "agent_answers") (boolean (agent_answers clock is_serving unanswered)) (put (codes "serving") (boolean is_serving)
     (put_number (codes "first") first (put_shown version clock no_members))))))))
 
@@ -47,7 +47,7 @@ name_data name = string (utf8_lossy name)
 
 abbrev pub signal_data : SignalView → Data
 signal_data signal =
-    object (put (codes "end") (moment_data signal.end) (put (codes "name") (name_data signal.name.now) no_members))
+    object (put (codes "end") (number_data signal.end) (put (codes "name") (name_data signal.name.now) no_members))
 
 -- where its media go is an empty text where that isn't known; its call stands as it was spelled when the connection was created
 abbrev pub connection_data : ConnectionView → Data

@@ -2,7 +2,7 @@
 ghost use Rattle.std.specs.Prelude.{◌≡◌, ◌≢◌, ◌≤◌, [], false, None, length, drop, IfOk, OnOk, OnErr, slice_get, string_bytes};
 ghost use Rattle.page_answers.specs.Texts.{TellsState};
 ghost use Rattle.page_answers.specs.Telling.{events_text as text_of_events};
-ghost use Rattle.page_answers.specs.Keeping.{next_number, nothing_yet, noted, counted};
+ghost use Rattle.page_answers.specs.Keeping.{next_number, nothing_yet, noted, counted, labelled};
 ghost use Rattle.page_answers.specs.Showing.{IsNothingCounted, lines_of};
 ghost use Rattle.page_answers.specs.Health.{is_alive};
 ghost use Rattle.page_answers.specs.Metrics.{metrics_of};
@@ -10,6 +10,7 @@ ghost use Rattle.page_answers.specs.Outcomes.{Becomes};
 
 use crate::act::QueuedAct;
 use crate::acting::read_act;
+use crate::label::MessageLabel;
 use crate::metrics::metrics_text;
 use crate::picture::Picture;
 use crate::ring::{Kind, Ring};
@@ -138,6 +139,15 @@ impl Board {
         ensures err { OnErr result (self.new ≡ record self.old { ring = counted self.old.ring }) }
     {
         self.ring.note(moment, kind, peer, text)
+    }
+
+    /// It is told what the messages of what happened last are, where that is kept. After an error, which is for want of memory, the board
+    /// is as it was.
+    pub fn label(&mut self, said: &[MessageLabel]) -> Result<(), AllocError>
+        ensures ok { OnOk result (self.new ≡ record self.old { ring = labelled self.old.ring said.now }) }
+        ensures err { OnErr result (self.new ≡ self.old) }
+    {
+        self.ring.label(said)
     }
 
     /// Takes the act that has waited longest.

@@ -5,11 +5,13 @@ ghost use Rattle.std.specs.Prelude.{◌≡◌, codes, true, false, map, length, 
 ghost use Rattle.serde_json.specs.Data.{number, unsigned, boolean, object, member, no_members, null};
 ghost use Rattle.serde_json.specs.Written.{compact_text};
 ghost use Rattle.page_answers.specs.Acting.{act_named, act_line, queued_in, asked_by};
-ghost use Rattle.page_answers.specs.Example.{asks, queued, agent, ring_at, lifted, answered};
-ghost use Rattle.page_answers.specs.Keeping.{sum_within, next_number, kept_with, event_at, nothing_yet, counted, noted};
+ghost use Rattle.page_answers.specs.Example.{asks, queued, agent, ring_at, lifted, answered, sent_answer, noise};
+ghost use Rattle.page_answers.specs.Keeping.{sum_within, next_number, kept_with, event_at, nothing_yet, counted, noted, labelled};
+ghost use Rattle.page_answers.specs.Labelling.{message_word, label_data};
 ghost use Rattle.page_answers.specs.Texts.{put_shown, state_data};
 ghost use Rattle.page_answers.specs.Telling.{kind_word, event_data, told_after, next_after, has_more, first_number, events_text};
-ghost use Rattle.page_answers.specs.declared.ring.Kind.TheVariants.{Received, Sent, Act, Told};
+ghost use Rattle.page_answers.specs.declared.label.MessageKind.TheVariants as messages;
+ghost use Rattle.page_answers.specs.declared.ring.Kind.TheVariants.{Received, Sent, Act, Told, GivenUp};
 ghost use Rattle.page_answers.specs.Verbs.{verb_word};
 ghost use Rattle.page_answers.specs.Metrics.{escaped, labelled_sample, code_text, single, number_if};
 ghost use Rattle.page_answers.specs.Health.{is_alive, agent_answers};
@@ -51,7 +53,8 @@ pub fn each_sentence_has_an_example()
         (member (codes "unanswered_since") null (member (codes "version") (number (unsigned 3)) no_members))))))))) }
     ensures act { compact_text (event_data lifted)
         ≡ codes "{\"at\":5000,\"hex\":\"70686f6e652031206f6666\",\"kind\":\"act\",\"n\":7,\"peer\":\"192.168.1.5:2727\"}" }
-    ensures kinds { map kind_word (Received ∷ Sent ∷ Act ∷ Told ∷ []) ≡ codes "in" ∷ codes "out" ∷ codes "act" ∷ codes "told" ∷ [] }
+    ensures kinds { map kind_word (Received ∷ Sent ∷ Act ∷ Told ∷ GivenUp ∷ [])
+        ≡ codes "in" ∷ codes "out" ∷ codes "act" ∷ codes "told" ∷ codes "given up" ∷ [] }
     ensures what_is_told_is_json_some { events_text (ring_at 8 (lifted ∷ [])) 0 3 2000
         ≡ codes "{\"clock\":2000,\"events\":[{\"at\":5000,\"hex\":\"70686f6e652031206f6666\",\"kind\":\"act\",\"n\":7,\"peer\":"
         ++ codes "\"192.168.1.5:2727\"}],\"first\":7,\"more\":true,\"next\":7,\"version\":3}" }
@@ -138,4 +141,27 @@ pub fn an_agent_that_owes_an_answer_for_long_does_not_answer()
     ensures soon { agent_answers 9000 true (Some 7000) ≡ true }
     ensures late { agent_answers 9000 true (Some 6999) ≡ false }
     ensures never_nor_soon { agent_answers 9000 false (Some 9000) ≡ false }
+{}
+
+/// What the messages of what happened last are is told beside it.
+pub fn what_messages_are_stands_beside_them()
+    ensures came { map message_word (messages.Unreadable ∷ messages.New ∷ messages.Repeat ∷ messages.Confirmed ∷ messages.Lost
+        ∷ messages.Response ∷ []) ≡ codes "unreadable" ∷ codes "new" ∷ codes "repeat" ∷ codes "confirmed" ∷ codes "lost"
+        ∷ codes "response" ∷ [] }
+    ensures sent { map message_word (messages.Answer ∷ messages.Again ∷ messages.Command ∷ messages.Resent ∷ messages.Acknowledgement
+        ∷ messages.GivenUp ∷ []) ≡ codes "answer" ∷ codes "again" ∷ codes "command" ∷ codes "resent" ∷ codes "acknowledgement"
+        ∷ codes "given up" ∷ [] }
+    ensures known { compact_text (label_data sent_answer)
+        ≡ codes "{\"code\":200,\"id\":1207,\"line\":1,\"send\":1,\"what\":\"answer\"}" }
+    ensures unknown { compact_text (label_data noise)
+        ≡ codes "{\"code\":null,\"id\":null,\"line\":null,\"send\":null,\"what\":\"unreadable\"}" }
+    ensures beside { compact_text (event_data (record answered { kind = Sent; said = sent_answer ∷ [] }))
+        ≡ codes "{\"at\":5020,\"hex\":\"6f6b\",\"kind\":\"out\",\"n\":8,\"peer\":\"192.168.1.5:2727\",\"said\":[{\"code\":200,\"id\":1207,\"line\":1,\"send\":1,\"what\":\"answer\"}]}" }
+    ensures latest { labelled (ring_at 8 (lifted ∷ answered ∷ [])) (sent_answer ∷ [])
+        ≡ ring_at 8 (lifted ∷ record answered { said = sent_answer ∷ [] } ∷ []) }
+    ensures alone { labelled (ring_at 8 (answered ∷ [])) (sent_answer ∷ noise ∷ [])
+        ≡ ring_at 8 (record answered { said = sent_answer ∷ noise ∷ [] } ∷ []) }
+    ensures not_kept { labelled (ring_at 9 (lifted ∷ answered ∷ [])) (sent_answer ∷ []) ≡ ring_at 9 (lifted ∷ answered ∷ []) }
+    ensures none { labelled nothing_yet (sent_answer ∷ []) ≡ nothing_yet }
+    ensures said_of_64 { map (λ e. length e.said) (labelled (ring_at 8 (answered ∷ [])) (replicate 65 noise)).events ≡ 64 ∷ [] }
 {}

@@ -4,10 +4,20 @@ ghost use Rattle.serde_json.specs.Data.{string, put as with_member};
 ghost use Rattle.serde_json.specs.View.{members_view};
 ghost use Rattle.std.specs.Prelude.{fold, map, [], ◌∷◌, ◌++◌};
 ghost use Rattle.serde_json.specs.View.{view};
-ghost use Rattle.page_answers.specs.Texts.{put_number, put_shown as with_shown, with_number, name_data};
+ghost use Rattle.page_answers.specs.Texts.{number_data, put_number, put_shown as with_shown, with_number, name_data};
 
 use serde_json::{Map, Value, put};
 use std::alloc::{AllocError, Global};
+
+/// A number, where there is one.
+pub(crate) fn number_value(number: Option<u64>) -> Value
+    ensures { view result ≡ number_data number }
+{
+    match number {
+        Some(number) => Value::from(number),
+        None => Value::Null,
+    }
+}
 
 /// Puts a member that is a text.
 pub(crate) fn put_text(

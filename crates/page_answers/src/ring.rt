@@ -1,7 +1,8 @@
 //! What happened lately, numbered from 1.
-ghost use Rattle.std.specs.Prelude.{◌≡◌, map, take, OnOk, OnErr};
-ghost use Rattle.page_answers.specs.Keeping.{kept_with, event_of, nothing_yet, counted, noted};
+ghost use Rattle.std.specs.Prelude.{◌≡◌, length, map, take, OnOk, OnErr};
+ghost use Rattle.page_answers.specs.Keeping.{kept_with, event_of, nothing_yet, counted, noted, told_of, latest_said, labelled};
 
+use crate::label::MessageLabel;
 use std::alloc::{AllocError, Global};
 use std::collections::VecDeque;
 use std::marker::Model;
@@ -12,6 +13,9 @@ pub const MOST_KEPT: usize = 1024;
 
 /// So many bytes are kept of each.
 pub const MOST_TEXT: usize = 4096;
+
+/// Of so many of its messages it is kept what they are.
+pub const MOST_SAID: usize = 64;
 
 /// What happened.
 #[derive(Clone, Copy)]
@@ -24,6 +28,8 @@ pub enum Kind {
     Act,
     /// What was answered to it, as `! 5 PhoneState`.
     Told,
+    /// Commands of the gateway's own were given up.
+    GivenUp,
 }
 
 /// What happened at a moment.
@@ -37,6 +43,8 @@ pub struct Happening {
     pub peer: SocketAddrV4,
     /// Its bytes, as many as are kept.
     pub text: Vec<u8>,
+    /// What its messages are, in their order, where that is told: of as many as that is kept of.
+    pub said: Vec<MessageLabel>,
 }
 
 /// What happened lately. The oldest gives way. A contract sees the number of the latest, and what is kept.
@@ -70,6 +78,16 @@ fn beginning(text: &[u8]) -> &[u8]
     }
 }
 
+// The first of these, of as many as it is kept what they are.
+fn first_said(said: &[MessageLabel]) -> &[MessageLabel]
+    ensures { result.now ≡ take MOST_SAID said.now }
+{
+    match said.get(..MOST_SAID) {
+        Some(first) => first,
+        None => said,
+    }
+}
+
 // Puts one behind the others. After an error they are as they were.
 fn keep(kept: &mut VecDeque<Happening>, happening: Happening) -> Result<(), AllocError>
     ensures kept { OnOk result (kept.new.items ≡ kept_with MOST_KEPT kept.old.items happening) }
@@ -82,6 +100,27 @@ fn keep(kept: &mut VecDeque<Happening>, happening: Happening) -> Result<(), Allo
     let _ = kept.pop_front();
     kept.push_back_reserved(happening);
     Ok(())
+}
+
+// Of what happened it is told what its messages are, where it has this number.
+fn label_one(mut happening: Happening, latest: u64, said: Vec<MessageLabel>) -> Happening
+    ensures { event_of result ≡ told_of latest said.items (event_of happening) }
+{
+    if happening.number == latest {
+        happening.said = said;
+    }
+    happening
+}
+
+// The same of the last that is kept.
+fn label_latest(kept: &mut VecDeque<Happening>, latest: u64, said: Vec<MessageLabel>)
+    ensures told { map event_of kept.new.items ≡ latest_said latest said.items (map event_of kept.old.items) }
+    ensures few { length kept.new.items ≡ length kept.old.items }
+{
+    match kept.pop_back() {
+        None => {}
+        Some(happening) => kept.push_back_reserved(label_one(happening, latest, said)),
+    }
 }
 
 impl Ring {
@@ -132,7 +171,19 @@ impl Ring {
                 kind,
                 peer,
                 text,
+                said: Vec::new(self.alloc),
             },
         )
+    }
+
+    /// It is told what the messages of what happened last are, where that is kept. After an error, which is for want of memory, nothing
+    /// is told of them.
+    pub fn label(&mut self, said: &[MessageLabel]) -> Result<(), AllocError>
+        ensures ok { OnOk result (self.new ≡ labelled self.old said.now) }
+        ensures err { OnErr result (self.new ≡ self.old) }
+    {
+        let said = Vec::from_slice(self.alloc, first_said(said))?;
+        label_latest(&mut self.kept, self.last, said);
+        Ok(())
     }
 }

@@ -2,32 +2,22 @@
 ghost use Rattle.std.specs.Prelude.{◌≡◌, map, fold, IfOk, OnOk, string_bytes};
 ghost use Rattle.serde_json.specs.Data.{array};
 ghost use Rattle.serde_json.specs.View.{view, members_view, items_of};
-ghost use Rattle.page_answers.specs.Texts.{state_data, TellsState, moment_data, signal_data, connection_data, hook_word, line_data, lines_data, with_verb, with_code, given_up_in, put_counted, counts_data};
+ghost use Rattle.page_answers.specs.Texts.{state_data, TellsState, signal_data, connection_data, hook_word, line_data, lines_data, with_verb, with_code, given_up_in, put_counted, counts_data};
 ghost use Rattle.page_answers.specs.Totals.{totals_of};
 
 use crate::counts::{CodeCount, Counts, VerbCount, verb_word};
-use crate::members::{put_item, put_name, put_numbers, put_shown, put_text};
+use crate::members::{number_value, put_item, put_name, put_numbers, put_shown, put_text};
 use crate::metrics::code_digits;
 use crate::picture::{ConnectionView, LineView, Picture, SignalView};
 use serde_json::{Map, Value, put};
 use std::alloc::{AllocError, Global};
-
-// A moment, where there is one.
-fn moment_value(moment: Option<u64>) -> Value
-    ensures { view result ≡ moment_data moment }
-{
-    match moment {
-        Some(moment) => Value::from(moment),
-        None => Value::Null,
-    }
-}
 
 fn signal_value(alloc: Global, signal: SignalView) -> Result<Value, AllocError>
     ensures { IfOk result (λ value. view value ≡ signal_data signal) }
 {
     let mut map = Map::new(alloc);
     put_name(alloc, &mut map, "name", signal.name)?;
-    put(&mut map, alloc, "end", moment_value(signal.end))?;
+    put(&mut map, alloc, "end", number_value(signal.end))?;
     Ok(Value::from(map))
 }
 
@@ -193,7 +183,7 @@ fn state_value(alloc: Global, picture: &Picture, version: u64) -> Result<Value, 
     put(&mut map, alloc, "serving", Value::from(picture.is_serving))?;
     let answers = picture.agent_answers();
     put(&mut map, alloc, "agent_answers", Value::from(answers))?;
-    let unanswered = moment_value(picture.unanswered_since);
+    let unanswered = number_value(picture.unanswered_since);
     put(&mut map, alloc, "unanswered_since", unanswered)?;
     put(&mut map, alloc, "lost", Value::from(picture.totals().lost))?;
     let lines = lines_value(alloc, picture.lines.as_slice())?;

@@ -4,6 +4,7 @@ ghost use Rattle.serde_json.specs.View.{view, members_view};
 ghost use Rattle.page_answers.specs.Keeping.{event_of};
 ghost use Rattle.page_answers.specs.Telling.{kind_word as word_of_kind, put_circumstances as with_circumstances, event_data, told_after, next_after, first_number, events_data, events_text as text_of_events};
 
+use crate::label::put_said;
 use crate::members::{put_shown, put_text};
 use crate::ring::{Happening, Kind, Ring};
 use serde_json::{Map, Value, put};
@@ -20,6 +21,7 @@ fn kind_word(kind: Kind) -> &'static str
         Kind::Sent => "out",
         Kind::Act => "act",
         Kind::Told => "told",
+        Kind::GivenUp => "given up",
     }
 }
 
@@ -39,7 +41,7 @@ fn put_circumstances(
     put(map, alloc, "peer", Value::from(peer))
 }
 
-// One that happened. Nothing of its text but hexadecimal digits is told.
+// One that happened. Nothing of its text but hexadecimal digits is told, and what its messages are.
 fn happening_value(alloc: Global, happening: &Happening) -> Result<Value, AllocError>
     ensures { IfOk result (λ value. view value ≡ event_data (event_of happening.now)) }
 {
@@ -47,6 +49,7 @@ fn happening_value(alloc: Global, happening: &Happening) -> Result<Value, AllocE
     put_circumstances(alloc, &mut map, happening)?;
     let hex = hex::encode(alloc, happening.text.as_slice())?;
     put(&mut map, alloc, "hex", Value::from(hex))?;
+    put_said(alloc, &mut map, happening.said.as_slice())?;
     Ok(Value::from(map))
 }
 
