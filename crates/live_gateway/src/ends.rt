@@ -2,7 +2,7 @@
 ghost use Rattle.std.specs.Prelude.{◌≡◌, ◌∷◌, []};
 ghost use Rattle.surroundings.specs.Sending.{Grows};
 
-use gateway_core::Gateway;
+use gateway_core::{Gateway, SentMessage};
 use std::net::SocketAddrV4;
 use traces::Mark;
 
@@ -23,8 +23,8 @@ pub trait Outlet {
         ensures handed { handed self.new ≡ handed self.old }
         ensures came { came self.new ≡ came self.old };
 
-    /// Takes a datagram that is to go to this address: what became of it, where that is to be noted.
-    fn hand(&mut self, to: SocketAddrV4, bytes: &[u8]) -> Option<Mark>
+    /// Takes a datagram that is to go to this address, which has these messages: what became of it, where that is to be noted.
+    fn hand(&mut self, to: SocketAddrV4, bytes: &[u8], messages: &[SentMessage]) -> Option<Mark>
         ensures handed { Grows (handed self.old) (record { to = to; bytes = bytes.now } ∷ []) (handed self.new) }
         ensures came { came self.new ≡ came self.old };
 }

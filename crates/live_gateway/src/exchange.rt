@@ -15,7 +15,7 @@ use crate::spoilt_way::SpoiltWay;
 use crate::visitors::Visitors;
 use bad_network::{Fate, Packet, Way};
 use exchange_log::Note;
-use gateway_core::Gateway;
+use gateway_core::{Gateway, SentMessage};
 use live_ends::{NEXT_OFFER, Now};
 use live_journal::{Faults, Journal, Taken};
 use small_rules::count;
@@ -520,8 +520,8 @@ impl<S: Surroundings + Drop> Outlet for Exchange<S> {
         self.journal.turned(self.now, &taken_of(gateway));
     }
 
-    fn hand(&mut self, to: SocketAddrV4, bytes: &[u8]) -> Option<Mark> {
-        self.journal.sent(self.now, to, bytes);
+    fn hand(&mut self, to: SocketAddrV4, bytes: &[u8], messages: &[SentMessage]) -> Option<Mark> {
+        self.journal.sent(self.now, to, bytes, messages);
         match self.send(to, bytes) {
             Ok(fate) => {
                 self.journal.spoilt(self.now, to, fate);

@@ -110,7 +110,8 @@ impl<T: Teller + Drop> LivePlay<T> {
         ensures came { O.came out.new ≡ O.came out.old }
     {
         out.turned(&self.gateway);
-        hand_all(self.alloc, &mut self.teller, out, datagrams, told);
+        let messages = self.gateway.sent();
+        hand_all(self.alloc, &mut self.teller, out, datagrams, messages, told);
     }
 
     /// The clock goes to this moment, in ms: what the gateway sends at it is handed out. A refused tick changes nothing.

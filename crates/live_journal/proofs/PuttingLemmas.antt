@@ -1,5 +1,5 @@
 -- Loops that put what each of a list brings.
-use Rattle.std.proofs.Common.{◌≡◌, ℕ, ◌+◌, ◌<◌, ◌≤◌, List, ◌++◌, length, get_or, drop, sym, ap, ◌∙◌, append_assoc, append-nil}
+use Rattle.std.proofs.Common.{◌≡◌, ℕ, ◌+◌, ◌<◌, ◌≤◌, List, [], ◌∷◌, ◌++◌, length, get_or, drop, map, sym, ap, ◌∙◌, append_assoc, append-nil}
 use Rattle.std.specs.List.{flat_map}
 use Rattle.std.proofs.lemmas.List.{drop_more, at_drop_all}
 
@@ -18,3 +18,20 @@ pub put_each : {X Y : Type 0} (brings : X → List Y) (list : List X) (place : �
     → out ++ flat_map brings (drop place list) ≡ whole → out ≡ whole
 put_each brings list place out whole past so_far =
     sym (append-nil out) ∙ ap (λ left. out ++ left) (sym (at_drop_all (flat_map brings) list place past)) ∙ so_far
+
+-- one is told of, and those behind it are left
+pub label_one : {X Y : Type 0} (of : X → Y) (list : List X) (place : ℕ) (one : X) (label : Y) (labels next whole : List Y)
+    → place < length list → label ≡ of (get_or list place one) → next ≡ labels ++ label ∷ []
+    → labels ++ map of (drop place list) ≡ whole → next ++ map of (drop (place + 1) list) ≡ whole
+label_one of list place one label labels next whole within is put so_far =
+    ap (λ front. front ++ map of (drop (place + 1) list)) put
+    ∙ append_assoc labels (label ∷ []) (map of (drop (place + 1) list))
+    ∙ ap (λ first. labels ++ (first ∷ map of (drop (place + 1) list))) is
+    ∙ ap (λ left. labels ++ map of left) (sym (drop_more list place one within))
+    ∙ so_far
+
+-- none is left
+pub label_each : {X Y : Type 0} (of : X → Y) (list : List X) (place : ℕ) (labels whole : List Y) → length list ≤ place
+    → labels ++ map of (drop place list) ≡ whole → labels ≡ whole
+label_each of list place labels whole past so_far =
+    sym (append-nil labels) ∙ ap (λ left. labels ++ left) (sym (at_drop_all (map of) list place past)) ∙ so_far

@@ -5,14 +5,17 @@ ghost use Rattle.live_journal.specs.Recording.{Records, unsent_text};
 ghost use Rattle.live_journal.specs.Strangers.{quiet_after, stranger_text};
 
 use crate::capture::Capture;
+use crate::labelling::{given_up_labels, sent_labels, text_labels};
 use crate::log::Log;
 use crate::message_tally::MessageTally;
 use crate::spoiling::note_of;
 use crate::taken::Taken;
 use bad_network::Fate;
 use exchange_log::{Note, Way};
+use gateway_core::SentMessage;
 use live_ends::{Now, Written};
-use page_answers::{Board, Kind};
+use mg_bytes::OutOfMemory;
+use page_answers::{Board, Kind, MessageLabel};
 use std::net::{Ipv4Addr, SocketAddrV4};
 
 /// The journal of a gateway. What is large stands in boxes.
@@ -52,6 +55,40 @@ impl Journal {
         }
     }
 
+    // Tells the page what the messages are of what it was shown last, where memory was there to tell that.
+    fn label(&mut self, said: Result<Vec<MessageLabel>, OutOfMemory>) {
+        if let Some(board) = &mut self.board {
+            if let Ok(said) = said {
+                let _ = board.label(said.as_slice());
+            }
+        }
+    }
+
+    // Shows the page what the texts of the datagram that came were, and what was given up.
+    fn show_turned(&mut self, moment: u64, taken: &Taken<'_>) {
+        if self.board.is_none() {
+            return;
+        }
+        let alloc = self.log.alloc;
+        if !taken.outcomes.is_empty() {
+            self.label(text_labels(alloc, taken.outcomes));
+        }
+        if !taken.given_up.is_empty() {
+            self.show(moment, Kind::GivenUp, None, b"");
+            self.label(given_up_labels(alloc, taken.given_up));
+        }
+    }
+
+    // Shows the page what is sent.
+    fn show_sent(&mut self, moment: u64, to: SocketAddrV4, bytes: &[u8], messages: &[SentMessage]) {
+        if self.board.is_none() {
+            return;
+        }
+        let alloc = self.log.alloc;
+        self.show(moment, Kind::Sent, Some(to), bytes);
+        self.label(sent_labels(alloc, messages));
+    }
+
     /// A line of the telephones is given to the gateway.
     pub fn act(&mut self, now: Now, line: &[u8]) {
         self.show(now.clock, Kind::Act, None, line);
@@ -86,6 +123,7 @@ impl Journal {
     pub fn turned(&mut self, now: Now, taken: &Taken<'_>) {
         self.tally.turned(taken);
         self.log.turned(now, taken);
+        self.show_turned(now.clock, taken);
     }
 
     /// A datagram that was sent to the gateway isn't taken, for this reason: a bad network lost it, or memory was refused.
@@ -93,12 +131,12 @@ impl Journal {
         self.log.leave(now, source, bytes, why);
     }
 
-    /// A datagram is sent.
-    pub fn sent(&mut self, now: Now, to: SocketAddrV4, bytes: &[u8]) {
+    /// A datagram is sent that has these messages.
+    pub fn sent(&mut self, now: Now, to: SocketAddrV4, bytes: &[u8], messages: &[SentMessage]) {
         self.tally.handed_out();
-        self.log.send(now, to, bytes);
+        self.log.send(now, to, bytes, messages);
         self.capture.pass(now.time, Way::Sent, to, bytes);
-        self.show(now.clock, Kind::Sent, Some(to), bytes);
+        self.show_sent(now.clock, to, bytes, messages);
     }
 
     /// The datagram that was sent last has this fate.

@@ -7,6 +7,7 @@ mod capture;
 pub mod examples;
 mod explaining;
 mod journal;
+mod labelling;
 pub mod laws;
 mod log;
 mod message_tally;

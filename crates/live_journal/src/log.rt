@@ -13,7 +13,7 @@ use mgcp_text::TransactionId;
 use piggyback::parts;
 use plain_machine::line_of_id;
 use std::alloc::Global;
-use std::collections::{BTreeMap, VecDeque};
+use std::collections::BTreeMap;
 use std::net::{Ipv4Addr, SocketAddrV4};
 use transmission::texts;
 
@@ -43,8 +43,6 @@ pub struct Log {
     pub(crate) domain: Text,
     // What each line sent last; line 0 is the gateway itself.
     own: BTreeMap<u16, OwnCommand>,
-    // The messages of the event that was taken last that weren't handed out yet.
-    messages: VecDeque<SentMessage>,
     /// When a datagram came last, in microseconds since 1970, and from where.
     pub(crate) came: Stamp,
     /// That datagram, until the gateway took it: so nothing is read again to tell what its texts are.
@@ -63,7 +61,6 @@ impl Drop for Log {
             record,
             domain,
             own,
-            messages,
             came: _,
             arrival,
             sent: _,
@@ -72,7 +69,6 @@ impl Drop for Log {
         drop(record);
         drop(domain);
         drop(own);
-        drop(messages);
         drop(arrival);
     }
 }
@@ -85,7 +81,6 @@ impl Log {
             record: Record::new(alloc, is_on),
             domain: Text::of(Vec::from_slice(alloc, domain)?),
             own: BTreeMap::new(alloc),
-            messages: VecDeque::new(alloc),
             came: Stamp {
                 moment: 0,
                 peer: SocketAddrV4::new(Ipv4Addr::UNSPECIFIED, 0),
@@ -197,25 +192,21 @@ impl Log {
         )
     }
 
-    // What the gateway sends at an event is kept, and what it gave up is noted.
-    fn take_turn(&mut self, now: Now, taken: &Taken<'_>) -> Result<(), OutOfMemory> {
-        self.messages.clear();
-        for message in taken.sent {
-            self.messages.push_back(*message)?;
-        }
-        for given_up in taken.given_up {
-            self.give_up(now, *given_up)?;
+    // What was given up is noted.
+    fn give_up_all(&mut self, now: Now, given_up: &[GivenUpCommand]) -> Result<(), OutOfMemory> {
+        for command in given_up {
+            self.give_up(now, *command)?;
         }
         Ok(())
     }
 
-    /// The gateway took an event: what came is told, and what it gave up is noted; what it sends is told by its labels, in its order.
+    /// The gateway took an event: what came is told, and what it gave up is noted.
     pub(crate) fn turned(&mut self, now: Now, taken: &Taken<'_>) {
         if !self.record.is_on() {
             return;
         }
         self.put_arrival(taken.outcomes);
-        if self.record.is_on() && self.take_turn(now, taken).is_err() {
+        if self.record.is_on() && self.give_up_all(now, taken.given_up).is_err() {
             self.record.refuse();
         }
     }
@@ -264,17 +255,20 @@ impl Log {
         }
     }
 
-    fn datagram_sent(&mut self, to: Stamp, bytes: &[u8]) {
-        for text in parts(bytes) {
-            match self.messages.pop_front() {
-                Some(message) => self.labelled_sent(to, message.label, text),
-                None => self.put_text(to, Way::Sent, text, None),
-            }
+    fn datagram_sent(&mut self, to: Stamp, bytes: &[u8], messages: &[SentMessage]) {
+        for (text, message) in parts(bytes).zip(messages.iter()) {
+            self.labelled_sent(to, message.label, text);
         }
     }
 
-    /// A datagram is sent.
-    pub(crate) fn send(&mut self, now: Now, to: SocketAddrV4, bytes: &[u8]) {
+    /// A datagram is sent that has these messages.
+    pub(crate) fn send(
+        &mut self,
+        now: Now,
+        to: SocketAddrV4,
+        bytes: &[u8],
+        messages: &[SentMessage],
+    ) {
         if !self.record.is_on() {
             return;
         }
@@ -283,6 +277,6 @@ impl Log {
             peer: to,
         };
         self.sent = now.time;
-        self.datagram_sent(to, bytes);
+        self.datagram_sent(to, bytes, messages);
     }
 }

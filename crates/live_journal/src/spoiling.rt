@@ -58,8 +58,7 @@ impl Log {
     pub fn pause(&mut self, now: Now, lateness: u64, read: Option<u64>)
         ensures puts { Records self.old.record (pause_line now.time lateness read) self.new.record }
         ensures moments { (self.new.sent ≡ self.old.sent) × (self.new.came ≡ self.old.came) × (self.new.arrival ≡ self.old.arrival) }
-        ensures rest { (self.new.domain ≡ self.old.domain) × (self.new.own ≡ self.old.own)
-            × (self.new.messages ≡ self.old.messages) × (self.new.quiet ≡ self.old.quiet) }
+        ensures rest { (self.new.domain ≡ self.old.domain) × (self.new.own ≡ self.old.own) × (self.new.quiet ≡ self.old.quiet) }
     {
         if !self.record.is_on() {
             return;

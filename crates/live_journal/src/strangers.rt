@@ -100,7 +100,7 @@ impl Log {
         ensures record { Records self.old.record (text_of_stranger now.time source untold) self.new.record }
         ensures quiet { self.new.quiet ≡ self.old.quiet }
         ensures moments { (self.new.sent ≡ self.old.sent) × (self.new.came ≡ self.old.came) × (self.new.arrival ≡ self.old.arrival) }
-        ensures rest { (self.new.domain ≡ self.old.domain) × (self.new.own ≡ self.old.own) × (self.new.messages ≡ self.old.messages) }
+        ensures rest { (self.new.domain ≡ self.old.domain) × (self.new.own ≡ self.old.own) }
     {
         let Some(untold) = untold else {
             return;
@@ -128,7 +128,7 @@ impl Log {
         ensures record { Records self.old.record (stranger_text self.old.quiet now.time source) self.new.record }
         ensures quiet { self.new.quiet ≡ quiet_after self.old.quiet now.time }
         ensures moments { (self.new.sent ≡ self.old.sent) × (self.new.came ≡ self.old.came) × (self.new.arrival ≡ self.old.arrival) }
-        ensures rest { (self.new.domain ≡ self.old.domain) × (self.new.own ≡ self.old.own) × (self.new.messages ≡ self.old.messages) }
+        ensures rest { (self.new.domain ≡ self.old.domain) × (self.new.own ≡ self.old.own) }
     {
         let untold = self.quiet.comes(now.time);
         self.put_stranger(now, source, untold);
@@ -142,7 +142,7 @@ impl Log {
             (flat_map (unheard_text (admitted_by speakers.now) now.time) sent.now) self.new.record }
         ensures quiet { self.new.quiet ≡ self.old.quiet }
         ensures moments { (self.new.sent ≡ self.old.sent) × (self.new.came ≡ self.old.came) × (self.new.arrival ≡ self.old.arrival) }
-        ensures rest { (self.new.domain ≡ self.old.domain) × (self.new.own ≡ self.old.own) × (self.new.messages ≡ self.old.messages) }
+        ensures rest { (self.new.domain ≡ self.old.domain) × (self.new.own ≡ self.old.own) }
     {
         if !self.record.is_on() {
             return;
