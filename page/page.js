@@ -56,7 +56,8 @@ function tellRefusal(text) {
 
 function takeEvent(event, clock) {
   const text = textOfHex(event.hex);
-  ladder.add({ kind: event.kind, peer: event.peer, at: event.at, wall: gateway.zero + event.at, hex: event.hex, text });
+  const { kind, peer, at, hex, said } = event;
+  ladder.add({ kind, peer, at, wall: gateway.zero + at, hex, text, said });
   if (event.kind === "told" && text.startsWith("!") && clock - event.at < NEWS) {
     tellRefusal(text);
   }

@@ -530,6 +530,8 @@ async function openReport(file) {
 
 // What is sent again under an id within this time is a repeat, in ms (RFC 3435, 3.5.1).
 const REPEAT_TIME = 30000;
+// What the gateway tells of a message that was said before; of responses that come it doesn't tell that.
+const SAID_BEFORE = ["repeat", "confirmed", "again", "resent"];
 // So many rows are kept in the ladder.
 const MOST_ROWS = 3000;
 // A list this close to its end, in pixels, is at its end: two rows, since those that come may be higher once they are drawn.
@@ -708,6 +710,11 @@ class Ladder {
 
   // ---- What belongs together
 
+  // Whether a message was said before: as the gateway tells, else by what was said less than half a minute ago.
+  isRepeat(label, key, at) {
+    return label === null || label.what === "response" ? this.isAgain(key, at) : SAID_BEFORE.includes(label.what);
+  }
+
   // Whether this was said before, less than half a minute ago.
   isAgain(key, at) {
     const first = this.said.get(key);
@@ -729,19 +736,31 @@ class Ladder {
     }
   }
 
-  addCommand(row, message, direction) {
+  // Commands were given up, as the gateway tells.
+  addGivenUp(happened) {
+    for (const label of happened.said ?? []) {
+      const key = `out ${label.id}`;
+      this.open.get(key)?.rows.forEach((row) => this.mark(row, "given-up", "given up"));
+      this.open.delete(key);
+    }
+  }
+
+  addCommand(row, message, direction, label) {
     row.isNotification = message.verb === "NTFY";
-    this.settle(row, message.line, this.calls.callOf(message));
+    this.settle(row, label?.line ?? message.line, this.calls.callOf(message));
+    if (label?.what === "lost") {
+      this.mark(row, "given-up", "lost");
+    }
     const key = `${direction} ${message.id}`;
     // The gateway may send a repeat to another address of its agent.
     const peer = direction === "in" ? row.peer : "";
-    if (this.isAgain(`${direction} ${peer} ${message.verb} ${message.id}`, row.at)) {
-      this.mark(row, "again", "repeat");
+    if (this.isRepeat(label, `${direction} ${peer} ${message.verb} ${message.id}`, row.at)) {
+      this.mark(row, "again", label?.send ? `send ${label.send}` : "repeat");
       this.open.get(key)?.rows.push(row);
       return;
     }
     // A line that has lost its agent, or a gateway that announces itself anew, has given up what it asked before.
-    if (direction === "out" && message.verb === "RSIP") {
+    if (label === null && direction === "out" && message.verb === "RSIP") {
       this.giveUp(direction, message.endpoint, message.id);
     }
     if (direction === "in") {
@@ -751,16 +770,17 @@ class Ladder {
     forget(this.open, 1000);
   }
 
-  addResponse(row, message, direction) {
+  addResponse(row, message, direction, label) {
     if (direction === "out") {
       this.calls.answer(message);
     }
     const key = `${direction === "out" ? "in" : "out"} ${message.id}`;
-    if (this.isAgain(`${direction} ${row.peer} ${message.code} ${message.id}`, row.at)) {
+    if (this.isRepeat(label, `${direction} ${row.peer} ${message.code} ${message.id}`, row.at)) {
       this.mark(row, "again", "repeat");
     }
     const asked = this.open.get(key)?.rows[0] ?? this.answered.get(key);
     if (!asked) {
+      this.settle(row, label?.line ?? row.line, null);
       return;
     }
     if (message.code >= 200 && this.open.delete(key)) {
@@ -782,6 +802,7 @@ class Ladder {
     const way = direction === "in" ? `from ${happened.peer}` : `to ${happened.peer}`;
     texts.forEach((text, place) => {
       const message = readMessage(text);
+      const label = happened.said?.[place] ?? null;
       const isFault = message.is === "none" || (message.is === "response" && message.code >= 400);
       const part = texts.length > 1 ? `, ${place + 1} of ${texts.length} in its datagram` : "";
       const row = this.addRow({
@@ -793,9 +814,9 @@ class Ladder {
         title: `${way}${whenText(happened)}${part}${message.reason ? `: ${message.reason}` : ""}`,
       });
       if (message.is === "command") {
-        this.addCommand(row, message, direction);
+        this.addCommand(row, message, direction, label);
       } else if (message.is === "response") {
-        this.addResponse(row, message, direction);
+        this.addResponse(row, message, direction, label);
       }
     });
   }
@@ -838,6 +859,8 @@ class Ladder {
       this.addDatagram(happened);
     } else if (happened.kind === "act") {
       this.addAct(happened);
+    } else if (happened.kind === "given up") {
+      this.addGivenUp(happened);
     } else {
       this.addTold(happened);
     }
@@ -1359,7 +1382,8 @@ function tellRefusal(text) {
 
 function takeEvent(event, clock) {
   const text = textOfHex(event.hex);
-  ladder.add({ kind: event.kind, peer: event.peer, at: event.at, wall: gateway.zero + event.at, hex: event.hex, text });
+  const { kind, peer, at, hex, said } = event;
+  ladder.add({ kind, peer, at, wall: gateway.zero + at, hex, text, said });
   if (event.kind === "told" && text.startsWith("!") && clock - event.at < NEWS) {
     tellRefusal(text);
   }
