@@ -1,5 +1,6 @@
 -- How a desk goes on.
 use Rattle.std.proofs.Common.{◌≡◌, ℕ, ◌+◌, ◌<◌, inr, Bool, true, false, List, [], ◌∷◌, ◌++◌, length, Option, refl, sym, ◌∙◌, ap, subst, arith}
+use Rattle.std.specs.List.{AllByRecursion}
 use Rattle.std.specs.Prelude.{not, is_ok, Result, Ok, Err, OnOk, OnErr}
 use Rattle.std.specs.declared.net.socket_addr.SocketAddrV4.{SocketAddrV4}
 use Rattle.surroundings.specs.Sending.{Received, Traffic, Grows}
@@ -14,7 +15,7 @@ use Rattle.rgw_scripts.specs.Moves.{give, sends}
 use Rattle.mg_bytes.specs.Lines.{is_line_feed}
 use Rattle.traces.specs.Writing.{Entry, Input, arrived, typed, passed, showed, taken_after}
 use Rattle.live_gateway.specs.Coming.{Came, arrived_in, AreAllBut}
-use Rattle.live_gateway.specs.Readable.{Never, IsLine, AreLater}
+use Rattle.live_gateway.specs.Readable.{first_unread, Never, IsAddress, IsReadable, AreLater}
 use Rattle.live_gateway.specs.Running.{Live, live, Ran, Takes, RanOf}
 use Rattle.live_gateway.proofs.CameLemmas.{arrived_both, marks_bring_nothing, IsQuiet, nobody_came, all_of, all_but_both}
 use Rattle.live_gateway.proofs.RunLemmas.{ran_on, ran_stays, ran_written_off, marks_are_of, are_of_more, are_so, IsStill, marks_are_later, later_more, later_of}
@@ -62,7 +63,7 @@ stays_by admission was is same = subst (λ (x : Standing). GoesOnBy admission wa
   received = grows_nothing was.came.received;
   refused = none_more was.came.refused;
   events = refl;
-  lines = tt;
+  inputs = tt;
   later = λ before s. tt;
 })
 
@@ -75,7 +76,7 @@ then_by admission was mid is a b some more m n g h = record {
   events = subst (λ (l : List Received). AreAllBut (m + n) l (arrived_in (a ++ b))) (sym (heard_both admission some more))
       (subst (λ (l : List Received). AreAllBut (m + n) (heard_of admission some ++ heard_of admission more) l) (sym (arrived_both a b))
       (all_but_both m n (heard_of admission some) (arrived_in a) (heard_of admission more) (arrived_in b) g.events h.events));
-  lines = are_of_more IsLine a b g.lines h.lines;
+  inputs = are_of_more IsReadable a b g.inputs h.inputs;
   later = λ before s. later_more was.live.gateway.setup before a b (g.later before s)
       (subst (λ (x : Setup). AreLater x (taken_after was.live.gateway.setup before a) b) g.ran.setup
       (h.later (taken_after was.live.gateway.setup before a) (g.ran.stands before s)));
@@ -115,17 +116,17 @@ between told traffic old mid after new goes before same behind kept =
 
 -- ---- a tick, which goes on
 
-ticked_by : (admission : Admission) (was mid : Standing) (moment : ℕ) → Takes was.live (passed moment) (tick moment) mid.live
-    → ((before : List GatewayEvent) → Stands was.live.gateway before → (plain was.live.gateway.setup before).now < moment)
+ticked_by : (admission : Admission) (was mid : Standing) (moment : ℕ) → moment < first_unread
+    → Takes was.live (passed moment) (tick moment) mid.live → ((before : List GatewayEvent) → Stands was.live.gateway before → (plain was.live.gateway.setup before).now < moment)
     → mid.came ≡ was.came → (entries : List Entry) × GoesOnBy admission was (with_input false mid) entries [] 0
-ticked_by admission was mid moment t later same = (
+ticked_by admission was mid moment short t later same = (
   showed (passed moment) (give (tick moment)) (sends t.outputs) ∷ t.marks,
   record {
     ran = t.ran;
     received = nothing_more was.came.received mid.came.received (ap (λ (x : Came). x.received) same);
     refused = ap (λ (x : Came). x.refused) same ∙ none_more was.came.refused;
     events = marks_bring_nothing 0 (length t.outputs) t.marks t.are;
-    lines = (tt, marks_are_of IsLine 0 (length t.outputs) t.marks t.are);
+    inputs = (short, marks_are_of IsReadable 0 (length t.outputs) t.marks t.are);
     later = λ before s. (later before s, marks_are_later was.live.gateway.setup _ 0 (length t.outputs) t.marks t.are);
   },
 )
@@ -137,20 +138,20 @@ unticked_by admission was mid ran same = record {
   received = nothing_more was.came.received mid.came.received (ap (λ (x : Came). x.received) same);
   refused = ap (λ (x : Came). counted x.refused 1) same;
   events = refl;
-  lines = tt;
+  inputs = tt;
   later = λ before s. tt;
 }
 
 -- it was taken, or refused
 pub ticks : {S T A B : Type 0} (told : T → Option (List ℕ)) (traffic : S → Traffic) (old new : Desk S T) (mid : Standing) (done : Result A B) (moment : ℕ)
-    → OnOk done (Takes (at_desk told traffic old).live (passed moment) (tick moment) mid.live)
+    → moment < first_unread → OnOk done (Takes (at_desk told traffic old).live (passed moment) (tick moment) mid.live)
     → OnErr done (Ran (at_desk told traffic old).live [] mid.live)
     → ((before : List GatewayEvent) → Stands (at_desk told traffic old).live.gateway before
     → (plain (at_desk told traffic old).live.gateway.setup before).now < moment)
     → mid.came ≡ (at_desk told traffic old).came → at_desk told traffic new ≡ with_input (not (is_ok done)) mid → new.admission ≡ old.admission
     → GoesOn told traffic old new
-ticks told traffic old new mid (Ok done) moment takes misses later same input kept =
-    let found = ticked_by old.admission (at_desk told traffic old) mid moment takes later same in
+ticks told traffic old new mid (Ok done) moment short takes misses later same input kept =
+    let found = ticked_by old.admission (at_desk told traffic old) mid moment short takes later same in
     record {
       entries = found.0;
       came = [];
@@ -158,7 +159,7 @@ ticks told traffic old new mid (Ok done) moment takes misses later same input ke
       went = subst (λ (x : Standing). GoesOnBy old.admission (at_desk told traffic old) x found.0 [] 0) (sym input) found.1;
       admission = kept;
     }
-ticks told traffic old new mid (Err why) moment takes misses later same input kept = record {
+ticks told traffic old new mid (Err why) moment short takes misses later same input kept = record {
   entries = [];
   came = [];
   missing = 1;
@@ -170,7 +171,7 @@ ticks told traffic old new mid (Err why) moment takes misses later same input ke
 -- ---- acts and questions: nobody is heard, and no time passes
 
 quiet_by : (admission : Admission) (was mid is : Standing) (is_refused : Bool) (says : Input → Type 0) → IsQuiet says
-    → IsStill says → ((input : Input) → says input → IsLine input) → RanOf says was.live mid.live
+    → IsStill says → ((input : Input) → says input → IsReadable input) → RanOf says was.live mid.live
     → mid.came ≡ was.came → is ≡ with_input is_refused mid → (entries : List Entry) × GoesOnBy admission was is entries [] (refused_of is_refused)
 quiet_by admission was mid is is_refused says quiet still line went same input = (
   went.entries,
@@ -179,14 +180,14 @@ quiet_by admission was mid is is_refused says quiet still line went same input =
     received = nothing_more was.came.received is.came.received (ap (λ (x : Standing). x.came.received) input ∙ ap (λ (x : Came). x.received) same);
     refused = ap (λ (x : Standing). x.came.refused) input ∙ ap (λ (x : Came). refusals is_refused x.refused) same ∙ counts_one is_refused was.came.refused;
     events = nobody_came says quiet went.entries went.inputs;
-    lines = are_so says IsLine line went.entries went.inputs;
+    inputs = are_so says IsReadable line went.entries went.inputs;
     later = λ before s. later_of says still went.entries went.inputs was.live.gateway.setup before;
   },
 )
 
 -- a line was taken, or refused
 pub acts : {S T : Type 0} (told : T → Option (List ℕ)) (traffic : S → Traffic) (old new : Desk S T) (mid : Standing) (is_refused : Bool)
-    (says : Input → Type 0) → IsQuiet says → IsStill says → ((input : Input) → says input → IsLine input)
+    (says : Input → Type 0) → IsQuiet says → IsStill says → ((input : Input) → says input → IsReadable input)
     → RanOf says (at_desk told traffic old).live mid.live → mid.came ≡ (at_desk told traffic old).came
     → at_desk told traffic new ≡ with_input is_refused mid → new.admission ≡ old.admission → GoesOn told traffic old new
 acts told traffic old new mid is_refused says quiet still line went same input kept =
@@ -195,7 +196,7 @@ acts told traffic old new mid is_refused says quiet still line went same input k
 
 -- a question is no input
 pub asks : {S T : Type 0} (told : T → Option (List ℕ)) (traffic : S → Traffic) (old new : Desk S T)
-    (says : Input → Type 0) → IsQuiet says → IsStill says → ((input : Input) → says input → IsLine input)
+    (says : Input → Type 0) → IsQuiet says → IsStill says → ((input : Input) → says input → IsReadable input)
     → RanOf says (at_desk told traffic old).live (at_desk told traffic new).live
     → (at_desk told traffic new).came ≡ (at_desk told traffic old).came → new.admission ≡ old.admission → GoesOn told traffic old new
 asks told traffic old new says quiet still line went same kept =
@@ -209,8 +210,8 @@ line_is_quiet line source bytes e = absurd cc
 pub line_is_still : (line : List ℕ) → IsStill (λ (input : Input). input ≡ typed line)
 line_is_still line moment e = absurd cc
 
-pub line_is_line : (line : List ℕ) → Never is_line_feed line → (input : Input) → input ≡ typed line → IsLine input
-line_is_line line free input e = subst IsLine (sym e) free
+pub line_is_line : (line : List ℕ) → Never is_line_feed line → (input : Input) → input ≡ typed line → IsReadable input
+line_is_line line free input e = subst IsReadable (sym e) free
 
 -- ---- a datagram
 
@@ -228,17 +229,17 @@ hears_nobody told traffic old new heard live counts kept = record {
     received = heard.1;
     refused = counts ∙ none_more (at_desk told traffic old).came.refused;
     events = subst (λ (l : List Received). AreAllBut 0 l []) (sym heard.2) refl;
-    lines = tt;
+    inputs = tt;
     later = λ before s. tt;
   };
   admission = kept;
 }
 
-taken_by : (admission : Admission) (was mid : Standing) (source : SocketAddrV4) (bytes : List ℕ)
-    → HeardSince admission was.came.received (record { source = source; bytes = bytes } ∷ []) mid.came.received
+taken_by : (admission : Admission) (was mid : Standing) (source : SocketAddrV4) (bytes : List ℕ) → IsAddress source
+    → AllByRecursion (λ byte. byte < 256) bytes → HeardSince admission was.came.received (record { source = source; bytes = bytes } ∷ []) mid.came.received
     → Takes was.live (arrived source bytes) (datagram source bytes) mid.live → mid.came.refused ≡ was.came.refused
     → (entries : List Entry) × (came : List Received) × GoesOnBy admission was (with_input false mid) entries came 0
-taken_by admission was mid source bytes heard t counts = (
+taken_by admission was mid source bytes is are heard t counts = (
   showed (arrived source bytes) (give (datagram source bytes)) (sends t.outputs) ∷ t.marks,
   heard.0,
   record {
@@ -247,7 +248,7 @@ taken_by admission was mid source bytes heard t counts = (
     refused = counts ∙ none_more was.came.refused;
     events = subst (λ (l : List Received). AreAllBut 0 l (one ∷ arrived_in t.marks)) (sym heard.2)
         (subst (λ (l : List Received). AreAllBut 0 (one ∷ []) (one ∷ l)) (sym (marks_bring_nothing 0 (length t.outputs) t.marks t.are)) (all_of (one ∷ [])));
-    lines = (tt, marks_are_of IsLine 0 (length t.outputs) t.marks t.are);
+    inputs = ((is, are), marks_are_of IsReadable 0 (length t.outputs) t.marks t.are);
     later = λ before s. (tt, marks_are_later was.live.gateway.setup _ 0 (length t.outputs) t.marks t.are);
   },
 ) where
@@ -265,20 +266,20 @@ missed_by admission was mid one heard ran counts = (
     received = heard.1;
     refused = ap (λ (n : ℕ). counted n 1) counts;
     events = subst (λ (l : List Received). AreAllBut 1 l []) (sym heard.2) (inr (0, refl, refl));
-    lines = tt;
+    inputs = tt;
     later = λ before s. tt;
   },
 )
 
 -- one is: the gateway took it, or was refused memory for it
 pub hears : {S T A B : Type 0} (told : T → Option (List ℕ)) (traffic : S → Traffic) (old new : Desk S T) (mid : Standing) (done : Result A B) (source : SocketAddrV4)
-    (bytes : List ℕ) → HeardSince old.admission (at_desk told traffic old).came.received (record { source = source; bytes = bytes } ∷ []) mid.came.received
+    (bytes : List ℕ) → IsAddress source → AllByRecursion (λ byte. byte < 256) bytes → HeardSince old.admission (at_desk told traffic old).came.received (record { source = source; bytes = bytes } ∷ []) mid.came.received
     → OnOk done (Takes (at_desk told traffic old).live (arrived source bytes) (datagram source bytes) mid.live)
     → OnErr done (Ran (at_desk told traffic old).live [] mid.live)
     → mid.came.refused ≡ (at_desk told traffic old).came.refused
     → at_desk told traffic new ≡ with_input (not (is_ok done)) mid → new.admission ≡ old.admission → GoesOn told traffic old new
-hears told traffic old new mid (Ok done) source bytes heard takes misses counts input kept =
-    let found = taken_by old.admission (at_desk told traffic old) mid source bytes heard takes counts in
+hears told traffic old new mid (Ok done) source bytes is are heard takes misses counts input kept =
+    let found = taken_by old.admission (at_desk told traffic old) mid source bytes is are heard takes counts in
     record {
       entries = found.0;
       came = found.1;
@@ -286,7 +287,7 @@ hears told traffic old new mid (Ok done) source bytes heard takes misses counts 
       went = subst (λ (x : Standing). GoesOnBy old.admission (at_desk told traffic old) x found.0 found.1 0) (sym input) found.2;
       admission = kept;
     }
-hears told traffic old new mid (Err why) source bytes heard takes misses counts input kept =
+hears told traffic old new mid (Err why) source bytes is are heard takes misses counts input kept =
     let found = missed_by old.admission (at_desk told traffic old) mid (record { source = source; bytes = bytes }) heard misses counts in
     record {
       entries = found.0;
@@ -312,7 +313,7 @@ written_off told traffic old new gateway script handed grows same kept = record 
     received = nothing_more (at_desk told traffic old).came.received (at_desk told traffic new).came.received (ap (λ (x : Came). x.received) same);
     refused = ap (λ (x : Came). x.refused) same ∙ none_more (at_desk told traffic old).came.refused;
     events = refl;
-    lines = tt;
+    inputs = tt;
     later = λ before s. tt;
   };
   admission = kept;

@@ -17,3 +17,4 @@ pub mod WatchingLemmas
 pub mod HearingLaws
 pub mod ShowingLemmas
 pub mod LineLemmas
+mod ArrivingLemmas

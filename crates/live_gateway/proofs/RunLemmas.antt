@@ -1,13 +1,11 @@
 -- How entries follow one another.
 use Rattle.std.proofs.Common.{◌≡◌, inl, inr, ℕ, ◌+◌, ◌<◌, ◌≤◌, length, take, get_or, Bool, true, false, List, [], ◌∷◌, ◌++◌, map, Option, Some, None, refl, sym, ◌∙◌, ap, subst, append_assoc, append-nil, arith}
-use Rattle.std.specs.Prelude.{IfSome, OnOk, Result, Ok, Err, ⊤}
-use Rattle.std.specs.List.{flat_map}
+use Rattle.std.specs.Prelude.{IfSome, OnOk, Result, Ok, Err}
 use Rattle.std.proofs.lemmas.List.{map-append, take_more, length-append, length-take-le}
 use Rattle.std.proofs.lemmas.Bool.{le-leb}
 use Rattle.std.proofs.lemmas.Grind.{flat_map-append}
 use Rattle.mg_bytes.specs.Words.{words}
 use Rattle.mg_line.specs.declared.phone.Act.{Act}
-use Rattle.std.specs.declared.net.socket_addr.SocketAddrV4.{SocketAddrV4}
 use Rattle.surroundings.specs.Sending.{Sent, Grows}
 use Rattle.surroundings.proofs.TrafficLemmas.{grows_nothing, grows_on, known}
 use Rattle.transmission.specs.declared.output.OutDatagram.{OutDatagram}
@@ -15,7 +13,7 @@ use Rattle.plain_machine.specs.declared.setup.Setup.{Setup}
 use Rattle.gateway_rules.specs.declared.refusal.Refusal.{Refusal}
 use Rattle.gateway_rules.specs.declared.refusal.Refusal.TheVariants.{OutOfMemory, NoSuchLine}
 use Rattle.plain_machine.specs.Event.{GatewayEvent, phone}
-use Rattle.plain_machine.specs.Lists.{plain, outputs_from, refusal_at}
+use Rattle.plain_machine.specs.Lists.{plain, outputs_from}
 use Rattle.plain_machine.specs.Machine.{Machine}
 use Rattle.plain_machine.specs.Refusing.{Ends, ends, refusal_of, takes_none}
 use Rattle.plain_machine.proofs.EndLaws.{ends_fine, ends_cause}
@@ -33,8 +31,8 @@ use Rattle.rgw_scripts.specs.Printing.{printed_line, refusal_line, shown_line}
 use Rattle.traces.specs.Replaying.{move_in}
 use Rattle.traces.specs.Telling.{told, told_mark, told_text}
 use Rattle.traces.specs.Writing.{Entry, Input, arrived, typed, passed, clock_text, at_clock, showed, became, Says, IsPlay, taken_after, sent_at, sent_in, input_text, after_input, datagrams_in, entry_text, after_entry, written, script_after}
-use Rattle.live_gateway.specs.Running.{Live, live, sent_of, Ran, AreOf, RanOf, AreInPlace, AreMarks, HandsOut, Takes, Refuses, Asked, IsAnswer, TellsRefusal}
-use Rattle.live_gateway.specs.Readable.{KeepsClock, IsByTick, AreByTicks, IsLater, AreLater}
+use Rattle.live_gateway.specs.Running.{Live, sent_of, Ran, AreOf, RanOf, AreInPlace, AreMarks, HandsOut, Takes, Refuses, Asked, IsAnswer, TellsRefusal}
+use Rattle.live_gateway.specs.Readable.{first_unread, KeepsClock, IsByTick, AreByTicks, IsLater, AreLater}
 use Rattle.traces.proofs.ShowLemmas.{both_not}
 
 -- ---- what is told
@@ -121,8 +119,8 @@ more_marks : (after mid last : ℕ) (marks more : List Entry) → after ≤ mid 
 more_marks after mid last [] more low high are they = marks_behind after mid last more low they
 more_marks after mid last (showed input move shown ∷ marks) more low high are they = absurd are
 more_marks after mid last (became mark place ∷ marks) more low high are they =
-    let within : place ≤ mid = are.1 in
-    (are.0, omega (arith, within, high), more_marks place mid last marks more within high are.2 they)
+    let within : place ≤ mid = are.1.0 in
+    (are.0, (omega (arith, within, high), are.1.1), more_marks place mid last marks more within high are.2 they)
 
 -- ---- datagrams that are handed out
 
@@ -173,12 +171,12 @@ hands_one was is before datagram gateway handed told script = record {
   script = script;
 }
 
-pub hands_marked : (was is : Live) (before : ℕ) (datagram : OutDatagram) (mark : Mark) (place : ℕ) → place ≡ before + 1 → is.gateway ≡ was.gateway
-    → Grows was.handed (sent_of datagram ∷ []) is.handed → Grows was.told (told_mark mark place) is.told → is.script ≡ was.script
+pub hands_marked : (was is : Live) (before : ℕ) (datagram : OutDatagram) (mark : Mark) (place : ℕ) → place ≡ before + 1
+    → place < first_unread → is.gateway ≡ was.gateway → Grows was.handed (sent_of datagram ∷ []) is.handed → Grows was.told (told_mark mark place) is.told → is.script ≡ was.script
     → HandsOut was before (datagram ∷ []) (became mark place ∷ []) is
 unfolding written
-hands_marked was is before datagram mark place here gateway handed told script = record {
-  are = (below, within, tt);
+hands_marked was is before datagram mark place here few gateway handed told script = record {
+  are = (below, (within, few), tt);
   gateway = gateway;
   handed = handed;
   told = rw (append-nil (told_mark mark place)) told;
@@ -198,11 +196,11 @@ pub one_handed : (was is : Live) (datagram : OutDatagram) (place : ℕ) → is.g
     → is.script ≡ was.script → (before : ℕ) → place ≡ before + 1 → (marks : List Entry) × HandsOut was before (datagram ∷ []) marks is
 one_handed was is datagram place gateway handed told script before here = ([], hands_one was is before datagram gateway handed told script)
 
-pub one_marked : (was is : Live) (before : ℕ) (datagram : OutDatagram) (mark : Mark) (place : ℕ) → place ≡ before + 1 → is.gateway ≡ was.gateway
-    → Grows was.handed (sent_of datagram ∷ []) is.handed → Grows was.told (told_mark mark place) is.told → is.script ≡ was.script
+pub one_marked : (was is : Live) (before : ℕ) (datagram : OutDatagram) (mark : Mark) (place : ℕ) → place ≡ before + 1
+    → place < first_unread → is.gateway ≡ was.gateway → Grows was.handed (sent_of datagram ∷ []) is.handed → Grows was.told (told_mark mark place) is.told → is.script ≡ was.script
     → (marks : List Entry) × HandsOut was before (datagram ∷ []) marks is
-one_marked was is before datagram mark place here gateway handed told script =
-    (became mark place ∷ [], hands_marked was is before datagram mark place here gateway handed told script)
+one_marked was is before datagram mark place here few gateway handed told script =
+    (became mark place ∷ [], hands_marked was is before datagram mark place here few gateway handed told script)
 
 all_marked : (was is : Live) (datagrams : List OutDatagram) (marks : List Entry) → HandsOut was 0 datagrams marks is → AreMarks 0 (length datagrams) marks
 all_marked was is datagrams marks hands = subst (λ (n : ℕ). AreMarks 0 n marks) all hands.are where
@@ -318,7 +316,7 @@ in_place_anew after last [] are = tt
 in_place_anew after last (showed input move shown ∷ entries) are = are
 in_place_anew after last (became mark place ∷ entries) are =
     let low : 0 < place = are.0 in
-    let high : place ≤ 0 = are.1 in
+    let high : place ≤ 0 = are.1.0 in
     absurd (omega (arith, low, high))
 
 in_place_more : (after last : ℕ) (a b : List Entry) → AreInPlace after last a → AreInPlace 0 0 b → AreInPlace after last (a ++ b)

@@ -1,7 +1,6 @@
 -- What a turn does, from what its calls say.
-use Rattle.std.proofs.Common.{◌≡◌, ◌⊎◌, inl, inr, ℕ, ◌<◌, ◌^◌, List, [], sym, ◌∙◌, ap, subst}
+use Rattle.std.proofs.Common.{◌≡◌, ◌⊎◌, inl, inr, ℕ, ◌<◌, ◌≤◌, ◌^◌, List, [], sym, ◌∙◌, ap, subst, arith}
 use Rattle.std.specs.Prelude.{not, is_ok, Result, Ok, Err, OnOk, OnErr, IfErr}
-use Rattle.std.specs.declared.net.socket_addr.SocketAddrV4.{SocketAddrV4}
 use Rattle.mg_line.specs.declared.phone.Act.{Act}
 use Rattle.gateway_core.specs.Wire.{counted}
 use Rattle.plain_machine.specs.Event.{GatewayEvent, phone}
@@ -15,6 +14,7 @@ use Rattle.turns.specs.Schedule.{next_of}
 use Rattle.turns.proofs.ScheduleLaws.{ticks_within}
 use Rattle.live_gateway.specs.Running.{Live, Ran, RanOf, Takes, Refuses, Asked}
 use Rattle.live_gateway.specs.Desk.{Standing, with_input}
+use Rattle.live_gateway.specs.Readable.{first_unread}
 use Rattle.live_gateway.specs.Turning.{Tries, TriesAct, DoesLine}
 
 -- it was taken, or refused, and that is counted
@@ -61,3 +61,16 @@ pub tick_is_later : (s : Schedule) (at : Situation) (turn : Turn) (next : Schedu
 tick_is_later s at turn next to now few comes is same =
     let first : (next_of s at).0 ≡ Tick to = sym (ap (λ (r : Turn × Schedule). r.0) comes) ∙ is in
     subst (λ (n : ℕ). n < to) same (ticks_within s at to few first).0
+
+-- a tick that comes next is one that is read, where the clock is, or is where ticks have come
+pub tick_is_short : (s : Schedule) (at : Situation) (turn : Turn) (next : Schedule) (to now : ℕ) → at.moment < 2 ^ 64 → (turn, next) ≡ next_of s at
+    → turn ≡ Tick to → at.ticked ≡ now → (at.moment < first_unread) ⊎ (at.moment ≡ now) → to < first_unread
+tick_is_short s at turn next to now few comes is same (inl short) =
+    let first : (next_of s at).0 ≡ Tick to = sym (ap (λ (r : Turn × Schedule). r.0) comes) ∙ is in
+    let within : to ≤ at.moment = (ticks_within s at to few first).1 in
+    omega (arith, within, short)
+tick_is_short s at turn next to now few comes is same (inr still) =
+    let first : (next_of s at).0 ≡ Tick to = sym (ap (λ (r : Turn × Schedule). r.0) comes) ∙ is in
+    let on : at.ticked < to = (ticks_within s at to few first).0 in
+    let within : to ≤ at.moment = (ticks_within s at to few first).1 in
+    absurd (omega (arith, on, within, same, still))

@@ -7,7 +7,7 @@ use Rattle.plain_machine.specs.Event.{GatewayEvent}
 use Rattle.surroundings.specs.Sending.{Received, Traffic, Grows}
 use Rattle.traces.specs.Writing.{Entry}
 use Rattle.live_gateway.specs.Coming.{Came, arrived_in, AreAllBut}
-use Rattle.live_gateway.specs.Readable.{IsLine, AreLater}
+use Rattle.live_gateway.specs.Readable.{IsReadable, AreLater}
 use Rattle.live_gateway.specs.Running.{Live, live, Ran, AreOf}
 use Rattle.live_gateway.specs.declared.admission.Admission.{Admission}
 use Rattle.live_gateway.specs.declared.desk.Desk.{Desk}
@@ -32,14 +32,13 @@ with_input is_refused standing = record standing { came = record standing.came {
 
 -- It went on by these entries of a play, while this came. The datagrams that came in at the entries are those that came, without what
 -- isn't heard, each with its bytes, in their order; but that some may be missing that memory was refused for: no more of them than inputs
--- were counted as refused. A line that came in is one line, and each
--- tick goes on.
+-- were counted as refused. What came in can be read again, and each tick goes on.
 pub record GoesOnBy (admission : Admission) (was is : Standing) (entries : List Entry) (came : List Received) (missing : ℕ) : Type 0 where
   pub ran : Ran was.live entries is.live
   pub received : Grows was.came.received came is.came.received
   pub refused : is.came.refused ≡ counted was.came.refused missing
   pub events : AreAllBut missing (heard_of admission came) (arrived_in entries)
-  pub lines : AreOf IsLine entries
+  pub inputs : AreOf IsReadable entries
   pub later : (before : List GatewayEvent) → Stands was.live.gateway before → AreLater was.live.gateway.setup before entries
 
 -- it went on by some, and who is heard stays as it was

@@ -1,5 +1,5 @@
 -- What can be written so that it is read again.
-use Rattle.std.specs.Prelude.{◌≡◌, ⊤, ℕ, ◌<◌, ◌≤◌, Bool, false, List, [], ◌∷◌}
+use Rattle.std.specs.Prelude.{◌≡◌, ⊤, ℕ, ◌<◌, ◌≤◌, ◌^◌, Bool, false, List, [], ◌∷◌, length}
 use Rattle.std.specs.List.{AllByRecursion}
 use Rattle.std.specs.declared.net.socket_addr.SocketAddrV4.{SocketAddrV4}
 use Rattle.mg_bytes.specs.Lines.{is_line_feed}
@@ -9,6 +9,10 @@ use Rattle.plain_machine.specs.Lists.{plain}
 use Rattle.rgw_scripts.specs.Moves.{Move, Shown, give, pass, ask, sends, refuses, tells, move_went}
 use Rattle.traces.specs.Writing.{Input, Entry, arrived, typed, passed, showed, became}
 
+-- the first number that isn't read again: those that are have no more than 18 digits
+abbrev pub first_unread : ℕ
+first_unread = 10 ^ 18
+
 -- no byte of a text passes
 abbrev pub Never : (ℕ → Bool) → List ℕ → Type 0
 Never p [] = ⊤
@@ -16,12 +20,8 @@ Never p (b ∷ bs) = (p b ≡ false) × Never p bs
 
 -- an address: four octets, and a port
 pub record IsAddress (source : SocketAddrV4) : Type 0 where
-  pub a : ℕ
-  pub b : ℕ
-  pub c : ℕ
-  pub d : ℕ
-  pub parts : source.ip.octets ≡ a ∷ b ∷ c ∷ d ∷ []
-  pub each : AllByRecursion (λ octet. octet ≤ 255) (a ∷ b ∷ c ∷ d ∷ [])
+  pub four : length source.ip.octets ≡ 4
+  pub each : AllByRecursion (λ octet. octet ≤ 255) source.ip.octets
   pub high : source.port ≤ 65535
 
 -- one that can be answered: its port is one from 1 on
@@ -35,11 +35,11 @@ pub record CanAnswer (source : SocketAddrV4) : Type 0 where
   pub low : 1 ≤ source.port
   pub high : source.port ≤ 65535
 
--- a line is one line
-abbrev pub IsLine : Input → Type 0
-IsLine (arrived source bytes) = ⊤
-IsLine (typed line) = Never is_line_feed line
-IsLine (passed moment) = ⊤
+-- what came in can be read again: a datagram of bytes, from an address; a line that is one line; a moment that is read
+abbrev pub IsReadable : Input → Type 0
+IsReadable (arrived source bytes) = IsAddress source × AllByRecursion (λ byte. byte < 256) bytes
+IsReadable (typed line) = Never is_line_feed line
+IsReadable (passed moment) = moment < first_unread
 
 -- a move goes on by no time
 abbrev pub KeepsClock : Move → Type 0

@@ -1,5 +1,5 @@
 -- What a written trace says.
-use Rattle.std.specs.Prelude.{◌≡◌, ⊤, ℕ, ◌<◌, ◌^◌, ◌==◌, true, if◌then◌else◌, List, [], ◌∷◌, ◌++◌, length, Some, None}
+use Rattle.std.specs.Prelude.{◌≡◌, ⊤, ℕ, ◌<◌, ◌==◌, true, if◌then◌else◌, List, [], ◌∷◌, ◌++◌, length, Some, None}
 use Rattle.std.specs.List.{AllByRecursion, flat_map}
 use Rattle.mg_bytes.specs.Lines.{is_line_feed, cut}
 use Rattle.plain_machine.specs.declared.setup.Setup.{Setup}
@@ -12,7 +12,7 @@ use Rattle.traces.specs.Replaying.{may_end}
 use Rattle.traces.specs.Running.{Run, opening_run, run_from}
 use Rattle.traces.specs.Telling.{told as shown_text}
 use Rattle.traces.specs.Writing.{Input, Entry, showed, became, arrived, typed, passed, is_far, passed_to, datagrams_in, after_entry, opening_script, script_after, whole_text, taken_after}
-use Rattle.live_gateway.specs.Readable.{Never, IsAddress, CanAnswer}
+use Rattle.live_gateway.specs.Readable.{first_unread, Never, CanAnswer}
 
 -- Its moves: ticks that were told together are one
 
@@ -40,27 +40,16 @@ moves_of script [] = []
 moves_of script (entry ∷ entries) = entry_moves script entry ++ moves_of (after_entry script entry) entries
 
 -- What can be written so that it is read again: datagrams of bytes that come from where one can answer, lines that are one line, and
--- moments and places of no more than 18 digits
+-- moments and places that are read
 abbrev pub IsWritable : Entry → Type 0
 IsWritable (showed (arrived source bytes) move shown) = CanAnswer source × AllByRecursion (λ byte. byte < 256) bytes
 IsWritable (showed (typed line) move shown) = Never is_line_feed line
-IsWritable (showed (passed moment) move shown) = moment < 10 ^ 18
-IsWritable (became fate place) = place < 10 ^ 18
+IsWritable (showed (passed moment) move shown) = moment < first_unread
+IsWritable (became fate place) = place < first_unread
 
 abbrev pub AreWritable : List Entry → Type 0
 AreWritable [] = ⊤
 AreWritable (entry ∷ entries) = IsWritable entry × AreWritable entries
-
--- The same but for what a desk sees to: bytes, octets and ports that are such, and moments and places of no more than 18 digits
-abbrev pub IsSmall : Entry → Type 0
-IsSmall (showed (arrived source bytes) move shown) = IsAddress source × AllByRecursion (λ byte. byte < 256) bytes
-IsSmall (showed (typed line) move shown) = ⊤
-IsSmall (showed (passed moment) move shown) = moment < 10 ^ 18
-IsSmall (became fate place) = place < 10 ^ 18
-
-abbrev pub AreSmall : List Entry → Type 0
-AreSmall [] = ⊤
-AreSmall (entry ∷ entries) = IsSmall entry × AreSmall entries
 
 -- Replays
 

@@ -1,5 +1,5 @@
 -- How a gateway runs live.
-use Rattle.std.specs.Prelude.{◌≡◌, ⊤, ◌⊎◌, ℕ, zero, suc, ◌+◌, ◌<◌, ◌≤◌, List, [], ◌∷◌, ◌++◌, length, map, Option, Some, None, IfSome}
+use Rattle.std.specs.Prelude.{◌≡◌, ⊤, ◌⊎◌, ℕ, zero, suc, ◌+◌, ◌<◌, ◌≤◌, List, [], ◌∷◌, ◌++◌, length, map, Option, IfSome}
 use Rattle.std.specs.declared.net.socket_addr.SocketAddrV4.{SocketAddrV4}
 use Rattle.surroundings.specs.Sending.{Sent, Grows}
 use Rattle.transmission.specs.declared.output.OutDatagram.{OutDatagram}
@@ -15,7 +15,7 @@ use Rattle.rgw_scripts.specs.Status.{LineStatus}
 use Rattle.traces.specs.declared.script.Script.{Script}
 use Rattle.traces.specs.Telling.{told_text}
 use Rattle.traces.specs.Writing.{Entry, Input, arrived, typed, passed, showed, became, datagrams_in, IsPlay, taken_after, sent_in, written, script_after, clock_text, at_clock}
-use Rattle.live_gateway.specs.Readable.{AreByTicks}
+use Rattle.live_gateway.specs.Readable.{first_unread, AreByTicks}
 
 -- the gateway, the moments that its trace has come to, all that this was told, and all that was handed out
 pub record Live : Type 0 where
@@ -31,12 +31,16 @@ live gateway script told handed = record { gateway = gateway; script = script; t
 abbrev pub sent_of : OutDatagram → Sent
 sent_of datagram = record { to = datagram.to; bytes = datagram.bytes }
 
+-- a place up to the last one, that is read again
+abbrev pub IsPlace : ℕ → ℕ → Type 0
+IsPlace last place = (place ≤ last) × (place < first_unread)
+
 -- Behind what was shown it is said what became of its datagrams: of each at most once, in their order; and of no other ones. Said was it
 -- of those up to the first place, and the last place is that of the last datagram.
 abbrev pub AreInPlace : ℕ → ℕ → List Entry → Type 0
 AreInPlace after last [] = ⊤
 AreInPlace after last (showed input move shown ∷ entries) = AreInPlace 0 (length (datagrams_in shown)) entries
-AreInPlace after last (became mark place ∷ entries) = (after < place) × (place ≤ last) × AreInPlace place last entries
+AreInPlace after last (became mark place ∷ entries) = (after < place) × IsPlace last place × AreInPlace place last entries
 
 -- It went on by these entries: they are a play of its gateway, what was handed out is what they sent, and its trace was told their
 -- text. Its clock went on by ticks alone.
@@ -79,7 +83,7 @@ pub record RanOf (says : Input → Type 0) (was is : Live) : Type 0 where
 abbrev pub AreMarks : ℕ → ℕ → List Entry → Type 0
 AreMarks after last [] = ⊤
 AreMarks after last (showed input move shown ∷ entries) = ⊥
-AreMarks after last (became mark place ∷ entries) = (after < place) × (place ≤ last) × AreMarks place last entries
+AreMarks after last (became mark place ∷ entries) = (after < place) × IsPlace last place × AreMarks place last entries
 
 -- behind so many others, datagrams were handed out, and this became of them
 pub record HandsOut (was : Live) (before : ℕ) (datagrams : List OutDatagram) (marks : List Entry) (is : Live) : Type 0 where

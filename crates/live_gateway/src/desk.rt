@@ -12,6 +12,7 @@ ghost use Rattle.rgw_scripts.specs.declared.step.ScriptLine.{ScriptLine};
 ghost use Rattle.surroundings.specs.Hearing.{AnswersTo};
 ghost use Rattle.live_gateway.specs.Desk.{at_desk, GoesOn};
 ghost use Rattle.live_gateway.specs.Ending.{EndsAt, WroteTimes, AsksForEnd};
+ghost use Rattle.live_gateway.specs.Readable.{first_unread};
 ghost use Rattle.live_gateway.specs.Turning.{Tries, TriesHeard, LooksForOne, DoesLine, Does, DoesNext};
 ghost use Rattle.traces.specs.Writing.{passed};
 
@@ -19,6 +20,7 @@ use crate::admission::Admission;
 use crate::answering::{
     DONE, PHONES_FROM_AFAR, all_shown, answer_put, question_answer, short_answer, show,
 };
+use crate::arriving::{read_address, read_bytes};
 use crate::exchange::Exchange;
 use crate::losses::lost_of;
 use crate::play::LivePlay;
@@ -129,8 +131,8 @@ impl<S: Surroundings + Drop, T: Teller + Drop> Desk<S, T> {
 
     // The clock goes on.
     fn tick(&mut self, moment: u64)
-        requires { (events : List GatewayEvent) → Stands self.old.play.gateway.value events
-            → (plain self.old.play.gateway.value.setup events).now < moment }
+        requires { (moment < first_unread) × ((events : List GatewayEvent) → Stands self.old.play.gateway.value events
+            → (plain self.old.play.gateway.value.setup events).now < moment) }
         ensures play { GoesOn T.told S.traffic self.old self.new }
         ensures tried { Tries (passed moment) (tick moment) (at_desk T.told S.traffic self.old) (at_desk T.told S.traffic self.new) }
     {
@@ -155,7 +157,10 @@ impl<S: Surroundings + Drop, T: Teller + Drop> Desk<S, T> {
         let Some((source, len)) = self.exchange.receive(admission, &mut room) else {
             return;
         };
-        let done = self.play.datagram(&mut self.exchange, source, &room[..len]);
+        let bytes = &room[..len];
+        read_address(source);
+        read_bytes(bytes);
+        let done = self.play.datagram(&mut self.exchange, source, bytes);
         let is_taken = done.is_ok();
         let speakers = &self.admission.speakers;
         note_datagram(
@@ -163,7 +168,7 @@ impl<S: Surroundings + Drop, T: Teller + Drop> Desk<S, T> {
             is_taken,
             self.play.gateway.outcomes(),
             source,
-            &room[..len],
+            bytes,
         );
         note_taken(
             &mut self.exchange,
@@ -299,8 +304,9 @@ impl<S: Surroundings + Drop, T: Teller + Drop> Desk<S, T> {
 
     // A turn of somebody's, or a wait, where it is now this moment.
     fn do_turn<V: Visitors<S>>(&mut self, turn: Turn, visitors: &mut Option<Box<V>>, moment: u64)
-        requires { (to : ℕ) → turn ≡ Turn.Tick to → (events : List GatewayEvent) → Stands self.old.play.gateway.value events
-            → (plain self.old.play.gateway.value.setup events).now < to }
+        requires { (to : ℕ) → turn ≡ Turn.Tick to
+            → (to < first_unread) × ((events : List GatewayEvent) → Stands self.old.play.gateway.value events
+            → (plain self.old.play.gateway.value.setup events).now < to) }
         ensures play { GoesOn T.told S.traffic self.old self.new }
         ensures does { Does S.receives self.old.admission turn (at_desk T.told S.traffic self.old) (at_desk T.told S.traffic self.new) }
         ensures over { is_end turn ≡ true → (self.new.play ≡ self.old.play) × (self.new.end ≡ self.old.end) }

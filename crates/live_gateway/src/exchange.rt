@@ -1,5 +1,5 @@
 //! What goes between the gateway and others: over sockets, behind a bad network where one is asked for; and its journal.
-ghost use Rattle.std.specs.Prelude.{◌≡◌, ◌≤◌, ◌∷◌, ◌⊎◌, ⊤, [], true, false, length, Bool, List, Option, Result, IfSome, is_some};
+ghost use Rattle.std.specs.Prelude.{◌≡◌, ◌<◌, ◌≤◌, ◌∷◌, ◌⊎◌, ⊤, [], true, false, length, Bool, List, Option, Result, IfSome, is_some};
 ghost use Rattle.small_rules.specs.Counting.{counted};
 ghost use Rattle.surroundings.specs.declared.surroundings.Fault.{Fault};
 ghost use Rattle.surroundings.specs.Hearing.{Hears};
@@ -8,9 +8,11 @@ ghost use Rattle.live_gateway.specs.Admitting.{is_heard, HeardSince};
 ghost use Rattle.live_gateway.specs.Offering.{brought};
 ghost use Rattle.live_gateway.specs.Exchanging.{handed_by, received_by, next_due, faultless, refusals, with_refused, with_unreceived, with_read, IsSameTurn, LooksOnce, CountsReceived};
 ghost use Rattle.live_gateway.specs.Noting.{TurnsAway, NotesLate};
+ghost use Rattle.live_gateway.specs.Readable.{first_unread};
 
 use crate::admission::Admission;
 use crate::ends::Outlet;
+use crate::handing::FIRST_UNREAD;
 use crate::spoilt_way::SpoiltWay;
 use crate::visitors::Visitors;
 use bad_network::{Fate, Packet, Way};
@@ -139,19 +141,21 @@ impl<S: Surroundings + Drop> Exchange<S> {
         }
     }
 
-    /// How long it is since the start, in ms. A clock that fails stands still, at the moment to which ticks have come.
+    /// How long it is since the start, in ms. A clock that fails stands still, at the moment to which ticks have come; so does one that
+    /// tells a moment that no trace has read again, some 31 million years later.
     pub fn moment(&mut self, ticked: u64) -> u64
         ensures network { self.new.network ≡ self.old.network }
         ensures around { self.new.around ≡ self.old.around }
         ensures faults { (self.new.faults ≡ self.old.faults) ⊎ ((self.new.faults ≡ with_unreceived self.old.faults) × (result ≡ ticked)) }
+        ensures short { (result < first_unread) ⊎ (result ≡ ticked) }
         ensures refused { self.new.faults.refused ≡ self.old.faults.refused }
         ensures journal { self.new.journal ≡ self.old.journal }
         ensures read { self.new.read ≡ self.old.read }
         ensures turn { IsSameTurn self.old self.new }
     {
         match self.around.moment() {
-            Ok(moment) => moment,
-            Err(_) => {
+            Ok(moment) if moment < FIRST_UNREAD => moment,
+            Ok(_) | Err(_) => {
                 count(&mut self.faults.receive);
                 ticked
             }

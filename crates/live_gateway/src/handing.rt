@@ -13,6 +13,9 @@ use piggyback::parts;
 use std::alloc::Global;
 use surroundings::Teller;
 
+// The first place that isn't read again, of 19 digits.
+pub(crate) const FIRST_UNREAD: u64 = 1_000_000_000_000_000_000;
+
 // How many messages a datagram has.
 fn messages_in(bytes: &[u8]) -> usize {
     let mut count: usize = 0;
@@ -22,7 +25,7 @@ fn messages_in(bytes: &[u8]) -> usize {
     count
 }
 
-// The datagram at this place is handed out with the messages that it has.
+// The datagram at this place is handed out with the messages that it has. What became of it isn't told at a place that isn't read again.
 #[tactic(auto, using(crate::proofs::RunLemmas::one_handed))]
 fn hand<O: Outlet, T: Teller>(
     alloc: Global,
@@ -38,7 +41,9 @@ fn hand<O: Outlet, T: Teller>(
     ensures came { O.came out.new ≡ O.came out.old }
 {
     if let Some(mark) = out.hand(datagram.to, datagram.bytes.as_bytes(), messages) {
-        tell_mark(alloc, teller, mark, place);
+        if place < FIRST_UNREAD {
+            tell_mark(alloc, teller, mark, place);
+        }
     }
 }
 

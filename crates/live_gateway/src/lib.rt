@@ -7,6 +7,7 @@
 
 mod admission;
 mod answering;
+mod arriving;
 mod desk;
 mod ends;
 pub mod examples;

@@ -1,7 +1,8 @@
 //! What a turn does that needs no gateway, but what that tells: who has one pays for the layout of all that it holds.
-ghost use Rattle.std.specs.Prelude.{◌≡◌, Bool, not};
+ghost use Rattle.std.specs.Prelude.{◌≡◌, ◌<◌, ◌⊎◌, Bool, not};
 ghost use Rattle.live_gateway.specs.Admitting.{typist_of};
 ghost use Rattle.live_gateway.specs.Exchanging.{refusals};
+ghost use Rattle.live_gateway.specs.Readable.{first_unread};
 
 use crate::answering::{act_answer, take_act};
 use crate::exchange::Exchange;
@@ -34,6 +35,7 @@ pub(crate) fn situation<S: Surroundings + Drop, V: Visitors<S>>(
     ensures refused { exchange.new.faults.refused ≡ exchange.old.faults.refused }
     ensures end { result.end ≡ end }
     ensures ticked { result.ticked ≡ ticked }
+    ensures short { (result.moment < first_unread) ⊎ (result.moment ≡ ticked) }
 {
     let moment = exchange.moment(ticked);
     let network = exchange.network_due();

@@ -22,7 +22,7 @@ returns-clause-play g c =
     let traffic = g.S.Surroundings.traffic in
     let same = c.datagram-done.ensures.came in
     hears told traffic _ _ (standing_of told traffic c.datagram-done.new.self c.datagram-done.new.out) c.datagram-done.result c.in-Some.source _
-    (heard_still c.args.self.now.admission _ _ _ _ c.in-Some.ensures.came (ap (λ (x : Came). x.received) same))
+    c.read_address.ensures c.read_bytes.ensures (heard_still c.args.self.now.admission _ _ _ _ c.in-Some.ensures.came (ap (λ (x : Came). x.received) same))
     (rw (c.receive.ensures.handed) at c.datagram-done.ensures.taken)
     (rw (c.receive.ensures.handed) at c.datagram-done.ensures.refused)
     (ap (λ (x : Came). x.refused) same ∙ c.receive.ensures.refused)

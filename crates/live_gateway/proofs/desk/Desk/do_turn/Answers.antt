@@ -1,6 +1,9 @@
 use Rattle.live_gateway.proofs.DeskLemmas.{stays_so}
 use Rattle.live_gateway.proofs.desk.Desk.do_turn.Goals as goal
 
+pub tick-requires : goal.tick-requires
+tick-requires g c = c.requires _ c.in-Tick.is
+
 pub returns-in-Tick-clause-play : goal.returns-in-Tick-clause-play
 returns-in-Tick-clause-play g c = c.tick.ensures.play
 

@@ -9,10 +9,10 @@ pub returns-clause-play : goal.returns-clause-play
 returns-clause-play g c =
     let told = g.T.Teller.told in
     let traffic = g.S.Surroundings.traffic in
-    ticks told traffic _ _ (standing_of told traffic c.tick-done.new.self c.tick-done.new.out) c.tick-done.result c.args.moment
+    ticks told traffic _ _ (standing_of told traffic c.tick-done.new.self c.tick-done.new.out) c.tick-done.result c.args.moment c.requires.0
     (rw (c.begin.ensures.network, c.begin.ensures.around) at c.tick-done.ensures.taken)
     (rw (c.begin.ensures.network, c.begin.ensures.around) at c.tick-done.ensures.refused)
-    c.requires
+    c.requires.1
     (rw (c.begin.ensures.network, c.begin.ensures.around, c.begin.ensures.faults) at c.tick-done.ensures.came)
     (counted_so told traffic c.tick-done.new.self c.tick-done.new.out c.note_taken.new.exchange _
     c.note_taken.ensures.network (ap traffic c.note_taken.ensures.around) (rw (c.is_ok.ensures.value) at c.note_taken.ensures.refused))

@@ -6,7 +6,7 @@ use Rattle.gateway_core.specs.GatewayState.{GatewayState}
 use Rattle.gateway_core.specs.Stands.{Stands}
 use Rattle.live_gateway.proofs.DeskLemmas.{between}
 use Rattle.live_gateway.proofs.EndingLemmas.{turn_ends}
-use Rattle.live_gateway.proofs.TurningLemmas.{tick_is_later}
+use Rattle.live_gateway.proofs.TurningLemmas.{tick_is_later, tick_is_short}
 use Rattle.live_gateway.proofs.desk.Desk.turn.Goals as goal
 
 pub returns-clause-play : goal.returns-clause-play
@@ -25,8 +25,12 @@ do_turn-requires g c =
     subst (λ (gateway : GatewayState). (events : List GatewayEvent) → Stands gateway events → c.now-ticked.result ≡ (plain gateway.setup events).now)
     c.deref.ensures c.now-ticked.ensures.value in
     let few : c.situation-at.result.moment < 2 ^ 64 = search rules in
-    λ to is events stands. tick_is_later _ c.situation-at.result c.next-turn.result _ to _ few c.next-turn.ensures is
-    (c.situation-at.ensures.ticked ∙ here events stands)
+    λ to is. (
+      tick_is_short _ c.situation-at.result c.next-turn.result _ to _ few c.next-turn.ensures is c.situation-at.ensures.ticked
+          c.situation-at.ensures.short,
+      λ events stands. tick_is_later _ c.situation-at.result c.next-turn.result _ to _ few c.next-turn.ensures is
+          (c.situation-at.ensures.ticked ∙ here events stands),
+    )
 
 pub returns-clause-end : goal.returns-clause-end
 returns-clause-end g c =

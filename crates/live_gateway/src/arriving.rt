@@ -1,0 +1,47 @@
+//! What came is of its types: bytes, octets and a port. Contracts know of a number that it is of its type once it is read.
+ghost use Rattle.std.specs.Prelude.{◌≡◌, ◌<◌, ◌≤◌, length};
+ghost use Rattle.std.specs.List.{AllByRecursion};
+ghost use Rattle.live_gateway.specs.Readable.{IsAddress};
+
+use std::net::{Ipv4Addr, SocketAddrV4};
+
+fn read_byte(byte: u8) -> u8
+    ensures value { result ≡ byte }
+    ensures small { result < 256 }
+{
+    byte
+}
+
+// The octets of an address: four, each of eight bits.
+fn octets_of(host: Ipv4Addr) -> [u8; 4]
+    ensures value { result ≡ host.octets }
+    ensures four { length result ≡ 4 }
+    ensures each { AllByRecursion (λ octet. octet ≤ 255) result }
+{
+    let [a, b, c, d] = host.octets();
+    [a, b, c, d]
+}
+
+fn port_of(address: SocketAddrV4) -> u16
+    ensures value { result ≡ address.port }
+    ensures high { result ≤ 65535 }
+{
+    address.port()
+}
+
+/// An address is one.
+pub(crate) fn read_address(address: SocketAddrV4)
+    ensures { IsAddress address }
+{
+    let _octets = octets_of(*address.ip());
+    let _port = port_of(address);
+}
+
+/// Bytes are such.
+pub(crate) fn read_bytes(bytes: &[u8])
+    ensures { AllByRecursion (λ byte. byte < 256) bytes.now }
+{
+    for byte in bytes {
+        let _byte = read_byte(*byte);
+    }
+}
