@@ -18,6 +18,7 @@ pub mod premise_examples;
 pub mod response_examples;
 pub mod response_laws;
 pub mod sent_examples;
+pub mod since_examples;
 pub mod since_laws;
 pub mod since_then_examples;
 pub mod slow_examples;
