@@ -21,7 +21,6 @@ use Rattle.machine_laws.specs.Belonging.{of_line}
 use Rattle.machine_laws.specs.Saying.{Begun, IsAnswerTo, OneOf, begun_in}
 use Rattle.machine_laws.proofs.EachLemmas.{Each, each_weaker, one_of_each, one_to, one_weaker}
 use Rattle.machine_laws.proofs.WaitLaws.{events_wait}
-use Rattle.agent_core.specs.World.{oldest_packet}
 use Rattle.world_laws.proofs.WorldLaws.{gateway_alone}
 use Rattle.delivery_laws.specs.Chances.{chances, last_chance}
 use Rattle.delivery_laws.specs.Copies.{answer_wait}
@@ -36,7 +35,7 @@ use Rattle.outage_laws.specs.AfterOutage.{gap_of, last_in_time, longest_pause}
 use Rattle.outage_laws.proofs.FirstServes.{first_sent as next_there, first_twice, none_gone, not_yet, over_twice as next_over}
 use Rattle.outage_laws.proofs.NextSendLemmas.{IsNext, next_send}
 use Rattle.outage_laws.proofs.PlainArrivals.{IsPlain}
-use Rattle.outage_laws.proofs.ServesLaws.{IsInTime, at_first, before_twice, begins_by, compare, due_by, ends_by, first_late, first_sent, flies_few, flies_soon, gap_late, in_time, last_past, next_past, next_sent, next_twice, not_zero, one_of_chances, over_soon, over_twice, too_late, twice_past, waits_by, waits_same}
+use Rattle.outage_laws.proofs.ServesLaws.{at_first, before_twice, begins_by, compare, due_by, ends_by, first_late, first_sent, flies_few, flies_soon, gap_late, in_time, last_past, next_past, next_sent, next_twice, not_zero, one_of_chances, over_soon, over_twice, too_late, twice_past, waits_by, waits_same}
 use Rattle.outage_laws.proofs.TrackLaws.{Behind, Closed, IsTracked}
 use Rattle.outage_laws.proofs.TrackLemmas.{IsFlying, IsWaiting, Tracked, Went, announcement_at, start_first, start_next, start_of, start_rises}
 use Rattle.restart_laws.proofs.GatewayTracks.{ArePlain, IsTaken, alone, closed_before, last_plain, plain_before, taken_before, tracked}
@@ -308,54 +307,66 @@ module _ (setup : Setup) (took : List GatewayEvent) (within : ℕ) (set_up : IsS
 
 -- The moments
 
-few_next : (within : ℕ) → within ≤ oldest_packet → 500 + 2 * within < answer_wait
-few_next within young = omega (arith, young)
-
-few_first : (within : ℕ) → within ≤ oldest_packet → 0 + 2 * within < answer_wait
-few_first within young = omega (arith, young)
-
 with_none : (since restart within now wait : ℕ) → since + answer_wait + restart + 2 * within ≤ now + 1 + wait → since + answer_wait + restart + 2 * within + 0 ≤ now + 1 + wait
 with_none since restart within now wait late = omega (arith, late)
 
-late_first : (within restart now last : ℕ) → last ≤ last_chance → 0 + (answer_wait - last) + restart + 2 * within ≤ now + 1 → restart + 500 + 2 * within + 0 ≤ now
-late_first within restart now last low late = omega (arith, low, late)
+late_first : (within restart now wait : ℕ) → wait ≤ last_chance → 0 + answer_wait + restart + 2 * within ≤ now + 1 + wait → restart + 500 + 2 * within + 0 ≤ now
+late_first within restart now wait low late = omega (arith, low, late)
 
 some_since : (since : ℕ) → 1 ≤ suc since
 some_since since = omega arith
 
--- So it serves by then, where a packet takes as long as one is handed over at most.
+-- an answer to the second send of a command comes in time; so one to the first
+abbrev pub IsQuick : ℕ → Type 0
+IsQuick within = 500 + 2 * within < answer_wait
+
+quick_first : (within : ℕ) → IsQuick within → 0 + 2 * within < answer_wait
+quick_first within quick = (let few : 500 + 2 * within < answer_wait = quick in omega (arith, few))
+
+-- So it serves by then.
 module _ (setup : Setup) (took : List GatewayEvent) (since within : ℕ) (set_up : IsSetUp setup) (taken : IsTaken setup took) (are : ArePlain took)
-    (young : within ≤ oldest_packet) where
+    (quick : IsQuick within) where
   abbrev pub Answers : ℕ → Type 0
   Answers since =
       (j wait : ℕ) → OneOf (λ (one : Begun). one ≡ announcement_at setup j) (begun_in (of_line 0 (sent_of setup took)))
       → OneOf (SaysAt (announcement_at setup j).text (start_of setup j + wait)) (of_line 0 (sent_of setup took)) → since ≤ start_of setup j + wait
       → start_of setup j + wait + 2 * within ≤ (plain setup took).now → CameBack setup took within (announcement_at setup j) wait
 
-  abbrev last : ℕ
-  last = last_in_time within 0 chances
+  module _ (wait : ℕ) (among : OneOf (λ (one : ℕ). one ≡ wait) chances) (few : wait + 2 * within < answer_wait) where
+    wait_low : wait ≤ last_chance
+    wait_low =
+        one_to (λ (one : ℕ). (one ≤ last_chance) × (one ≡ wait)) (wait ≤ last_chance) (λ one both. subst (λ (n : ℕ). n ≤ last_chance) both.1 both.0) chances
+        (one_of_each (λ (one : ℕ). one ≤ last_chance) (λ (one : ℕ). one ≡ wait) chances chances_low among)
 
-  in_it : IsInTime within 0 chances last
-  in_it = in_time within 0 chances (few_first within young)
+    never_closed : (since : ℕ) → Answers since → since + answer_wait + setup.restart_wait + 2 * within ≤ (plain setup took).now + 1 + wait
+        → Closed setup (alone setup took) → ⊥
+    never_closed zero back late closed =
+        must_serve_first setup took within set_up taken are closed (λ j wait begun said past. back j wait begun said (omega arith)) quick
+        (late_first within setup.restart_wait (plain setup took).now wait wait_low late)
+    never_closed (suc since) back late closed =
+        must_serve setup took within set_up taken are closed (suc since) (some_since since) back wait among few
+        (with_none (suc since) setup.restart_wait within (plain setup took).now wait late)
 
-  last_low : last ≤ last_chance
-  last_low =
-      one_to (λ (one : ℕ). (one ≤ last_chance) × (one ≡ last)) (last ≤ last_chance) (λ one both. subst (λ (n : ℕ). n ≤ last_chance) both.1 both.0) chances
-      (one_of_each (λ (one : ℕ). one ≤ last_chance) (λ (one : ℕ). one ≡ last) chances chances_low (one_of_chances last in_it.among))
+    pub serves_by_wait : Answers since → since + answer_wait + setup.restart_wait + 2 * within ≤ (plain setup took).now + 1 + wait
+        → serves (plain setup took).endpoints ≡ true
+    serves_by_wait back late = by_test (serves (plain setup took).endpoints) refl where
+      by_test : (b : Bool) → serves (plain setup took).endpoints ≡ b → serves (plain setup took).endpoints ≡ true
+      by_test true serving = serving
+      by_test false closed = absurd (never_closed since back late closed)
 
-  never_closed : (since : ℕ) → Answers since → since + gap_of within + setup.restart_wait + 2 * within ≤ (plain setup took).now + 1
-      → Closed setup (alone setup took) → ⊥
-  never_closed zero back late closed =
-      must_serve_first setup took within set_up taken are closed (λ j wait begun said past. back j wait begun said (omega arith)) (few_next within young)
-      (late_first within setup.restart_wait (plain setup took).now last last_low late)
-  never_closed (suc since) back late closed =
-      must_serve setup took within set_up taken are closed (suc since) (some_since since) back last (one_of_chances last in_it.among) in_it.few
-      (with_none (suc since) setup.restart_wait within (plain setup took).now last
-      (gap_late (suc since) within (plain setup took).now setup.restart_wait last in_it.few late))
+-- by the last of them, and by the second
+pub record IsChance (within wait : ℕ) : Type 0 where
+  pub among : OneOf (λ (one : ℕ). one ≡ wait) chances
+  pub few : wait + 2 * within < answer_wait
 
-  pub serves_by_then : Answers since → since + gap_of within + setup.restart_wait + 2 * within ≤ (plain setup took).now + 1
-      → serves (plain setup took).endpoints ≡ true
-  serves_by_then back late = by_test (serves (plain setup took).endpoints) refl where
-    by_test : (b : Bool) → serves (plain setup took).endpoints ≡ b → serves (plain setup took).endpoints ≡ true
-    by_test true serving = serving
-    by_test false closed = absurd (never_closed since back late closed)
+pub last_is : (within : ℕ) → IsQuick within → IsChance within (last_in_time within 0 chances)
+last_is within quick =
+    let is = in_time within 0 chances (quick_first within quick) in
+    record { among = one_of_chances (last_in_time within 0 chances) is.among; few = is.few }
+
+pub second_is : (within : ℕ) → IsQuick within → IsChance within 500
+second_is within quick = record { among = inr (inl refl); few = quick }
+
+pub by_last : (since within now restart : ℕ) → IsQuick within → since + gap_of within + restart + 2 * within ≤ now + 1
+    → since + answer_wait + restart + 2 * within ≤ now + 1 + last_in_time within 0 chances
+by_last since within now restart quick late = gap_late since within now restart (last_in_time within 0 chances) (last_is within quick).few late

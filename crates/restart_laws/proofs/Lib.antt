@@ -7,4 +7,5 @@ pub mod LivesTake
 pub mod LivesServe
 pub mod LivesTaken
 pub mod LivesInFlight
+pub mod LivesLong
 pub mod LivesFairExamples

@@ -178,7 +178,7 @@ handed_clock setup w gateway_end number packet k = by_test (is_among setup.agent
   by_test true = side_clock setup number w (hears (datagram packet.sender packet.bytes)) k.agrees (never (agent_then setup w) packet.sender packet.bytes)
   by_test false = refl
 
-delivering_clock : (setup : Setup) (w : LivesWorld) (number : ℕ) → Kept setup w → clock_of setup (lived setup w (stepping (delivering number))) ≡ clock_of setup w
+pub delivering_clock : (setup : Setup) (w : LivesWorld) (number : ℕ) → Kept setup w → clock_of setup (lived setup w (stepping (delivering number))) ≡ clock_of setup w
 unfolding lived
 delivering_clock setup w number k = by_letter (slice_get w.letters number) where
   by_letter : (found : Option Letter) → clock_of setup (handed found setup w) ≡ clock_of setup w

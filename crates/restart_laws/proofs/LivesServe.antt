@@ -20,14 +20,14 @@ use Rattle.machine_laws.proofs.EachLemmas.{Each, any_from_one, each_at, each_fro
 use Rattle.machine_laws.proofs.GatewayLists.{all_hold}
 use Rattle.machine_laws.proofs.PostLogs.{WasBegun}
 use Rattle.agent_core.specs.declared.packet.End.TheVariants.{GatewayEnd as gateway_end}
-use Rattle.agent_core.specs.World.{delivering, gateway_address, is_among, oldest_packet}
+use Rattle.agent_core.specs.World.{delivering, gateway_address, is_among}
 use Rattle.delivery_laws.proofs.FirstBroughtLaws.{begun_of_all}
 use Rattle.delivery_laws.proofs.OwnChanceLaws.{one_unfiltered}
 use Rattle.delivery_laws.proofs.PlaceLemmas.{each_two, one_at}
 use Rattle.delivery_laws.proofs.PostedLemmas.{SaysAt}
 use Rattle.delivery_laws.proofs.SenderLemmas.{address_itself}
 use Rattle.delivery_laws.proofs.WellLemmas.{IsWell, sent_well}
-use Rattle.outage_laws.specs.AfterOutage.{gap_of}
+use Rattle.delivery_laws.specs.Copies.{answer_wait}
 use Rattle.outage_laws.proofs.LineTexts.{IsTextOf}
 use Rattle.outage_laws.proofs.OwnReaches.{own_text}
 use Rattle.outage_laws.proofs.TrackLemmas.{announcement_at, start_of}
@@ -36,7 +36,7 @@ use Rattle.life_laws.proofs.HandedLaws.{lives_kept}
 use Rattle.life_laws.proofs.LifeSays.{IsLife}
 use Rattle.life_laws.proofs.LinkedLives.{lives_stand}
 use Rattle.restart_laws.specs.AfterRestart.{AgentHasRoomNow, AgentHasRoomThen, IsHandedOn, LifeGoesToAgent, LivesAreFairFrom}
-use Rattle.restart_laws.proofs.GatewayServes.{CameBack, serves_by_then}
+use Rattle.restart_laws.proofs.GatewayServes.{CameBack, IsChance, IsQuick, serves_by_wait}
 use Rattle.restart_laws.proofs.GatewayTracks.{SaidGoes, said_goes}
 use Rattle.restart_laws.proofs.LivesFronts.{Follows, SameLife, delivered_clock, front_follows, life_more, lives_front, stays_sent}
 use Rattle.restart_laws.proofs.LivesSays.{IsPosted, Keeps, TellsOf, life_is, lives_keep, one_address}
@@ -344,18 +344,18 @@ sooner_moved start sent now past = omega (arith, past)
 later_moved : (start sent within now : ℕ) → start + now ≤ start + sent + 2 * within → now ≤ sent + 2 * within
 later_moved start sent within now past = omega (arith, past)
 
-late_moved : (since start gap wait within now clock : ℕ) → start ≤ since → clock ≡ start + now → since + gap + wait + 2 * within ≤ clock + 1
-    → (since - start) + gap + wait + 2 * within ≤ now + 1
-late_moved since start gap wait within now clock on same late = omega (arith, on, same, late)
+late_moved : (since start wait within restart now clock : ℕ) → start ≤ since → clock ≡ start + now → since + answer_wait + restart + 2 * within ≤ clock + 1 + wait
+    → (since - start) + answer_wait + restart + 2 * within ≤ now + 1 + wait
+late_moved since start wait within restart now clock on same late = omega (arith, on, same, late)
 
--- So it serves by then, where the network is fair from the start of its life on, or from later on
-serves_since : (setup : Setup) (steps : List LivesStep) (since within : ℕ) → IsSetUp setup → lives_are_taken setup (lives_opening setup) steps ≡ true
-    → LivesAreFairFrom setup steps since within → AgentHasRoomThen setup steps since → within ≤ oldest_packet → let w = plain_lives setup steps in w.life.start ≤ since
-    → since + gap_of within + setup.restart_wait + 2 * within ≤ clock_of setup w + 1 → serves (gateway_of w.life).endpoints ≡ true
-serves_since setup steps since within set_up taken fair roomy young on late =
-    serves_by_then w.life.setup w.life.took (since - w.life.start) within life.set_up life.taken keeps.arrivals young answers
-    (late_moved since w.life.start (gap_of within) w.life.setup.restart_wait within (gateway_of w.life).now (clock_of setup w) on clock
-    (subst (λ (wait : ℕ). since + gap_of within + wait + 2 * within ≤ clock_of setup w + 1) (sym wait_same) late)) where
+-- So it serves by then, where the network is fair from the start of its life on, or from later on, and answers to that send come in time
+serves_since : (setup : Setup) (steps : List LivesStep) (since within wait : ℕ) → IsSetUp setup → lives_are_taken setup (lives_opening setup) steps ≡ true
+    → LivesAreFairFrom setup steps since within → AgentHasRoomThen setup steps since → IsQuick within → IsChance within wait → let w = plain_lives setup steps in w.life.start ≤ since
+    → since + answer_wait + setup.restart_wait + 2 * within ≤ clock_of setup w + 1 + wait → serves (gateway_of w.life).endpoints ≡ true
+serves_since setup steps since within wait set_up taken fair roomy quick is on late =
+    serves_by_wait w.life.setup w.life.took (since - w.life.start) within life.set_up life.taken keeps.arrivals quick wait is.among is.few answers
+    (late_moved since w.life.start wait within w.life.setup.restart_wait (gateway_of w.life).now (clock_of setup w) on clock
+    (subst (λ (restart : ℕ). since + answer_wait + restart + 2 * within ≤ clock_of setup w + 1 + wait) (sym wait_same) late)) where
       w : LivesWorld
       w = plain_lives setup steps
 
@@ -397,18 +397,18 @@ past_start : (since start moment : ℕ) → since < start → start ≤ moment �
 past_start since start moment less past = omega (arith, less, past)
 
 -- and so it does by that long behind the later of the two
-pub serves_after : (setup : Setup) (steps : List LivesStep) (since within : ℕ) → IsSetUp setup → lives_are_taken setup (lives_opening setup) steps ≡ true
-    → LivesAreFairFrom setup steps since within → AgentHasRoomThen setup steps since → within ≤ oldest_packet → let w = plain_lives setup steps in
-    since + gap_of within + setup.restart_wait + 2 * within ≤ clock_of setup w + 1
-    → w.life.start + gap_of within + setup.restart_wait + 2 * within ≤ clock_of setup w + 1 → serves (gateway_of w.life).endpoints ≡ true
-serves_after setup steps since within set_up taken fair roomy young late late_too = by_test (nat_le w.life.start since) refl where
+pub serves_by_chance : (setup : Setup) (steps : List LivesStep) (since within wait : ℕ) → IsSetUp setup → lives_are_taken setup (lives_opening setup) steps ≡ true
+    → LivesAreFairFrom setup steps since within → AgentHasRoomThen setup steps since → IsQuick within → IsChance within wait → let w = plain_lives setup steps in
+    since + answer_wait + setup.restart_wait + 2 * within ≤ clock_of setup w + 1 + wait
+    → w.life.start + answer_wait + setup.restart_wait + 2 * within ≤ clock_of setup w + 1 + wait → serves (gateway_of w.life).endpoints ≡ true
+serves_by_chance setup steps since within wait set_up taken fair roomy quick is late late_too = by_test (nat_le w.life.start since) refl where
   w : LivesWorld
   w = plain_lives setup steps
 
   by_test : (b : Bool) → nat_le w.life.start since ≡ b → serves (gateway_of w.life).endpoints ≡ true
-  by_test true on = serves_since setup steps since within set_up taken fair roomy young (leb-true w.life.start since on) late
+  by_test true on = serves_since setup steps since within wait set_up taken fair roomy quick is (leb-true w.life.start since on) late
   by_test false before =
       let less : since < w.life.start = leb-false w.life.start since before in
-      serves_since setup steps w.life.start within set_up taken
+      serves_since setup steps w.life.start within wait set_up taken
       (λ number letter found past. fair number letter found (past_start since w.life.start letter.post.packet.moment less past))
-      (λ some later order past. roomy some later order (past_start since w.life.start (clock_of setup (plain_lives setup some)) less past)) young (itself w.life.start) late_too
+      (λ some later order past. roomy some later order (past_start since w.life.start (clock_of setup (plain_lives setup some)) less past)) quick is (itself w.life.start) late_too

@@ -7,7 +7,6 @@ ghost use Rattle.std.specs.Prelude.{◌≡◌, ◌≤◌, ◌<◌, ◌+◌, ◌*
 ghost use Rattle.plain_machine.specs.Example.{two_lines};
 ghost use Rattle.plain_machine.specs.Machine.{serves};
 ghost use Rattle.plain_machine.specs.Setup.{IsSetUp};
-ghost use Rattle.agent_core.specs.World.{oldest_packet};
 ghost use Rattle.delivery_laws.specs.Chances.{last_chance};
 ghost use Rattle.delivery_laws.specs.Example.{endless, lifted};
 ghost use Rattle.outage_laws.specs.AfterOutage.{gap_of, longest_pause};
@@ -34,7 +33,6 @@ pub fn a_gateway_that_started_again_serves_at_last()
     ensures fair { LivesAreFairFrom two_lines answered_at_last 19503 300 }
     ensures fair_not_before { ¬ LivesAreFairFrom two_lines answered_at_last 19502 300 }
     ensures room { AgentHasRoomThen two_lines answered_at_last 19503 }
-    ensures young { 300 ≤ oldest_packet }
     ensures late { 19503 + gap_of 300 + two_lines.restart_wait + 2 * 300 ≡ clock_of two_lines (lives answered_at_last) + 1 }
     ensures late_too { (lives answered_at_last).life.start + gap_of 300 + two_lines.restart_wait + 2 * 300
         ≤ clock_of two_lines (lives answered_at_last) + 1 }

@@ -18,7 +18,6 @@ returns c = record {
   fair = lives_fair two_lines answered_at_last 19503 300 refl;
   fair_not_before = lives_unfair two_lines answered_at_last 19502 300 8 _ refl refl refl refl;
   room = lives_roomy two_lines answered_at_last 19503 refl;
-  young = leb-true _ _ refl;
   late = refl;
   late_too = leb-true _ _ refl;
   serving = refl;

@@ -1,4 +1,4 @@
-use Rattle.restart_laws.proofs.LivesServe.{serves_after}
+use Rattle.restart_laws.proofs.LivesLong.{serves_after}
 use Rattle.restart_laws.proofs.laws.a_new_life_serves_after_an_outage.Goals as goal
 
 pub returns : goal.returns
