@@ -71,9 +71,9 @@ Does receives admission Datagram was is = LooksForOne receives × TriesHeard adm
 Does receives admission Visit was is = is ≡ was
 Does receives admission (Note pause) was is = is ≡ was
 
--- it does what comes next by this schedule, as things stand
+-- it does what comes next by this schedule, as things stand, and goes on with the schedule behind that
 abbrev pub DoesNext :
     {S : Type 0} → (S → Result (Option (SocketAddrV4 × ℕ)) Fault → List ℕ → S → Type 0)
-    → Schedule → Admission → Standing → Standing → Type 0
-DoesNext receives schedule admission was is =
-    (at : Situation) × (turn : Turn) × (next : Schedule) × ((turn, next) ≡ next_of schedule at) × Does receives admission turn was is
+    → Schedule → Schedule → Admission → Standing → Standing → Type 0
+DoesNext receives schedule next admission was is =
+    (at : Situation) × (turn : Turn) × ((turn, next) ≡ next_of schedule at) × Does receives admission turn was is

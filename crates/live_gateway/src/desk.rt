@@ -135,6 +135,7 @@ impl<S: Surroundings + Drop, T: Teller + Drop> Desk<S, T> {
             → (plain self.old.play.gateway.value.setup events).now < moment) }
         ensures play { GoesOn T.told S.traffic self.old self.new }
         ensures tried { Tries (passed moment) (tick moment) (at_desk T.told S.traffic self.old) (at_desk T.told S.traffic self.new) }
+        ensures schedule { self.new.schedule ≡ self.old.schedule }
     {
         self.exchange.begin(moment);
         let done = self.play.tick(&mut self.exchange, moment);
@@ -151,6 +152,7 @@ impl<S: Surroundings + Drop, T: Teller + Drop> Desk<S, T> {
         ensures play { GoesOn T.told S.traffic self.old self.new }
         ensures looked { LooksForOne S.receives }
         ensures tried { TriesHeard self.old.admission (at_desk T.told S.traffic self.old) (at_desk T.told S.traffic self.new) }
+        ensures schedule { self.new.schedule ≡ self.old.schedule }
     {
         let mut room = [0u8; DATAGRAM_ROOM];
         let admission = &self.admission;
@@ -195,6 +197,7 @@ impl<S: Surroundings + Drop, T: Teller + Drop> Desk<S, T> {
         requires { (said : Option ScriptLine) × AsksFor request said }
         ensures play { at_desk T.told S.traffic self.new ≡ at_desk T.told S.traffic self.old }
         ensures admission { self.new.admission ≡ self.old.admission }
+        ensures schedule { self.new.schedule ≡ self.old.schedule }
     {
         match request {
             TelephoneRequest::ShowAll => {
@@ -233,6 +236,7 @@ impl<S: Surroundings + Drop, T: Teller + Drop> Desk<S, T> {
     fn take_line(&mut self)
         ensures play { GoesOn T.told S.traffic self.old self.new }
         ensures line { DoesLine (at_desk T.told S.traffic self.old) (at_desk T.told S.traffic self.new) }
+        ensures schedule { self.new.schedule ≡ self.old.schedule }
     {
         let who = typist(&self.lines, self.admission.are_phones_open);
         let Some(text) = self.lines.line() else {
@@ -265,6 +269,7 @@ impl<S: Surroundings + Drop, T: Teller + Drop> Desk<S, T> {
     fn command(&mut self)
         ensures play { GoesOn T.told S.traffic self.old self.new }
         ensures line { DoesLine (at_desk T.told S.traffic self.old) (at_desk T.told S.traffic self.new) }
+        ensures schedule { self.new.schedule ≡ self.old.schedule }
     {
         let was_page = self.is_of_page;
         self.exchange.hear(&mut self.lines);
@@ -282,6 +287,7 @@ impl<S: Surroundings + Drop, T: Teller + Drop> Desk<S, T> {
     fn visit<V: Visitors<S>>(&mut self, visitors: &mut Option<Box<V>>, moment: u64)
         ensures play { at_desk T.told S.traffic self.new ≡ at_desk T.told S.traffic self.old }
         ensures admission { self.new.admission ≡ self.old.admission }
+        ensures schedule { self.new.schedule ≡ self.old.schedule }
     {
         let faults = self.exchange.faults;
         let behind = moment.saturating_sub(self.play.gateway.now());
@@ -310,6 +316,7 @@ impl<S: Surroundings + Drop, T: Teller + Drop> Desk<S, T> {
         ensures play { GoesOn T.told S.traffic self.old self.new }
         ensures does { Does S.receives self.old.admission turn (at_desk T.told S.traffic self.old) (at_desk T.told S.traffic self.new) }
         ensures over { is_end turn ≡ true → (self.new.play ≡ self.old.play) × (self.new.end ≡ self.old.end) }
+        ensures schedule { self.new.schedule ≡ self.old.schedule }
     {
         match turn {
             Turn::Tick { moment } => self.tick(moment),
@@ -332,7 +339,7 @@ impl<S: Surroundings + Drop, T: Teller + Drop> Desk<S, T> {
     pub fn turn<V: Visitors<S>>(&mut self, visitors: &mut Option<Box<V>>) -> bool
         ensures play { GoesOn T.told S.traffic self.old self.new }
         ensures end { EndsAt self.old.end self.old.play.gateway.value (not result) }
-        ensures does { DoesNext S.receives self.old.schedule self.old.admission
+        ensures does { DoesNext S.receives self.old.schedule self.new.schedule self.old.admission
             (at_desk T.told S.traffic self.old) (at_desk T.told S.traffic self.new) }
         ensures over { result ≡ false → (self.new.play ≡ self.old.play) × (self.new.end ≡ self.old.end) }
     {
@@ -365,6 +372,7 @@ impl<S: Surroundings + Drop, T: Teller + Drop> Desk<S, T> {
         ensures wrote { W.writes recorder.old recorder.new }
         ensures read { self.new.exchange.read ≡ self.old.exchange.read }
         ensures faults { self.new.exchange.faults ≡ self.old.exchange.faults }
+        ensures rest { self.new ≡ record self.old { play = self.new.play; exchange = self.new.exchange } }
     {
         let time = self.exchange.now.time;
         recorder.write(&mut self.exchange.journal, &mut self.play.teller, time);
@@ -401,6 +409,7 @@ impl<S: Surroundings + Drop, T: Teller + Drop> Desk<S, T> {
         ensures stopped { AsksForEnd self.old.lines →
             AnswersTo S.answers self.old.lines.sender self.old.exchange.around (codes "done\n") self.new.exchange.around }
         ensures other { (AsksForEnd self.old.lines → ⊥) → self.new.exchange ≡ self.old.exchange }
+        ensures rest { self.new ≡ record self.old { exchange = self.new.exchange; lines = self.new.lines } }
     {
         if asks_for_end(&self.lines) {
             self.lines.answer_all(&mut self.exchange.around, DONE);

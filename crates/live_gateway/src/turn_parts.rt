@@ -1,7 +1,8 @@
 //! What a turn does that needs no gateway, but what that tells: who has one pays for the layout of all that it holds.
-ghost use Rattle.std.specs.Prelude.{◌≡◌, ◌<◌, ◌⊎◌, Bool, not};
+ghost use Rattle.std.specs.Prelude.{◌≡◌, ◌<◌, ◌⊎◌, ℕ, Bool, true, Option, not};
+ghost use Rattle.turns.specs.Clock.{earlier};
 ghost use Rattle.live_gateway.specs.Admitting.{typist_of};
-ghost use Rattle.live_gateway.specs.Exchanging.{refusals};
+ghost use Rattle.live_gateway.specs.Exchanging.{refusals, next_due};
 ghost use Rattle.live_gateway.specs.Readable.{first_unread};
 
 use crate::answering::{act_answer, take_act};
@@ -36,6 +37,9 @@ pub(crate) fn situation<S: Surroundings + Drop, V: Visitors<S>>(
     ensures end { result.end ≡ end }
     ensures ticked { result.ticked ≡ ticked }
     ensures short { (result.moment < first_unread) ⊎ (result.moment ≡ ticked) }
+    ensures due { (deadline : Option ℕ) × (result.due ≡ earlier (earlier due (next_due exchange.old.network)) deadline) }
+    ensures read { result.read ≡ exchange.old.read }
+    ensures left { is_line_left ≡ true → result.ready.commands ≡ true }
 {
     let moment = exchange.moment(ticked);
     let network = exchange.network_due();

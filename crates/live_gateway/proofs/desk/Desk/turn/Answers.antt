@@ -47,8 +47,7 @@ pub returns-clause-does : goal.returns-clause-does
 returns-clause-does g c = (
   c.situation-at.result,
   c.next-turn.result,
-  _,
-  c.next-turn.ensures,
+  rw (c.do_turn.ensures.schedule) c.next-turn.ensures,
   rw (
     c.begin.ensures.network,
     c.begin.ensures.around,
