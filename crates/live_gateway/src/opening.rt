@@ -1,7 +1,8 @@
 //! Opens a gateway that runs, over surroundings that it is given: its journal, the way between it and others, its play and its desk, as
 //! is asked for. Each part is made by a function of its own, since a check pays for all that a value holds inline at each step of a
 //! function that has it.
-ghost use Rattle.std.specs.Prelude.{◌≡◌, IfOk};
+ghost use Rattle.std.specs.Prelude.{◌≡◌, is_some, IfOk};
+ghost use Rattle.live_journal.specs.Recording.{trace_head, Begins};
 
 use crate::admission::Admission;
 use crate::desk::Desk;
@@ -48,7 +49,9 @@ fn capture_of(alloc: Global, settings: &DeskSettings<'_>) -> Result<Box<Capture>
 }
 
 // What a page is shown, if there is one.
-fn board_of(alloc: Global, has_page: bool) -> Result<Option<Box<Board>>, AllocError> {
+fn board_of(alloc: Global, has_page: bool) -> Result<Option<Box<Board>>, AllocError>
+    ensures { IfOk result (λ board. is_some board ≡ has_page) }
+{
     if !has_page {
         return Ok(None);
     }
@@ -59,7 +62,9 @@ fn journal_of(
     alloc: Global,
     settings: &DeskSettings<'_>,
     domain: &[u8],
-) -> Result<Journal, AllocError> {
+) -> Result<Journal, AllocError>
+    ensures { IfOk result (λ journal. is_some journal.board ≡ settings.now.has_page) }
+{
     Ok(Journal {
         tally: tally_of(alloc)?,
         log: log_of(alloc, settings.has_log, domain)?,
@@ -84,7 +89,9 @@ fn network_of(
     alloc: Global,
     asked: Option<Spoiling>,
     domain: &[u8],
-) -> Result<Option<Box<SpoiltWay>>, AllocError> {
+) -> Result<Option<Box<SpoiltWay>>, AllocError>
+    ensures { IfOk result (λ network. is_some network ≡ is_some asked) }
+{
     match asked {
         Some(spoiling) => Ok(Some(spoilt_by(alloc, spoiling, domain)?)),
         None => Ok(None),
@@ -98,7 +105,9 @@ fn exchange_of<S: Surroundings + Drop>(
     domain: &[u8],
     around: Box<S>,
 ) -> Result<Exchange<S>, AllocError>
-    ensures { IfOk result (λ exchange. exchange.around ≡ around.value) }
+    ensures around { IfOk result (λ exchange. exchange.around ≡ around.value) }
+    ensures spoilt { IfOk result (λ exchange. is_some exchange.network ≡ is_some settings.now.network) }
+    ensures page { IfOk result (λ exchange. is_some exchange.journal.board ≡ settings.now.has_page) }
 {
     let network = network_of(alloc, settings.network, domain)?;
     let journal = journal_of(alloc, settings, domain)?;
@@ -112,7 +121,8 @@ fn exchange_of<S: Surroundings + Drop>(
 
 // A gateway that is played, and its trace, which has its head.
 fn play_of(alloc: Global, has_trace: bool, config: &[u8], gateway: Box<Gateway>) -> LivePlay<Trace>
-    ensures { result.gateway ≡ gateway }
+    ensures gateway { result.gateway ≡ gateway }
+    ensures trace { Begins has_trace (trace_head config.now gateway.value.setup.first) result.teller.record }
 {
     let trace = Trace::new(alloc, has_trace, config, gateway.setup().first);
     LivePlay::new(alloc, gateway, trace)
@@ -132,6 +142,10 @@ pub fn open_desk<S: Surroundings + Drop>(
     ensures gateway { IfOk result (λ desk. desk.value.play.gateway ≡ gateway) }
     ensures admission { IfOk result (λ desk. desk.value.admission ≡ admission) }
     ensures end { IfOk result (λ desk. desk.value.end ≡ settings.now.end) }
+    ensures trace { IfOk result (λ desk. Begins settings.now.has_trace (trace_head config.now gateway.value.setup.first)
+        desk.value.play.teller.record) }
+    ensures spoilt { IfOk result (λ desk. is_some desk.value.exchange.network ≡ is_some settings.now.network) }
+    ensures page { IfOk result (λ desk. is_some desk.value.exchange.journal.board ≡ settings.now.has_page) }
 {
     let lines = Lines::new(alloc)?;
     let domain = gateway.setup().names.domain.as_bytes();
