@@ -18,3 +18,4 @@ pub mod HearingLaws
 pub mod ShowingLemmas
 pub mod LineLemmas
 mod ArrivingLemmas
+pub mod AskingLemmas

@@ -95,3 +95,16 @@ short_text StopFromAfar = codes "! stop is taken from a loopback address alone, 
 short_text Refused = usage
 short_text Unknown = usage
 short_text OutOfMemory = codes "! 1 OutOfMemory\n"
+
+-- memory may be wanted to read what is said as a step of a script is, and for no other line
+abbrev pub wants_memory : TelephoneRequest → Bool
+wants_memory (Act line act) = true
+wants_memory (Show line) = true
+wants_memory ShowAll = false
+wants_memory (Watch seconds) = false
+wants_memory Counts = false
+wants_memory Stop = false
+wants_memory StopFromAfar = false
+wants_memory Refused = false
+wants_memory Unknown = true
+wants_memory OutOfMemory = true

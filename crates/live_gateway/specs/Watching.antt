@@ -2,11 +2,13 @@
 use Rattle.std.specs.Prelude.{◌≡◌, ◌⊎◌, ℕ, codes, decimal, List, [], ◌∷◌, ◌++◌, Option, Some, None, option_map}
 use Rattle.std.specs.declared.net.socket_addr.SocketAddr.{SocketAddr}
 use Rattle.std.specs.declared.net.socket_addr.SocketAddr.TheVariants.{V4}
+use Rattle.std.specs.declared.net.socket_addr.SocketAddrV4.{SocketAddrV4}
 use Rattle.line_changes.specs.declared.change.Change.{Change}
 use Rattle.line_changes.specs.declared.watchers.Watcher.{Watcher}
 use Rattle.line_changes.specs.Seen.{SeenLine}
 use Rattle.line_changes.specs.Changes.{changes_of}
-use Rattle.line_changes.specs.Watching.{most_watchers, nobody, told_at}
+use Rattle.line_changes.specs.Telling.{watching_line}
+use Rattle.line_changes.specs.Watching.{most_watchers, nobody, told_at, with_watcher}
 use Rattle.surroundings.specs.Hearing.{AnswersTo}
 
 -- what changed at a line, where it was seen before
@@ -32,3 +34,9 @@ TellsEach {S} answers now (held ∷ places) before text after =
 abbrev pub WatchesOn : {S : Type 0} → (S → SocketAddr → List ℕ → S → Type 0) → List (Option Watcher) → S → List (Option Watcher) → Type 0
 WatchesOn {S} answers were after are =
     (are ≡ were) ⊎ ((are ≡ nobody) × (before : S) × (now : ℕ) × TellsEach answers now were before (codes "! 1 OutOfMemory\n") after)
+
+-- who asks to watch is answered from which number on, at which moment, and does so; or that as many watch as may, and nothing changes
+abbrev pub AnswersWatch : List (Option Watcher) → SocketAddrV4 → ℕ → ℕ → ℕ → List ℕ → List (Option Watcher) → Type 0
+AnswersWatch were address now seconds number text are =
+    ((with_watcher were address now seconds ≡ Some are) × (text ≡ watching_line number now))
+    ⊎ ((with_watcher were address now seconds ≡ None) × (are ≡ were) × (text ≡ full_text))

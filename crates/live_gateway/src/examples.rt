@@ -1,7 +1,7 @@
 //! Worked examples of the definitions, as theorems: each sentence of a definition has one that a slip in it breaks.
 #![tactic(auto, unfolding(crate::proofs::Computing::on_examples))]
 
-ghost use Rattle.std.specs.Prelude.{◌≡◌, ℕ, List, Option, None, Some, Ok, Err, codes, true, false, [], ◌∷◌};
+ghost use Rattle.std.specs.Prelude.{◌≡◌, ℕ, List, Option, None, Some, Ok, Err, codes, map, replicate, true, false, [], ◌∷◌};
 ghost use Rattle.std.specs.Global.{Box};
 ghost use Rattle.bad_network.specs.declared.packet.Packet.{Packet};
 ghost use Rattle.bad_network.specs.declared.packet.Way.TheVariants.{In, Out};
@@ -25,10 +25,13 @@ ghost use Rattle.live_gateway.specs.declared.telephones.Typist.TheVariants.{Here
 ghost use Rattle.live_gateway.specs.declared.telephones.TelephoneRequest.TheVariants.{Act, Show, ShowAll, Watch, Counts, Stop, StopFromAfar, Refused, Unknown};
 ghost use Rattle.live_gateway.specs.declared.admission.Admission.{Admission};
 ghost use Rattle.live_gateway.specs.Admitting.{with_hosts, hosts_of, with_named, is_its_own, is_heard, heard_of, typist_of};
-ghost use Rattle.live_gateway.specs.Asking.{request_in};
+ghost use Rattle.live_gateway.specs.Asking.{request_in, wants_memory};
 ghost use Rattle.live_gateway.specs.Naming.{no_word, listed, with_all, with_each};
 ghost use Rattle.live_gateway.specs.Picturing.{with_traffic, with_own, with_faults};
-ghost use Rattle.live_gateway.specs.Watching.{full_text};
+ghost use Rattle.line_changes.specs.declared.watchers.Watcher.{Watcher};
+ghost use Rattle.line_changes.specs.Telling.{watching_line};
+ghost use Rattle.line_changes.specs.Watching.{with_watcher};
+ghost use Rattle.live_gateway.specs.Watching.{full_text, AnswersWatch};
 ghost use Rattle.live_gateway.specs.Example.{host, at_port, looped, anywhere, sockets};
 ghost use Rattle.live_gateway.specs.declared.exchange.Exchange.{Exchange};
 ghost use Rattle.live_gateway.specs.declared.spoilt_way.SpoiltWay.{SpoiltWay};
@@ -188,4 +191,17 @@ pub fn further_sentences_have_examples()
         with_faults counts (record { refused = 8; receive = 9; send = 10 })
         (record journal { written = record journal.written { dropped = 11 } })
         ≡ record counts { refused = 8; receive_faults = 9; send_faults = 10; dropped_lines = 11 } }
+{}
+
+/// What is answered to who asks to watch, and what may want memory to be read.
+pub fn what_is_asked_is_answered()
+    // Who gets a place is told from which number on, and at which moment; who gets none that as many watch as may, and all stays.
+    ensures watches { (were are : List (Option Watcher)) → with_watcher were (at_port 1 9) 5000 10 ≡ Some are
+        → AnswersWatch were (at_port 1 9) 5000 10 7 (watching_line 7 5000) are }
+    ensures full { (were : List (Option Watcher)) → with_watcher were (at_port 1 9) 5000 10 ≡ None
+        → AnswersWatch were (at_port 1 9) 5000 10 7 full_text were }
+    // A word alone is read without memory.
+    ensures words { map wants_memory (ShowAll ∷ Counts ∷ Stop ∷ StopFromAfar ∷ Refused ∷ []) ≡ replicate 5 false }
+    ensures watch { wants_memory (Watch 60) ≡ false }
+    ensures steps { map wants_memory (Act 1 OffHook ∷ Show 2 ∷ Unknown ∷ []) ≡ replicate 3 true }
 {}

@@ -1,12 +1,12 @@
 //! What the lines ask for that come to the telephones' socket.
-ghost use Rattle.std.specs.Prelude.{◌≡◌, ◌≤◌, ◌⊎◌, Some, IfSome};
+ghost use Rattle.std.specs.Prelude.{◌≡◌, ◌≤◌, ◌⊎◌, true, Some, IfSome};
 ghost use Rattle.mg_bytes.specs.Words.{words as words_of};
 ghost use Rattle.line_changes.specs.Watching.{longest_watch};
 ghost use Rattle.rgw_scripts.specs.declared.step.ScriptLine.TheVariants.{Whole};
 ghost use Rattle.rgw_scripts.specs.Script.{line_in};
 ghost use Rattle.live_gateway.specs.declared.telephones.TelephoneRequest.TheVariants.{OutOfMemory};
 ghost use Rattle.live_gateway.specs.Admitting.{typist_of};
-ghost use Rattle.live_gateway.specs.Asking.{AsksFor, request_of, request_by, seconds_of, watch_in, watch_or, line_request, request_in};
+ghost use Rattle.live_gateway.specs.Asking.{AsksFor, request_of, request_by, seconds_of, watch_in, watch_or, line_request, request_in, wants_memory};
 
 use line_changes::LONGEST_WATCH;
 use mg_bytes::{decimal, words};
@@ -66,9 +66,11 @@ fn request_of(step: &ScriptStep) -> TelephoneRequest
 }
 
 // What a line asks for of a telephone.
+#[tactic(auto, using(crate::proofs::AskingLemmas::by_step))]
 fn telephone_request(alloc: Global, line: &[u8]) -> TelephoneRequest
     ensures said { AsksFor result (line_in (words_of line.now)) }
     ensures request { (result ≡ request_by (line_in (words_of line.now))) ⊎ (result ≡ OutOfMemory) }
+    ensures memory { result ≡ OutOfMemory → wants_memory (request_by (line_in (words_of line.now))) ≡ true }
 {
     let Ok(said) = line_in(alloc, line) else {
         return TelephoneRequest::OutOfMemory;
@@ -119,6 +121,8 @@ fn watch_or(alloc: Global, line: &[u8]) -> TelephoneRequest
     ensures said { AsksFor result (line_in (words_of line.now)) }
     ensures request { (result ≡ watch_or (watch_in (words_of line.now)) (request_by (line_in (words_of line.now))))
         ⊎ (result ≡ OutOfMemory) }
+    ensures memory { result ≡ OutOfMemory
+        → wants_memory (watch_or (watch_in (words_of line.now)) (request_by (line_in (words_of line.now)))) ≡ true }
 {
     match watch_in(line) {
         Some(seconds) => TelephoneRequest::Watch { seconds },
@@ -131,6 +135,7 @@ fn watch_or(alloc: Global, line: &[u8]) -> TelephoneRequest
 fn line_request(alloc: Global, line: &[u8], is_from_loopback: bool) -> TelephoneRequest
     ensures said { AsksFor result (line_in (words_of line.now)) }
     ensures request { (result ≡ line_request is_from_loopback line.now) ⊎ (result ≡ OutOfMemory) }
+    ensures memory { result ≡ OutOfMemory → wants_memory (line_request is_from_loopback line.now) ≡ true }
 {
     if line == b"counts".as_slice() {
         TelephoneRequest::Counts
@@ -162,6 +167,7 @@ pub fn typist_of(is_here: bool, is_afar: bool, are_open: bool) -> Typist
 pub fn request_in(alloc: Global, line: &[u8], typist: Typist) -> TelephoneRequest
     ensures said { AsksFor result (line_in (words_of line.now)) }
     ensures request { (result ≡ request_in typist line.now) ⊎ (result ≡ OutOfMemory) }
+    ensures memory { result ≡ OutOfMemory → wants_memory (request_in typist line.now) ≡ true }
 {
     match typist {
         Typist::Here => line_request(alloc, line, true),

@@ -1,12 +1,13 @@
 //! Who watches is told what changes at the lines.
-ghost use Rattle.std.specs.Prelude.{◌≡◌, ◌≤◌, ◌-◌, ◌⊎◌, [], codes, List, false, IfOk, IfErr, OnOk, slice_get};
+ghost use Rattle.std.specs.Prelude.{◌≡◌, ◌≤◌, ◌-◌, ◌⊎◌, [], codes, List, true, false, None, Some, IfOk, IfErr, OnOk, slice_get};
 ghost use Rattle.plain_machine.specs.Event.{GatewayEvent};
 ghost use Rattle.plain_machine.specs.Lists.{plain};
 ghost use Rattle.gateway_core.specs.Stands.{Stands};
 ghost use Rattle.line_changes.specs.Telling.{with_changes, watching_line};
-ghost use Rattle.line_changes.specs.Watching.{longest_watch, nobody};
+ghost use Rattle.line_changes.specs.Watching.{longest_watch, nobody, with_watcher};
 ghost use Rattle.surroundings.specs.Hearing.{AnswersTo};
-ghost use Rattle.live_gateway.specs.Watching.{changes_behind, sender_at, TellsEach, WatchesOn};
+ghost use Rattle.live_gateway.specs.Asking.{usage};
+ghost use Rattle.live_gateway.specs.Watching.{changes_behind, sender_at, TellsEach, WatchesOn, AnswersWatch};
 
 use crate::answering::{OUT_OF_MEMORY, UNKNOWN, full_answer};
 use crate::seeing::seen_line;
@@ -96,7 +97,11 @@ impl Watch {
     ) -> Result<bool, OutOfMemory>
         requires { seconds ≤ longest_watch }
         ensures told { self.new.told ≡ self.old.told }
+        ensures watches { (events : List GatewayEvent) → Stands gateway.now events → IfOk result (λ watches. watches ≡ true
+            → with_watcher self.old.watchers.places address (plain gateway.now.setup events).now seconds ≡ Some self.new.watchers.places) }
         ensures full { IfOk result (λ watches. watches ≡ false → self.new.watchers ≡ self.old.watchers) }
+        ensures none_left { (events : List GatewayEvent) → Stands gateway.now events → IfOk result (λ watches. watches ≡ false
+            → with_watcher self.old.watchers.places address (plain gateway.now.setup events).now seconds ≡ None) }
         ensures refused { IfErr result (λ _. self.new.watchers ≡ self.old.watchers) }
     {
         let now = gateway.now();
@@ -126,6 +131,10 @@ impl Watch {
         seconds: u64,
     ) -> Result<Vec<u8>, OutOfMemory>
         requires { seconds ≤ longest_watch }
+        ensures nobody { sender ≡ None → (self.new ≡ self.old) × IfOk result (λ text. text.items ≡ usage) }
+        ensures answered { (events : List GatewayEvent) (address : SocketAddrV4) → Stands gateway.now events → sender ≡ Some address
+            → IfOk result (λ text. AnswersWatch self.old.watchers.places address (plain gateway.now.setup events).now seconds
+            self.old.told.number text.items self.new.watchers.places) }
         ensures refused { IfErr result (λ _. self.new.watchers ≡ self.old.watchers) }
     {
         let Some(address) = sender else {
@@ -136,7 +145,8 @@ impl Watch {
         if self.begin(alloc, gateway, address, seconds)? {
             Ok(text)
         } else {
-            full_answer(alloc)
+            let full = full_answer(alloc)?;
+            Ok(full)
         }
     }
 
