@@ -1,12 +1,12 @@
 -- What isn't told, and what began before a moment, computed; for worked examples.
-use Rattle.std.proofs.Common.{◌≡◌, ℕ, ◌<◌, ◌≤◌, Bool, true, ◌&&◌, List, [], ◌∷◌, ◌++◌, inl, inr, ap, ◌∙◌, subst, arith}
+use Rattle.std.proofs.Common.{◌≡◌, ℕ, ◌+◌, ◌<◌, ◌≤◌, Bool, true, ◌&&◌, List, [], ◌∷◌, ◌++◌, inl, inr, ap, ◌∙◌, subst, arith}
 use Rattle.std.specs.Prelude.{Any, nat_lt}
 use Rattle.std.proofs.lemmas.Bool.{and_parts, ltb-true}
 use Rattle.event_values.specs.declared.observed.Observed.{Observed}
 use Rattle.machine_laws.specs.Saying.{Begun, OneOf}
 use Rattle.machine_laws.proofs.EachLemmas.{one_from_any}
 use Rattle.delivery_laws.specs.Keeping.{happened_in}
-use Rattle.delivery_laws.specs.OnceExample.{five, lifted}
+use Rattle.delivery_laws.specs.OnceExample.{five, hung_up, lifted, six}
 
 -- nothing was taken
 pub never_told_since : (one : Observed) (late since rest : List Observed) → late ≡ [] → [] ≡ late ++ since → happened_in since ≡ one ∷ rest → ⊥
@@ -25,6 +25,27 @@ pub told_twice : (late since rest : List Observed) → late ≡ [] → lifted �
 told_twice late since rest none order whole =
     let is : lifted ∷ five ∷ [] ≡ since = order ∙ ap (λ (x : List Observed). x ++ since) none in
     let clash : lifted ∷ lifted ∷ five ∷ [] ≡ lifted ∷ five ∷ rest = ap (λ (x : List Observed). lifted ∷ happened_in x) is ∙ whole in cc
+
+-- not all was taken
+pub told_less : (late since rest : List Observed) → late ≡ [] → lifted ∷ [] ≡ late ++ since → happened_in since ≡ lifted ∷ five ∷ rest → ⊥
+told_less late since rest none order whole =
+    let is : lifted ∷ [] ≡ since = order ∙ ap (λ (x : List Observed). x ++ since) none in
+    let clash : lifted ∷ [] ≡ lifted ∷ five ∷ rest = ap happened_in is ∙ whole in cc
+
+pub told_no_more : (late since rest : List Observed) → late ≡ [] → [] ≡ late ++ since → lifted ∷ happened_in since ≡ lifted ∷ five ∷ rest → ⊥
+told_no_more late since rest none order whole =
+    let is : [] ≡ since = order ∙ ap (λ (x : List Observed). x ++ since) none in
+    let clash : lifted ∷ [] ≡ lifted ∷ five ∷ rest = ap (λ (x : List Observed). lifted ∷ happened_in x) is ∙ whole in cc
+
+pub told_but_one : (late since rest : List Observed) → late ≡ [] → six ∷ hung_up ∷ [] ≡ late ++ since
+    → lifted ∷ five ∷ happened_in since ≡ lifted ∷ five ∷ five ∷ rest → ⊥
+told_but_one late since rest none order whole =
+    let is : six ∷ hung_up ∷ [] ≡ since = order ∙ ap (λ (x : List Observed). x ++ since) none in
+    let clash : lifted ∷ five ∷ six ∷ hung_up ∷ [] ≡ lifted ∷ five ∷ five ∷ rest = ap (λ (x : List Observed). lifted ∷ five ∷ happened_in x) is ∙ whole in cc
+
+-- no time passes in none
+pub none_past : (n more : ℕ) → 1 ≤ more → n + more ≤ n → ⊥
+none_past n more some late = absurd (omega (arith, some, late))
 
 -- all of these began before
 

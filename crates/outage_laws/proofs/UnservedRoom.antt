@@ -1,11 +1,11 @@
 -- Until a gateway serves its agent has room: what it is told of then are announcements, of which a few alone are young at a time.
-use Rattle.std.proofs.Common.{◌≡◌, ◌≢◌, ℕ, zero, suc, ◌+◌, ◌-◌, ◌<◌, ◌≤◌, Bool, true, false, ◌==◌, if◌then◌else◌, List, [], ◌∷◌, ◌++◌, map, length, filter, inl, inr, refl, sym, ap, ◌∙◌, subst, arith}
+use Rattle.std.proofs.Common.{◌≡◌, ◌≢◌, ℕ, zero, suc, ◌+◌, ◌-◌, ◌<◌, ◌≤◌, Bool, true, false, ◌==◌, if◌then◌else◌, List, [], ◌∷◌, map, length, filter, inl, inr, refl, sym, ap, ◌∙◌, subst, arith}
 use Rattle.std.specs.Prelude.{◌⊎◌, AllPairs, flat_map, nat_le}
 use Rattle.std.proofs.lemmas.Bool.{eqb-false, eqb-true, leb-false, leb-true, ltb-true}
 use Rattle.history.specs.Entry.{Entry}
 use Rattle.history.specs.Entry.TheVariants.{Confirmation, First}
 use Rattle.history.specs.Kept.{firsts_in, young_firsts}
-use Rattle.history.specs.Memory.{is_young, memory_time, most_firsts}
+use Rattle.history.specs.Memory.{is_young, memory_time}
 use Rattle.plain_machine.specs.declared.setup.Setup.{Setup}
 use Rattle.plain_machine.specs.Arriving.{arrivals_of}
 use Rattle.plain_machine.specs.Machine.{serves}
@@ -18,7 +18,6 @@ use Rattle.world_laws.proofs.LinkLaws.{Linked, Rises, world_linked}
 use Rattle.world_laws.proofs.ReachedLaws.{executed_apart, executed_each}
 use Rattle.world_laws.proofs.TakenLaws.{agent_keys}
 use Rattle.world_laws.proofs.WorldLaws.{Came, Comes, world_sound}
-use Rattle.delivery_laws.specs.Copies.{answer_wait}
 use Rattle.delivery_laws.specs.Taking.{AgentHasRoom, agent_history}
 use Rattle.delivery_laws.proofs.StepLemmas.{taken_front}
 use Rattle.outage_laws.specs.AfterOutage.{AgentHasRoomFrom}

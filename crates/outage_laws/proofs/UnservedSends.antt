@@ -39,7 +39,7 @@ use Rattle.plain_machine.specs.Flights.{AreInOrder, InOrderWhile, IsClosed}
 use Rattle.plain_machine.specs.Happening.{effect}
 use Rattle.plain_machine.specs.Lists.{sent_from, sent_of}
 use Rattle.plain_machine.specs.Machine.{Endpoints, Machine, endpoint_at, on_line, opening, serves, with_own}
-use Rattle.plain_machine.specs.Message.{Owner, Said, Sent, acknowledgement, again, answer, command, of_none, own_of, resent}
+use Rattle.plain_machine.specs.Message.{Said, Sent, acknowledgement, again, answer, command, of_none, own_of, resent}
 use Rattle.plain_machine.specs.Notifying.{noted, posted}
 use Rattle.plain_machine.specs.Posting.{line_of_id, resent_by}
 use Rattle.plain_machine.specs.Refusing.{refusal_of}

@@ -12,7 +12,7 @@ use Rattle.world_laws.specs.Example.{announced}
 use Rattle.delivery_laws.specs.Course.{course_from, course_of}
 use Rattle.delivery_laws.specs.Dialled.{done_in, told_along}
 use Rattle.delivery_laws.specs.DialledExample.{asked as asked_for_all}
-use Rattle.delivery_laws.specs.Example.{audits_with, notified, redirected, took_with, up_to}
+use Rattle.delivery_laws.specs.Example.{asked_in_step, audits_with, notified, redirected, took_with, up_to}
 use Rattle.delivery_laws.specs.Keeping.{happened_in}
 use Rattle.told_laws.specs.Stretch.{AnnouncesNothing, taken_meanwhile}
 use Rattle.told_laws.specs.WorldExample.{gives_up_sooner, seconds_from}
@@ -131,6 +131,39 @@ back_again =
 
 abbrev pub back_since : List WorldStep
 back_since = back_again ++ ticking 46502 ∷ []
+
+-- or its notification goes elsewhere yet
+abbrev pub lifted_astray : List WorldStep
+lifted_astray = elsewhere_twice ++ dialling 1 OffHook ∷ []
+
+abbrev pub told_astray : List WorldStep
+told_astray = lifted_astray ++ delivering 4 ∷ ticking 22101 ∷ []
+
+-- Where nobody asks for more
+
+-- line 1 is asked in step, and rests for 11 s, and for 11 s more
+abbrev pub step_once : List WorldStep
+step_once = asked_in_step ++ seconds_from 1 11
+
+abbrev pub step_twice : List WorldStep
+step_twice = step_once ++ seconds_from 12 11
+
+-- it is lifted, and tells that, packet 4, which is answered, packet 5; key 5 is pressed, and 200 ms pass
+abbrev pub pressed_in_step : List WorldStep
+pressed_in_step = step_twice ++ dialling 1 OffHook ∷ delivering 4 ∷ delivering 5 ∷ dialling 1 (Key Five) ∷ []
+
+abbrev pub never_asked_in_step : List WorldStep
+never_asked_in_step = pressed_in_step ++ ticking 22201 ∷ []
+
+-- or it was asked for all, is lifted, and tells that, packet 4, which is answered, packet 5; then it is asked for nothing, packet 6, and
+-- accepts that, packet 7; key 5 is pressed, and 100 ms pass
+abbrev pub pressed_for_none : List WorldStep
+pressed_for_none =
+    rested_twice ++ dialling 1 OffHook ∷ delivering 4 ∷ delivering 5
+    ∷ issuing (codes "RQNT") (codes "aaln/1@rgw.example.net") (codes "X: C2\r\n") ∷ delivering 6 ∷ delivering 7 ∷ dialling 1 (Key Five) ∷ []
+
+abbrev pub dropped_for_none : List WorldStep
+dropped_for_none = pressed_for_none ++ ticking 22101 ∷ []
 
 -- Where it gave something up not long before
 

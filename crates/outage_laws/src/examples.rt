@@ -26,7 +26,7 @@ ghost use Rattle.delivery_laws.specs.Rounds.{IsAnsweredWithin, IsAskedWithin, ro
 ghost use Rattle.delivery_laws.specs.Example.{flying_after, lifted, line_with, notification, notified};
 ghost use Rattle.delivery_laws.specs.Fairness.{GoesToAgent, IsFair};
 ghost use Rattle.delivery_laws.specs.OwnChances.{IsOfLine};
-ghost use Rattle.outage_laws.specs.AfterOutage.{AgentHasRoomFrom, IsFairFrom, gap_of, longest_pause};
+ghost use Rattle.outage_laws.specs.AfterOutage.{AgentHasRoomFrom, IsFairFrom, gap_of, grown_old, longest_pause};
 ghost use Rattle.outage_laws.specs.Alone.{HasBegun, HasResponse, HasResponseSince, IsSentAt, IsSentSince};
 ghost use Rattle.outage_laws.specs.Carrying.{IsCarriedBack};
 ghost use Rattle.outage_laws.specs.Example.{all_lost, announcement, answered_late, came_at, came_at_1_and_2, dialled, first_round};
@@ -135,6 +135,10 @@ pub fn a_first_grows_old()
     ensures young { length (young_of 30000 came_at_1_and_2) ≡ 2 }
     ensures one_old { young_of 30001 came_at_1_and_2 ≡ came_at 2 ∷ [] }
     ensures both_old { young_of 30002 came_at_1_and_2 ≡ [] }
+    ensures none_grew_old { grown_old 30000 came_at_1_and_2 ≡ [] }
+    ensures one_grew_old { grown_old 30001 came_at_1_and_2 ≡ came_at 1 ∷ [] }
+    ensures before { length (young_of 30000 came_at_1_and_2) ≡ 2 }
+    ensures later { length (young_of 40001 came_at_1_and_2) ≡ 0 }
 {}
 
 /// The slower the network, the earlier the last send whose answer comes in time.

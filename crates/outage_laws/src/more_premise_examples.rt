@@ -2,8 +2,7 @@
 //! law says doesn't hold: those that have none in the examples of each law.
 #![tactic(auto, unfolding(crate::proofs::Computing::on_examples))]
 
-ghost use Rattle.std.specs.Prelude.{◌≡◌, ◌≤◌, ◌<◌, ◌+◌, ◌*◌, ◌++◌, [], ◌∷◌, ℕ, length, false, true};
-ghost use Rattle.history.specs.Firsts.{young_of};
+ghost use Rattle.std.specs.Prelude.{◌≡◌, ◌≤◌, ◌<◌, ◌+◌, ◌*◌, ◌++◌, [], ◌∷◌, ℕ, None, length, false, true};
 ghost use Rattle.restart.specs.declared.restart.Restart.TheVariants.{Serving};
 ghost use Rattle.plain_machine.specs.Example.{two_lines};
 ghost use Rattle.plain_machine.specs.Lists.{plain, sent_from, sent_of};
@@ -15,19 +14,19 @@ ghost use Rattle.agent_core.specs.World.{gateway_in, now_in, plain_world, steps_
 ghost use Rattle.world_laws.specs.Reached.{own_in};
 ghost use Rattle.delivery_laws.specs.Copies.{IsRun};
 ghost use Rattle.delivery_laws.specs.Course.{course_from, course_of};
-ghost use Rattle.delivery_laws.specs.Dialled.{IsAskedForAll, done_in};
+ghost use Rattle.delivery_laws.specs.Dialled.{AskForAll, AsksIfAny, IsAskedForAll, done_in, latest_from};
 ghost use Rattle.delivery_laws.specs.DialledExample.{asked as asked_for_all};
-ghost use Rattle.delivery_laws.specs.Example.{hasty, line_with, took_between_with, took_with};
+ghost use Rattle.delivery_laws.specs.Example.{asked_in_step, hasty, line_with, took_between_with, took_with};
 ghost use Rattle.delivery_laws.specs.Fairness.{GoesToAgent};
 ghost use Rattle.delivery_laws.specs.GivenUp.{has_given_up};
+ghost use Rattle.delivery_laws.specs.Keeping.{KeepsAll};
 ghost use Rattle.delivery_laws.specs.OnceExample.{five, hung_up, lifted as off_hook};
 ghost use Rattle.delivery_laws.specs.OwnChances.{IsOfLine};
 ghost use Rattle.delivery_laws.specs.Rounds.{IsAnsweredWithin, IsAskedWithin, rounds_take};
 ghost use Rattle.told_laws.specs.Stretch.{outliving};
 ghost use Rattle.told_laws.specs.WorldExample.{gives_up_sooner};
 ghost use Rattle.told_laws.specs.WorldPremises.{gives_up_since, line_in, observed_in, unanswered};
-ghost use Rattle.outage_laws.specs.AfterOutage.{AgentHasRoomFrom, IsFairFrom, ReachTheAgentSince, grown_old, well_by};
-ghost use Rattle.outage_laws.specs.Example.{came_at, came_at_1_and_2};
+ghost use Rattle.outage_laws.specs.AfterOutage.{AgentHasRoomFrom, IsFairFrom, ReachTheAgentSince, well_by};
 ghost use Rattle.outage_laws.specs.LinePremises.{answered_ever_later, held_with, long_winded};
 ghost use Rattle.outage_laws.specs.MorePremises.{CalmBetween, IsAskedSince, IsToldAt, IsToldFromThen, back_again, back_since, comes_before};
 ghost use Rattle.outage_laws.specs.MorePremises.{done_at_these, elsewhere_once, elsewhere_twice, forged, forged_lifted, forged_once};
@@ -35,7 +34,11 @@ ghost use Rattle.outage_laws.specs.MorePremises.{forged_twice, forged_untold, fo
 ghost use Rattle.outage_laws.specs.MorePremises.{hung_up_at_once};
 ghost use Rattle.outage_laws.specs.MorePremises.{hung_up_before, lifted_there, lost_since, lost_yet, never_done, never_heard, pressed_soon};
 ghost use Rattle.outage_laws.specs.MorePremises.{put_back_then, rested_on, rested_once, rested_twice, taken_by, waits_before};
+ghost use Rattle.outage_laws.specs.MorePremises.{dropped_for_none, lifted_astray, never_asked_in_step, pressed_for_none, pressed_in_step};
+ghost use Rattle.outage_laws.specs.MorePremises.{step_once, step_twice, told_astray, told_elsewhere};
 ghost use Rattle.outage_laws.specs.Premises.{reported_elsewhere};
+ghost use Rattle.outage_laws.specs.SinceThenExample.{asked_at_last, hung_up_then, never_asked, pressed_again, rested_then, rested_unasked};
+ghost use Rattle.outage_laws.specs.SinceThenExample.{told_since_then};
 ghost use Rattle.outage_laws.specs.ToldLaterExample.{reports_elsewhere};
 ghost use Rattle.outage_laws.specs.ToldSince.{FlightBeganSince, FlightsBeganSince};
 
@@ -129,7 +132,8 @@ pub fn else_what_was_answered_early_isnt_told()
     ensures not_told_from { ¬ IsToldFromThen two_lines rested_twice (took_between_with two_lines rested_twice put_back_then) gone_on }
 {}
 
-/// Nor where the line gives it up since, though from then on all that it sends goes to the agent.
+/// Nor where the line gives it up since, though from then on all that it sends goes to the agent: what it began long before is asked
+/// nothing.
 pub fn else_what_is_given_up_since_isnt_told()
     ensures steps { steps_are_taken hasty world_opening back_since ≡ true }
     ensures numbers { HasNumbersLeft (own_in hasty (plain_world hasty back_since)) }
@@ -165,6 +169,8 @@ pub fn else_what_is_given_up_since_isnt_told()
     ensures taken { taken_by hasty elsewhere_twice back_since ≡ [] }
     ensures not_told_at { ¬ IsToldAt hasty elsewhere_twice (took_between_with hasty elsewhere_twice back_again) back_since }
     ensures not_told_from { ¬ IsToldFromThen hasty elsewhere_twice (took_between_with hasty elsewhere_twice back_again) back_since }
+    ensures not_reached { ¬ ReachTheAgentSince hasty (plain_world hasty back_since) 1 41501 }
+    ensures reached { ReachTheAgentSince hasty (plain_world hasty back_since) 1 65102 }
 {}
 
 /// Where something was given up not long before, or nobody knows, the agent may be told that first.
@@ -337,7 +343,9 @@ pub fn else_a_line_whose_agent_is_elsewhere_waits_on()
     ensures left { held_with two_lines gone_astray ≡ 1 }
 {}
 
-/// So it does where the network isn't fair; or is so from behind the first send of what is in flight on.
+/// So it does where the network isn't fair; or is so from behind the first send of what is in flight on. And it waits longer than twice the
+/// network's time where it gives its command up, over one that takes longer than a packet lasts: all else holds that the law of an answer
+/// in time asks for.
 pub fn else_a_line_waits_since_before()
     ensures run { IsRun two_lines lost_yet }
     ensures room { AgentHasRoomFrom two_lines lost_yet 0 }
@@ -362,40 +370,170 @@ pub fn else_a_line_waits_since_before()
     ensures rests { done_in (course_from two_lines (plain two_lines (took_with two_lines lost_since)) 1
         (took_between_with two_lines lost_since lost_yet)) ≡ [] }
     ensures left { held_with two_lines lost_yet ≡ 1 }
-{}
-
-/// A line waits longer than twice the network's time where it gives its command up, over one that takes longer than a packet lasts: all
-/// else
-/// holds that the law of an answer in time asks for.
-pub fn else_a_line_that_gives_up_waits_longer()
-    ensures run { IsRun hasty answered_ever_later }
-    ensures fair { IsFairFrom hasty answered_ever_later 1 13501 }
-    ensures room { AgentHasRoomFrom hasty answered_ever_later 0 }
-    ensures split { took_with hasty answered_ever_later ≡ took_with hasty lifted_there ++ took_between_with hasty lifted_there
+    ensures run_then { IsRun hasty answered_ever_later }
+    ensures fair_then { IsFairFrom hasty answered_ever_later 1 13501 }
+    ensures room_then { AgentHasRoomFrom hasty answered_ever_later 0 }
+    ensures split_then { took_with hasty answered_ever_later ≡ took_with hasty lifted_there ++ took_between_with hasty lifted_there
         answered_ever_later }
-    ensures serving { serves (plain hasty (took_with hasty lifted_there)).endpoints ≡ true }
-    ensures line_serves { (line_in hasty lifted_there).post.restart ≡ Serving }
-    ensures gave_up { has_given_up (of_line 1 (sent_from hasty (plain hasty (took_with hasty lifted_there))
+    ensures serving_then { serves (plain hasty (took_with hasty lifted_there)).endpoints ≡ true }
+    ensures line_serves_then { (line_in hasty lifted_there).post.restart ≡ Serving }
+    ensures gave_up_then { has_given_up (of_line 1 (sent_from hasty (plain hasty (took_with hasty lifted_there))
         (took_between_with hasty lifted_there answered_ever_later))) (line_in hasty answered_ever_later).post ≡ true }
-    ensures began { FlightsBeganSince hasty 1 (took_with hasty lifted_there) (took_between_with hasty lifted_there answered_ever_later) 1 }
-    ensures goes { (b : Begun) → IsOfLine hasty (plain_world hasty answered_ever_later) 1 b → 1 ≤ b.moment →
+    ensures began_then { FlightsBeganSince hasty 1 (took_with hasty lifted_there)
+        (took_between_with hasty lifted_there answered_ever_later) 1 }
+    ensures goes_then { (b : Begun) → IsOfLine hasty (plain_world hasty answered_ever_later) 1 b → 1 ≤ b.moment →
         GoesToAgent hasty (plain_world hasty answered_ever_later) b.text }
-    ensures not_answered { ¬ IsAnsweredWithin hasty 1 (took_with hasty lifted_there)
+    ensures not_answered_then { ¬ IsAnsweredWithin hasty 1 (took_with hasty lifted_there)
         (took_between_with hasty lifted_there answered_ever_later)
         (2 * 13501) }
 {}
 
-/// What a line began long before the network came back may go elsewhere: it is asked of what may be sent since alone.
-pub fn who_reported_elsewhere_before()
-    ensures not_yet { ¬ ReachTheAgentSince hasty (plain_world hasty back_since) 1 41501 }
-    ensures by_then { ReachTheAgentSince hasty (plain_world hasty back_since) 1 65102 }
+/// What is in flight elsewhere isn't told, though all else holds that these laws ask for.
+pub fn else_what_goes_elsewhere_isnt_told()
+    ensures run { IsRun hasty told_astray }
+    ensures numbers { HasNumbersLeft (own_in hasty (plain_world hasty told_astray)) }
+    ensures well { well_by hasty 0 0 ≤ now_in hasty (plain_world hasty elsewhere_once) }
+    ensures long { now_in hasty (plain_world hasty elsewhere_once) + outliving ≤ now_in hasty (plain_world hasty elsewhere_twice) }
+    ensures calm_before { CalmBetween hasty elsewhere_once elsewhere_twice }
+    ensures calm_since { CalmBetween hasty elsewhere_twice told_astray }
+    ensures events { took_with hasty told_astray ≡ took_with hasty reports_elsewhere ++ took_between_with hasty reports_elsewhere
+        told_astray }
+    ensures asked { IsAskedForAll (course_of hasty 1 (took_with hasty reports_elsewhere))
+        (course_from hasty (plain hasty (took_with hasty reports_elsewhere)) 1
+        (took_between_with hasty reports_elsewhere told_astray)) (line_in hasty told_astray).line }
+    ensures asked_since { IsAskedSince hasty elsewhere_twice
+        (took_between_with hasty elsewhere_twice lifted_astray ++ took_between_with hasty lifted_astray told_astray) told_astray }
+    ensures fair { IsFairFrom hasty told_astray 0 0 }
+    ensures room { AgentHasRoomFrom hasty told_astray 0 }
+    ensures of_line { IsOfLine hasty (plain_world hasty told_astray) 1 told_elsewhere }
+    ensures astray { ¬ GoesToAgent hasty (plain_world hasty told_astray) told_elsewhere.text }
+    ensures serving { serves (gateway_in hasty (plain_world hasty elsewhere_twice)).endpoints ≡ true }
+    ensures front { took_with hasty lifted_astray ≡ took_with hasty elsewhere_twice ++ took_between_with hasty elsewhere_twice
+        lifted_astray }
+    ensures split { took_with hasty told_astray ≡ took_with hasty lifted_astray ++ took_between_with hasty lifted_astray told_astray }
+    ensures began { FlightsBeganSince hasty 1 (took_with hasty lifted_astray) (took_between_with hasty lifted_astray told_astray) 0 }
+    ensures answered { IsAnsweredWithin hasty 1 (took_with hasty lifted_astray) (took_between_with hasty lifted_astray told_astray) 1000 }
+    ensures asked_again { IsAskedWithin hasty 1 (took_with hasty lifted_astray) (took_between_with hasty lifted_astray told_astray) 0 }
+    ensures held { length (line_in hasty lifted_astray).line.quarantined.events ≡ 0 }
+    ensures late { (plain hasty (took_with hasty lifted_astray)).now + rounds_take 0 1000 0 < now_in hasty (plain_world hasty told_astray) }
+    ensures rests { done_in (course_from hasty (plain hasty (took_with hasty lifted_astray)) 1
+        (took_between_with hasty lifted_astray told_astray)) ≡ [] }
+    ensures nothing_given_up { has_given_up (of_line 1 (sent_of hasty (took_with hasty told_astray))) (line_in hasty told_astray).post
+        ≡ false }
+    ensures done { done_at_these hasty elsewhere_twice (took_between_with hasty elsewhere_twice lifted_astray) ≡ off_hook ∷ [] }
+    ensures taken { taken_by hasty elsewhere_twice told_astray ≡ [] }
+    ensures not_told_at { ¬ IsToldAt hasty elsewhere_twice (took_between_with hasty elsewhere_twice lifted_astray) told_astray }
+    ensures not_told_from { ¬ IsToldFromThen hasty elsewhere_twice (took_between_with hasty elsewhere_twice lifted_astray) told_astray }
 {}
 
-/// Of two firsts one grew old 30,000 ms later, and so one fewer is young; before, more may be.
-pub fn as_many_fewer_are_young_as_grew_old()
-    ensures none_yet { grown_old 30000 came_at_1_and_2 ≡ [] }
-    ensures one { grown_old 30001 came_at_1_and_2 ≡ came_at 1 ∷ [] }
-    ensures two { length (young_of 1 came_at_1_and_2) ≡ 2 }
-    ensures one_fewer { length (young_of 30001 came_at_1_and_2) ≡ 1 }
-    ensures none_then { length (young_of 40001 came_at_1_and_2) ≡ 0 }
+/// Where nobody asks for the next event, in step, that isn't told.
+pub fn else_what_nobody_asks_for_isnt_told()
+    ensures run { IsRun two_lines never_asked_in_step }
+    ensures numbers { HasNumbersLeft (own_in two_lines (plain_world two_lines never_asked_in_step)) }
+    ensures well { well_by two_lines 0 0 ≤ now_in two_lines (plain_world two_lines step_once) }
+    ensures long { now_in two_lines (plain_world two_lines step_once) + outliving ≤ now_in two_lines (plain_world two_lines step_twice) }
+    ensures calm_before { CalmBetween two_lines step_once step_twice }
+    ensures calm_since { CalmBetween two_lines step_twice never_asked_in_step }
+    ensures events { took_with two_lines never_asked_in_step
+        ≡ took_with two_lines asked_in_step ++ took_between_with two_lines asked_in_step never_asked_in_step }
+    ensures asked { IsAskedForAll (course_of two_lines 1 (took_with two_lines asked_in_step))
+        (course_from two_lines (plain two_lines (took_with two_lines asked_in_step)) 1
+        (took_between_with two_lines asked_in_step never_asked_in_step)) (line_in two_lines never_asked_in_step).line }
+    ensures asked_since { IsAskedSince two_lines step_twice
+        (took_between_with two_lines step_twice pressed_in_step ++ took_between_with two_lines pressed_in_step never_asked_in_step)
+        never_asked_in_step }
+    ensures fair { IsFairFrom two_lines never_asked_in_step 0 0 }
+    ensures room { AgentHasRoomFrom two_lines never_asked_in_step 0 }
+    ensures goes { (line : ℕ) (b : Begun) → IsOfLine two_lines (plain_world two_lines never_asked_in_step) line b →
+        GoesToAgent two_lines (plain_world two_lines never_asked_in_step) b.text }
+    ensures flew { FlightBeganSince two_lines (plain_world two_lines never_asked_in_step) 0
+        (line_in two_lines never_asked_in_step).post.pending }
+    ensures serving { serves (gateway_in two_lines (plain_world two_lines step_twice)).endpoints ≡ true }
+    ensures front { took_with two_lines pressed_in_step ≡ took_with two_lines step_twice ++ took_between_with two_lines step_twice
+        pressed_in_step }
+    ensures split { took_with two_lines never_asked_in_step ≡ took_with two_lines pressed_in_step ++ took_between_with two_lines
+        pressed_in_step never_asked_in_step }
+    ensures began { FlightsBeganSince two_lines 1 (took_with two_lines pressed_in_step)
+        (took_between_with two_lines pressed_in_step never_asked_in_step) 0 }
+    ensures answered { IsAnsweredWithin two_lines 1 (took_with two_lines pressed_in_step)
+        (took_between_with two_lines pressed_in_step never_asked_in_step) 0 }
+    ensures not_asked_again { ¬ IsAskedWithin two_lines 1 (took_with two_lines pressed_in_step)
+        (took_between_with two_lines pressed_in_step never_asked_in_step) 100 }
+    ensures held { length (line_in two_lines pressed_in_step).line.quarantined.events ≡ 1 }
+    ensures late { (plain two_lines (took_with two_lines pressed_in_step)).now + rounds_take 1 0 100
+        < now_in two_lines (plain_world two_lines never_asked_in_step) }
+    ensures rests { done_in (course_from two_lines (plain two_lines (took_with two_lines pressed_in_step)) 1
+        (took_between_with two_lines pressed_in_step never_asked_in_step)) ≡ [] }
+    ensures nothing_given_up { has_given_up (of_line 1 (sent_of two_lines (took_with two_lines never_asked_in_step)))
+        (line_in two_lines never_asked_in_step).post ≡ false }
+    ensures done { done_at_these two_lines step_twice (took_between_with two_lines step_twice pressed_in_step) ≡ off_hook ∷ five ∷ [] }
+    ensures taken { taken_by two_lines step_twice never_asked_in_step ≡ off_hook ∷ [] }
+    ensures not_told_at { ¬ IsToldAt two_lines step_twice (took_between_with two_lines step_twice pressed_in_step) never_asked_in_step }
+    ensures not_told_from { ¬ IsToldFromThen two_lines step_twice
+        (took_between_with two_lines step_twice pressed_in_step) never_asked_in_step }
+{}
+
+/// Where a request since asks for nothing, what is done since isn't told.
+pub fn else_what_is_asked_for_no_more_isnt_told()
+    ensures run { IsRun two_lines dropped_for_none }
+    ensures numbers { HasNumbersLeft (own_in two_lines (plain_world two_lines dropped_for_none)) }
+    ensures well { well_by two_lines 0 0 ≤ now_in two_lines (plain_world two_lines rested_once) }
+    ensures long { now_in two_lines (plain_world two_lines rested_once) + outliving
+        ≤ now_in two_lines (plain_world two_lines rested_twice) }
+    ensures calm_before { CalmBetween two_lines rested_once rested_twice }
+    ensures calm_since { CalmBetween two_lines rested_twice dropped_for_none }
+    ensures events { took_with two_lines dropped_for_none ≡ took_with two_lines asked_for_all ++ took_between_with two_lines asked_for_all
+        dropped_for_none }
+    ensures undone { done_in (course_of two_lines 1 (took_with two_lines asked_for_all)) ≡ [] }
+    ensures asked { AsksIfAny (latest_from None (course_of two_lines 1 (took_with two_lines asked_for_all))) }
+    ensures keeps { KeepsAll (line_in two_lines rested_twice).line }
+    ensures asked_less { ¬ AskForAll (course_from two_lines (plain two_lines (took_with two_lines asked_for_all)) 1
+        (took_between_with two_lines asked_for_all dropped_for_none)) }
+    ensures asked_less_since { ¬ AskForAll (course_from two_lines (gateway_in two_lines (plain_world two_lines rested_twice)) 1
+        (took_between_with two_lines rested_twice pressed_for_none ++ took_between_with two_lines pressed_for_none dropped_for_none)) }
+    ensures none_lost { (line_in two_lines dropped_for_none).line.quarantined.lost ≡ 0 }
+    ensures fair { IsFairFrom two_lines dropped_for_none 0 0 }
+    ensures room { AgentHasRoomFrom two_lines dropped_for_none 0 }
+    ensures goes { (line : ℕ) (b : Begun) → IsOfLine two_lines (plain_world two_lines dropped_for_none) line b →
+        GoesToAgent two_lines (plain_world two_lines dropped_for_none) b.text }
+    ensures flew { FlightBeganSince two_lines (plain_world two_lines dropped_for_none) 0 (line_in two_lines dropped_for_none).post.pending }
+    ensures serving { serves (gateway_in two_lines (plain_world two_lines rested_twice)).endpoints ≡ true }
+    ensures front { took_with two_lines pressed_for_none ≡ took_with two_lines rested_twice ++ took_between_with two_lines rested_twice
+        pressed_for_none }
+    ensures split { took_with two_lines dropped_for_none ≡ took_with two_lines pressed_for_none ++ took_between_with two_lines
+        pressed_for_none dropped_for_none }
+    ensures began { FlightsBeganSince two_lines 1 (took_with two_lines pressed_for_none)
+        (took_between_with two_lines pressed_for_none dropped_for_none) 0 }
+    ensures answered { IsAnsweredWithin two_lines 1 (took_with two_lines pressed_for_none)
+        (took_between_with two_lines pressed_for_none dropped_for_none) 0 }
+    ensures asked_again { IsAskedWithin two_lines 1 (took_with two_lines pressed_for_none)
+        (took_between_with two_lines pressed_for_none dropped_for_none) 0 }
+    ensures held { length (line_in two_lines pressed_for_none).line.quarantined.events ≡ 0 }
+    ensures late { (plain two_lines (took_with two_lines pressed_for_none)).now + rounds_take 0 0 0
+        < now_in two_lines (plain_world two_lines dropped_for_none) }
+    ensures rests { done_in (course_from two_lines (plain two_lines (took_with two_lines pressed_for_none)) 1
+        (took_between_with two_lines pressed_for_none dropped_for_none)) ≡ [] }
+    ensures nothing_given_up { has_given_up (of_line 1 (sent_of two_lines (took_with two_lines dropped_for_none)))
+        (line_in two_lines dropped_for_none).post ≡ false }
+    ensures done { done_at_these two_lines rested_twice (took_between_with two_lines rested_twice pressed_for_none) ≡ off_hook ∷ five ∷ [] }
+    ensures taken { taken_by two_lines rested_twice dropped_for_none ≡ off_hook ∷ [] }
+    ensures not_told_at { ¬ IsToldAt two_lines rested_twice (took_between_with two_lines rested_twice pressed_for_none) dropped_for_none }
+    ensures not_told_from { ¬ IsToldFromThen two_lines rested_twice
+        (took_between_with two_lines rested_twice pressed_for_none) dropped_for_none }
+{}
+
+/// Where the line was never asked, or asked only behind its first act, not all that it ever did is told: all else holds, as in the examples
+/// of what is told since a moment.
+pub fn else_what_was_done_before_isnt_told()
+    ensures undone { done_in (course_of two_lines 1 []) ≡ [] }
+    ensures not_asked { ¬ AsksIfAny (latest_from None (course_of two_lines 1 [])) }
+    ensures since { AskForAll (course_from two_lines (plain two_lines []) 1 (took_with two_lines never_asked)) }
+    ensures none_lost { (line_in two_lines never_asked).line.quarantined.lost ≡ 0 }
+    ensures not_told_at { ¬ IsToldAt two_lines rested_unasked (took_between_with two_lines rested_unasked pressed_again) never_asked }
+    ensures done_before { done_in (course_of two_lines 1 (took_with two_lines asked_at_last)) ≡ off_hook ∷ five ∷ [] }
+    ensures asked { AsksIfAny (latest_from None (course_of two_lines 1 (took_with two_lines asked_at_last))) }
+    ensures asked_since { AskForAll (course_from two_lines (plain two_lines (took_with two_lines asked_at_last)) 1
+        (took_between_with two_lines asked_at_last told_since_then)) }
+    ensures none_lost_then { (line_in two_lines told_since_then).line.quarantined.lost ≡ 0 }
+    ensures not_told_at_then { ¬ IsToldAt two_lines rested_then (took_between_with two_lines rested_then hung_up_then) told_since_then }
 {}

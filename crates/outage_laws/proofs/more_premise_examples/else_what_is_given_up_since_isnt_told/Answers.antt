@@ -1,5 +1,11 @@
 use Rattle.std.proofs.Common.{◌≡◌, ℕ, ◌<◌, length, refl, sym, ◌∙◌, subst, arith, true, false}
 use Rattle.std.proofs.lemmas.Bool.{leb-true, ltb-true}
+use Rattle.std.proofs.Common.{◌+◌, ◌≤◌, inl}
+use Rattle.machine_laws.specs.Saying.{Begun}
+use Rattle.machine_laws.proofs.EachLemmas.{any_from_one}
+use Rattle.delivery_laws.specs.Chances.{last_chance}
+use Rattle.delivery_laws.proofs.ExampleLemmas.{goes_astray}
+use Rattle.outage_laws.specs.MorePremises.{told_elsewhere}
 use Rattle.quarantine.specs.Held.{most_lost}
 use Rattle.plain_machine.specs.Lists.{sent_of}
 use Rattle.machine_laws.specs.Belonging.{of_line}
@@ -20,6 +26,9 @@ use Rattle.outage_laws.proofs.FairFromExamples.{fair_from_is, room_from}
 use Rattle.outage_laws.proofs.HadTimeExamples.{flights_since}
 use Rattle.outage_laws.proofs.MoreExamples.{never_told_since, none_since}
 use Rattle.outage_laws.proofs.more_premise_examples.else_what_is_given_up_since_isnt_told.Goals as goal
+
+began_late : (moment : ℕ) → 65102 ≤ moment + last_chance → 45602 ≤ moment
+began_late moment late = omega (arith, late)
 
 begun : length (own_in hasty (plain_world hasty back_since)) ≡ 3
 unfolding on_examples
@@ -73,4 +82,11 @@ returns c = record {
   taken = refl;
   not_told_at = λ h. never_told_since lifted h.late h.since h.rest h.late_is h.order h.whole;
   not_told_from = λ h. never_told_since lifted h.late h.since h.rest h.late_is h.order h.whole;
+  not_reached = λ reach.
+      goes_astray hasty back_since told_elsewhere.text 4 _ refl refl refl (inl refl)
+      (reach told_elsewhere
+      (any_from_one (λ (one : Begun). one ≡ told_elsewhere) (begun_in (of_line 1 (sent_of hasty (plain_world hasty back_since).gateway_took))) (inl refl))
+      (leb-true _ _ refl));
+  reached = λ b of recent.
+      absurd (none_since 45602 (begun_in (of_line 1 (sent_of hasty (plain_world hasty back_since).gateway_took))) b refl of (began_late b.moment recent));
 }

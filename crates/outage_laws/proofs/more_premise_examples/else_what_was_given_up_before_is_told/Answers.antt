@@ -1,4 +1,4 @@
-use Rattle.std.proofs.Common.{◌≡◌, ℕ, ◌<◌, length, refl, sym, ◌∙◌, subst, arith, ◌+◌, ◌≤◌, true, false}
+use Rattle.std.proofs.Common.{◌≡◌, ℕ, ◌<◌, length, refl, sym, ◌∙◌, subst, arith, true, false}
 use Rattle.std.proofs.lemmas.Bool.{leb-true, ltb-true}
 use Rattle.quarantine.specs.Held.{most_lost}
 use Rattle.plain_machine.specs.Example.{two_lines}
@@ -10,13 +10,14 @@ use Rattle.delivery_laws.proofs.AskingLemmas.{notifies_each}
 use Rattle.delivery_laws.proofs.DialledNumberLemmas.{few_are_begun}
 use Rattle.delivery_laws.proofs.ExampleLemmas.{to_agent, took_split}
 use Rattle.delivery_laws.proofs.FrontLemmas.{agent_has_room, answered_within, never_locked}
+use Rattle.told_laws.specs.Stretch.{outliving}
 use Rattle.told_laws.specs.WorldExample.{gives_up_sooner}
 use Rattle.told_laws.specs.WorldPremises.{line_in}
 use Rattle.outage_laws.specs.MorePremises.{comes_before, pressed_soon}
 use Rattle.outage_laws.proofs.Computing.{on_examples}
 use Rattle.outage_laws.proofs.FairFromExamples.{fair_from_is, room_from}
 use Rattle.outage_laws.proofs.HadTimeExamples.{flights_since}
-use Rattle.outage_laws.proofs.MoreExamples.{told_first, told_twice}
+use Rattle.outage_laws.proofs.MoreExamples.{none_past, told_first, told_twice}
 use Rattle.outage_laws.proofs.more_premise_examples.else_what_was_given_up_before_is_told.Goals as goal
 
 begun : length (own_in two_lines (plain_world two_lines comes_before)) ≡ 4
@@ -38,7 +39,7 @@ returns c = record {
   same = refl;
   gave_up = λ calm. (let clash : true ≡ false = calm in cc);
   calm_then = refl;
-  too_soon = λ late. (let soon : 29001 + 10500 ≤ 29001 = late in absurd (omega (arith, soon)));
+  too_soon = λ late. none_past 29001 outliving (leb-true _ _ refl) late;
   numbers = few_are_begun (own_in two_lines (plain_world two_lines comes_before)) (subst (λ (n : ℕ). n < 9999999) (sym begun) (omega arith));
   long = leb-true _ _ refl;
   calm_since = refl;
