@@ -20,6 +20,7 @@ pub mod LaterTakes
 pub mod ClockSteps
 pub mod LineEvents
 pub mod DueLemmas
+pub mod BeganSince
 pub mod PassedTurns
 pub mod PassedLemmas
 pub mod ReturnLemmas

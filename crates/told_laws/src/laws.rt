@@ -1,12 +1,12 @@
 //! Laws of what a line tells, whatever is asked of it, over every list of events.
-ghost use Rattle.std.specs.Prelude.{◌≡◌, ◌++◌, ◌∷◌, [], ℕ, ◌+◌, ◌≤◌, true, false, List, Some, None};
+ghost use Rattle.std.specs.Prelude.{◌≡◌, ◌++◌, ◌∷◌, [], ℕ, ◌+◌, ◌≤◌, true, false, List, Some, None, IfSome};
 ghost use Rattle.event_values.specs.declared.observed.Observed.{Observed};
 ghost use Rattle.event_requests.specs.declared.request.Request.{Request};
 ghost use Rattle.mg_line.specs.Answering.{is_loop};
 ghost use Rattle.plain_machine.specs.declared.setup.Setup.{Setup};
 ghost use Rattle.plain_machine.specs.declared.endpoint.Endpoint.{Endpoint};
 ghost use Rattle.plain_machine.specs.Event.{GatewayEvent};
-ghost use Rattle.plain_machine.specs.Lists.{plain, sent_of};
+ghost use Rattle.plain_machine.specs.Lists.{are_taken, plain, sent_of};
 ghost use Rattle.plain_machine.specs.Machine.{endpoint_at};
 ghost use Rattle.plain_machine.specs.Setup.{IsSetUp};
 ghost use Rattle.machine_laws.specs.Belonging.{of_line};
@@ -110,4 +110,13 @@ pub fn what_the_agent_took_over_a_stretch_is_whole()
         IsWhole was.post.pending is.post.pending
         (told_along (course_meanwhile setup line (plain_world setup (first ++ pause)) (plain_world setup ((first ++ pause) ++ stretch))))
         (taken_meanwhile setup line (plain_world setup (first ++ pause)) (plain_world setup ((first ++ pause) ++ stretch))) }
+{}
+
+/// Whoever the agent is: behind events that are taken, what a line has in flight began at some moment or later, where that has come, and
+/// what it had in flight at first began since. For a line begins nothing before the clock.
+pub fn what_is_in_flight_began_since()
+    ensures { (setup : Setup) (line since : ℕ) (some later : List GatewayEvent) (was is : Endpoint) →
+        are_taken setup (plain setup some) later ≡ true → since ≤ (plain setup some).now →
+        endpoint_at (plain setup some).endpoints line ≡ Some was → IfSome was.post.pending (λ flight. since ≤ flight.first) →
+        endpoint_at (plain setup (some ++ later)).endpoints line ≡ Some is → IfSome is.post.pending (λ flight. since ≤ flight.first) }
 {}
