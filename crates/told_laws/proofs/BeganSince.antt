@@ -33,7 +33,6 @@ use Rattle.plain_machine.specs.declared.setup.Setup.{Setup}
 use Rattle.plain_machine.specs.declared.endpoint.Endpoint.{Endpoint}
 use Rattle.plain_machine.specs.Announcing.{announced, announced_by, announced_on, heard_on, replied}
 use Rattle.plain_machine.specs.Arriving.{arrivals_at, clock_after}
-use Rattle.plain_machine.specs.Effect.{Effect}
 use Rattle.plain_machine.specs.Event.{GatewayEvent, datagram, phone, tick}
 use Rattle.plain_machine.specs.Falling.{due_on, happened_on, post_due}
 use Rattle.plain_machine.specs.Happening.{effect}

@@ -1,11 +1,14 @@
 -- What comes to the gateway of the worked examples where one premise alone of a law is missing.
-use Rattle.std.specs.Prelude.{ℕ, List, [], ◌∷◌, codes}
+use Rattle.std.specs.Prelude.{ℕ, List, [], ◌∷◌, ◌++◌, codes, Option, option_and_then, option_map}
 use Rattle.event_requests.specs.declared.request.Request.{Request}
 use Rattle.mg_line.specs.declared.phone.Act.TheVariants.{OffHook, OnHook, Flash, Key}
 use Rattle.mg_line.specs.declared.phone.Key.TheVariants.{Five, Six}
 use Rattle.mg_line.specs.Scenario.{requests, with_handling}
 use Rattle.plain_machine.specs.Event.{GatewayEvent, phone}
-use Rattle.plain_machine.specs.Example.{rqnt, response}
+use Rattle.plain_machine.specs.Example.{ready, response, rqnt, two_lines}
+use Rattle.plain_machine.specs.Lists.{plain}
+use Rattle.plain_machine.specs.Machine.{endpoint_at}
+use Rattle.delivery_laws.specs.OnceExample.{asks_for_all}
 
 -- line 1 is asked for this
 abbrev pub asks : ℕ → List ℕ → GatewayEvent
@@ -65,3 +68,13 @@ abbrev pub told_between : List GatewayEvent
 told_between =
     asks 7 (codes "X: 1\r\nR: L/hd(N)\r\n") ∷ phone 1 OffHook ∷ response 200 10000000
     ∷ asks 8 (codes "X: 2\r\nR: D/[0-9](N)\r\nQ: loop\r\n") ∷ phone 1 (Key Five) ∷ response 200 10000001 ∷ phone 1 (Key Six) ∷ []
+
+-- line 1 is asked for all that its telephone does, at 1,000
+abbrev pub asked_for_all : List GatewayEvent
+asked_for_all = ready ++ asks_for_all 7 (codes "aaln/1") ∷ []
+
+-- when what line 1 has in flight behind these was first sent
+abbrev pub first_sent : List GatewayEvent → Option ℕ
+first_sent events =
+    option_map (λ flight. flight.first)
+    (option_and_then (λ endpoint. endpoint.post.pending) (endpoint_at (plain two_lines events).endpoints 1))

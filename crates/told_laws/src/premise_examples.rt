@@ -1,12 +1,13 @@
 //! Worked examples in which one premise alone of a law is missing, and what the law says doesn't hold.
 #![tactic(auto, unfolding(crate::proofs::Computing::on_examples))]
 
-ghost use Rattle.std.specs.Prelude.{◌≡◌, codes, [], ◌∷◌, ◌++◌, None, Some, false};
+ghost use Rattle.std.specs.Prelude.{◌≡◌, codes, [], ◌∷◌, ◌++◌, None, Some, true, false};
 ghost use Rattle.mg_line.specs.Answering.{is_loop};
 ghost use Rattle.mg_line.specs.declared.phone.Act.TheVariants as acts;
 ghost use Rattle.mg_line.specs.declared.phone.Key.TheVariants as keys;
 ghost use Rattle.plain_machine.specs.Example.{ready, two_lines};
-ghost use Rattle.plain_machine.specs.Lists.{plain};
+ghost use Rattle.plain_machine.specs.Event.{phone, tick};
+ghost use Rattle.plain_machine.specs.Lists.{are_taken, plain};
 ghost use Rattle.delivery_laws.specs.Course.{acts as does, accepts, course_from, course_of, notifies};
 ghost use Rattle.delivery_laws.specs.Dialled.{done_in, latest_from, told_along, IsAskedForAll, IsToldOnce};
 ghost use Rattle.delivery_laws.specs.OnceExample.{asks_for_all, course_then, dials, five, hung_up, lifted, line_then, six};
@@ -15,7 +16,7 @@ ghost use Rattle.told_laws.specs.Among.{IsToldInOrder};
 ghost use Rattle.told_laws.specs.Example.{flashed};
 ghost use Rattle.told_laws.specs.Premises.{asked_between, asked_late, flash_embeds_then, has_both_first, has_each_key_told};
 ghost use Rattle.told_laws.specs.Premises.{has_keys_in_loop, has_lifting_first, has_return_then, latest_embeds, lifting_embeds};
-ghost use Rattle.told_laws.specs.Premises.{next_embeds, told_between};
+ghost use Rattle.told_laws.specs.Premises.{asked_for_all, first_sent, next_embeds, told_between};
 ghost use Rattle.told_laws.specs.Walking.{EmbedsNone, TellsWhatWasKept, WalksButLost};
 
 /// What a line keeps isn't that of another: line 2 did nothing, and tells nothing, while line 1 keeps two events.
@@ -105,4 +106,17 @@ pub fn else_a_later_notification_tells_it()
     ensures done { done_in (does (acts.Key keys.Five) ∷ notifies (codes "2") (five ∷ []) ∷ does (acts.Key keys.Six) ∷ [])
         ≡ five ∷ six ∷ [] }
     ensures skipped { ¬ TellsWhatWasKept has_lifting_first has_keys_in_loop (lifted ∷ []) (lifted ∷ []) [] (five ∷ six ∷ []) (six ∷ []) }
+{}
+
+/// What a line has in flight may have begun sooner than at 1,001 where the clock is at 1,000; than at 1,000, where it is set back, which no
+/// event that is taken does; or than at 1,400, where the line had it in flight at first.
+pub fn else_what_is_in_flight_began_sooner()
+    ensures taken { are_taken two_lines (plain two_lines asked_for_all) (phone 1 acts.OffHook ∷ []) ≡ true }
+    ensures now { (plain two_lines asked_for_all).now ≡ 1000 }
+    ensures none { first_sent asked_for_all ≡ None }
+    ensures begins { first_sent (asked_for_all ++ phone 1 acts.OffHook ∷ []) ≡ Some 1000 }
+    ensures not_taken { are_taken two_lines (plain two_lines asked_for_all) (tick 999 ∷ phone 1 acts.OffHook ∷ []) ≡ false }
+    ensures sooner { first_sent (asked_for_all ++ tick 999 ∷ phone 1 acts.OffHook ∷ []) ≡ Some 999 }
+    ensures waits { (plain two_lines (asked_for_all ++ phone 1 acts.OffHook ∷ tick 1400 ∷ [])).now ≡ 1400 }
+    ensures at_first { first_sent (asked_for_all ++ phone 1 acts.OffHook ∷ tick 1400 ∷ []) ≡ Some 1000 }
 {}
