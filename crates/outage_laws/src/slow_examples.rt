@@ -14,11 +14,13 @@ ghost use Rattle.delivery_laws.specs.DialledExample.{endpoint_then};
 ghost use Rattle.delivery_laws.specs.Fairness.{GoesToAgent};
 ghost use Rattle.delivery_laws.specs.OwnChances.{IsOfLine};
 ghost use Rattle.outage_laws.specs.AfterOutage.{AgentHasRoomFrom, IsFairFrom, gap_of};
-ghost use Rattle.outage_laws.specs.SlowExample.{connected_slowly, serving_slowly, unconnected_slowly, unserved_slowly};
+ghost use Rattle.outage_laws.specs.SlowExample.{connected_at_longest, connected_slowly, serving_slowly, unconnected_longest};
+ghost use Rattle.outage_laws.specs.SlowExample.{unconnected_slowly, unserved_slowly};
 
 /// A packet takes 2,000 ms, and the network is there again 1 ms behind the seventh send of a notification: the answer to the eighth comes
 /// as that is given up, and the line announces itself 5,000 ms later. It is answered 8,000 ms, that wait and twice 2,000 ms behind the
-/// moment at which the network was there again, and no sooner.
+/// moment at which the network was there again, and no sooner. Where a packet takes as long as it may last, and the network is there again
+/// 1 ms behind the third send, it is 22,000 ms, that wait and twice 10,000 ms.
 pub fn a_line_has_its_agent_over_a_slow_network()
     ensures run { IsRun two_lines connected_slowly }
     ensures fair { IsFairFrom two_lines connected_slowly 15502 2000 }
@@ -29,6 +31,16 @@ pub fn a_line_has_its_agent_over_a_slow_network()
     ensures late { 15502 + gap_of 2000 + two_lines.disconnected_wait + 2 * 2000 ≡ now_in two_lines (world connected_slowly) + 1 }
     ensures not_yet { (endpoint_then unconnected_slowly).post.restart ≡ Announced }
     ensures connected { (endpoint_then connected_slowly).post.restart ≡ Serving }
+    ensures run_longest { IsRun two_lines connected_at_longest }
+    ensures fair_longest { IsFairFrom two_lines connected_at_longest 1502 10000 }
+    ensures not_before { ¬ IsFairFrom two_lines connected_at_longest 1501 10000 }
+    ensures room_longest { AgentHasRoomFrom two_lines connected_at_longest 1502 }
+    ensures goes_longest { (b : Begun) → IsOfLine two_lines (world connected_at_longest) 1 b →
+        GoesToAgent two_lines (world connected_at_longest) b.text }
+    ensures late_longest { 1502 + gap_of 10000 + two_lines.disconnected_wait + 2 * 10000
+        ≡ now_in two_lines (world connected_at_longest) + 1 }
+    ensures not_yet_longest { (endpoint_then unconnected_longest).post.restart ≡ Announced }
+    ensures connected_longest { (endpoint_then connected_at_longest).post.restart ≡ Serving }
 {}
 
 /// So it is of the gateway itself, which announces itself anew 1 ms later.
