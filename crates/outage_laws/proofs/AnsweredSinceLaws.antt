@@ -58,6 +58,7 @@ use Rattle.outage_laws.specs.AfterOutage.{AgentHasRoomFrom, IsFairFrom}
 use Rattle.outage_laws.specs.ToldSince.{FlightsBeganSince}
 use Rattle.outage_laws.proofs.BeganEvents.{last_among}
 use Rattle.outage_laws.proofs.CalmStretches.{calm_front}
+use Rattle.outage_laws.proofs.FlightsSince.{all_flights}
 use Rattle.outage_laws.proofs.OwnCopyLemmas.{posted_past, take_copy}
 
 -- Moments
@@ -340,7 +341,7 @@ module _ (setup : Setup) (steps : List WorldStep) (since within line : ℕ) (som
         there = subst (λ (x : List GatewayEvent). endpoint_at (plain setup x).endpoints line ≡ Some s) (sym t.took) here
 
         past : since ≤ flight.first
-        past = subst (λ (pending : Option InFlight). IfSome pending (λ x. since ≤ x.first)) flies (began f rest s order here)
+        past = subst (λ (pending : Option InFlight). IfSome pending (λ x. since ≤ x.first)) flies (all_flights setup line since steps some later was taken took at_was began f rest s order here)
 
         b : Begun
         b = record { id = flight.id; moment = flight.first; text = flight.text }

@@ -29,6 +29,7 @@ use Rattle.told_laws.proofs.SettledLemmas.{IsThere, sent_at, serving_is, start}
 use Rattle.told_laws.proofs.StretchLemmas.{meanwhile_is}
 use Rattle.outage_laws.specs.AfterOutage.{AgentHasRoomFrom, IsFairFrom}
 use Rattle.outage_laws.specs.ToldSince.{FlightBeganSince, FlightsBeganSince, IsAskedForAllSince, IsToldFrom, IsToldSince}
+use Rattle.outage_laws.proofs.FlightsSince.{all_flights}
 use Rattle.outage_laws.proofs.AnsweredSinceLaws.{LastBegun, answered_since, last_begun, still_serves}
 use Rattle.outage_laws.proofs.BeganEvents.{last_among}
 use Rattle.outage_laws.proofs.CalmStretches.{calm_back, calm_front}
@@ -103,7 +104,7 @@ module _ (setup : Setup) (line : ℕ) (some : 1 ≤ line) (first pause stretch :
         let b : Begun = record { id = flight.id; moment = flight.first; text = flight.text } in
         let past : since ≤ flight.first =
         subst (λ (pending : Option InFlight). IfSome pending (λ x. since ≤ x.first)) flies
-        (began later [] is (sym (append-nil later)) (subst (λ (x : List GatewayEvent). endpoint_at (plain setup x).endpoints line ≡ Some is) split at_is)) in
+        (all_flights setup line since all some_took later there taken split at_there began later [] is (sym (append-nil later)) (subst (λ (x : List GatewayEvent). endpoint_at (plain setup x).endpoints line ≡ Some is) split at_is)) in
         let l : LastBegun setup line w.gateway_took flight =
         last_begun setup line some w.gateway_took is flight at_is (still_serves (sent_at setup line some_took later) is calm) flies in (
           past,

@@ -1,5 +1,5 @@
 -- Whether what is in flight had its time, computed; for worked examples.
-use Rattle.std.proofs.Common.{◌≡◌, ℕ, ◌+◌, ◌<◌, ◌≤◌, Bool, true, false, ◌||◌, List, [], ◌++◌, Option, Some, None, refl, sym, ap, ◌∙◌, arith}
+use Rattle.std.proofs.Common.{◌≡◌, ℕ, ◌+◌, ◌<◌, ◌≤◌, Bool, true, false, ◌||◌, List, [], ◌++◌, Option, Some, None, inl, refl, sym, ap, ◌∙◌, arith}
 use Rattle.std.specs.Prelude.{IfSome, nat_le}
 use Rattle.std.proofs.lemmas.Bool.{leb-false, leb-true}
 use Rattle.outbound.specs.Flight.{InFlight}
@@ -74,7 +74,7 @@ is_since setup line before since some = found_since since (endpoint_at (plain se
 -- and so at each beginning
 pub flights_since : (setup : Setup) (line : ℕ) (before events : List GatewayEvent) (since : ℕ) → on_fronts (is_since setup line before since) events ≡ true
     → FlightsBeganSince setup line before events since
-flights_since setup line before events since all = λ some later endpoint order at.
+flights_since setup line before events since all = λ some later endpoint order which at.
     it_flies_since since endpoint.post.pending
     (sym (ap (found_since since) at) ∙ front_holds (is_since setup line before since) events some later all order)
 
@@ -102,4 +102,4 @@ pub not_flights_since : (setup : Setup) (line : ℕ) (before events : List Gatew
 not_flights_since setup line before events since is began = by_found (endpoint_at (plain setup (before ++ [])).endpoints line) refl is where
   by_found : (found : Option Endpoint) → endpoint_at (plain setup (before ++ [])).endpoints line ≡ found → found_since since found ≡ false → ⊥
   by_found None at is = absurd cc
-  by_found (Some endpoint) at is = it_flew since endpoint.post.pending is (began [] events endpoint refl at)
+  by_found (Some endpoint) at is = it_flew since endpoint.post.pending is (began [] events endpoint refl (inl refl) at)

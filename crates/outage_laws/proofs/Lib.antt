@@ -38,6 +38,7 @@ pub mod StretchStarts
 pub mod ToldSinceLaws
 pub mod ToldFromLaws
 pub mod AnsweredSinceLaws
+pub mod FlightsSince
 pub mod FairStretchLaws
 pub mod Computing
 pub mod SentExamples

@@ -145,7 +145,7 @@ module _ (setup : Setup) (line : ℕ) (first pause stretch : List WorldStep) (wa
       ap (λ (x : List GatewayEvent). paused ++ (front ++ x)) order ∙ sym (append_assoc paused front (some ++ more)) ∙ sym (append_assoc (paused ++ front) some more)
 
   began : FlightsBeganSince setup line (u.gateway_took ++ front) later since
-  began some more s order at =
+  began some more s order which at =
       since_behind setup all since within line v.gateway_took behind is set_up taken quick fair roomy (reach line) took serving at_is line_late since
       (early since (gap_of within) (longer_wait setup) within (now_in setup v) late) ((paused ++ front) ++ some) more s (parts some more order)
       (subst (λ (x : List GatewayEvent). endpoint_at (plain setup x).endpoints line ≡ Some s) (places some) at)

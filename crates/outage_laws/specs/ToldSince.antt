@@ -1,5 +1,5 @@
 -- What the agent is told of a line since a moment, whatever was given up before (RFC 3435, 3.5, 4.3 and 4.4.1).
-use Rattle.std.specs.Prelude.{◌≡◌, ℕ, ◌≤◌, ◌<◌, IfSome, List, [], ◌++◌, Option, Some}
+use Rattle.std.specs.Prelude.{◌≡◌, ◌⊎◌, ℕ, ◌≤◌, ◌<◌, IfSome, List, [], ◌++◌, Option, Some}
 use Rattle.event_values.specs.declared.observed.Observed.{Observed}
 use Rattle.outbound.specs.Flight.{InFlight}
 use Rattle.quarantine.specs.Held.{most_lost}
@@ -20,10 +20,11 @@ use Rattle.told_laws.specs.Stretch.{IsOnItsWay}
 abbrev pub FlightBeganSince : Setup → World → ℕ → Option InFlight → Type 0
 FlightBeganSince setup w since pending = IfSome pending (λ flight. (since ≤ flight.first) × GoesToAgent setup w flight.text)
 
--- Behind the events before, at no time of these, the line has in flight what began sooner than that.
+-- Behind the events before, and where that moment hasn't come then at each time of these, too, the line has in flight nothing that began
+-- sooner.
 abbrev pub FlightsBeganSince : Setup → ℕ → List GatewayEvent → List GatewayEvent → ℕ → Type 0
 FlightsBeganSince setup line before events since =
-    (some later : List GatewayEvent) (endpoint : Endpoint) → events ≡ some ++ later
+    (some later : List GatewayEvent) (endpoint : Endpoint) → events ≡ some ++ later → (some ≡ []) ⊎ ((plain setup before).now < since)
     → endpoint_at (plain setup (before ++ some)).endpoints line ≡ Some endpoint
     → IfSome endpoint.post.pending (λ flight. since ≤ flight.first)
 

@@ -163,9 +163,6 @@ within_so since one low high =
     and_from (nat_le since one.asked.moment) (nat_lt one.asked.moment (since + memory_time)) (le-leb since one.asked.moment low)
     (lt-ltb one.asked.moment (since + memory_time) high)
 
-abbrev times : ℕ → ℕ → ℕ
-times from count = from + count * 30000
-
 abbrev two_times : ℕ → List Reached → List Reached
 two_times from taken = those_within from taken ++ those_within (from + 30000) taken
 
