@@ -52,7 +52,7 @@ pub same_rest : {X : Type 0} (xs ys zs : List X) → xs ++ ys ≡ xs ++ zs → y
 same_rest [] ys zs same = same
 same_rest (x ∷ xs) ys zs same = same_rest xs ys zs (tails x x (xs ++ ys) (xs ++ zs) same)
 
-none_there : (xs : List Begun) (x : Begun) → xs ++ x ∷ [] ≡ [] → ⊥
+pub none_there : (xs : List Begun) (x : Begun) → xs ++ x ∷ [] ≡ [] → ⊥
 none_there [] x none = cc
 none_there (y ∷ xs) x none = cc
 
@@ -60,24 +60,24 @@ some_none : (y : Begun) (ys : List Begun) → y ∷ ys ≡ [] → ⊥
 some_none y ys none = cc
 
 -- two aren't one
-two_there : (xs : List Begun) (x y z : Begun) → (xs ++ x ∷ []) ++ y ∷ [] ≡ z ∷ [] → ⊥
+pub two_there : (xs : List Begun) (x y z : Begun) → (xs ++ x ∷ []) ++ y ∷ [] ≡ z ∷ [] → ⊥
 two_there [] x y z same = some_none y [] (tails x z (y ∷ []) [] same)
 two_there (t ∷ xs) x y z same = none_there (xs ++ x ∷ []) y (tails t z ((xs ++ x ∷ []) ++ y ∷ []) [] same)
 
 -- of two parts that are one together one is none
-one_part : (xs ys : List Begun) (z : Begun) → xs ++ ys ≡ z ∷ [] → (xs ≡ z ∷ []) ⊎ ((xs ≡ []) × (ys ≡ z ∷ []))
+pub one_part : (xs ys : List Begun) (z : Begun) → xs ++ ys ≡ z ∷ [] → (xs ≡ z ∷ []) ⊎ ((xs ≡ []) × (ys ≡ z ∷ []))
 one_part [] ys z same = inr (refl, same)
 one_part (x ∷ []) [] z same = inl same
 one_part (x ∷ []) (y ∷ ys) z same = absurd (some_none y ys (tails x z (y ∷ ys) [] same))
 one_part (x ∷ t ∷ xs) ys z same = absurd (some_none t (xs ++ ys) (tails x z (t ∷ (xs ++ ys)) [] same))
 
-none_part : (xs ys : List Begun) → xs ++ ys ≡ [] → (xs ≡ []) × (ys ≡ [])
+pub none_part : (xs ys : List Begun) → xs ++ ys ≡ [] → (xs ≡ []) × (ys ≡ [])
 none_part [] ys none = (refl, none)
 none_part (x ∷ xs) ys none = absurd cc
 
 -- What was answered isn't in flight, where the line began no more since
 
-no_longer : (xs ys : List Begun) → xs ≡ ys → length xs ≤ length ys
+pub no_longer : (xs ys : List Begun) → xs ≡ ys → length xs ≤ length ys
 no_longer xs ys same = let long : length xs ≡ length ys = ap (λ (x : List Begun). length x) same in omega (arith, long)
 
 answered_over : (setup : Setup) (before later : List WorldStep) (number : ℕ) (text : List ℕ) (b : Begun) (line : ℕ) (endpoint : Endpoint) (flight : InFlight) → IsSetUp setup
@@ -121,13 +121,13 @@ from_first number count = omega arith
 past_it : (number count other : ℕ) → number < count → count ≤ other → number < other
 past_it number count other less more = omega (arith, less, more)
 
-too_soon : (first second now wait : ℕ) → second ≡ first + answer_wait + wait → now < first + answer_wait → second ≤ now → ⊥
+pub too_soon : (first second now wait : ℕ) → second ≡ first + answer_wait + wait → now < first + answer_wait → second ≤ now → ⊥
 too_soon first second now wait is soon past = absurd (omega (arith, is, soon, past))
 
-not_over : (first now : ℕ) → now < first + answer_wait → first + answer_wait ≤ now → ⊥
+pub not_over : (first now : ℕ) → now < first + answer_wait → first + answer_wait ≤ now → ⊥
 not_over first now soon over = absurd (omega (arith, soon, over))
 
-still_soon : (first wait within now : ℕ) → wait + 2 * within < answer_wait → now ≤ first + wait + 2 * within → now < first + answer_wait
+pub still_soon : (first wait within now : ℕ) → wait + 2 * within < answer_wait → now ≤ first + wait + 2 * within → now < first + answer_wait
 still_soon first wait within now few by = omega (arith, few, by)
 
 module _ (setup : Setup) (steps : List WorldStep) (line within : ℕ) (endpoint : Endpoint) (set_up : IsSetUp setup) (taken : steps_are_taken setup world_opening steps ≡ true)

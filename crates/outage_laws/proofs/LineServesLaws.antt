@@ -38,42 +38,42 @@ use Rattle.outage_laws.proofs.StretchLemmas.{IsLast, is_begun}
 -- Numbers
 
 -- what was given up had a send since, where the line still waits
-wait_sent : (since first wait within now pause until slack : ℕ) → until ≡ first + answer_wait + pause → now < until → since + answer_wait + pause + 2 * within + slack ≤ now + 1 + wait
+pub wait_sent : (since first wait within now pause until slack : ℕ) → until ≡ first + answer_wait + pause → now < until → since + answer_wait + pause + 2 * within + slack ≤ now + 1 + wait
     → since ≤ first + wait
 wait_sent since first wait within now pause until slack is soon late = omega (arith, is, soon, late)
 
 -- and that was answered by now
-over_twice : (first wait within now slack : ℕ) → slack ≤ 1 → wait + 2 * within < answer_wait → first + answer_wait ≤ now → first + wait + 2 * within + slack ≤ now
+pub over_twice : (first wait within now slack : ℕ) → slack ≤ 1 → wait + 2 * within < answer_wait → first + answer_wait ≤ now → first + wait + 2 * within + slack ≤ now
 over_twice first wait within now slack small few over = omega (arith, small, few, over)
 
 -- the same where its announcement isn't answered yet
-next_sent : (since first wait within now pause next slack : ℕ) → next ≡ first + answer_wait + pause → now < next + 2 * within + slack
+pub next_sent : (since first wait within now pause next slack : ℕ) → next ≡ first + answer_wait + pause → now < next + 2 * within + slack
     → since + answer_wait + pause + 2 * within + slack ≤ now + 1 + wait → since ≤ first + wait
 next_sent since first wait within now pause next slack is soon late = omega (arith, is, soon, late)
 
-next_twice : (since first one wait within now pause slack : ℕ) → first + one + 1 ≤ since + longest_pause → wait ≤ last_chance → since + answer_wait + pause + 2 * within + slack ≤ now + 1 + wait
+pub next_twice : (since first one wait within now pause slack : ℕ) → first + one + 1 ≤ since + longest_pause → wait ≤ last_chance → since + answer_wait + pause + 2 * within + slack ≤ now + 1 + wait
     → first + one + 2 * within + slack ≤ now
 next_twice since first one wait within now pause slack next low late = omega (arith, next, low, late)
 
-twice_past : (first wait within now slack : ℕ) → first + wait + 2 * within + slack ≤ now → first + wait ≤ now
+pub twice_past : (first wait within now slack : ℕ) → first + wait + 2 * within + slack ≤ now → first + wait ≤ now
 twice_past first wait within now slack twice = omega (arith, twice)
 
-at_first : (since first one : ℕ) → one ≡ 0 → since ≤ first + one → since ≤ first
+pub at_first : (since first one : ℕ) → one ≡ 0 → since ≤ first + one → since ≤ first
 at_first since first one none past = omega (arith, none, past)
 
-not_twice : (first one within now slack : ℕ) → one ≡ 0 → now < first + one + 2 * within + slack → now < first + 2 * within + slack
+pub not_twice : (first one within now slack : ℕ) → one ≡ 0 → now < first + one + 2 * within + slack → now < first + 2 * within + slack
 not_twice first one within now slack none soon = omega (arith, none, soon)
 
-last_past : (since first wait : ℕ) → since ≤ first + wait → wait ≤ last_chance → since ≤ first + last_chance
+pub last_past : (since first wait : ℕ) → since ≤ first + wait → wait ≤ last_chance → since ≤ first + last_chance
 last_past since first wait past low = omega (arith, past, low)
 
-too_late : (since first wait within now pause slack : ℕ) → now < first + answer_wait → first + wait < since → since + answer_wait + pause + 2 * within + slack ≤ now + 1 + wait → ⊥
+pub too_late : (since first wait within now pause slack : ℕ) → now < first + answer_wait → first + wait < since → since + answer_wait + pause + 2 * within + slack ≤ now + 1 + wait → ⊥
 too_late since first wait within now pause slack soon before late = absurd (omega (arith, soon, before, late))
 
-soon_by : (now due first moment : ℕ) → now < due → due ≤ first + answer_wait → first ≡ moment → now < moment + answer_wait
+pub soon_by : (now due first moment : ℕ) → now < due → due ≤ first + answer_wait → first ≡ moment → now < moment + answer_wait
 soon_by now due first moment soon by is = omega (arith, soon, by, is)
 
-same_first : (first moment other : ℕ) → first ≡ moment → first ≡ other → moment ≡ other
+pub same_first : (first moment other : ℕ) → first ≡ moment → first ≡ other → moment ≡ other
 same_first first moment other is at = sym is ∙ at
 
 -- what was sent first so long ago had a send since
@@ -87,7 +87,7 @@ first_twice first one within now none late = omega (arith, none, late)
 first_is : (first moment more now : ℕ) → first ≡ moment → first + more < now → moment + more < now
 first_is first moment more now is late = omega (arith, is, late)
 
-began_before : (some more : List Sent) (b : Begun) → OneOf (λ (one : Begun). one ≡ b) (begun_in some) → OneOf (λ (one : Begun). one ≡ b) (begun_in (some ++ more))
+pub began_before : (some more : List Sent) (b : Begun) → OneOf (λ (one : Begun). one ≡ b) (begun_in some) → OneOf (λ (one : Begun). one ≡ b) (begun_in (some ++ more))
 began_before some more b began =
     subst (OneOf (λ (one : Begun). one ≡ b)) (sym (begun_both some more)) (one_before (λ (one : Begun). one ≡ b) (begun_in some) (begun_in more) began)
 
@@ -264,7 +264,7 @@ wait_is setup line some = by_zero (line == 0) refl where
 none_more : (first wait within now : ℕ) → first + wait + 2 * within + 0 ≤ now → first + wait + 2 * within ≤ now
 none_more first wait within now late = omega (arith, late)
 
-with_none : (since pause other within now wait : ℕ) → other ≡ pause → since + answer_wait + pause + 2 * within ≤ now + 1 + wait → since + answer_wait + other + 2 * within + 0 ≤ now + 1 + wait
+pub with_none : (since pause other within now wait : ℕ) → other ≡ pause → since + answer_wait + pause + 2 * within ≤ now + 1 + wait → since + answer_wait + other + 2 * within + 0 ≤ now + 1 + wait
 with_none since pause other within now wait same late = omega (arith, same, late)
 
 pub agent_is_there_by : (setup : Setup) (steps : List WorldStep) (since within wait line : ℕ) (endpoint : Endpoint) → IsSetUp setup → steps_are_taken setup world_opening steps ≡ true

@@ -91,7 +91,7 @@ module _ (setup : Setup) (line : ℕ) (some : 1 ≤ line) where
 
   -- An event
 
-  datagram_tracks : (early : List Sent) (w : World) (source : SocketAddrV4) (bytes : List ℕ) → Each (λ (text : List ℕ). IsPlain (read_text text)) (texts_of bytes) → TracksSince early w
+  pub datagram_tracks : (early : List Sent) (w : World) (source : SocketAddrV4) (bytes : List ℕ) → Each (λ (text : List ℕ). IsPlain (read_text text)) (texts_of bytes) → TracksSince early w
       → TracksSince early (to_gateway setup w (datagram source bytes))
   datagram_tracks early w source bytes plain t =
       let m = gateway_in setup w in
@@ -99,13 +99,13 @@ module _ (setup : Setup) (line : ℕ) (some : 1 ≤ line) where
       (datagram_holds setup line some IsPlainResponse (LineTracks setup line (Behind m.now) m.now) m (now_turns setup line m.now) t.since source bytes (events_wait setup w.gateway_took)
       (texts_heard setup m.now source (texts_of bytes) plain) t.tracks)
 
-  phone_tracks : (early : List Sent) (w : World) (n : ℕ) (act : Act) → TracksSince early w → TracksSince early (to_gateway setup w (phone n act))
+  pub phone_tracks : (early : List Sent) (w : World) (n : ℕ) (act : Act) → TracksSince early w → TracksSince early (to_gateway setup w (phone n act))
   phone_tracks early w n act t =
       let m = gateway_in setup w in
       goes early w (phone n act) (now_in setup w) (gateway_clock setup w (phone n act)) t
       (phone_holds setup line some IsPlainResponse (LineTracks setup line (Behind m.now) m.now) m (now_turns setup line m.now) t.since n act t.tracks)
 
-  tick_tracks : (early : List Sent) (w : World) (moment : ℕ) → now_in setup w ≤ moment → TracksSince early w → TracksSince early (to_gateway setup w (tick moment))
+  pub tick_tracks : (early : List Sent) (w : World) (moment : ℕ) → now_in setup w ≤ moment → TracksSince early w → TracksSince early (to_gateway setup w (tick moment))
   tick_tracks early w moment past t =
       let m = gateway_in setup w in
       goes early w (tick moment) moment (gateway_clock setup w (tick moment)) t
@@ -161,7 +161,7 @@ module _ (setup : Setup) (line : ℕ) (some : 1 ≤ line) where
         (subst (TracksSince early) (sym (step_more setup before step))
         (step_tracks before step (taken_front setup world_opening before (step ∷ []) here) (taken_last setup world_opening before step here) t)))
 
-  opening_is : TracksSince [] (plain_world setup [])
+  pub opening_is : TracksSince [] (plain_world setup [])
   unfolding world_after machine_after sent_from
   opening_is = record {
     since = [];
