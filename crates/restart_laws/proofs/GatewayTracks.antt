@@ -48,7 +48,7 @@ to_front P less before rest = by_events (λ (more : List GatewayEvent). P (befor
   one : (took : List GatewayEvent) (event : GatewayEvent) → (P (before ++ took) → P before) → P (before ++ (took ++ event ∷ [])) → P before
   one took event on is = on (less (before ++ took) event (subst P (sym (append_assoc before took (event ∷ []))) is))
 
-taken_parts : (setup : Setup) (m : Machine) (took : List GatewayEvent) (event : GatewayEvent) → are_taken setup m (took ++ event ∷ []) ≡ true
+pub taken_parts : (setup : Setup) (m : Machine) (took : List GatewayEvent) (event : GatewayEvent) → are_taken setup m (took ++ event ∷ []) ≡ true
     → (are_taken setup m took ≡ true) × (refusal_of (machine_after setup m took) event ≡ None)
 unfolding are_taken machine_after
 taken_parts setup m [] event taken = (refl, is_none-None (refusal_of m event) (and_parts (is_none (refusal_of m event)) true taken).0)
@@ -61,7 +61,7 @@ taken_parts setup m (one ∷ took) event taken =
 abbrev pub ArePlain : List GatewayEvent → Type 0
 ArePlain took = Each HasPlain (arrivals_of took)
 
-plain_parts : (setup : Setup) (took : List GatewayEvent) (event : GatewayEvent) → ArePlain (took ++ event ∷ [])
+pub plain_parts : (setup : Setup) (took : List GatewayEvent) (event : GatewayEvent) → ArePlain (took ++ event ∷ [])
     → ArePlain took × Each HasPlain (arrivals_at (plain setup took).now event)
 plain_parts setup took event are =
     let both : Each HasPlain (arrivals_of took ++ arrivals_at (plain setup took).now event) =

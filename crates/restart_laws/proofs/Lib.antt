@@ -7,5 +7,8 @@ pub mod LivesTake
 pub mod LivesServe
 pub mod LivesTaken
 pub mod LivesInFlight
+pub mod LineAlone
+pub mod LineServes
+pub mod LivesLines
 pub mod LivesLong
 pub mod LivesFairExamples

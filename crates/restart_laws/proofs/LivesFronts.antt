@@ -102,7 +102,7 @@ goes_through w next last (inl a) (inr b) = inr (same_less (number_of w) (number_
 goes_through w next last (inr a) (inl b) = inr (less_same (number_of w) (number_of next) (number_of last) a b.0)
 goes_through w next last (inr a) (inr b) = inr (less_less (number_of w) (number_of next) (number_of last) a b)
 
-follows_through : (w next last : LivesWorld) → Follows w next → Follows next last → Follows w last
+pub follows_through : (w next last : LivesWorld) → Follows w next → Follows next last → Follows w last
 follows_through w next last a b = record {
   more = a.more ++ b.more;
   letters = b.letters ∙ ap (λ (x : List Letter). x ++ b.more) a.letters ∙ append_assoc w.letters a.more b.more;

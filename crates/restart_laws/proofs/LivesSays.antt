@@ -121,7 +121,7 @@ module _ (number : ℕ) (life : Life) (sent : List Sent) (goes : All IsOut sent)
       (one_mapped (λ (m : OutDatagram). m ≡ datagram_of one) datagram_of sent
       (one_weaker (λ (other : Sent). other ≡ one) (λ (other : Sent). datagram_of other ≡ datagram_of one) (λ other same. ap datagram_of same) sent among))))
 
-  each_posts : Each (IsPosted number life.start (map (sent_by number life) outs)) sent
+  pub each_posts : Each (IsPosted number life.start (map (sent_by number life) outs)) sent
   each_posts =
       each_weaker (λ (one : Sent). OneOf (λ (other : Sent). other ≡ one) sent) (IsPosted number life.start (map (sent_by number life) outs)) one_posts sent (each_member sent)
 
@@ -152,6 +152,9 @@ agent_come setup number (out ∷ outs) = (refl, agent_come setup number outs)
 
 at_most : (n : ℕ) → n ≤ n
 at_most n = omega arith
+
+pub all_out : (life : Life) (now : ℕ) (event : GatewayEvent) → IsLife now life → All IsOut (effect life.setup (gateway_of life) event).sent
+all_out life now event is = let holds = (all_hold life.setup life.took is.set_up is.taken).holds in (event_goes life.setup (gateway_of life) event holds.fits holds.kept).sent
 
 life_keeps : (setup : Setup) (w : LivesWorld) (event : GatewayEvent) → IsLife (clock_of setup w) w.life → Each HasPlain (arrivals_at (gateway_of w.life).now event)
     → IsFromAgent w.life.setup event → Keeps setup w → Keeps setup (to_life w event)

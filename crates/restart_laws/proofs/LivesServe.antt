@@ -1,8 +1,9 @@
 -- In a world of lives whose network is fair from a moment on each copy that the life which goes on sends since then is answered, and the
 -- answer comes to it; so its gateway serves.
-use Rattle.std.proofs.Common.{◌≡◌, ℕ, ◌+◌, ◌-◌, ◌*◌, ◌<◌, ◌≤◌, Bool, true, false, List, [], ◌∷◌, ◌++◌, Option, Some, inl, inr, refl, sym, ap, ◌∙◌, subst, arith}
+use Rattle.std.proofs.Common.{◌≡◌, ℕ, suc, zero, ◌+◌, ◌-◌, ◌*◌, ◌<◌, ◌≤◌, Bool, true, false, List, [], ◌∷◌, ◌++◌, Option, Some, inl, inr, refl, sym, ap, ◌∙◌, subst, length, arith}
 use Rattle.std.specs.Prelude.{◌⊎◌, IfSome, nat_le, slice_get}
 use Rattle.std.proofs.lemmas.Bool.{leb-true, leb-false}
+use Rattle.std.proofs.lemmas.Option.{none-some}
 use Rattle.std.specs.declared.net.socket_addr.SocketAddrV4.{SocketAddrV4}
 use Rattle.mgcp_text.specs.Reading.{read_text}
 use Rattle.outbound.specs.Issued.{is_command_as}
@@ -80,6 +81,14 @@ not_later moment within now reply back soon same on = omega (arith, soon, same, 
 since_began : (start first wait moment reply : ℕ) → moment ≡ start + (first + wait) → moment ≤ reply → start + first ≤ reply
 since_began start first wait moment reply is on = omega (arith, is, on)
 
+behind_both : (number there reply here : ℕ) → number < there → there ≤ reply → reply < here → number < here
+behind_both number there reply here less behind on = omega (arith, less, behind, on)
+
+pub found_in : (letters : List Letter) (place : ℕ) (letter : Letter) → slice_get letters place ≡ Some letter → place < length letters
+found_in [] place letter at = absurd (none-some letter at)
+found_in (one ∷ letters) zero letter at = omega arith
+found_in (one ∷ letters) (suc place) letter at = let less = found_in letters place letter at in omega (arith, less)
+
 no_other : (here number life last : ℕ) → number ≤ here → number ≡ life → life ≡ last → here < last → ⊥
 no_other here number life last few one two less = absurd (omega (arith, few, one, two, less))
 
@@ -118,7 +127,7 @@ module _ (setup : Setup) (steps : List LivesStep) (since within : ℕ) (set_up :
         roomy first there.later there.order
         (since_now since moment (clock_of setup (plain_lives setup there.before)) (clock_of setup (plain_lives setup first)) past handed_past (delivered_clock setup there.before number before_taken))
 
-    pub reply : IsReplied setup (plain_lives setup first) letter.life id (clock_of setup (plain_lives setup there.before))
+    pub reply : IsReplied setup (plain_lives setup there.before) (plain_lives setup first) letter.life id (clock_of setup (plain_lives setup there.before))
     reply = replied setup there.before number letter id name text set_up first_taken there.sent sender goes inside reads room
 
     pub follows : Follows (plain_lives setup first) w
@@ -137,13 +146,13 @@ module _ (setup : Setup) (steps : List LivesStep) (since within : ℕ) (set_up :
         (young_first setup first reply.number reply.letter id reply.text set_up first_taken reply.found reply.replies.1 reply.replies.4 reply.reads)
 
     module _ (twice : letter.post.packet.moment + 2 * within ≤ clock_of setup w) where
-      back : IsHandedOn setup steps within reply.number reply.letter
+      pub back : IsHandedOn setup steps within reply.number reply.letter
       back =
           fair reply.number reply.letter (stays_sent (plain_lives setup first) w reply.number reply.letter follows reply.found)
           (since_now since moment (clock_of setup (plain_lives setup there.before)) reply.letter.post.packet.moment past handed_past sent_then)
           (soon_back moment within (clock_of setup (plain_lives setup there.before)) reply.letter.post.packet.moment (clock_of setup w) there.soon sent_then twice)
 
-      abbrev v : LivesWorld
+      abbrev pub v : LivesWorld
       v = plain_lives setup back.before
 
       abbrev event : GatewayEvent
@@ -152,7 +161,7 @@ module _ (setup : Setup) (steps : List LivesStep) (since within : ℕ) (set_up :
       abbrev back_first : List LivesStep
       back_first = back.before ++ stepping (delivering reply.number) ∷ []
 
-      v_taken : lives_are_taken setup (lives_opening setup) back.before ≡ true
+      pub v_taken : lives_are_taken setup (lives_opening setup) back.before ≡ true
       v_taken =
           lives_front setup (lives_opening setup) back.before (stepping (delivering reply.number) ∷ [])
           (lives_front setup (lives_opening setup) back_first back.later (subst (λ (s : List LivesStep). lives_are_taken setup (lives_opening setup) s ≡ true) back.order taken))
@@ -206,6 +215,25 @@ module _ (setup : Setup) (steps : List LivesStep) (since within : ℕ) (set_up :
 
       pub came_back : CameTo w within id moment
       came_back = by_life on.life
+
+      -- by what it had taken then
+      came_before : (same : SameLife (to_life v event).life w.life) → (came same).before ≡ v.life.took
+      unfolding came
+      came_before same = refl
+
+      pub came_behind : (c : CameTo w within id moment) × (c.before ≡ v.life.took)
+      came_behind = by_same on.life where
+        by_same : ((number_of w ≡ number_of v) × SameLife (to_life v event).life w.life) ⊎ (number_of v < number_of w) → (c : CameTo w within id moment) × (c.before ≡ v.life.took)
+        by_same (inl both) = (came both.1, came_before both.1)
+        by_same (inr less) = absurd (no_other (number_of v) reply.letter.life letter.life (number_of w) few reply.replies.0 of less)
+
+      pub no_later_life : number_of v < number_of w → ⊥
+      no_later_life less = no_other (number_of v) reply.letter.life letter.life (number_of w) few reply.replies.0 of less
+
+      pub sent_before : number < length v.letters
+      sent_before =
+          behind_both number (length (plain_lives setup there.before).letters) reply.number (length v.letters)
+          (found_in (plain_lives setup there.before).letters number letter there.sent) reply.behind (found_in v.letters reply.number reply.letter back.sent)
 
   -- Its gateway
 

@@ -120,9 +120,10 @@ replies_it setup life to now text sent goes said =
     (λ out has. (refl, refl, has.there, has.moment, has.inside)) (packed sent) (packed_has sent (message_to to now text) goes said))
 
 -- an answer to this command is among the packets
-pub record IsReplied (setup : Setup) (w : LivesWorld) (life id now : ℕ) : Type 0 where
+pub record IsReplied (setup : Setup) (before w : LivesWorld) (life id now : ℕ) : Type 0 where
   pub text : List ℕ
   pub number : ℕ
+  pub behind : length before.letters ≤ number
   pub letter : Letter
   pub found : slice_get w.letters number ≡ Some letter
   pub replies : Replies life (gateway_address setup) now text letter
@@ -202,7 +203,7 @@ module _ (setup : Setup) (steps : List LivesStep) (number : ℕ) (letter : Lette
       (agent_answers (issued_in setup (agent_side after)) (agent_then setup after) (lives_kept setup (steps ++ stepping (delivering number) ∷ []) taken).agrees.agent) there)
 
   by_answers : Answers id m.now source (took_all (agent_of setup) m source (texts_of bytes)).machine.history (took_all (agent_of setup) m source (texts_of bytes)).sent
-      → IsReplied setup after letter.life id (clock_of setup w)
+      → IsReplied setup w after letter.life id (clock_of setup w)
   by_answers (inl confirmed) =
       absurd (never_confirmed (agent_then setup after) id (lives_keep setup (steps ++ stepping (delivering number) ∷ []) set_up taken).silent
       (subst (λ (x : AgentMachine). IsConfirmedIn id x.history) (sym machine) confirmed))
@@ -212,11 +213,12 @@ module _ (setup : Setup) (steps : List LivesStep) (number : ℕ) (letter : Lette
       record {
         text = says.text;
         number = told.0;
+        behind = told.2;
         letter = told.1;
         found = subst (λ (letters : List Letter). slice_get letters told.0 ≡ Some told.1) (sym posted) told.3;
         replies = subst (λ (to : SocketAddrV4). Replies letter.life to m.now says.text told.1) from_gateway told.4;
         reads = stored_reads says.text says.stored;
       }
 
-  pub replied : IsReplied setup after letter.life id (clock_of setup w)
+  pub replied : IsReplied setup w after letter.life id (clock_of setup w)
   replied = by_answers answers

@@ -1,7 +1,10 @@
 //! Laws of a network that was down and came back where the gateway started again.
-ghost use Rattle.std.specs.Prelude.{◌≡◌, ◌⊎◌, ◌≤◌, ◌+◌, ◌*◌, ℕ, List, Any, true};
+ghost use Rattle.std.specs.Prelude.{◌≡◌, ◌⊎◌, ◌≤◌, ◌+◌, ◌*◌, ℕ, List, Any, Some, true};
 ghost use Rattle.plain_machine.specs.declared.setup.Setup.{Setup};
-ghost use Rattle.plain_machine.specs.Machine.{serves};
+ghost use Rattle.restart.specs.declared.restart.Restart.TheVariants.{Serving};
+ghost use Rattle.plain_machine.specs.declared.endpoint.Endpoint.{Endpoint};
+ghost use Rattle.plain_machine.specs.Machine.{endpoint_at, serves};
+ghost use Rattle.agent_core.specs.World.{oldest_packet};
 ghost use Rattle.machine_laws.specs.Saying.{Begun};
 ghost use Rattle.delivery_laws.specs.Chances.{last_chance};
 ghost use Rattle.outage_laws.specs.AfterOutage.{gap_of, longest_pause};
@@ -60,4 +63,17 @@ pub fn what_a_new_life_has_in_flight_is_taken_after_an_outage()
         HasBegun w.life.setup w.life.took 0 b → since ≤ w.life.start + b.moment + last_chance →
         w.life.start + b.moment + 2 * within ≤ clock_of setup w → since + longest_pause + 2 * within ≤ clock_of setup w + 1 →
         HasResponse w.life.took b.id }
+{}
+
+/// A line of the life that goes on whose commands go to the agent has its agent and nothing to announce by then: behind the moment at which the
+/// network came back, or the start of its life, where that was later, the time between the last send whose answer comes in time and its
+/// announcement, and twice the network's time, which is a packet's greatest age at most (RFC 3435, 3.5.3 and 4.4.7).
+pub fn a_line_of_a_new_life_has_its_agent_again_after_an_outage()
+    ensures { (setup : Setup) (steps : List LivesStep) (since within line : ℕ) (endpoint : Endpoint) → IsRunOfLives setup steps →
+        within ≤ oldest_packet → LivesAreFairFrom setup steps since within → AgentHasRoomThen setup steps since →
+        let w = plain_lives setup steps in
+        ((b : Begun) → HasBegun w.life.setup w.life.took line b → LifeGoesToAgent setup w b.text) →
+        endpoint_at (gateway_of w.life).endpoints line ≡ Some endpoint →
+        since + gap_of within + setup.disconnected_wait + 2 * within ≤ clock_of setup w + 1 →
+        w.life.start + gap_of within + setup.disconnected_wait + 2 * within ≤ clock_of setup w + 1 → endpoint.post.restart ≡ Serving }
 {}
