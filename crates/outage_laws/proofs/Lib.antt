@@ -64,4 +64,5 @@ pub mod UnservedSends
 pub mod EachLine
 pub mod NextDue
 mod RoomlessRounds
-mod RoomlessLast
+mod RoomlessLine
+mod RoomlessHeld

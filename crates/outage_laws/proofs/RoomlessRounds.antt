@@ -1,6 +1,6 @@
 -- Key after key is told and taken: by induction, with the number of the line's next command as a variable.
-use Rattle.std.proofs.Common.{◌≡◌, ◌++◌, ◌-◌, ◌≤◌, ◌&&◌, suc, ℕ, ◌+◌, ◌*◌, ◌<◌, ◌==◌, Bool, true, false, [], ◌∷◌, List, Option, Some, None, refl, ap, sym, ◌∙◌, append-nil, append_assoc, zero, arith, if◌then◌else◌, subst}
-use Rattle.std.specs.Prelude.{codes, length, option_map, slice_get, map, nat_lt, is_none}
+use Rattle.std.proofs.Common.{◌≡◌, ◌++◌, ◌-◌, ◌≤◌, ◌&&◌, inl, inr, suc, ℕ, ◌+◌, ◌*◌, ◌<◌, ◌==◌, Bool, true, false, [], ◌∷◌, List, Option, Some, None, refl, ap, sym, ◌∙◌, append-nil, append_assoc, zero, arith, if◌then◌else◌, subst}
+use Rattle.std.specs.Prelude.{◌⊎◌, IfSome, codes, length, option_map, slice_get, map, nat_lt, is_none}
 use Rattle.std.specs.Option.{option_or}
 use Rattle.std.specs.declared.net.socket_addr.SocketAddrV4.{SocketAddrV4}
 use Rattle.std.proofs.lemmas.Bool.{eq-eqb, lt-ltb, ltb-true, ne_eqb}
@@ -25,11 +25,11 @@ use Rattle.history.specs.Memory.{is_young, memory_time}
 use Rattle.plain_machine.specs.Event.{phone}
 use Rattle.plain_machine.specs.Refusing.{refusal_of}
 use Rattle.plain_machine.specs.Message.{Sent, command, datagram_of, own_of}
-use Rattle.machine_laws.proofs.EachLemmas.{Each}
+use Rattle.machine_laws.proofs.EachLemmas.{Each, each_at}
 use Rattle.call_agent.specs.Taking.{command_of, read_command}
 use Rattle.agent_core.specs.declared.packet.End.TheVariants.{GatewayEnd as gateway_end}
 use Rattle.agent_core.specs.World.{agent_of, gateway_address, is_among, posted_as}
-use Rattle.outage_laws.specs.Roomless.{asked_for_keys, key_message, keyed, keys}
+use Rattle.outage_laws.specs.Roomless.{asked_at_once, base, key_message, keyed, keys, numbered, pressed, key_begun}
 use Rattle.mgcp_text.specs.Reading.{Outcome, read_text}
 use Rattle.history.specs.Looking.{Looked, new, full, look_of, recalled_from, told_by}
 use Rattle.history.specs.Memory.{most_firsts}
@@ -63,7 +63,7 @@ use Rattle.call_agent.specs.Hearing.{AgentEvent}
 use Rattle.call_agent.specs.Taking.{answer_to, executed}
 use Rattle.agent_core.specs.declared.packet.End.TheVariants.{AgentEnd as agent_end}
 use Rattle.agent_core.specs.World.{to_agent}
-use Rattle.world_laws.specs.Reached.{issued_in}
+use Rattle.world_laws.specs.Reached.{issued_in, own_in}
 use Rattle.world_laws.proofs.AgentLaws.{Goes, Speaks, event_on, never}
 use Rattle.world_laws.proofs.LinkLaws.{Linked, world_linked}
 use Rattle.delivery_laws.proofs.ExampleLemmas.{two_lines_set_up}
@@ -85,8 +85,15 @@ use Rattle.plain_machine.specs.Example.{two_lines}
 use Rattle.plain_machine.specs.Packing.{put_out}
 use Rattle.plain_machine.specs.Posting.{id_on, numbers, line_of_id}
 use Rattle.transmission.specs.declared.output.OutDatagram.{OutDatagram}
-use Rattle.outage_laws.specs.Roomless.{numbered, pressed}
 use Rattle.outage_laws.proofs.Computing.{on_examples}
+use Rattle.std.proofs.lemmas.Option.{none-some}
+use Rattle.machine_laws.specs.Saying.{begun_in}
+use Rattle.delivery_laws.specs.Fairness.{IsHandedOver}
+use Rattle.delivery_laws.proofs.RestLemmas.{begun_both}
+use Rattle.outage_laws.specs.AfterOutage.{IsFairFrom}
+use Rattle.outage_laws.proofs.FairFromExamples.{fair_from_is}
+
+-- What the gateway does with an answer, by parts that compute
 
 of_first : (n : ℕ) → n < numbers → line_of_id (id_on 1 n) ≡ 1
 of_first n below = div-mul-add 1 numbers n below
@@ -97,67 +104,80 @@ not_last n below = ne_eqb (n + 1) numbers (λ same. absurd (omega (arith, below,
 same_id : (n : ℕ) → (id_on 1 n == id_on 1 n) ≡ true
 same_id n = eq-eqb (id_on 1 n) (id_on 1 n) refl
 
-abbrev ends : ℕ → Endpoints
-ends n = (pressed n).value.endpoints
+abbrev ends : Machine → ℕ → Endpoints
+ends machine n = (pressed machine n).value.endpoints
 
 abbrev resp : ℕ → Response
 resp n = response_with two_lines (id_on 1 n) 200 []
 
-abbrev by_answer : (n : ℕ) → Bool → Effect Endpoints
-by_answer n b = on_line (ends n) 1 (λ (e : Endpoint). responded_as (heard_of e.post.restart (if b then reply_by 200 else Stranger) 200 None) two_lines 1 1 (resp n) e)
+abbrev by_answer : Machine → ℕ → ℕ → Bool → Effect Endpoints
+by_answer machine moment n b = on_line (ends machine n) 1 (λ (e : Endpoint). responded_as (heard_of e.post.restart (if b then reply_by 200 else Stranger) 200 None) two_lines 1 moment (resp n) e)
 
-abbrev by_line : (n : ℕ) → ℕ → Effect Endpoints
-by_line n l = if l == 0 then own_heard two_lines (ends n) 1 (resp n) else on_line (ends n) l (responded_on two_lines l 1 (resp n))
+abbrev by_line : Machine → ℕ → ℕ → ℕ → Effect Endpoints
+by_line machine moment n l = if l == 0 then own_heard two_lines (ends machine n) moment (resp n) else on_line (ends machine n) l (responded_on two_lines l moment (resp n))
 
-abbrev by_number : (n : ℕ) → Bool → Effect Endpoints
-by_number n b = silently (numbered (if b then 0 else n + 1)).endpoints
+abbrev by_number : Machine → ℕ → Bool → Effect Endpoints
+by_number machine n b = silently (numbered machine (if b then 0 else n + 1)).endpoints
 
-first_is : (n : ℕ) → responded two_lines (ends n) 1 (resp n) ≡ by_line n (line_of_id (id_on 1 n))
-first_is n = refl
+abbrev Whole : Machine → ℕ → ℕ → Effect Endpoints
+Whole machine moment n = responded two_lines (ends machine n) moment (resp n)
 
-second_is : (n : ℕ) → by_line n 1 ≡ by_answer n (id_on 1 n == id_on 1 n)
+abbrev pub key_sent : ℕ → ℕ → Sent
+key_sent moment n = record { to = at two_lines.agent.route 0; moment = moment; owner = own_of 1; said = command (key_message n) }
+
+-- Behind these a key is told at once, under each number; and the answer to that is followed by the next number.
+pub record Tells (machine : Machine) (moment : ℕ) : Type 0 where
+  pub sends : (n : ℕ) → (pressed machine n).sent ≡ key_sent moment n ∷ []
+  pub may : (n : ℕ) → refusal_of (numbered machine n) (phone 1 (Key Five)) ≡ None
+  pub clock : (n : ℕ) → (pressed machine n).value.now ≡ moment
+  pub mine : (n : ℕ) → by_line machine moment n 1 ≡ by_answer machine moment n (id_on 1 n == id_on 1 n)
+  pub next : (n : ℕ) → by_answer machine moment n true ≡ by_number machine n (n + 1 == numbers)
+  pub handles : (n : ℕ) (source : SocketAddrV4) → handled two_lines (pressed machine n).value source (message (messages.Response 200 (id_on 1 n) [] []))
+      ≡ record { value = record (pressed machine n).value { endpoints = (Whole machine moment n).value }; sent = (Whole machine moment n).sent }
+  pub restored : (n : ℕ) → record (pressed machine n).value { endpoints = (numbered machine (n + 1)).endpoints } ≡ numbered machine (n + 1)
+
+pub tells_at_once : Tells (base asked_at_once) 1
 unfolding on_examples
-second_is n = refl
+tells_at_once = record {
+  sends = λ n. refl;
+  may = λ n. refl;
+  clock = λ n. refl;
+  mine = λ n. refl;
+  next = λ n. refl;
+  handles = λ n source. refl;
+  restored = λ n. refl;
+}
 
-third_is : (n : ℕ) → by_answer n true ≡ by_number n (n + 1 == numbers)
-unfolding on_examples
-third_is n = refl
+module _ (machine : Machine) (moment : ℕ) (t : Tells machine moment) where
+  ends_then : (n : ℕ) → n + 1 < numbers → Whole machine moment n ≡ silently (numbered machine (n + 1)).endpoints
+  ends_then n below =
+      ap (by_line machine moment n) (of_first n (omega (arith, below))) ∙ t.mine n ∙ ap (by_answer machine moment n) (same_id n) ∙ t.next n ∙ ap (by_number machine n) (not_last n below)
 
-ends_then : (n : ℕ) → n + 1 < numbers → responded two_lines (ends n) 1 (resp n) ≡ silently (numbered (n + 1)).endpoints
-ends_then n below =
-    first_is n ∙ ap (by_line n) (of_first n (omega (arith, below))) ∙ second_is n ∙ ap (by_answer n) (same_id n) ∙ third_is n ∙ ap (by_number n) (not_last n below)
-
-handled_is : (n : ℕ) (source : SocketAddrV4) → handled two_lines (pressed n).value source (message (messages.Response 200 (id_on 1 n) [] []))
-    ≡ record { value = record (pressed n).value { endpoints = (responded two_lines (ends n) 1 (resp n)).value }; sent = (responded two_lines (ends n) 1 (resp n)).sent }
-unfolding on_examples
-handled_is n source = refl
+  answered_as : (n : ℕ) (source : SocketAddrV4) → n + 1 < numbers
+      → handled two_lines (pressed machine n).value source (message (messages.Response 200 (id_on 1 n) [] [])) ≡ silently (numbered machine (n + 1))
+  answered_as n source below =
+      t.handles n source
+      ∙ ap (λ (is : Effect Endpoints). (record { value = record (pressed machine n).value { endpoints = is.value }; sent = is.sent })) (ends_then n below)
+      ∙ ap (λ (m : Machine). silently m) (t.restored n)
 
 -- What is sent, and read
 
-abbrev pub key_sent : ℕ → Sent
-key_sent n = record { to = at two_lines.agent.route 0; moment = 1; owner = own_of 1; said = command (key_message n) }
-
-pub sent_is : (n : ℕ) → (pressed n).sent ≡ key_sent n ∷ []
+pub posted_is : (moment n : ℕ) → map (posted_as gateway_end (gateway_address two_lines)) (put_out (key_sent moment n ∷ []))
+    ≡ posted_as gateway_end (gateway_address two_lines) (datagram_of (key_sent moment n)) ∷ []
 unfolding on_examples
-sent_is n = refl
+posted_is moment n = refl
 
-pub posted_is : (n : ℕ) → map (posted_as gateway_end (gateway_address two_lines)) (put_out (key_sent n ∷ []))
-    ≡ posted_as gateway_end (gateway_address two_lines) (datagram_of (key_sent n)) ∷ []
+pub goes_there : (moment n : ℕ) → is_among two_lines.agent.route (datagram_of (key_sent moment n)).to ≡ true
 unfolding on_examples
-posted_is n = refl
+goes_there moment n = refl
 
-pub goes_there : (n : ℕ) → is_among two_lines.agent.route (datagram_of (key_sent n)).to ≡ true
-unfolding on_examples
-goes_there n = refl
+abbrev pub key_command : ℕ → GatewayCommand
+key_command n = read_command (agent_of two_lines) Ntfy (id_on 1 n) (codes "aaln/1@rgw.example.net")
+    ((record { code = codes "X"; value = codes "C2" }) ∷ (record { code = codes "O"; value = codes "D/5" }) ∷ [])
 
-command_is : (n : ℕ) → command_of (agent_of two_lines) (message (key_message n)) ≡ Some (read_command (agent_of two_lines) Ntfy (id_on 1 n) (codes "aaln/1@rgw.example.net")
-    ((record { code = codes "X"; value = codes "C2" }) ∷ (record { code = codes "O"; value = codes "D/5" }) ∷ []))
+pub command_is : (n : ℕ) → command_of (agent_of two_lines) (message (key_message n)) ≡ Some (key_command n)
 unfolding on_examples
 command_is n = refl
-
-pub not_refused : (n : ℕ) → refusal_of (numbered n) (phone 1 (Key Five)) ≡ None
-unfolding on_examples
-not_refused n = refl
 
 -- a text that goes out alone is one
 pub alone : (text : List ℕ) → is_joinable largest_datagram text ≡ true → texts_of text ≡ text ∷ []
@@ -172,52 +192,120 @@ alone text goes = ap (λ (b : Bool). if b then [] else parts_of text) (within (n
 
 -- The agent's look
 
-abbrev pub IsLow : ℕ → Entry → Type 0
-IsLow id (First first) = (first.id < id) × (first.moment ≡ 1)
-IsLow id (Confirmation spans) = Unit {0}
+-- a first came at this moment under an id between these
+abbrev pub IsLow : ℕ → ℕ → ℕ → Entry → Type 0
+IsLow least id moment (First first) = (least ≤ first.id) × (first.id < id) × (first.moment ≡ moment)
+IsLow least id moment (Confirmation spans) = Unit {0}
 
-pub low_not : (id other : ℕ) → id < other → (id == other) ≡ false
-low_not id other low = ne_eqb id other (λ same. absurd (omega (arith, low, same)))
+abbrev pub IsOther : ℕ → Entry → Type 0
+IsOther id (First first) = (first.id == id) ≡ false
+IsOther id (Confirmation spans) = Unit {0}
+
+pub low_other : (least id moment : ℕ) (entry : Entry) → IsLow least id moment entry → IsOther id entry
+low_other least id moment (First first) low = ne_eqb first.id id (λ same. absurd (let less = low.1 in omega (arith, less, same)))
+low_other least id moment (Confirmation spans) low = tt
+
+pub high_other : (least id moment other : ℕ) → other < least → (entry : Entry) → IsLow least id moment entry → IsOther other entry
+high_other least id moment other less (First first) low = ne_eqb first.id other (λ same. absurd (let more = low.0 in omega (arith, less, more, same)))
+high_other least id moment other less (Confirmation spans) low = tt
 
 abbrev found_of : List Entry → KeptFirst → Found
 found_of entries f = record { first = f; after = entries }
 
-pub latest_none : (id now : ℕ) (entries : List Entry) → Each (IsLow id) entries → latest entries id now ≡ None
+latest_none : (id now : ℕ) (entries : List Entry) → Each (IsOther id) entries → latest entries id now ≡ None
 unfolding latest
-latest_none id now [] low = refl
-latest_none id now (First first ∷ entries) low =
-    ap (λ (rest : Option Found). option_or rest (option_map (found_of entries) (repeated (First first) id now))) (latest_none id now entries low.1)
-    ∙ ap (λ (b : Bool). option_map (found_of entries) (if b && is_young now first.moment then Some first else None)) (low_not first.id id low.0.0)
-latest_none id now (Confirmation spans ∷ entries) low =
-    ap (λ (rest : Option Found). option_or rest None) (latest_none id now entries low.1)
+latest_none id now [] other = refl
+latest_none id now (First first ∷ entries) other =
+    ap (λ (rest : Option Found). option_or rest (option_map (found_of entries) (repeated (First first) id now))) (latest_none id now entries other.1)
+    ∙ ap (λ (b : Bool). option_map (found_of entries) (if b && is_young now first.moment then Some first else None)) other.0
+latest_none id now (Confirmation spans ∷ entries) other =
+    ap (λ (rest : Option Found). option_or rest None) (latest_none id now entries other.1)
 
-young_then : (now moment : ℕ) → moment ≡ 1 → now < 30000 → is_young now moment ≡ true
-young_then now moment at soon = lt-ltb (now - moment) memory_time (omega (arith, soon))
+young_then : (now moment first : ℕ) → first ≡ moment → now < moment + 30000 → is_young now first ≡ true
+young_then now moment first is soon = lt-ltb (now - first) memory_time (omega (arith, is, soon))
 
-pub young_all : (id now : ℕ) (entries : List Entry) → now < 30000 → Each (IsLow id) entries → length (young_firsts now entries) ≡ length (firsts_in entries)
-young_all id now [] soon low = refl
-young_all id now (First first ∷ entries) soon low =
-    ap (λ (b : Bool). length (if b then First first ∷ young_firsts now entries else young_firsts now entries)) (young_then now first.moment low.0.1 soon)
-    ∙ ap suc (young_all id now entries soon low.1)
-young_all id now (Confirmation spans ∷ entries) soon low = young_all id now entries soon low.1
+pub young_all : (least id moment now : ℕ) (entries : List Entry) → now < moment + 30000 → Each (IsLow least id moment) entries → length (young_firsts now entries) ≡ length (firsts_in entries)
+young_all least id moment now [] soon low = refl
+young_all least id moment now (First first ∷ entries) soon low =
+    ap (λ (b : Bool). length (if b then First first ∷ young_firsts now entries else young_firsts now entries)) (young_then now moment first.moment low.0.2 soon)
+    ∙ ap suc (young_all least id moment now entries soon low.1)
+young_all least id moment now (Confirmation spans ∷ entries) soon low = young_all least id moment now entries soon low.1
+
+looks_new : (least id moment count : ℕ) (entries : List Entry) → Each (IsLow least id moment) entries → length (firsts_in entries) ≡ count → count < most_firsts
+    → look_of most_firsts entries id moment ≡ new
+unfolding look_of
+looks_new least id moment count entries low same few =
+    ap (λ (f : Option Found). told_by (option_map (recalled_from id) f) (nat_lt (length (young_firsts moment entries)) most_firsts))
+    (latest_none id moment entries (each_weaker (IsLow least id moment) (IsOther id) (low_other least id moment) entries low))
+    ∙ ap (λ (b : Bool). told_by None b)
+    (lt-ltb (length (young_firsts moment entries)) most_firsts (let all = young_all least id moment moment entries (omega arith) low in omega (arith, all, same, few)))
+
+pub looks_full : (least id moment other now : ℕ) (entries : List Entry) → now < moment + 30000 → Each (IsLow least id moment) entries → Each (IsOther other) entries
+    → length (firsts_in entries) ≡ 4096 → look_of most_firsts entries other now ≡ full
+unfolding look_of
+looks_full least id moment other now entries soon low strange same =
+    ap (λ (f : Option Found). told_by (option_map (recalled_from other) f) (nat_lt (length (young_firsts now entries)) most_firsts)) (latest_none other now entries strange)
+    ∙ ap (λ (b : Bool). told_by None b) (ap (λ (x : ℕ). nat_lt x most_firsts) (young_all least id moment now entries soon low ∙ same))
+
+-- Packets that are handed over as they are sent
+
+abbrev pub IsGone : List WorldStep → ℕ → Posted → Type 0
+IsGone steps number post = IsHandedOver two_lines steps 0 number post
+
+-- so are all that are sent at this moment or later, by their numbers
+abbrev pub AllGone : (ℕ → ℕ) → List WorldStep → Type 0
+AllGone from steps = (number : ℕ) (post : Posted) → slice_get (plain_world two_lines steps).posted number ≡ Some post → from number ≤ post.packet.moment → IsGone steps number post
+
+pub gone_on : (steps more : List WorldStep) (number : ℕ) (post : Posted) → IsGone steps number post → IsGone (steps ++ more) number post
+gone_on steps more number post h = record {
+  before = h.before;
+  later = h.later ++ more;
+  order = ap (λ (s : List WorldStep). s ++ more) h.order ∙ append_assoc (h.before ++ delivering number ∷ []) h.later more;
+  sent = h.sent;
+  soon = h.soon;
+}
+
+abbrev OldOrNew : List Posted → Posted → ℕ → Posted → Type 0
+OldOrNew xs new_one number post = (slice_get xs number ≡ Some post) ⊎ ((number ≡ length xs) × (new_one ≡ post))
+
+one_further : (n last : ℕ) → n ≡ last → suc n ≡ suc last
+one_further n last same = omega (arith, same)
+
+same_post : (x y : Posted) → Some x ≡ Some y → x ≡ y
+same_post x y same = cc
+
+old_or_new : (xs : List Posted) (new_one : Posted) (number : ℕ) (post : Posted) → slice_get (xs ++ new_one ∷ []) number ≡ Some post → OldOrNew xs new_one number post
+old_or_new [] new_one zero post found = inr (refl, same_post new_one post found)
+old_or_new [] new_one (suc number) post found = absurd (none-some post found)
+old_or_new (x ∷ xs) new_one zero post found = inl found
+old_or_new (x ∷ xs) new_one (suc number) post found = by_rest (old_or_new xs new_one number post found) where
+  by_rest : OldOrNew xs new_one number post → OldOrNew (x ∷ xs) new_one (suc number) post
+  by_rest (inl old) = inl old
+  by_rest (inr is) = inr (one_further number (length xs) is.0, is.1)
 
 -- One key, told and answered
 
-abbrev pub post_of : ℕ → Posted
-post_of n = posted_as gateway_end (gateway_address two_lines) (datagram_of (key_sent n))
+abbrev pub post_of : ℕ → ℕ → Posted
+post_of moment n = posted_as gateway_end (gateway_address two_lines) (datagram_of (key_sent moment n))
 
-abbrev pub IsEarly : Posted → Type 0
-IsEarly post = (post.packet.moment ≤ 1) × (post.end ≡ gateway_end → arrives gateway_end two_lines post.packet ≡ true)
+abbrev pub answer_post : ℕ → ℕ → Posted
+answer_post moment n = posted_as agent_end (at two_lines.agent.route 0) (message_to (gateway_address two_lines) moment (answer_to (key_command n)))
 
-pub record Ready (steps : List WorldStep) (n place : ℕ) : Type 0 where
+abbrev pub IsGoing : Posted → Type 0
+IsGoing post = post.end ≡ gateway_end → arrives gateway_end two_lines post.packet ≡ true
+
+-- so many keys were told, and so many firsts are kept, of ids from the least one on; the gateway began so many commands
+pub record Ready (machine : Machine) (moment least : ℕ) (from : ℕ → ℕ) (more : ℕ) (steps : List WorldStep) (n place : ℕ) : Type 0 where
   pub taken : steps_are_taken two_lines world_opening steps ≡ true
-  pub gateway : gateway_in two_lines (plain_world two_lines steps) ≡ numbered n
-  pub now : (agent_in two_lines (plain_world two_lines steps)).now ≡ 1
+  pub gateway : gateway_in two_lines (plain_world two_lines steps) ≡ numbered machine n
+  pub now : (agent_in two_lines (plain_world two_lines steps)).now ≡ moment
   pub flights : (agent_in two_lines (plain_world two_lines steps)).flights ≡ []
-  pub low : Each (IsLow (id_on 1 n)) (agent_in two_lines (plain_world two_lines steps)).history
+  pub low : Each (IsLow least (id_on 1 n) moment) (agent_in two_lines (plain_world two_lines steps)).history
   pub count : length (firsts_in (agent_in two_lines (plain_world two_lines steps)).history) ≡ n + 1
   pub posts : length (plain_world two_lines steps).posted ≡ place
-  pub early : Each IsEarly (plain_world two_lines steps).posted
+  pub going : Each IsGoing (plain_world two_lines steps).posted
+  pub gone : AllGone from steps
+  pub began : length (own_in two_lines (plain_world two_lines steps)) ≡ n + more
 
 one_taken : (w : World) (step : WorldStep) → step_refusal two_lines w step ≡ None → steps_are_taken two_lines w (step ∷ []) ≡ true
 unfolding steps_are_taken
@@ -230,9 +318,15 @@ taken_on steps step taken none = taken_both two_lines world_opening steps (step 
 pub gateway_then : (w : World) (event : GatewayEvent) → gateway_in two_lines (to_gateway two_lines w event) ≡ (effect two_lines (gateway_in two_lines w) event).value
 gateway_then w event = machine_on two_lines (opening two_lines) w.gateway_took (event ∷ []) ∙ gateway_alone two_lines (gateway_in two_lines w) event
 
+pub own_then : (w : World) (event : GatewayEvent) → own_in two_lines (to_gateway two_lines w event) ≡ own_in two_lines w ++ begun_in (effect two_lines (gateway_in two_lines w) event).sent
+own_then w event = ap begun_in (sent_more two_lines (opening two_lines) w.gateway_took event) ∙ begun_both (sent_of two_lines w.gateway_took) (effect two_lines (gateway_in two_lines w) event).sent
+
 pub last_place : {X : Type 0} (xs : List X) (x : X) → slice_get (xs ++ x ∷ []) (length xs) ≡ Some x
 last_place [] x = refl
 last_place (y ∷ xs) x = last_place xs x
+
+pub found_last : (xs : List Posted) (x : Posted) (n : ℕ) → length xs ≡ n → slice_get (xs ++ x ∷ []) n ≡ Some x
+found_last xs x n is = ap (slice_get (xs ++ x ∷ [])) (sym is) ∙ last_place xs x
 
 pub dialled_is : (w : World) → went two_lines w (dialling 1 (Key Five)) ≡ to_gateway two_lines w (phone 1 (Key Five))
 unfolding went
@@ -254,51 +348,20 @@ delivery_taken w number post now found clock young =
     ∙ ap (λ (m : ℕ). if nat_lt oldest_packet (m - post.packet.moment) then Some packet_too_old else None) clock
     ∙ ap (λ (b : Bool). if b then Some packet_too_old else None) young
 
-abbrev pub key_command : ℕ → GatewayCommand
-key_command n = read_command (agent_of two_lines) Ntfy (id_on 1 n) (codes "aaln/1@rgw.example.net")
-    ((record { code = codes "X"; value = codes "C2" }) ∷ (record { code = codes "O"; value = codes "D/5" }) ∷ [])
+pub none_old : (moment : ℕ) → nat_lt oldest_packet (moment - moment) ≡ false
+none_old moment = by_age (moment - moment) (omega arith) where
+  by_age : (age : ℕ) → age ≡ 0 → nat_lt oldest_packet age ≡ false
+  by_age age none = ap (nat_lt oldest_packet) none
 
-pub heard : (m : AgentMachine) (source : SocketAddrV4) (n : ℕ) (text : List ℕ) (looked : Looked) → texts_of text ≡ text ∷ [] → read_text text ≡ message (key_message n)
-    → look_of most_firsts m.history (id_on 1 n) m.now ≡ looked
-    → agent_effect (agent_of two_lines) m (hears (datagram source text)) ≡ after (transacted_by looked m source (key_command n)) (λ (next : AgentMachine). idle next)
+pub heard : (m : AgentMachine) (source : SocketAddrV4) (text : List ℕ) (outcome : Outcome) (asked : GatewayCommand) (looked : Looked) → texts_of text ≡ text ∷ [] → read_text text ≡ outcome
+    → command_of (agent_of two_lines) outcome ≡ Some asked → look_of most_firsts m.history asked.id m.now ≡ looked
+    → agent_effect (agent_of two_lines) m (hears (datagram source text)) ≡ after (transacted_by looked m source asked) (λ (next : AgentMachine). idle next)
 unfolding agent_effect took_all agent_handled
-heard m source n text looked one reads looks =
+heard m source text outcome asked looked one reads is looks =
     ap (λ (texts : List (List ℕ)). took_all (agent_of two_lines) m source texts) one
     ∙ ap (λ (o : Outcome). after (handled_as (command_of (agent_of two_lines) o) o m source text) (λ (next : AgentMachine). idle next)) reads
-    ∙ ap (λ (c : Option GatewayCommand). after (handled_as c (message (key_message n)) m source text) (λ (next : AgentMachine). idle next)) (command_is n)
-    ∙ ap (λ (l : Looked). after (transacted_by l m source (key_command n)) (λ (next : AgentMachine). idle next)) looks
-
-looks_new : (id now count : ℕ) (entries : List Entry) → now < 30000 → Each (IsLow id) entries → length (firsts_in entries) ≡ count → count < most_firsts
-    → look_of most_firsts entries id now ≡ new
-unfolding look_of
-looks_new id now count entries soon low same few =
-    ap (λ (f : Option Found). told_by (option_map (recalled_from id) f) (nat_lt (length (young_firsts now entries)) most_firsts)) (latest_none id now entries low)
-    ∙ ap (λ (b : Bool). told_by None b) (lt-ltb (length (young_firsts now entries)) most_firsts (let all = young_all id now entries soon low in omega (arith, all, same, few)))
-
-pub looks_full : (id now : ℕ) (entries : List Entry) → now < 30000 → Each (IsLow id) entries → length (firsts_in entries) ≡ 4096
-    → look_of most_firsts entries id now ≡ full
-unfolding look_of
-looks_full id now entries soon low same =
-    ap (λ (f : Option Found). told_by (option_map (recalled_from id) f) (nat_lt (length (young_firsts now entries)) most_firsts)) (latest_none id now entries low)
-    ∙ ap (λ (b : Bool). told_by None b) (ap (λ (x : ℕ). nat_lt x most_firsts) (young_all id now entries soon low ∙ same))
-
-restored : (n : ℕ) → record (pressed n).value { endpoints = (numbered (n + 1)).endpoints } ≡ numbered (n + 1)
-unfolding on_examples
-restored n = refl
-
-pub now_pressed : (n : ℕ) → (pressed n).value.now ≡ 1
-unfolding on_examples
-now_pressed n = refl
-
-clock_numbered : (n : ℕ) → (numbered n).now ≡ 1
-unfolding on_examples
-clock_numbered n = refl
-
-answered_as : (n : ℕ) (source : SocketAddrV4) → n + 1 < numbers → handled two_lines (pressed n).value source (message (messages.Response 200 (id_on 1 n) [] [])) ≡ silently (numbered (n + 1))
-answered_as n source below =
-    handled_is n source
-    ∙ ap (λ (t : Effect Endpoints). (record { value = record (pressed n).value { endpoints = t.value }; sent = t.sent })) (ends_then n below)
-    ∙ ap (λ (m : Machine). silently m) (restored n)
+    ∙ ap (λ (c : Option GatewayCommand). after (handled_as c outcome m source text) (λ (next : AgentMachine). idle next)) is
+    ∙ ap (λ (l : Looked). after (transacted_by l m source asked) (λ (next : AgentMachine). idle next)) looks
 
 gateway_hears : (m : Machine) (source : SocketAddrV4) (text : List ℕ) (outcome : Outcome) → texts_of text ≡ text ∷ [] → read_text text ≡ outcome
     → effect two_lines m (datagram source text) ≡ record { value = (handled two_lines m source outcome).value; sent = (handled two_lines m source outcome).sent ++ [] }
@@ -310,14 +373,44 @@ gateway_hears m source text outcome one reads =
 numbers_more : (n : ℕ) → id_on 1 n < id_on 1 (n + 1)
 numbers_more n = omega arith
 
-low_on : (id next : ℕ) → id < next → (entry : Entry) → IsLow id entry → IsLow next entry
-low_on id next more (First first) low = (let is = low.0 in omega (arith, is, more), low.1)
-low_on id next more (Confirmation spans) low = tt
+low_on : (least id next moment : ℕ) → id < next → (entry : Entry) → IsLow least id moment entry → IsLow least next moment entry
+low_on least id next moment more (First first) low = (low.0, (let is = low.1 in omega (arith, is, more)), low.2)
+low_on least id next moment more (Confirmation spans) low = tt
 
-abbrev answer_post : ℕ → Posted
-answer_post n = posted_as agent_end (at two_lines.agent.route 0) (message_to (gateway_address two_lines) 1 (answer_to (key_command n)))
+pub at_now : (now moment : ℕ) → now ≡ moment → now ≤ moment + 0
+at_now now moment same = omega (arith, same)
 
-module _ (steps : List WorldStep) (n place : ℕ) (few : n + 1 < most_firsts) (r : Ready steps n place) where
+least_low : (least n : ℕ) → least ≤ 10000000 → least ≤ id_on 1 n
+least_low least n low = omega (arith, low)
+
+by_now : (moment now clock : ℕ) → moment ≤ now → clock ≡ now → moment + 0 ≤ clock
+by_now moment now clock early same = omega (arith, early, same)
+
+-- these packets, the first of which has this number, are sent so late at least as they are to be by their numbers
+abbrev pub AreLate : (ℕ → ℕ) → ℕ → ℕ → List Posted → Type 0
+AreLate from since first [] = Unit {0}
+AreLate from since first (post ∷ posts) = (from first ≤ post.packet.moment → since ≤ post.packet.moment) × AreLate from since (suc first) posts
+
+late_at : (from : ℕ → ℕ) (since first : ℕ) (posts : List Posted) (place number : ℕ) (post : Posted) → AreLate from since first posts → slice_get posts place ≡ Some post → number ≡ first + place
+    → from number ≤ post.packet.moment → since ≤ post.packet.moment
+late_at from since first [] place number post all found is late = absurd (none-some post found)
+late_at from since first (one ∷ posts) zero number post all found is late =
+    let same : one ≡ post = same_post one post found in
+    let at : number ≡ first = omega (arith, is) in
+    subst (λ (p : Posted). since ≤ p.packet.moment) same (all.0 (subst (λ (p : Posted). from first ≤ p.packet.moment) (sym same) (subst (λ (n : ℕ). from n ≤ post.packet.moment) at late)))
+late_at from since first (one ∷ posts) (suc place) number post all found is late = late_at from since (suc first) posts place number post all.1 found (omega (arith, is)) late
+
+pub gone_of : (front : List WorldStep) (now : ℕ) (from : ℕ → ℕ) (since : ℕ) → now_in two_lines (plain_world two_lines front) ≡ now
+    → Each (λ (post : Posted). post.packet.moment ≤ now) (plain_world two_lines front).posted → AreLate from since 0 (plain_world two_lines front).posted → IsFairFrom two_lines front since 0
+    → AllGone from front
+gone_of front now from since clock early all fair = λ number post found late.
+    fair number post found (late_at from since 0 (plain_world two_lines front).posted number number post all found (omega arith) late)
+    (by_now post.packet.moment now (now_in two_lines (plain_world two_lines front))
+    (subst (λ (o : Option Posted). IfSome o (λ (p : Posted). p.packet.moment ≤ now)) found
+    (each_at (λ (p : Posted). p.packet.moment ≤ now) (plain_world two_lines front).posted number early)) clock)
+
+module _ (machine : Machine) (moment least : ℕ) (from : ℕ → ℕ) (more : ℕ) (low_least : least ≤ 10000000) (t : Tells machine moment) (steps : List WorldStep) (n place : ℕ) (few : n + 1 < most_firsts)
+    (r : Ready machine moment least from more steps n place) where
   abbrev w : World
   w = plain_world two_lines steps
 
@@ -341,22 +434,25 @@ module _ (steps : List WorldStep) (n place : ℕ) (few : n + 1 < most_firsts) (r
   one_taken_too : steps_are_taken two_lines world_opening one ≡ true
   one_taken_too =
       taken_on steps (dialling 1 (Key Five)) r.taken
-      (dial_refusal w ∙ ap (λ (m : Machine). gateway_refused (refusal_of m key)) r.gateway ∙ ap gateway_refused (not_refused n))
+      (dial_refusal w ∙ ap (λ (m : Machine). gateway_refused (refusal_of m key)) r.gateway ∙ ap gateway_refused (t.may n))
 
-  gateway_one : gateway_in two_lines (plain_world two_lines one) ≡ (pressed n).value
+  gateway_one : gateway_in two_lines (plain_world two_lines one) ≡ (pressed machine n).value
   gateway_one = ap (gateway_in two_lines) one_is ∙ gateway_then w key ∙ ap (λ (m : Machine). (effect two_lines m key).value) r.gateway
+
+  clock_one : now_in two_lines (plain_world two_lines one) ≡ moment
+  clock_one = ap (λ (x : Machine). x.now) gateway_one ∙ t.clock n
 
   agent_one : agent_in two_lines (plain_world two_lines one) ≡ a
   agent_one = ap (agent_in two_lines) one_is
 
-  sent_one : (effect two_lines g key).sent ≡ key_sent n ∷ []
-  sent_one = ap (λ (m : Machine). (effect two_lines m key).sent) r.gateway ∙ sent_is n
+  sent_one : (effect two_lines g key).sent ≡ key_sent moment n ∷ []
+  sent_one = ap (λ (m : Machine). (effect two_lines m key).sent) r.gateway ∙ t.sends n
 
-  posted_one : (plain_world two_lines one).posted ≡ w.posted ++ post_of n ∷ []
+  posted_one : (plain_world two_lines one).posted ≡ w.posted ++ post_of moment n ∷ []
   posted_one =
       ap (λ (x : World). x.posted) one_is
       ∙ ap (λ (sent : List Sent). w.posted ++ map (posted_as gateway_end (gateway_address two_lines)) (put_out sent)) sent_one
-      ∙ ap (λ (new_ones : List Posted). w.posted ++ new_ones) (posted_is n)
+      ∙ ap (λ (new_ones : List Posted). w.posted ++ new_ones) (posted_is moment n)
 
   linked : Linked two_lines w
   linked = world_linked two_lines steps two_lines_set_up r.taken
@@ -367,7 +463,7 @@ module _ (steps : List WorldStep) (n place : ℕ) (few : n + 1 < most_firsts) (r
     all : Each (IsWell two_lines) (sent_of two_lines (w.gateway_took ++ key ∷ []))
     all = each_from_all (IsWell two_lines) (sent_of two_lines (w.gateway_took ++ key ∷ [])) (sent_well two_lines two_lines_set_up (w.gateway_took ++ key ∷ []))
 
-    here : Each (IsWell two_lines) (key_sent n ∷ [])
+    here : Each (IsWell two_lines) (key_sent moment n ∷ [])
     here =
         subst (Each (IsWell two_lines)) sent_one
         (each_back (IsWell two_lines) (sent_of two_lines w.gateway_took) (effect two_lines g key).sent
@@ -383,9 +479,8 @@ module _ (steps : List WorldStep) (n place : ℕ) (few : n + 1 < most_firsts) (r
   abbrev two : List WorldStep
   two = one ++ delivering place ∷ []
 
-  found_one : slice_get (plain_world two_lines one).posted place ≡ Some (post_of n)
-  found_one =
-      ap (λ (x : List Posted). slice_get x place) posted_one ∙ ap (λ (x : ℕ). slice_get (w.posted ++ post_of n ∷ []) x) (sym r.posts) ∙ last_place w.posted (post_of n)
+  found_one : slice_get (plain_world two_lines one).posted place ≡ Some (post_of moment n)
+  found_one = ap (λ (x : List Posted). slice_get x place) posted_one ∙ found_last w.posted (post_of moment n) place r.posts
 
   event : AgentEvent
   event = hears (datagram (gateway_address two_lines) (written (key_message n)))
@@ -393,16 +488,18 @@ module _ (steps : List WorldStep) (n place : ℕ) (few : n + 1 < most_firsts) (r
   two_is : plain_world two_lines two ≡ to_agent two_lines (plain_world two_lines one) (hears (datagram (gateway_address two_lines) (written (key_message n))))
   two_is =
       step_more two_lines one (delivering place)
-      ∙ delivered_is (plain_world two_lines one) place (post_of n) found_one
+      ∙ delivered_is (plain_world two_lines one) place (post_of moment n) found_one
       ∙ ap (λ (b : Bool). if b then to_agent two_lines (plain_world two_lines one) (hears (datagram (gateway_address two_lines) (written (key_message n)))) else plain_world two_lines one)
-      (goes_there n)
+      (goes_there moment n)
 
   looks : look_of most_firsts a.history (id_on 1 n) a.now ≡ new
-  looks = looks_new (id_on 1 n) a.now (n + 1) a.history (let clock = r.now in omega (arith, clock)) r.low r.count few
+  looks = ap (look_of most_firsts a.history (id_on 1 n)) r.now ∙ looks_new least (id_on 1 n) moment (n + 1) a.history r.low r.count few
 
   effect_two : agent_effect (agent_of two_lines) a (hears (datagram (gateway_address two_lines) (written (key_message n))))
       ≡ after (transacted_by new a (gateway_address two_lines) (key_command n)) (λ (next : AgentMachine). idle next)
-  effect_two = heard a (gateway_address two_lines) n (written (key_message n)) new (alone (written (key_message n)) goes_out) (read_again (key_message n) writable) looks
+  effect_two =
+      heard a (gateway_address two_lines) (written (key_message n)) (message (key_message n)) (key_command n) new (alone (written (key_message n)) goes_out)
+      (read_again (key_message n) writable) (command_is n) looks
 
   agent_two : agent_in two_lines (plain_world two_lines two) ≡ (executed a (gateway_address two_lines) (key_command n)).machine
   agent_two =
@@ -411,7 +508,7 @@ module _ (steps : List WorldStep) (n place : ℕ) (few : n + 1 < most_firsts) (r
       ∙ ap (λ (m : AgentMachine). (agent_effect (agent_of two_lines) m (hears (datagram (gateway_address two_lines) (written (key_message n))))).machine) agent_one
       ∙ ap (λ (e : AgentEffect). e.machine) effect_two
 
-  posted_two : (plain_world two_lines two).posted ≡ (w.posted ++ post_of n ∷ []) ++ answer_post n ∷ []
+  posted_two : (plain_world two_lines two).posted ≡ (w.posted ++ post_of moment n ∷ []) ++ answer_post moment n ∷ []
   unfolding packed_after
   posted_two =
       ap (λ (x : World). x.posted) two_is
@@ -419,15 +516,18 @@ module _ (steps : List WorldStep) (n place : ℕ) (few : n + 1 < most_firsts) (r
       (packed (agent_effect (agent_of two_lines) m (hears (datagram (gateway_address two_lines) (written (key_message n))))).sent)) agent_one
       ∙ ap (λ (e : AgentEffect). (plain_world two_lines one).posted ++ map (posted_as agent_end (at two_lines.agent.route 0)) (packed e.sent)) effect_two
       ∙ ap (λ (now : ℕ). (plain_world two_lines one).posted ++ posted_as agent_end (at two_lines.agent.route 0) (message_to (gateway_address two_lines) now (answer_to (key_command n))) ∷ []) r.now
-      ∙ ap (λ (x : List Posted). x ++ answer_post n ∷ []) posted_one
+      ∙ ap (λ (x : List Posted). x ++ answer_post moment n ∷ []) posted_one
 
-  gateway_two : gateway_in two_lines (plain_world two_lines two) ≡ (pressed n).value
+  clock_two : now_in two_lines (plain_world two_lines two) ≡ moment
+  clock_two = ap (λ (x : World). now_in two_lines x) two_is ∙ clock_one
+
+  gateway_two : gateway_in two_lines (plain_world two_lines two) ≡ (pressed machine n).value
   gateway_two = ap (gateway_in two_lines) two_is ∙ gateway_one
 
   two_taken : steps_are_taken two_lines world_opening two ≡ true
   two_taken =
       taken_on one (delivering place) one_taken_too
-      (delivery_taken (plain_world two_lines one) place (post_of n) 1 found_one (ap (λ (m : Machine). m.now) gateway_one ∙ now_pressed n) refl)
+      (delivery_taken (plain_world two_lines one) place (post_of moment n) moment found_one clock_one (none_old moment))
 
   -- so is its answer
 
@@ -450,47 +550,46 @@ module _ (steps : List WorldStep) (n place : ℕ) (few : n + 1 < most_firsts) (r
   abbrev three : List WorldStep
   three = two ++ delivering (place + 1) ∷ []
 
-  place_two : length (w.posted ++ post_of n ∷ []) ≡ place + 1
-  place_two = length-append w.posted (post_of n ∷ []) ∙ ap (λ (x : ℕ). x + 1) r.posts
+  place_two : length (w.posted ++ post_of moment n ∷ []) ≡ place + 1
+  place_two = length-append w.posted (post_of moment n ∷ []) ∙ ap (λ (x : ℕ). x + 1) r.posts
 
-  found_two : slice_get (plain_world two_lines two).posted (place + 1) ≡ Some (answer_post n)
-  found_two =
-      ap (λ (x : List Posted). slice_get x (place + 1)) posted_two
-      ∙ ap (λ (x : ℕ). slice_get ((w.posted ++ post_of n ∷ []) ++ answer_post n ∷ []) x) (sym place_two)
-      ∙ last_place (w.posted ++ post_of n ∷ []) (answer_post n)
+  found_two : slice_get (plain_world two_lines two).posted (place + 1) ≡ Some (answer_post moment n)
+  found_two = ap (λ (x : List Posted). slice_get x (place + 1)) posted_two ∙ found_last (w.posted ++ post_of moment n ∷ []) (answer_post moment n) (place + 1) place_two
 
   three_is : plain_world two_lines three ≡ to_gateway two_lines (plain_world two_lines two) (datagram (at two_lines.agent.route 0) (answer_to (key_command n)))
   three_is =
       step_more two_lines two (delivering (place + 1))
-      ∙ delivered_is (plain_world two_lines two) (place + 1) (answer_post n) found_two
+      ∙ delivered_is (plain_world two_lines two) (place + 1) (answer_post moment n) found_two
       ∙ ap (λ (b : Bool). if b then to_gateway two_lines (plain_world two_lines two) (datagram (at two_lines.agent.route 0) (answer_to (key_command n))) else plain_world two_lines two)
       (address_itself (gateway_address two_lines))
 
-  effect_three : effect two_lines (pressed n).value (datagram (at two_lines.agent.route 0) (answer_to (key_command n))) ≡ record { value = numbered (n + 1); sent = [] }
+  effect_three : effect two_lines (pressed machine n).value (datagram (at two_lines.agent.route 0) (answer_to (key_command n))) ≡ record { value = numbered machine (n + 1); sent = [] }
   effect_three =
-      gateway_hears (pressed n).value (at two_lines.agent.route 0) (answer_to (key_command n)) (message (messages.Response 200 (id_on 1 n) [] []))
+      gateway_hears (pressed machine n).value (at two_lines.agent.route 0) (answer_to (key_command n)) (message (messages.Response 200 (id_on 1 n) [] []))
       (alone (answer_to (key_command n)) answer_goes) reads
-      ∙ ap (λ (e : Effect Machine). (record { value = e.value; sent = e.sent ++ [] })) (answered_as n (at two_lines.agent.route 0) (omega (arith, few)))
+      ∙ ap (λ (e : Effect Machine). (record { value = e.value; sent = e.sent ++ [] })) (answered_as machine moment t n (at two_lines.agent.route 0) (omega (arith, few)))
 
-  pub next : Ready three (n + 1) (place + 2)
-  next = record {
+  pub next_key : Ready machine moment least from more three (n + 1) (place + 2)
+  next_key = record {
     taken = three_taken;
     gateway = ap (gateway_in two_lines) three_is ∙ gateway_then (plain_world two_lines two) (datagram (at two_lines.agent.route 0) (answer_to (key_command n)))
         ∙ ap (λ (m : Machine). (effect two_lines m (datagram (at two_lines.agent.route 0) (answer_to (key_command n)))).value) gateway_two
         ∙ ap (λ (e : Effect Machine). e.value) effect_three;
     now = ap (λ (m : AgentMachine). m.now) agent_three ∙ r.now;
     flights = ap (λ (m : AgentMachine). m.flights) agent_three ∙ r.flights;
-    low = subst (λ (m : AgentMachine). Each (IsLow (id_on 1 (n + 1))) m.history) (sym agent_three) low_then;
+    low = subst (λ (m : AgentMachine). Each (IsLow least (id_on 1 (n + 1)) moment) m.history) (sym agent_three) low_then;
     count = ap (λ (m : AgentMachine). length (firsts_in m.history)) agent_three ∙ count_then;
-    posts = ap length posted_three ∙ length-append (w.posted ++ post_of n ∷ []) (answer_post n ∷ []) ∙ ap (λ (x : ℕ). x + 1) place_two ∙ two_more place;
-    early = subst (Each IsEarly) (sym posted_three)
-        (each_both IsEarly (w.posted ++ post_of n ∷ []) (answer_post n ∷ [])
-        (each_both IsEarly w.posted (post_of n ∷ []) r.early (early_one, tt)) (early_two, tt));
+    posts = ap length posted_three ∙ length-append (w.posted ++ post_of moment n ∷ []) (answer_post moment n ∷ []) ∙ ap (λ (x : ℕ). x + 1) place_two ∙ two_more place;
+    going = subst (Each IsGoing) (sym posted_three)
+        (each_both IsGoing (w.posted ++ post_of moment n ∷ []) (answer_post moment n ∷ [])
+        (each_both IsGoing w.posted (post_of moment n ∷ []) r.going ((λ from_gateway. goes_there moment n), tt)) ((λ from_gateway. absurd cc), tt));
+    gone = gone_three;
+    began = ap length began_three ∙ length-append (own_in two_lines w) (key_begun moment n ∷ []) ∙ ap (λ (x : ℕ). x + 1) r.began ∙ one_begun n more;
   } where
     three_taken : steps_are_taken two_lines world_opening three ≡ true
     three_taken =
         taken_on two (delivering (place + 1)) two_taken
-        (delivery_taken (plain_world two_lines two) (place + 1) (answer_post n) 1 found_two (ap (λ (m : Machine). m.now) gateway_two ∙ now_pressed n) refl)
+        (delivery_taken (plain_world two_lines two) (place + 1) (answer_post moment n) moment found_two clock_two (none_old moment))
 
     agent_three : agent_in two_lines (plain_world two_lines three) ≡ (executed a (gateway_address two_lines) (key_command n)).machine
     agent_three = ap (agent_in two_lines) three_is ∙ agent_two
@@ -498,12 +597,12 @@ module _ (steps : List WorldStep) (n place : ℕ) (few : n + 1 < most_firsts) (r
     one_entry : Entry
     one_entry = first_entry (id_on 1 n) a.now (answer_to (key_command n))
 
-    low_then : Each (IsLow (id_on 1 (n + 1))) ((a.history ++ Confirmation (key_command n).confirms ∷ []) ++ first_entry (id_on 1 n) a.now (answer_to (key_command n)) ∷ [])
+    low_then : Each (IsLow least (id_on 1 (n + 1)) moment) ((a.history ++ Confirmation (key_command n).confirms ∷ []) ++ first_entry (id_on 1 n) a.now (answer_to (key_command n)) ∷ [])
     low_then =
-        each_both (IsLow (id_on 1 (n + 1))) (a.history ++ Confirmation (key_command n).confirms ∷ []) (first_entry (id_on 1 n) a.now (answer_to (key_command n)) ∷ [])
-        (each_both (IsLow (id_on 1 (n + 1))) a.history (Confirmation (key_command n).confirms ∷ [])
-        (each_weaker (IsLow (id_on 1 n)) (IsLow (id_on 1 (n + 1))) (low_on (id_on 1 n) (id_on 1 (n + 1)) (numbers_more n)) a.history r.low) (tt, tt))
-        ((numbers_more n, r.now), tt)
+        each_both (IsLow least (id_on 1 (n + 1)) moment) (a.history ++ Confirmation (key_command n).confirms ∷ []) (first_entry (id_on 1 n) a.now (answer_to (key_command n)) ∷ [])
+        (each_both (IsLow least (id_on 1 (n + 1)) moment) a.history (Confirmation (key_command n).confirms ∷ [])
+        (each_weaker (IsLow least (id_on 1 n) moment) (IsLow least (id_on 1 (n + 1)) moment) (low_on least (id_on 1 n) (id_on 1 (n + 1)) moment (numbers_more n)) a.history r.low) (tt, tt))
+        ((least_low least n low_least, numbers_more n, r.now), tt)
 
     count_then : length (firsts_in ((a.history ++ Confirmation (key_command n).confirms ∷ []) ++ first_entry (id_on 1 n) a.now (answer_to (key_command n)) ∷ [])) ≡ n + 1 + 1
     count_then =
@@ -513,7 +612,7 @@ module _ (steps : List WorldStep) (n place : ℕ) (few : n + 1 < most_firsts) (r
         ∙ length-append (firsts_in a.history) (firsts_in (first_entry (id_on 1 n) a.now (answer_to (key_command n)) ∷ []))
         ∙ ap (λ (x : ℕ). x + 1) r.count
 
-    posted_three : (plain_world two_lines three).posted ≡ (w.posted ++ post_of n ∷ []) ++ answer_post n ∷ []
+    posted_three : (plain_world two_lines three).posted ≡ (w.posted ++ post_of moment n ∷ []) ++ answer_post moment n ∷ []
     posted_three =
         ap (λ (x : World). x.posted) three_is
         ∙ ap (λ (m : Machine). (plain_world two_lines two).posted ++ map (posted_as gateway_end (gateway_address two_lines))
@@ -524,32 +623,80 @@ module _ (steps : List WorldStep) (n place : ℕ) (few : n + 1 < most_firsts) (r
     two_more : (x : ℕ) → x + 1 + 1 ≡ x + 2
     two_more x = omega arith
 
-    early_one : IsEarly (post_of n)
-    early_one = (omega arith, λ from. goes_there n)
+    one_begun : (x y : ℕ) → x + y + 1 ≡ x + 1 + y
+    one_begun x y = omega arith
 
-    early_two : IsEarly (answer_post n)
-    early_two = (omega arith, λ from. absurd cc)
+    gone_key : IsGone three place (post_of moment n)
+    gone_key = record {
+      before = one;
+      later = delivering (place + 1) ∷ [];
+      order = refl;
+      sent = found_one;
+      soon = at_now (now_in two_lines (plain_world two_lines one)) moment clock_one;
+    }
+
+    gone_answer : IsGone three (place + 1) (answer_post moment n)
+    gone_answer = record {
+      before = two;
+      later = [];
+      order = sym (append-nil three);
+      sent = found_two;
+      soon = at_now (now_in two_lines (plain_world two_lines two)) moment clock_two;
+    }
+
+    by_key : (number : ℕ) (post : Posted) → from number ≤ post.packet.moment → OldOrNew w.posted (post_of moment n) number post → IsGone three number post
+    by_key number post late (inl old) =
+        gone_on two (delivering (place + 1) ∷ []) number post (gone_on one (delivering place ∷ []) number post (gone_on steps (dialling 1 (Key Five) ∷ []) number post (r.gone number post old late)))
+    by_key number post late (inr is) = subst (λ (k : ℕ). IsGone three k post) (sym (is.0 ∙ r.posts)) (subst (IsGone three place) is.1 gone_key)
+
+    by_answer_too : (number : ℕ) (post : Posted) → from number ≤ post.packet.moment → OldOrNew (w.posted ++ post_of moment n ∷ []) (answer_post moment n) number post → IsGone three number post
+    by_answer_too number post late (inl old) = by_key number post late (old_or_new w.posted (post_of moment n) number post old)
+    by_answer_too number post late (inr is) = subst (λ (k : ℕ). IsGone three k post) (sym (is.0 ∙ place_two)) (subst (IsGone three (place + 1)) is.1 gone_answer)
+
+    gone_three : AllGone from three
+    gone_three number post found late =
+        by_answer_too number post late
+        (old_or_new (w.posted ++ post_of moment n ∷ []) (answer_post moment n) number post (ap (λ (x : List Posted). slice_get x number) (sym posted_three) ∙ found))
+
+    began_three : own_in two_lines (plain_world two_lines three) ≡ own_in two_lines w ++ key_begun moment n ∷ []
+    began_three =
+        ap (own_in two_lines) three_is ∙ own_then (plain_world two_lines two) (datagram (at two_lines.agent.route 0) (answer_to (key_command n)))
+        ∙ ap (λ (m : Machine). own_in two_lines (plain_world two_lines two) ++ begun_in (effect two_lines m (datagram (at two_lines.agent.route 0) (answer_to (key_command n)))).sent) gateway_two
+        ∙ ap (λ (e : Effect Machine). own_in two_lines (plain_world two_lines two) ++ begun_in e.sent) effect_three
+        ∙ append-nil (own_in two_lines (plain_world two_lines two))
+        ∙ ap (own_in two_lines) two_is ∙ ap (own_in two_lines) one_is ∙ own_then w key
+        ∙ ap (λ (sent : List Sent). own_in two_lines w ++ begun_in sent) sent_one
 
 -- So many keys
 
-base_ready : Ready asked_for_keys 1 6
+-- all packets
+abbrev pub from_first : ℕ → ℕ
+from_first number = 0
+
+first_ready : Ready (base asked_at_once) 1 1 from_first 1 asked_at_once 1 6
 unfolding on_examples
-base_ready = record {
+first_ready = record {
   taken = refl;
   gateway = refl;
   now = refl;
   flights = refl;
-  low = (tt, ((omega arith, refl), (tt, ((omega arith, refl), tt))));
+  low = (tt, ((omega arith, omega arith, refl), (tt, ((omega arith, omega arith, refl), tt))));
   count = refl;
   posts = refl;
-  early = ((omega arith, λ from. refl), ((omega arith, λ from. absurd cc), ((omega arith, λ from. refl), ((omega arith, λ from. absurd cc), ((omega arith, λ from. absurd cc), ((omega arith, λ from. refl), tt))))));
+  going = ((λ from. refl), ((λ from. absurd cc), ((λ from. refl), ((λ from. absurd cc), ((λ from. absurd cc), ((λ from. refl), tt))))));
+  gone = gone_of asked_at_once 1 from_first 0 refl (omega arith, (omega arith, (omega arith, (omega arith, (omega arith, (omega arith, tt))))))
+      ((λ late. late), ((λ late. late), ((λ late. late), ((λ late. late), ((λ late. late), ((λ late. late), tt)))))) (fair_from_is two_lines asked_at_once 0 0 refl);
+  began = refl;
 }
 
 number_on : (k : ℕ) → k + 1 + 1 ≡ suc k + 1
 number_on k = omega arith
 
-place_on : (k : ℕ) → 6 + 2 * k + 2 ≡ 6 + 2 * suc k
-place_on k = omega arith
+place_on : (place k : ℕ) → place + 2 * k + 2 ≡ place + 2 * suc k
+place_on place k = omega arith
+
+place_first : (place : ℕ) → place ≡ place + 2 * 0
+place_first place = omega arith
 
 few_on : (k : ℕ) → suc k ≤ 4094 → k + 1 + 1 < most_firsts
 few_on k low = omega (arith, low)
@@ -557,24 +704,33 @@ few_on k low = omega (arith, low)
 low_before : (k : ℕ) → suc k ≤ 4094 → k ≤ 4094
 low_before k low = omega (arith, low)
 
-keyed_more : (k : ℕ) → (((asked_for_keys ++ keys k) ++ dialling 1 (Key Five) ∷ []) ++ delivering (6 + 2 * k) ∷ []) ++ delivering (6 + 2 * k + 1) ∷ [] ≡ keyed (suc k)
-unfolding keys
-keyed_more k =
-    let a : WorldStep = dialling 1 (Key Five) in
-    let b : WorldStep = delivering (6 + 2 * k) in
-    let c : WorldStep = delivering (6 + 2 * k + 1) in
-    let s : List WorldStep = asked_for_keys ++ keys k in
-    ap (λ (x : List WorldStep). x ++ c ∷ []) (append_assoc s (a ∷ []) (b ∷ [])) ∙ append_assoc s (a ∷ b ∷ []) (c ∷ [])
-    ∙ append_assoc asked_for_keys (keys k) (a ∷ b ∷ c ∷ [])
+module _ (front : List WorldStep) (machine : Machine) (moment least : ℕ) (from : ℕ → ℕ) (more place : ℕ) (low_least : least ≤ 10000000) (t : Tells machine moment)
+    (opens : Ready machine moment least from more front 1 place) where
+  keyed_more : (k : ℕ) → (((front ++ keys place k) ++ dialling 1 (Key Five) ∷ []) ++ delivering (place + 2 * k) ∷ []) ++ delivering (place + 2 * k + 1) ∷ [] ≡ keyed front place (suc k)
+  unfolding keys
+  keyed_more k =
+      let a : WorldStep = dialling 1 (Key Five) in
+      let b : WorldStep = delivering (place + 2 * k) in
+      let c : WorldStep = delivering (place + 2 * k + 1) in
+      let s : List WorldStep = front ++ keys place k in
+      ap (λ (x : List WorldStep). x ++ c ∷ []) (append_assoc s (a ∷ []) (b ∷ [])) ∙ append_assoc s (a ∷ b ∷ []) (c ∷ [])
+      ∙ append_assoc front (keys place k) (a ∷ b ∷ c ∷ [])
 
-keyed_none : asked_for_keys ≡ keyed 0
-unfolding keys
-keyed_none = sym (append-nil asked_for_keys)
+  keyed_none : front ≡ keyed front place 0
+  unfolding keys
+  keyed_none = sym (append-nil front)
 
-pub ready : (k : ℕ) → k ≤ 4094 → Ready (keyed k) (k + 1) (6 + 2 * k)
-ready zero low = subst (λ (s : List WorldStep). Ready s 1 6) keyed_none base_ready
-ready (suc k) low =
-    subst (λ (p : ℕ). Ready (keyed (suc k)) (suc k + 1) p) (place_on k)
-    (subst (λ (m : ℕ). Ready (keyed (suc k)) m (6 + 2 * k + 2)) (number_on k)
-    (subst (λ (s : List WorldStep). Ready s (k + 1 + 1) (6 + 2 * k + 2)) (keyed_more k)
-    (next (keyed k) (k + 1) (6 + 2 * k) (few_on k low) (ready k (low_before k low)))))
+  pub ready : (k : ℕ) → k ≤ 4094 → Ready machine moment least from more (keyed front place k) (k + 1) (place + 2 * k)
+  ready zero low =
+      subst (λ (p : ℕ). Ready machine moment least from more (keyed front place 0) 1 p) (place_first place)
+      (subst (λ (s : List WorldStep). Ready machine moment least from more s 1 place) keyed_none opens)
+  ready (suc k) low =
+      subst (λ (p : ℕ). Ready machine moment least from more (keyed front place (suc k)) (suc k + 1) p) (place_on place k)
+      (subst (λ (m : ℕ). Ready machine moment least from more (keyed front place (suc k)) m (place + 2 * k + 2)) (number_on k)
+      (subst (λ (s : List WorldStep). Ready machine moment least from more s (k + 1 + 1) (place + 2 * k + 2)) (keyed_more k)
+      (next_key machine moment least from more low_least t (keyed front place k) (k + 1) (place + 2 * k) (few_on k low) (ready k (low_before k low)))))
+
+-- 4,096 commands are taken
+
+pub filled : Ready (base asked_at_once) 1 1 from_first 1 (keyed asked_at_once 6 4094) 4095 8194
+filled = ready asked_at_once (base asked_at_once) 1 1 from_first 1 6 (omega arith) tells_at_once first_ready 4094 (omega arith)

@@ -1,49 +1,75 @@
--- A world whose agent has no room: line 1 tells each key that is pressed at once, 4,096 commands are taken within 30 s, and the next isn't.
-use Rattle.std.specs.Prelude.{ℕ, zero, suc, ◌+◌, ◌*◌, codes, List, [], ◌∷◌, ◌++◌}
+-- Worlds whose agent has no room: line 1 tells each key that is pressed at once, 4,096 commands are taken within 30 s, and the next isn't.
+use Rattle.std.specs.Prelude.{ℕ, zero, suc, ◌+◌, ◌*◌, codes, List, [], ◌∷◌, ◌++◌, map}
+use Rattle.std.specs.List.{range_with_len}
 use Rattle.mgcp_text.specs.declared.message.Message.{Message}
 use Rattle.mgcp_text.specs.declared.message.Message.TheVariants as messages
 use Rattle.mgcp_text.specs.declared.message.Verb.TheVariants.{Ntfy}
 use Rattle.mgcp_text.specs.Writing.{written}
-use Rattle.mg_line.specs.declared.phone.Act.TheVariants.{Key}
+use Rattle.mg_line.specs.declared.phone.Act.TheVariants.{Key, OffHook}
 use Rattle.mg_line.specs.declared.phone.Key.TheVariants.{Five}
 use Rattle.plain_machine.specs.declared.endpoint.Endpoint.{Endpoint}
-use Rattle.plain_machine.specs.Example.{two_lines}
-use Rattle.plain_machine.specs.Event.{phone}
+use Rattle.plain_machine.specs.Example.{from_agent, two_lines}
+use Rattle.plain_machine.specs.Event.{GatewayEvent, phone, tick}
 use Rattle.plain_machine.specs.Effect.{Effect}
 use Rattle.plain_machine.specs.Happening.{effect}
+use Rattle.plain_machine.specs.Lists.{plain}
 use Rattle.plain_machine.specs.Machine.{Machine}
 use Rattle.plain_machine.specs.Posting.{id_on}
 use Rattle.machine_laws.specs.Saying.{Begun}
 use Rattle.agent_core.specs.World.{WorldStep, delivering, dialling, gateway_in, issuing, plain_world, ticking}
-use Rattle.delivery_laws.specs.Example.{brought}
+use Rattle.world_laws.specs.Example.{announced, seconds}
 
--- line 1 is lifted, tells that, and is asked for each key from then on, packet 4; it accepts that, packet 5
-abbrev pub asked_for_keys : List WorldStep
-asked_for_keys =
-    brought ++ issuing (codes "RQNT") (codes "aaln/1@rgw.example.net") (codes "X: C2\r\nR: D/[0-9*#](N)\r\nQ: loop\r\n")
-    ∷ delivering 4 ∷ delivering 5 ∷ []
+-- the agent asks line 1 for each key, again and again
+abbrev pub asks_for_keys : WorldStep
+asks_for_keys = issuing (codes "RQNT") (codes "aaln/1@rgw.example.net") (codes "X: C2\r\nR: D/[0-9*#](N)\r\nQ: loop\r\n")
 
--- so many keys, each with its notification, which is handed over at once, as its answer is
-unfoldable pub keys : ℕ → List WorldStep
-keys zero = []
-keys (suc k) = keys k ++ dialling 1 (Key Five) ∷ delivering (6 + 2 * k) ∷ delivering (6 + 2 * k + 1) ∷ []
+-- line 1 is lifted, and tells that, packet 2, which is answered, packet 3; it is asked, packet 4, and accepts that, packet 5
+abbrev pub asked_at_once : List WorldStep
+asked_at_once = announced ++ dialling 1 OffHook ∷ delivering 2 ∷ delivering 3 ∷ asks_for_keys ∷ delivering 4 ∷ delivering 5 ∷ []
 
-abbrev pub keyed : ℕ → List WorldStep
-keyed k = asked_for_keys ++ keys k
+-- the agent's answer to the command with this id
+abbrev pub answer_to : ℕ → List ℕ
+answer_to id = written (messages.Response 200 id [] [])
 
--- the gateway then, where the next number of line 1 is this; and once the key is pressed
-abbrev pub base : Machine
-base = gateway_in two_lines (plain_world two_lines asked_for_keys)
+-- The gateway's announcement, packets 0 to 7, isn't handed over, and given up at 23,501; 1 ms later the next one is, packet 8, and answered,
+-- packet 9. Then the line is lifted, and tells that, packets 10 and 11, and is asked, packets 12 and 13.
+abbrev pub asked_late : List WorldStep
+asked_late =
+    seconds 24 ++ ticking 23501 ∷ ticking 23502 ∷ delivering 8 ∷ delivering 9 ∷ dialling 1 OffHook ∷ delivering 10 ∷ delivering 11
+    ∷ asks_for_keys ∷ delivering 12 ∷ delivering 13 ∷ []
 
+-- what the gateway took of these
+abbrev pub took_late : List GatewayEvent
+took_late =
+    map (λ second. tick (second * 1000 + 1)) (range_with_len 0 24) ++ tick 23501 ∷ tick 23502 ∷ from_agent (answer_to 2) ∷ phone 1 OffHook
+    ∷ from_agent (answer_to 10000000)
+    ∷ from_agent (codes "RQNT 1 aaln/1@rgw.example.net MGCP 1.0\r\nX: C2\r\nR: D/[0-9*#](N)\r\nQ: loop\r\n") ∷ []
+
+abbrev pub late_machine : Machine
+late_machine = plain two_lines took_late
+
+-- so many keys, each with its notification, which is handed over at once, as its answer is; the first has the packet with this number
+unfoldable pub keys : ℕ → ℕ → List WorldStep
+keys place zero = []
+keys place (suc k) = keys place k ++ dialling 1 (Key Five) ∷ delivering (place + 2 * k) ∷ delivering (place + 2 * k + 1) ∷ []
+
+abbrev pub keyed : List WorldStep → ℕ → ℕ → List WorldStep
+keyed front place k = front ++ keys place k
+
+-- the gateway behind these
+abbrev pub base : List WorldStep → Machine
+base front = gateway_in two_lines (plain_world two_lines front)
+
+-- a gateway, where the next number of line 1 is this; and once the key is pressed
 abbrev pub numbered_first : ℕ → List Endpoint → List Endpoint
 numbered_first number [] = []
 numbered_first number (one ∷ others) = record one { post = record one.post { number = number } } ∷ others
 
-abbrev pub numbered : ℕ → Machine
-numbered number = record base { endpoints = record base.endpoints { list = numbered_first number base.endpoints.list } }
+abbrev pub numbered : Machine → ℕ → Machine
+numbered m number = record m { endpoints = record m.endpoints { list = numbered_first number m.endpoints.list } }
 
-abbrev pub pressed : ℕ → Effect Machine
-pressed number = effect two_lines (numbered number) (phone 1 (Key Five))
+abbrev pub pressed : Machine → ℕ → Effect Machine
+pressed m number = effect two_lines (numbered m number) (phone 1 (Key Five))
 
 -- the notification of one key, under this number
 abbrev pub key_message : ℕ → Message
@@ -51,15 +77,64 @@ key_message number =
     messages.Command Ntfy (id_on 1 number) (codes "aaln/1@rgw.example.net")
     ((record { code = codes "X"; value = codes "C2" }) ∷ (record { code = codes "O"; value = codes "D/5" }) ∷ []) []
 
-abbrev pub key_begun : ℕ → Begun
-key_begun number = record { id = id_on 1 number; moment = 1; text = written (key_message number) }
+abbrev pub key_begun : ℕ → ℕ → Begun
+key_begun moment number = record { id = id_on 1 number; moment = moment; text = written (key_message number) }
 
--- the agent has taken 4,096 commands then; the next key's notification is sent at 1, 501, 1,501 and 3,501,
--- the last three handed over at once
-abbrev pub last_key : List WorldStep
-last_key =
-    dialling 1 (Key Five) ∷ ticking 501 ∷ delivering 8195 ∷ ticking 1501 ∷ delivering 8196 ∷ ticking 2501 ∷ ticking 3501 ∷ delivering 8197
-    ∷ ticking 4001 ∷ []
+-- Of a line: the agent has taken 4,096 commands then; the notification of the next key isn't taken, packet 8,194, and the key behind it is
+-- quarantined
+
+abbrev pub two_more : List WorldStep
+two_more = dialling 1 (Key Five) ∷ delivering 8194 ∷ dialling 1 (Key Five) ∷ []
+
+abbrev pub full_at_once : List WorldStep
+full_at_once = keyed asked_at_once 6 4094 ++ two_more
+
+-- the clock goes on; each copy, packets 8,195 to 8,201, is handed over as it is sent, and none is taken
+abbrev pub untaken_first : List WorldStep
+untaken_first =
+    ticking 501 ∷ delivering 8195 ∷ ticking 1501 ∷ delivering 8196 ∷ ticking 2501 ∷ ticking 3501 ∷ delivering 8197 ∷ ticking 4501
+    ∷ ticking 5501 ∷ ticking 6501 ∷ ticking 7501 ∷ delivering 8198 ∷ ticking 8501 ∷ ticking 9501 ∷ []
+
+abbrev pub untaken_then : List WorldStep
+untaken_then =
+    ticking 10501 ∷ ticking 11501 ∷ delivering 8199 ∷ ticking 12501 ∷ ticking 13501 ∷ ticking 14501 ∷ ticking 15501 ∷ delivering 8200
+    ∷ ticking 16501 ∷ ticking 17501 ∷ ticking 18501 ∷ ticking 19501 ∷ delivering 8201 ∷ ticking 20501 ∷ []
+
+abbrev pub untaken_on : List WorldStep
+untaken_on = ticking 21501 ∷ ticking 22501 ∷ []
+
+abbrev pub roomless_soon : List WorldStep
+roomless_soon = full_at_once ++ untaken_first
+
+abbrev pub roomless_later : List WorldStep
+roomless_later = roomless_soon ++ untaken_then
 
 abbrev pub roomless : List WorldStep
-roomless = keyed 4094 ++ last_key
+roomless = roomless_later ++ untaken_on
+
+-- and the notification is given up
+abbrev pub roomless_given_up : List WorldStep
+roomless_given_up = roomless ++ ticking 23501 ∷ []
+
+-- what the gateway takes behind the first of them, up to the last but one
+abbrev pub ticks_then : List GatewayEvent
+ticks_then =
+    tick 10501 ∷ tick 11501 ∷ tick 12501 ∷ tick 13501 ∷ tick 14501 ∷ tick 15501 ∷ tick 16501 ∷ tick 17501 ∷ tick 18501 ∷ tick 19501
+    ∷ tick 20501 ∷ []
+
+abbrev pub ticks_on : List GatewayEvent
+ticks_on = tick 21501 ∷ tick 22501 ∷ []
+
+-- the gateway behind both keys
+abbrev pub twice_pressed : Machine
+twice_pressed = (effect two_lines (pressed (base asked_at_once) 4095).value (phone 1 (Key Five))).value
+
+-- Of the gateway itself: the last copy of its first announcement comes 4,001 ms behind its send, and isn't taken
+
+abbrev pub own_roomless_then : List WorldStep
+own_roomless_then = keyed asked_late 14 4094 ++ delivering 7 ∷ []
+
+abbrev pub own_roomless : List WorldStep
+own_roomless =
+    own_roomless_then ++ ticking 24502 ∷ ticking 25502 ∷ ticking 26502 ∷ ticking 27502 ∷ ticking 28502 ∷ ticking 29502 ∷ ticking 30502
+    ∷ ticking 31502 ∷ []

@@ -17,6 +17,7 @@ pub mod more_premise_examples;
 pub mod premise_examples;
 pub mod response_examples;
 pub mod response_laws;
+pub mod roomless_examples;
 pub mod sent_examples;
 pub mod since_examples;
 pub mod since_laws;

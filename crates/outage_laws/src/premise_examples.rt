@@ -37,7 +37,6 @@ ghost use Rattle.outage_laws.specs.Premises.{never_begun, notified_four_times, o
 ghost use Rattle.outage_laws.specs.Premises.{own_answered_untaken, own_answered_untaken_soon, own_lost_at_first, own_on_its_way};
 ghost use Rattle.outage_laws.specs.Premises.{own_put_back, parted, parted_announcement, post_in, put_back, reported_elsewhere};
 ghost use Rattle.outage_laws.specs.Premises.{responding, served_never, twenty_behind, wordy, wordy_notification};
-ghost use Rattle.outage_laws.specs.Roomless.{key_begun, roomless};
 
 /// What wasn't begun isn't sent; and what is given up isn't in flight 23,500 ms behind its first send, though no response to it came.
 pub fn else_a_gateway_sends_nothing()
@@ -301,18 +300,4 @@ pub fn else_a_first_makes_no_room()
     ensures came_later { length (young_of 69999 came_later) ≡ 1 }
     ensures goes_on { (firsts : List Arrival) (now later : ℕ) (first : Arrival) →
         Any (λ (one : Arrival). one ≡ first) (young_of now firsts) → first.moment + memory_time ≤ later → now ≤ later }
-{}
-
-/// Where the agent has no room: 4,096 commands are young there, taken one behind the other, and the next notification isn't taken, though
-/// three of its copies are handed over at once; nor is it answered.
-pub fn else_an_agent_has_no_room()
-    ensures run { IsRun two_lines roomless }
-    ensures fair { IsFairFrom two_lines roomless 2 0 }
-    ensures of_line { IsOfLine two_lines (plain_world two_lines roomless) 1 (key_begun 4095) }
-    ensures goes { GoesToAgent two_lines (plain_world two_lines roomless) (key_begun 4095).text }
-    ensures since { 2 ≤ (key_begun 4095).moment + last_chance }
-    ensures now { now_in two_lines (plain_world two_lines roomless) ≡ 4001 }
-    ensures late { 2 + longest_pause + 0 ≤ 4001 + 1 }
-    ensures not_taken { ¬ Any (λ (one : Reached). one.asked.id ≡ (key_begun 4095).id) (taken_in (plain_world two_lines roomless)) }
-    ensures none_came { ¬ HasCome (plain_world two_lines roomless) (key_begun 4095).id }
 {}

@@ -1,0 +1,61 @@
+use Rattle.std.proofs.Common.{arith, ap, ◌∙◌, inl, inr, refl, ◌≡◌, ℕ, ◌++◌, ◌∷◌, []}
+use Rattle.plain_machine.specs.Machine.{Machine}
+use Rattle.delivery_laws.proofs.ExampleLemmas.{two_lines_set_up}
+use Rattle.outage_laws.specs.Roomless.{key_begun, roomless, roomless_given_up}
+use Rattle.outage_laws.proofs.RoomlessLine.{at_22501, e_22501, goes, is_fair, is_of_line, not_answered, not_taken, roomless_stays, at_23501, given_up_stays}
+use Rattle.machine_laws.proofs.EachLemmas.{any_from_one}
+use Rattle.delivery_laws.specs.Chances.{chances}
+use Rattle.plain_machine.specs.Event.{tick}
+use Rattle.outage_laws.proofs.RoomlessHeld.{late_given_up, late_too, line_waits, now_given_up}
+use Rattle.outage_laws.proofs.roomless_examples.else_an_agent_has_no_room.Goals as goal
+
+pub returns-clause-run : goal.returns-clause-run
+returns-clause-run c = (two_lines_set_up, roomless_stays.taken)
+
+pub returns-clause-fair : goal.returns-clause-fair
+returns-clause-fair c = is_fair roomless at_22501 22501 8202 e_22501 roomless_stays
+
+pub returns-clause-of_line : goal.returns-clause-of_line
+returns-clause-of_line c = is_of_line
+
+pub returns-clause-goes : goal.returns-clause-goes
+returns-clause-goes c = goes roomless at_22501 22501 8202 e_22501 roomless_stays (key_begun 1 4095).text
+
+pub returns-clause-now : goal.returns-clause-now
+returns-clause-now c = ap (λ (m : Machine). m.now) roomless_stays.gateway ∙ roomless_stays.clock
+
+pub returns-clause-late : goal.returns-clause-late
+returns-clause-late c = omega arith
+
+pub returns-clause-not_taken : goal.returns-clause-not_taken
+returns-clause-not_taken c = not_taken roomless at_22501 22501 8202 e_22501 roomless_stays
+
+pub returns-clause-none_came : goal.returns-clause-none_came
+returns-clause-none_came c = not_answered
+
+pub returns-clause-run_given_up : goal.returns-clause-run_given_up
+returns-clause-run_given_up c = (two_lines_set_up, given_up_stays.taken)
+
+pub returns-clause-fair_given_up : goal.returns-clause-fair_given_up
+returns-clause-fair_given_up c = is_fair roomless_given_up at_23501 23501 8202 (e_22501 ++ tick 23501 ∷ []) given_up_stays
+
+pub returns-clause-goes_given_up : goal.returns-clause-goes_given_up
+returns-clause-goes_given_up c = λ b of. goes roomless_given_up at_23501 23501 8202 (e_22501 ++ tick 23501 ∷ []) given_up_stays b.text
+
+pub returns-clause-now_given_up : goal.returns-clause-now_given_up
+returns-clause-now_given_up c = now_given_up
+
+pub returns-clause-late_given_up : goal.returns-clause-late_given_up
+returns-clause-late_given_up c = late_given_up
+
+pub returns-clause-one_of_the_eight : goal.returns-clause-one_of_the_eight
+returns-clause-one_of_the_eight c = any_from_one (λ (one : ℕ). one ≡ 19500) chances (inr (inr (inr (inr (inr (inr (inr (inl refl))))))))
+
+pub returns-clause-in_time : goal.returns-clause-in_time
+returns-clause-in_time c = omega arith
+
+pub returns-clause-late_too : goal.returns-clause-late_too
+returns-clause-late_too c = late_too
+
+pub returns-clause-waits : goal.returns-clause-waits
+returns-clause-waits c = line_waits
