@@ -61,5 +61,6 @@ Holds (Some moment) line cares wakes kept held =
 abbrev pub Answers : ℕ → ℕ → List ℕ → Gateway → Office → Gateway → Office → Type 0
 Answers line code text gateway was after is =
     (cares : List Care)
-    × TakesAnswer (is_outlived (slice_get was.cares.items line)) line gateway.ticked code text was.exchange was.cares.items is.exchange cares
+    × TakesAnswer (is_outlived (slice_get was.cares.items line)) line gateway.ticked code text was.exchange was.cares.items
+    is.exchange cares
     × Holds (again_of (slice_get cares line)) line cares gateway.wakes.items is.cares.items after.wakes.items

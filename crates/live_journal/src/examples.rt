@@ -131,7 +131,8 @@ pub fn the_page_is_told_what_messages_are()
     ensures silence { text_label (Command (Some Rqnt) 1207 Silence) ≡ shown kinds.Confirmed None (Some 1207) None None }
     ensures lost { text_label (Command (Some Rqnt) 1207 NoRoom) ≡ shown kinds.Lost None (Some 1207) None None }
     ensures response { text_label (Response 9 true) ≡ shown kinds.Response None (Some 9) None None }
-    ensures answer { sent_label (said_of (AnswerOf (Some 3)) (whats.Answer 200)) ≡ shown kinds.Answer (Some 3) (Some 7) (Some 200) (Some 1) }
+    ensures answer { sent_label (said_of (AnswerOf (Some 3)) (whats.Answer 200))
+        ≡ shown kinds.Answer (Some 3) (Some 7) (Some 200) (Some 1) }
     ensures of_none { sent_label (said_of (AnswerOf None) (whats.Answer 500)) ≡ shown kinds.Answer None (Some 7) (Some 500) (Some 1) }
     ensures again { sent_label (said_of (AnswerOf (Some 3)) (whats.Again 401)) ≡ shown kinds.Again (Some 3) (Some 7) (Some 401) (Some 1) }
     ensures command { sent_label (said_of (OwnOf 3) (whats.Command Ntfy)) ≡ shown kinds.Command (Some 3) (Some 7) None (Some 1) }

@@ -28,7 +28,8 @@ CalmBetween setup before steps = AnnouncesNothing setup 1 (plain_world setup bef
 
 abbrev pub IsAskedSince : Setup → List WorldStep → List GatewayEvent → List WorldStep → Type 0
 IsAskedSince setup was events steps =
-    IsAskedForAllSince (line_in setup was).line (course_from setup (gateway_in setup (plain_world setup was)) 1 events) (line_in setup steps).line
+    IsAskedForAllSince (line_in setup was).line (course_from setup (gateway_in setup (plain_world setup was)) 1 events)
+    (line_in setup steps).line
 
 -- what the agent took of it meanwhile
 abbrev pub taken_by : Setup → List WorldStep → List WorldStep → List Observed
@@ -37,7 +38,8 @@ taken_by setup was steps = taken_meanwhile setup 1 (plain_world setup was) (plai
 -- what was quarantined at first, and done at these events
 abbrev pub done_at_these : Setup → List WorldStep → List GatewayEvent → List Observed
 done_at_these setup was events =
-    happened_in (line_in setup was).line.quarantined.events ++ done_in (course_from setup (gateway_in setup (plain_world setup was)) 1 events)
+    happened_in (line_in setup was).line.quarantined.events
+    ++ done_in (course_from setup (gateway_in setup (plain_world setup was)) 1 events)
 
 -- the conclusions of the laws: with what was told before, and without
 abbrev pub IsToldAt : Setup → List WorldStep → List GatewayEvent → List WorldStep → Type 0
@@ -60,8 +62,8 @@ forging = record two_lines {
   };
 }
 
--- line 1 is asked for that name, packet 2, and answers, packet 3: so the agent is told, and answers that, packet 4. It is asked for all that
--- its telephone does, packet 5, and accepts that, packet 6
+-- line 1 is asked for that name, packet 2, and answers, packet 3: so the agent is told, and answers that, packet 4. It is asked for
+-- all that its telephone does, packet 5, and accepts that, packet 6
 abbrev pub forged : List WorldStep
 forged =
     announced ++ audits_with (codes "F: N\r\n") ∷ delivering 2 ∷ delivering 3 ∷ delivering 4

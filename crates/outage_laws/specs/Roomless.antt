@@ -31,8 +31,8 @@ asked_at_once = announced ++ dialling 1 OffHook ∷ delivering 2 ∷ delivering 
 abbrev pub answer_to : ℕ → List ℕ
 answer_to id = written (messages.Response 200 id [] [])
 
--- The gateway's announcement, packets 0 to 7, isn't handed over, and given up at 23,501; 1 ms later the next one is, packet 8, and answered,
--- packet 9. Then the line is lifted, and tells that, packets 10 and 11, and is asked, packets 12 and 13.
+-- The gateway's announcement, packets 0 to 7, isn't handed over, and given up at 23,501; 1 ms later the next one is, packet 8, and
+-- answered, packet 9. Then the line is lifted, and tells that, packets 10 and 11, and is asked, packets 12 and 13.
 abbrev pub asked_late : List WorldStep
 asked_late =
     seconds 24 ++ ticking 23501 ∷ ticking 23502 ∷ delivering 8 ∷ delivering 9 ∷ dialling 1 OffHook ∷ delivering 10 ∷ delivering 11

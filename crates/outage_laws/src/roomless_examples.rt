@@ -37,7 +37,8 @@ pub fn else_an_agent_has_no_room()
     ensures none_came { ¬ HasCome (world roomless) (key_begun 1 4095).id }
     ensures run_given_up { IsRun two_lines roomless_given_up }
     ensures fair_given_up { IsFairFrom two_lines roomless_given_up 0 0 }
-    ensures goes_given_up { (b : Begun) → IsOfLine two_lines (world roomless_given_up) 1 b → GoesToAgent two_lines (world roomless_given_up) b.text }
+    ensures goes_given_up { (b : Begun) → IsOfLine two_lines (world roomless_given_up) 1 b →
+        GoesToAgent two_lines (world roomless_given_up) b.text }
     ensures now_given_up { now_in two_lines (world roomless_given_up) ≡ 23501 }
     ensures late_given_up { 0 + gap_of 0 + two_lines.disconnected_wait + 2 * 0 ≤ 23501 + 1 }
     ensures one_of_the_eight { Any (λ (one : ℕ). one ≡ 19500) chances }

@@ -65,8 +65,8 @@ pub fn a_gateway_serves_after_an_outage()
         serves (gateway_in setup w).endpoints ≡ true }
 {}
 
-/// Where as many firsts are young as there may be, there is room again as one of them is 30,000 ms old, for one for each that is so: as many
-/// fewer of them are young as grew old; and once all of them are, none is young (RFC 3435, 3.5.1).
+/// Where as many firsts are young as there may be, there is room again as one of them is 30,000 ms old, for one for each that is
+/// so: as many fewer of them are young as grew old; and once all of them are, none is young (RFC 3435, 3.5.1).
 pub fn a_full_history_takes_a_command_again()
     ensures each { (firsts : List Arrival) (now later : ℕ) (first : Arrival) → now ≤ later →
         Any (λ (one : Arrival). one ≡ first) (young_of now firsts) → first.moment + memory_time ≤ later →

@@ -156,7 +156,8 @@ pub fn what_messages_are_stands_beside_them()
     ensures unknown { compact_text (label_data noise)
         ≡ codes "{\"code\":null,\"id\":null,\"line\":null,\"send\":null,\"what\":\"unreadable\"}" }
     ensures beside { compact_text (event_data (record answered { kind = Sent; said = sent_answer ∷ [] }))
-        ≡ codes "{\"at\":5020,\"hex\":\"6f6b\",\"kind\":\"out\",\"n\":8,\"peer\":\"192.168.1.5:2727\",\"said\":[{\"code\":200,\"id\":1207,\"line\":1,\"send\":1,\"what\":\"answer\"}]}" }
+        ≡ codes "{\"at\":5020,\"hex\":\"6f6b\",\"kind\":\"out\",\"n\":8,\"peer\":\"192.168.1.5:2727\","
+        ++ codes "\"said\":[{\"code\":200,\"id\":1207,\"line\":1,\"send\":1,\"what\":\"answer\"}]}" }
     ensures latest { labelled (ring_at 8 (lifted ∷ answered ∷ [])) (sent_answer ∷ [])
         ≡ ring_at 8 (lifted ∷ record answered { said = sent_answer ∷ [] } ∷ []) }
     ensures alone { labelled (ring_at 8 (answered ∷ [])) (sent_answer ∷ noise ∷ [])

@@ -82,8 +82,8 @@ lost_for_good = in_one_life all_lost
 abbrev pub started_alike_slowly : List LivesStep
 started_alike_slowly =
     in_one_life announced ++ restarting 0
-    ∷ in_one_life (ticking 2 ∷ up_to 4 ++ ticking 4002 ∷ delivering 2 ∷ delivering 3 ∷ delivering 4 ∷ delivering 5 ∷ ticking 5001 ∷ ticking 6001
-    ∷ ticking 7001 ∷ ticking 8001 ∷ [])
+    ∷ in_one_life (ticking 2 ∷ up_to 4 ++ ticking 4002 ∷ delivering 2 ∷ delivering 3 ∷ delivering 4 ∷ delivering 5
+    ∷ ticking 5001 ∷ ticking 6001 ∷ ticking 7001 ∷ ticking 8001 ∷ [])
 
 -- which that life announces at its moment 1
 abbrev pub announced_alike : Begun

@@ -78,8 +78,8 @@ pub fn else_a_new_life_does_not_serve()
     ensures serves_not_anew { serves_after started_anew ≡ false }
 {}
 
-/// In its second life the gateway notifies that line 1 is lifted. Four copies of that are lost, and the network is there again 1 ms behind the
-/// fourth, with 300 ms for a packet: it is taken 3,999 + 300 ms behind that, as a first of that life, and answered 300 ms later, and no
+/// In its second life the gateway notifies that line 1 is lifted. Four copies of that are lost, and the network is there again 1 ms behind
+/// the fourth, with 300 ms for a packet: it is taken 3,999 + 300 ms behind that, as a first of that life, and answered 300 ms later, and no
 /// sooner. All that the law asks for holds at once, and lives' ids lie apart.
 pub fn what_a_new_life_lost_is_taken_at_the_next_send()
     ensures run { IsRunOfLives two_lines answered_anew }
