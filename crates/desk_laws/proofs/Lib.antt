@@ -2,3 +2,5 @@ mod CareLemmas
 mod WakeLemmas
 mod DeskLaws
 mod Computing
+mod AnswerLemmas
+mod AnswerLaws

@@ -9,7 +9,9 @@ use Rattle.live_agent.specs.declared.care.Duty.{Duty}
 use Rattle.live_agent.specs.declared.care.Duty.TheVariants.{Clear, Audit, Route}
 use Rattle.live_agent.specs.declared.care.Care.{Care}
 use Rattle.live_agent.specs.declared.care.Shown.{Shown as LineShown}
+use Rattle.live_agent.specs.declared.gateway.Gateway.{Gateway}
 use Rattle.live_agent.specs.declared.gateway.Wake.{Wake as LineWake}
+use Rattle.live_agent.specs.declared.office.Office.{Office}
 use Rattle.live_agent.specs.AgentClock.{tick_to}
 use Rattle.live_agent.specs.Duties.{again_at, announced, begun, duty_answered, found, landed, lost, new_care, owed, routed_by, told_care, told_of, woken}
 use Rattle.live_agent.specs.Orders.{Shown, again_of, cared, flight_of, ordered}
@@ -24,6 +26,10 @@ pub record Desk : Type 0 where
 -- of so many lines nothing is known yet
 abbrev pub opening_desk : ℕ → Desk
 opening_desk lines = record { now = 0; cares = replicate lines new_care; wakes = [] }
+
+-- of a gateway that has all lines of an exchange
+abbrev pub desk_of : Gateway → Office → Desk
+desk_of gateway office = record { now = gateway.ticked; cares = office.cares.items; wakes = gateway.wakes.items }
 
 -- What happens to what is kept of a line, and puts nothing off: the next command is sent to it, or what is in flight to it is landed, or
 -- given up; it has told something; its hook is to be asked for; it has started again, or was disconnected; its hook is found; and how it
