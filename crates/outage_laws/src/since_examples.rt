@@ -1,4 +1,5 @@
-//! Worked examples of what is told since a moment, and of what is handed back, as theorems: where a slip in a part of a definition is seen.
+//! Worked examples of what is told since a moment, and of what is handed over and back, as theorems: where a slip in a part of a definition
+//! is seen.
 #![tactic(auto, unfolding(crate::proofs::Computing::on_examples))]
 
 ghost use Rattle.std.specs.Prelude.{[], ◌∷◌, None};
@@ -8,11 +9,13 @@ ghost use Rattle.world_laws.specs.Example.{world};
 ghost use Rattle.delivery_laws.specs.DialledExample.{endpoint_then};
 ghost use Rattle.delivery_laws.specs.Example.{notified, redirected};
 ghost use Rattle.delivery_laws.specs.OnceExample.{five, lifted as off_hook, six};
+ghost use Rattle.outage_laws.specs.AfterOutage.{IsFairFrom};
 ghost use Rattle.outage_laws.specs.Carrying.{IsHandedBack};
+ghost use Rattle.outage_laws.specs.Example.{found_again};
 ghost use Rattle.outage_laws.specs.ToldSince.{FlightBeganSince, IsToldFrom, IsToldSince};
 
 /// What was on its way at first is taken before all else; and then that begins with what was done, unless it was told before. What is in
-/// flight goes to the agent; and what is handed back is that packet.
+/// flight goes to the agent; what is handed back is that packet; and a packet that is handed over 1 ms too late isn't handed over in time.
 pub fn what_is_told_since_begins_with_what_was_done()
     ensures late_first { IsToldFrom (endpoint_then notified).post.pending (five ∷ []) (off_hook ∷ five ∷ []) }
     ensures more { IsToldFrom None (five ∷ []) (five ∷ six ∷ []) }
@@ -22,4 +25,6 @@ pub fn what_is_told_since_begins_with_what_was_done()
     ensures elsewhere { ¬ FlightBeganSince two_lines (world redirected) 0 (endpoint_then redirected).post.pending }
     ensures handed_back { IsHandedBack (delivering 10 ∷ []) 10 }
     ensures another_packet { ¬ IsHandedBack (delivering 10 ∷ []) 11 }
+    ensures in_time { IsFairFrom two_lines found_again 3502 300 }
+    ensures too_late { ¬ IsFairFrom two_lines found_again 3502 299 }
 {}

@@ -1,12 +1,19 @@
-use Rattle.std.proofs.Common.{◌≡◌, ℕ, codes, List, [], ◌∷◌, ◌++◌, inl, inr, refl, sym, ap, ◌∙◌, arith}
+use Rattle.std.proofs.Common.{◌≡◌, ℕ, ◌+◌, ◌≤◌, Bool, true, false, ◌||◌, ◌&&◌, ◌==◌, codes, List, [], ◌∷◌, ◌++◌, inl, inr, refl, sym, ap, subst, ◌∙◌, arith}
+use Rattle.std.specs.Prelude.{nat_le}
+use Rattle.std.proofs.lemmas.Bool.{le-leb, leb-true}
+use Rattle.std.proofs.lemmas.Bool.Decides.{Decides-eqb}
 use Rattle.event_values.specs.declared.observed.Observed.{Observed}
+use Rattle.plain_machine.specs.declared.setup.Setup.{Setup}
 use Rattle.plain_machine.specs.Example.{two_lines}
-use Rattle.agent_core.specs.World.{WorldStep, delivering}
+use Rattle.agent_core.specs.World.{World, WorldStep, delivering, dialling, issuing, now_in, plain_world, ticking, went, world_after, world_opening}
 use Rattle.delivery_laws.specs.Example.{redirected}
 use Rattle.delivery_laws.specs.Keeping.{happened_in}
 use Rattle.delivery_laws.specs.OnceExample.{five, lifted, six}
 use Rattle.delivery_laws.proofs.ExampleLemmas.{goes_astray}
+use Rattle.outage_laws.specs.AfterOutage.{IsFairFrom}
+use Rattle.outage_laws.specs.Example.{found_again}
 use Rattle.outage_laws.proofs.Computing.{on_examples}
+use Rattle.outage_laws.proofs.FairFromExamples.{fair_from_is}
 use Rattle.outage_laws.proofs.since_examples.what_is_told_since_begins_with_what_was_done.Goals as goal
 
 since_is : (late since taken : List Observed) → late ≡ [] → taken ≡ late ++ since → since ≡ taken
@@ -25,6 +32,52 @@ handed_one (one ∷ []) later order = (let same : delivering 10 ∷ [] ≡ one �
 handed_one (one ∷ two ∷ between) later order =
     (let same : delivering 10 ∷ [] ≡ one ∷ two ∷ ((between ++ delivering 11 ∷ []) ++ later) = order in cc)
 
+-- these steps hand the packet over by that moment
+abbrev hands : ℕ → WorldStep → Bool
+hands number (issuing verb name rest) = false
+hands number (dialling line act) = false
+hands number (ticking moment) = false
+hands number (delivering other) = other == number
+
+abbrev handed_by : Setup → ℕ → ℕ → World → List WorldStep → Bool
+handed_by setup last number w [] = false
+handed_by setup last number w (step ∷ steps) = (hands number step && nat_le (now_in setup w) last) || handed_by setup last number (went setup w step) steps
+
+or_left : (a b : Bool) → a ≡ true → (a || b) ≡ true
+or_left true b is = refl
+or_left false b is = (let clash : false ≡ true = is in cc)
+
+or_right : (a b : Bool) → b ≡ true → (a || b) ≡ true
+or_right true b is = refl
+or_right false b is = is
+
+both_so : (a b : Bool) → a ≡ true → b ≡ true → (a && b) ≡ true
+both_so true b one two = two
+both_so false b one two = (let clash : false ≡ true = one in cc)
+
+is_handed_by : (setup : Setup) (last number : ℕ) (w : World) (before later : List WorldStep) → now_in setup (world_after setup w before) ≤ last
+    → handed_by setup last number w ((before ++ delivering number ∷ []) ++ later) ≡ true
+unfolding world_after
+is_handed_by setup last number w [] later soon =
+    or_left ((number == number) && nat_le (now_in setup w) last) (handed_by setup last number (went setup w (delivering number)) later)
+    (both_so (number == number) (nat_le (now_in setup w) last) ((Decides-eqb number number).1 refl) (le-leb (now_in setup w) last soon))
+is_handed_by setup last number w (step ∷ before) later soon =
+    or_right (hands number step && nat_le (now_in setup w) last)
+    (handed_by setup last number (went setup w step) ((before ++ delivering number ∷ []) ++ later))
+    (is_handed_by setup last number (went setup w step) before later soon)
+
+not_by_then : handed_by two_lines 7800 6 world_opening found_again ≡ true → ⊥
+unfolding on_examples
+not_by_then is = (let clash : false ≡ true = is in cc)
+
+fair_too_late : IsFairFrom two_lines found_again 3502 299 → ⊥
+unfolding on_examples
+fair_too_late fair =
+    let h = fair 6 _ refl (leb-true _ _ refl) (leb-true _ _ refl) in
+    not_by_then
+    (subst (λ (steps : List WorldStep). handed_by two_lines 7800 6 world_opening steps ≡ true) (sym h.order)
+    (is_handed_by two_lines 7800 6 world_opening h.before h.later h.soon))
+
 pub returns : goal.returns
 unfolding on_examples
 returns c = record {
@@ -38,4 +91,6 @@ returns c = record {
       began.1;
   handed_back = record { between = []; later = []; order = refl };
   another_packet = λ h. handed_one h.between h.later h.order;
+  in_time = fair_from_is two_lines found_again 3502 300 refl;
+  too_late = λ fair. fair_too_late fair;
 }
