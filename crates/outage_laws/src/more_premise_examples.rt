@@ -523,7 +523,7 @@ pub fn else_what_is_asked_for_no_more_isnt_told()
 {}
 
 /// Where the line was never asked, or asked only behind its first act, not all that it ever did is told: all else holds, as in the examples
-/// of what is told since a moment.
+/// of what is told since a moment. And what is in flight later on may begin before a moment that is yet to come.
 pub fn else_what_was_done_before_isnt_told()
     ensures undone { done_in (course_of two_lines 1 []) ≡ [] }
     ensures not_asked { ¬ AsksIfAny (latest_from None (course_of two_lines 1 [])) }
@@ -536,4 +536,8 @@ pub fn else_what_was_done_before_isnt_told()
         (took_between_with two_lines asked_at_last told_since_then)) }
     ensures none_lost_then { (line_in two_lines told_since_then).line.quarantined.lost ≡ 0 }
     ensures not_told_at_then { ¬ IsToldAt two_lines rested_then (took_between_with two_lines rested_then hung_up_then) told_since_then }
+    ensures none_flies { (line_in two_lines step_twice).post.pending ≡ None }
+    ensures yet_to_come { (plain two_lines (took_with two_lines step_twice)).now < 22002 }
+    ensures began_before { ¬ FlightsBeganSince two_lines 1 (took_with two_lines step_twice)
+        (took_between_with two_lines step_twice pressed_in_step) 22002 }
 {}
