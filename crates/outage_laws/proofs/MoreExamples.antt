@@ -21,6 +21,12 @@ told_first late since rest none order whole =
     let is : lifted ∷ five ∷ [] ≡ since = order ∙ ap (λ (x : List Observed). x ++ since) none in
     let clash : lifted ∷ five ∷ [] ≡ five ∷ rest = ap happened_in is ∙ whole in cc
 
+pub told_first_of_two : (late since rest : List Observed) → late ≡ [] → lifted ∷ five ∷ six ∷ [] ≡ late ++ since
+    → happened_in since ≡ five ∷ six ∷ rest → ⊥
+told_first_of_two late since rest none order whole =
+    let is : lifted ∷ five ∷ six ∷ [] ≡ since = order ∙ ap (λ (x : List Observed). x ++ since) none in
+    let clash : lifted ∷ five ∷ six ∷ [] ≡ five ∷ six ∷ rest = ap happened_in is ∙ whole in cc
+
 pub told_twice : (late since rest : List Observed) → late ≡ [] → lifted ∷ five ∷ [] ≡ late ++ since → lifted ∷ happened_in since ≡ lifted ∷ five ∷ rest → ⊥
 told_twice late since rest none order whole =
     let is : lifted ∷ five ∷ [] ≡ since = order ∙ ap (λ (x : List Observed). x ++ since) none in

@@ -40,3 +40,11 @@ abbrev pub asked_for_nothing : List WorldStep
 asked_for_nothing =
     put_back_in_step ++ issuing (codes "RQNT") (codes "aaln/1@rgw.example.net") (codes "X: C2\r\n") ∷ ticking 39302 ∷ delivering 14
     ∷ ticking 39402 ∷ delivering 15 ∷ ticking 39502 ∷ delivering 16 ∷ ticking 40202 ∷ []
+
+-- or they are told at once, with no pause: the last copy of the notification that was given up, packet 11, is handed over first, 9,201 ms
+-- old, and its answer, packet 14, comes in vain; the first request is packet 15
+abbrev pub told_too_soon : List WorldStep
+told_too_soon =
+    connected_in_step ++ delivering 11 ∷ asks_in_step ∷ ticking 28802 ∷ delivering 14 ∷ delivering 15 ∷ ticking 28902 ∷ delivering 16
+    ∷ ticking 29002 ∷ delivering 17 ∷ asks_in_step ∷ ticking 29102 ∷ delivering 18 ∷ ticking 29202 ∷ delivering 19 ∷ ticking 29302
+    ∷ delivering 20 ∷ asks_in_step ∷ ticking 29402 ∷ delivering 21 ∷ []

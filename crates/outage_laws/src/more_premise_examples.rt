@@ -192,6 +192,7 @@ pub fn else_what_was_given_up_before_is_told()
         (took_between_with two_lines asked_for_all comes_before)) (line_in two_lines comes_before).line }
     ensures asked_since { IsAskedSince two_lines gives_up_sooner
         (took_between_with two_lines gives_up_sooner pressed_soon ++ took_between_with two_lines pressed_soon comes_before) comes_before }
+    ensures not_well { now_in two_lines (plain_world two_lines unanswered) < well_by two_lines 19502 500 }
     ensures fair { IsFairFrom two_lines comes_before 19502 500 }
     ensures room { AgentHasRoomFrom two_lines comes_before 0 }
     ensures goes { (line : ℕ) (b : Begun) → IsOfLine two_lines (plain_world two_lines comes_before) line b →

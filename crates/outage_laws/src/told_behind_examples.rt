@@ -15,7 +15,7 @@ ghost use Rattle.delivery_laws.specs.Dialled.{AskForAll, done_in};
 ghost use Rattle.delivery_laws.specs.DialledExample.{endpoint_then};
 ghost use Rattle.delivery_laws.specs.Example.{took_between, took_first};
 ghost use Rattle.delivery_laws.specs.Fairness.{GoesToAgent};
-ghost use Rattle.delivery_laws.specs.OnceExample.{five, hung_up, six};
+ghost use Rattle.delivery_laws.specs.OnceExample.{five, hung_up, lifted, six};
 ghost use Rattle.delivery_laws.specs.OwnChances.{IsOfLine};
 ghost use Rattle.delivery_laws.specs.Rounds.{IsAskedWithin, rounds_take};
 ghost use Rattle.told_laws.specs.Stretch.{outliving};
@@ -23,7 +23,7 @@ ghost use Rattle.outage_laws.specs.AfterOutage.{AgentHasRoomFrom, IsFairFrom, we
 ghost use Rattle.outage_laws.specs.Example.{connected_in_step};
 ghost use Rattle.outage_laws.specs.SinceThenExample.{ToldFrom, WasAskedForAllSince, done_between, taken_between};
 ghost use Rattle.outage_laws.specs.ToldBehindExample.{all_told_in_step, asked_for_nothing, kept_in_step, put_back_in_step, rested_in_step};
-ghost use Rattle.outage_laws.specs.ToldBehindExample.{six_told_in_step, unasked_in_step};
+ghost use Rattle.outage_laws.specs.ToldBehindExample.{six_told_in_step, told_too_soon, unasked_in_step};
 
 /// The eight sends of a notification are lost, and the network is there again 1 ms behind the last. By that long all is well, and 10,500 ms
 /// later what was dialled in the outage is quarantined yet, and the handset is put back: three rounds of twice 100 ms and 100 ms later, and
@@ -52,7 +52,7 @@ pub fn all_is_told_behind_an_outage()
 {}
 
 /// Before so many rounds something isn't told; nor where a packet isn't handed over, where nobody asks, or where a request asks for
-/// nothing.
+/// nothing. And sooner than 10,500 ms later a copy of what was given up may be taken before what is told since.
 pub fn else_something_isnt_told_behind_an_outage()
     ensures soon { now_in two_lines (world six_told_in_step)
         < (plain two_lines (took_first put_back_in_step)).now + rounds_take 3 (2 * 100) 100 }
@@ -68,4 +68,19 @@ pub fn else_something_isnt_told_behind_an_outage()
     ensures asked_for_nothing { ¬ AskForAll (course_from two_lines (gateway_in two_lines (world rested_in_step)) 1
         (took_between rested_in_step put_back_in_step ++ took_between put_back_in_step asked_for_nothing)) }
     ensures taken_for_nothing { taken_between rested_in_step asked_for_nothing ≡ hung_up ∷ [] }
+    ensures run_soon { IsRun two_lines told_too_soon }
+    ensures fair_soon { IsFairFrom two_lines told_too_soon 19502 100 }
+    ensures room_soon { AgentHasRoomFrom two_lines told_too_soon 19502 }
+    ensures goes_soon { (line : ℕ) (b : Begun) → IsOfLine two_lines (world told_too_soon) line b →
+        GoesToAgent two_lines (world told_too_soon) b.text }
+    ensures well_soon { well_by two_lines 19502 100 ≡ now_in two_lines (world connected_in_step) }
+    ensures too_soon { ¬ (now_in two_lines (world connected_in_step) + outliving ≤ now_in two_lines (world connected_in_step)) }
+    ensures asked_soon { WasAskedForAllSince connected_in_step connected_in_step told_too_soon }
+    ensures split_soon { took_first told_too_soon ≡ took_first connected_in_step ++ took_between connected_in_step told_too_soon }
+    ensures asked_again_soon { IsAskedWithin two_lines 1 (took_first connected_in_step) (took_between connected_in_step told_too_soon) 100 }
+    ensures held_soon { (endpoint_then connected_in_step).line.quarantined.events ≡ five ∷ six ∷ [] }
+    ensures more_soon { (plain two_lines (took_first connected_in_step)).now + rounds_take 2 (2 * 100) 100 + 100
+        ≡ now_in two_lines (world told_too_soon) }
+    ensures taken_soon { taken_between connected_in_step told_too_soon ≡ lifted ∷ five ∷ six ∷ [] }
+    ensures told_soon { ¬ ToldFrom connected_in_step connected_in_step told_too_soon }
 {}

@@ -56,6 +56,7 @@ returns c = record {
     none_lost = lost_then ∙ sym lost_before;
     counted = subst (λ (n : ℕ). n < most_lost) (sym lost_before) (omega arith);
   };
+  not_well = ltb-true _ _ refl;
   fair = fair_from_is two_lines comes_before 19502 500 refl;
   room = room_from two_lines comes_before 0 (agent_has_room two_lines comes_before refl);
   goes = λ line b of. to_agent two_lines comes_before b.text refl;

@@ -1,5 +1,5 @@
 use Rattle.std.proofs.Common.{◌≡◌, ℕ, ◌<◌, [], ◌++◌, refl, sym, ◌∙◌, subst, arith, append-nil}
-use Rattle.std.proofs.lemmas.Bool.{ltb-true}
+use Rattle.std.proofs.lemmas.Bool.{leb-true, ltb-true}
 use Rattle.mg_line.specs.declared.phone.Key.TheVariants.{Five}
 use Rattle.mg_line.specs.Acting.{letter_at}
 use Rattle.mg_packages.specs.declared.event.LineEvent.TheVariants as events
@@ -10,12 +10,17 @@ use Rattle.world_laws.specs.Example.{world}
 use Rattle.delivery_laws.specs.Course.{course_from}
 use Rattle.delivery_laws.specs.Dialled.{AskForAll}
 use Rattle.delivery_laws.specs.DialledExample.{endpoint_then}
-use Rattle.delivery_laws.specs.Example.{took_between}
+use Rattle.delivery_laws.specs.Example.{took_between, took_first}
 use Rattle.delivery_laws.proofs.AskingLemmas.{notifies_each}
+use Rattle.delivery_laws.proofs.ExampleLemmas.{to_agent, took_split, two_lines_set_up}
+use Rattle.delivery_laws.proofs.FrontLemmas.{agent_has_room, asked_within}
+use Rattle.told_laws.specs.Stretch.{outliving}
+use Rattle.outage_laws.specs.Example.{connected_in_step}
 use Rattle.outage_laws.specs.SinceThenExample.{WasAskedForAllSince}
-use Rattle.outage_laws.specs.ToldBehindExample.{asked_for_nothing, kept_in_step, put_back_in_step, rested_in_step, six_told_in_step, unasked_in_step}
+use Rattle.outage_laws.specs.ToldBehindExample.{asked_for_nothing, kept_in_step, put_back_in_step, rested_in_step, six_told_in_step, told_too_soon, unasked_in_step}
 use Rattle.outage_laws.proofs.Computing.{on_examples}
-use Rattle.outage_laws.proofs.FairFromExamples.{fair_from_is, not_fair_from}
+use Rattle.outage_laws.proofs.FairFromExamples.{fair_from_is, not_fair_from, room_from}
+use Rattle.outage_laws.proofs.MoreExamples.{none_past, told_first_of_two}
 use Rattle.outage_laws.proofs.told_behind_examples.else_something_isnt_told_behind_an_outage.Goals as goal
 
 lost_then : (endpoint_then kept_in_step).line.quarantined.lost ≡ 0
@@ -39,6 +44,23 @@ asks_less : AskForAll (course_from two_lines (gateway_in two_lines (world rested
 unfolding on_examples
 asks_less all = let clash = all.0.requested.phone (events.Letter (letter_at Five)) refl in cc
 
+lost_soon : (endpoint_then told_too_soon).line.quarantined.lost ≡ 0
+unfolding on_examples
+lost_soon = refl
+
+lost_at_once : (endpoint_then connected_in_step).line.quarantined.lost ≡ 0
+unfolding on_examples
+lost_at_once = refl
+
+was_asked_soon : WasAskedForAllSince connected_in_step connected_in_step told_too_soon
+unfolding on_examples
+was_asked_soon = record {
+  keeps = record { asked = notifies_each _ refl refl; untimed = refl; accumulated = refl; of_phone = (refl, (refl, tt)); normal = λ is. absurd cc };
+  since = (record { requested = notifies_each _ refl refl; quarantined = refl }, (record { requested = notifies_each _ refl refl; quarantined = refl }, (record { requested = notifies_each _ refl refl; quarantined = refl }, tt)));
+  none_lost = lost_soon ∙ sym lost_at_once;
+  counted = subst (λ (n : ℕ). n < most_lost) (sym lost_at_once) (omega arith);
+}
+
 pub returns : goal.returns
 unfolding on_examples
 returns c = record {
@@ -56,4 +78,17 @@ returns c = record {
   fair_for_nothing = fair_from_is two_lines asked_for_nothing 19502 100 refl;
   asked_for_nothing = asks_less;
   taken_for_nothing = refl;
+  run_soon = (two_lines_set_up, refl);
+  fair_soon = fair_from_is two_lines told_too_soon 19502 100 refl;
+  room_soon = room_from two_lines told_too_soon 19502 (agent_has_room two_lines told_too_soon refl);
+  goes_soon = λ line b of. to_agent two_lines told_too_soon b.text refl;
+  well_soon = refl;
+  too_soon = λ late. none_past 28702 outliving (leb-true _ _ refl) late;
+  asked_soon = was_asked_soon;
+  split_soon = took_split two_lines connected_in_step told_too_soon refl;
+  asked_again_soon = asked_within two_lines 1 (took_first connected_in_step) (took_between connected_in_step told_too_soon) 100 refl;
+  held_soon = refl;
+  more_soon = refl;
+  taken_soon = refl;
+  told_soon = λ h. told_first_of_two h.late h.since h.rest h.late_is h.order h.whole;
 }
