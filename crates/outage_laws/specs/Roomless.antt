@@ -1,6 +1,5 @@
 -- Worlds whose agent has no room: line 1 tells each key that is pressed at once, 4,096 commands are taken within 30 s, and the next isn't.
-use Rattle.std.specs.Prelude.{ℕ, zero, suc, ◌+◌, ◌*◌, codes, List, [], ◌∷◌, ◌++◌, map}
-use Rattle.std.specs.List.{range_with_len}
+use Rattle.std.specs.Prelude.{ℕ, zero, suc, ◌+◌, ◌*◌, codes, List, [], ◌∷◌, ◌++◌}
 use Rattle.mgcp_text.specs.declared.message.Message.{Message}
 use Rattle.mgcp_text.specs.declared.message.Message.TheVariants as messages
 use Rattle.mgcp_text.specs.declared.message.Verb.TheVariants.{Ntfy}
@@ -8,16 +7,15 @@ use Rattle.mgcp_text.specs.Writing.{written}
 use Rattle.mg_line.specs.declared.phone.Act.TheVariants.{Key, OffHook}
 use Rattle.mg_line.specs.declared.phone.Key.TheVariants.{Five}
 use Rattle.plain_machine.specs.declared.endpoint.Endpoint.{Endpoint}
-use Rattle.plain_machine.specs.Example.{from_agent, two_lines}
+use Rattle.plain_machine.specs.Example.{two_lines}
 use Rattle.plain_machine.specs.Event.{GatewayEvent, phone, tick}
 use Rattle.plain_machine.specs.Effect.{Effect}
 use Rattle.plain_machine.specs.Happening.{effect}
-use Rattle.plain_machine.specs.Lists.{plain}
 use Rattle.plain_machine.specs.Machine.{Machine}
 use Rattle.plain_machine.specs.Posting.{id_on}
 use Rattle.machine_laws.specs.Saying.{Begun}
 use Rattle.agent_core.specs.World.{WorldStep, delivering, dialling, gateway_in, issuing, plain_world, ticking}
-use Rattle.world_laws.specs.Example.{announced, seconds}
+use Rattle.world_laws.specs.Example.{announced}
 
 -- the agent asks line 1 for each key, again and again
 abbrev pub asks_for_keys : WorldStep
@@ -26,27 +24,6 @@ asks_for_keys = issuing (codes "RQNT") (codes "aaln/1@rgw.example.net") (codes "
 -- line 1 is lifted, and tells that, packet 2, which is answered, packet 3; it is asked, packet 4, and accepts that, packet 5
 abbrev pub asked_at_once : List WorldStep
 asked_at_once = announced ++ dialling 1 OffHook ∷ delivering 2 ∷ delivering 3 ∷ asks_for_keys ∷ delivering 4 ∷ delivering 5 ∷ []
-
--- the agent's answer to the command with this id
-abbrev pub answer_to : ℕ → List ℕ
-answer_to id = written (messages.Response 200 id [] [])
-
--- The gateway's announcement, packets 0 to 7, isn't handed over, and given up at 23,501; 1 ms later the next one is, packet 8, and
--- answered, packet 9. Then the line is lifted, and tells that, packets 10 and 11, and is asked, packets 12 and 13.
-abbrev pub asked_late : List WorldStep
-asked_late =
-    seconds 24 ++ ticking 23501 ∷ ticking 23502 ∷ delivering 8 ∷ delivering 9 ∷ dialling 1 OffHook ∷ delivering 10 ∷ delivering 11
-    ∷ asks_for_keys ∷ delivering 12 ∷ delivering 13 ∷ []
-
--- what the gateway took of these
-abbrev pub took_late : List GatewayEvent
-took_late =
-    map (λ second. tick (second * 1000 + 1)) (range_with_len 0 24) ++ tick 23501 ∷ tick 23502 ∷ from_agent (answer_to 2) ∷ phone 1 OffHook
-    ∷ from_agent (answer_to 10000000)
-    ∷ from_agent (codes "RQNT 1 aaln/1@rgw.example.net MGCP 1.0\r\nX: C2\r\nR: D/[0-9*#](N)\r\nQ: loop\r\n") ∷ []
-
-abbrev pub late_machine : Machine
-late_machine = plain two_lines took_late
 
 -- so many keys, each with its notification, which is handed over at once, as its answer is; the first has the packet with this number
 unfoldable pub keys : ℕ → ℕ → List WorldStep
@@ -128,13 +105,3 @@ ticks_on = tick 21501 ∷ tick 22501 ∷ []
 -- the gateway behind both keys
 abbrev pub twice_pressed : Machine
 twice_pressed = (effect two_lines (pressed (base asked_at_once) 4095).value (phone 1 (Key Five))).value
-
--- Of the gateway itself: the last copy of its first announcement comes 4,001 ms behind its send, and isn't taken
-
-abbrev pub own_roomless_then : List WorldStep
-own_roomless_then = keyed asked_late 14 4094 ++ delivering 7 ∷ []
-
-abbrev pub own_roomless : List WorldStep
-own_roomless =
-    own_roomless_then ++ ticking 24502 ∷ ticking 25502 ∷ ticking 26502 ∷ ticking 27502 ∷ ticking 28502 ∷ ticking 29502 ∷ ticking 30502
-    ∷ ticking 31502 ∷ []
