@@ -33,12 +33,14 @@ use Rattle.outage_laws.proofs.StretchLemmas.{is_begun}
 use Rattle.restart_laws.proofs.GatewayTracks.{ArePlain, IsTaken}
 use Rattle.restart_laws.proofs.LineAlone.{Chase, announced_answered, flight_answered, tracks_at, waiting_answered}
 
+from_none : (since moment : ℕ) → since ≡ 0 → since ≤ moment
+from_none since moment none = omega (arith, none)
+
 module _ (setup : Setup) (took : List GatewayEvent) (line since within : ℕ) (endpoint : Endpoint) (set_up : IsSetUp setup) (taken : IsTaken setup took) (are : ArePlain took)
     (at : endpoint_at (plain setup took).endpoints line ≡ Some endpoint) (Told : Begun → ℕ → ℕ → Type 0)
     (back : (b : Begun) (wait : ℕ) → OneOf (λ (one : Begun). one ≡ b) (begun_in (of_line line (sent_of setup took))) → since ≤ b.moment + wait
     → b.moment + wait + 2 * within + 0 ≤ (plain setup took).now → Chase setup took line within b wait (Told b wait))
-    (wait : ℕ) (among : OneOf (λ (one : ℕ). one ≡ wait) chances) (few : wait + 2 * within < answer_wait)
-    (late : since + answer_wait + wait_of setup line + 2 * within + 0 ≤ (plain setup took).now + 1 + wait) where
+    (wait : ℕ) (among : OneOf (λ (one : ℕ). one ≡ wait) chances) (few : wait + 2 * within < answer_wait) where
   abbrev now : ℕ
   now = (plain setup took).now
 
@@ -64,79 +66,112 @@ module _ (setup : Setup) (took : List GatewayEvent) (line since within : ℕ) (e
   given_up_said before until g =
       chance_said g.mine g.b (eight (λ (one : ℕ). OneOf (SaysAt g.b.text (g.b.moment + one)) g.mine) (λ number most. g.went number most))
 
-  -- It doesn't wait to announce itself
+  tracks : TracksBy setup line (Behind now) sent now endpoint.post.restart endpoint.post.pending
+  tracks = (tracks_at setup line some set_up took taken are endpoint at).tracks
 
-  not_waiting : (until : ℕ) → endpoint.post.restart ≡ Waiting until → IsGivenUp setup line sent now until → now < until → ⊥
-  not_waiting until waits g soon =
-      waiting_answered setup took line within endpoint set_up taken are at g.b wait few g.old g.mine g.order g.stretch (given_up_said sent until g) until waits (Told g.b wait)
-      (back g.b wait (is_begun sent g.b (record { old = g.old; mine = g.mine; order = g.order; stretch = g.stretch }))
-      (wait_sent since g.b.moment wait within now (wait_of setup line) until 0 g.begins soon late) (over_twice g.b.moment wait within now 0 (omega arith) few g.over))
+  -- what it gave up before its announcement it began
+  before_began : (a : Announces setup line (Behind now) sent now endpoint.post.pending) → OneOf (λ (one : Begun). one ≡ a.before.b) (begun_in sent)
+  before_began a =
+      subst (λ (x : List Sent). OneOf (λ (one : Begun). one ≡ a.before.b) (begun_in x)) (sym a.its.order)
+      (began_before a.old a.its.mine a.before.b
+      (is_begun a.old a.before.b (record { old = a.before.old; mine = a.before.mine; order = a.before.order; stretch = a.before.stretch })))
 
-  -- What is in flight was sent so often as the clock is late
+  -- From the first moment on it gives nothing up
 
-  abbrev SaidOf : List Sent → Begun → ℕ → Type 0
-  SaidOf mine b one = b.moment + one ≤ now → OneOf (SaysAt b.text (b.moment + one)) mine
+  module _ (none : since ≡ 0) where
+    never_waits : (until : ℕ) → endpoint.post.restart ≡ Waiting until → IsGivenUp setup line sent now until → ⊥
+    never_waits until waits g =
+        waiting_answered setup took line within endpoint set_up taken are at g.b wait few g.old g.mine g.order g.stretch (given_up_said sent until g) until waits (Told g.b wait)
+        (back g.b wait (is_begun sent g.b (record { old = g.old; mine = g.mine; order = g.order; stretch = g.stretch }))
+        (from_none since (g.b.moment + wait) none) (over_twice g.b.moment wait within now 0 (omega arith) few g.over))
 
-  flight_said : (old : List Sent) (flight : InFlight) (f : Flies setup line (Behind now) sent old now flight) → Each (SaidOf f.mine f.b) chances
-  flight_said old flight f = eight (SaidOf f.mine f.b) (λ number most past. flying_said f.mine f.b flight now f.is f.on f.up number past)
-
-  flight_soon : (old : List Sent) (flight : InFlight) (f : Flies setup line (Behind now) sent old now flight) → now < f.b.moment + answer_wait
-  flight_soon old flight f = soon_by now flight.due flight.first f.b.moment f.up (due_by f.mine flight f.on) f.is.first
-
-  -- and no send of it since was so long ago
-  not_sent : (old : List Sent) (flight : InFlight) (f : Flies setup line (Behind now) sent old now flight) → endpoint.post.pending ≡ Some flight → (one : ℕ)
-      → SaidOf f.mine f.b one → since ≤ f.b.moment + one → f.b.moment + one + 2 * within + 0 ≤ now → ⊥
-  not_sent old flight f flies one has past twice =
-      flight_answered setup took line within endpoint set_up taken are at f.b one old f.mine f.order f.stretch (has (twice_past f.b.moment one within now 0 twice)) flight flies f.is
-      (Told f.b one) (back f.b one (is_begun sent f.b (record { old = old; mine = f.mine; order = f.order; stretch = f.stretch })) past twice)
-
-  -- It didn't announce itself without an answer
-
-  module _ (a : Announces setup line (Behind now) sent now endpoint.post.pending) (announces : endpoint.post.restart ≡ Announced) where
-    second : a.its.b.moment ≡ a.before.b.moment + answer_wait + wait_of setup line
-    second = same_first a.flight.first a.its.b.moment (a.before.b.moment + answer_wait + wait_of setup line) a.its.is.first a.before.begins
-
-    -- the one before it had a send since
-    before_it : now < a.its.b.moment + 2 * within + 0 → ⊥
-    before_it soon =
+    never_announces : (a : Announces setup line (Behind now) sent now endpoint.post.pending) → endpoint.post.restart ≡ Announced → ⊥
+    never_announces a announces =
         announced_answered setup took line within endpoint set_up taken are at a.before.b a.its.b wait (wait_of setup line) few a.before.old a.old a.before.mine a.its.mine a.before.order
-        a.before.stretch a.its.order a.its.stretch (given_up_said a.old a.flight.first a.before) announces second (Told a.before.b wait)
-        (back a.before.b wait of_it (next_sent since a.before.b.moment wait within now (wait_of setup line) a.its.b.moment 0 second soon late)
-        (over_twice a.before.b.moment wait within now 0 (omega arith) few a.before.over)) where
-          of_it : OneOf (λ (one : Begun). one ≡ a.before.b) (begun_in sent)
-          of_it =
-              subst (λ (x : List Sent). OneOf (λ (one : Begun). one ≡ a.before.b) (begun_in x)) (sym a.its.order)
-              (began_before a.old a.its.mine a.before.b
-              (is_begun a.old a.before.b (record { old = a.before.old; mine = a.before.mine; order = a.before.order; stretch = a.before.stretch })))
+        a.before.stretch a.its.order a.its.stretch (given_up_said a.old a.flight.first a.before) announces
+        (same_first a.flight.first a.its.b.moment (a.before.b.moment + answer_wait + wait_of setup line) a.its.is.first a.before.begins) (Told a.before.b wait)
+        (back a.before.b wait (before_began a) (from_none since (a.before.b.moment + wait) none) (over_twice a.before.b.moment wait within now 0 (omega arith) few a.before.over))
 
-    by_first : (one : ℕ) → SaidOf a.its.mine a.its.b one → since ≤ a.its.b.moment + one → one ≡ 0 → (x : Bool) → nat_le (a.its.b.moment + one + 2 * within + 0) now ≡ x → ⊥
-    by_first one has past none true twice = not_sent a.old a.flight a.its a.flies one has past (leb-true (a.its.b.moment + one + 2 * within + 0) now twice)
-    by_first one has past none false fewer =
-        before_it (not_twice a.its.b.moment one within now 0 none (leb-false (a.its.b.moment + one + 2 * within + 0) now fewer))
+    by_first_restart : (restart : Restart) → endpoint.post.restart ≡ restart → TracksBy setup line (Behind now) sent now restart endpoint.post.pending
+        → endpoint.post.restart ≡ Serving
+    by_first_restart (Waiting until) waits t = absurd (never_waits until waits t.before)
+    by_first_restart Announced announces t = absurd (never_announces t announces)
+    by_first_restart Serving serving t = serving
 
-    by_soon : (one : ℕ) → SaidOf a.its.mine a.its.b one → since ≤ a.its.b.moment + one → (one ≡ 0) ⊎ (a.its.b.moment + one + 1 ≤ since + longest_pause) → ⊥
-    by_soon one has past (inl none) = by_first one has past none (nat_le (a.its.b.moment + one + 2 * within + 0) now) refl
-    by_soon one has past (inr next) =
-        not_sent a.old a.flight a.its a.flies one has past (next_twice since a.its.b.moment one wait within now (wait_of setup line) 0 next low late)
+    pub keeps_its_agent : endpoint.post.restart ≡ Serving
+    keeps_its_agent = by_first_restart endpoint.post.restart refl tracks
 
-    by_next : IsNext (SaidOf a.its.mine a.its.b) since a.its.b.moment → ⊥
-    by_next is = by_soon is.wait is.has is.late is.soon
+  -- From a later moment on it has it again by then
 
-    by_test : (x : Bool) → nat_le since (a.its.b.moment + wait) ≡ x → ⊥
-    by_test true past =
-        by_next (next_send (SaidOf a.its.mine a.its.b) since a.its.b.moment (last_past since a.its.b.moment wait (leb-true since (a.its.b.moment + wait) past) low)
-        (flight_said a.old a.flight a.its))
-    by_test false before =
-        too_late since a.its.b.moment wait within now (wait_of setup line) 0 (flight_soon a.old a.flight a.its) (leb-false since (a.its.b.moment + wait) before) late
+  module _ (late : since + answer_wait + wait_of setup line + 2 * within + 0 ≤ (plain setup took).now + 1 + wait) where
+    -- It doesn't wait to announce itself
 
-    not_announced : ⊥
-    not_announced = by_test (nat_le since (a.its.b.moment + wait)) refl
+    not_waiting : (until : ℕ) → endpoint.post.restart ≡ Waiting until → IsGivenUp setup line sent now until → now < until → ⊥
+    not_waiting until waits g soon =
+        waiting_answered setup took line within endpoint set_up taken are at g.b wait few g.old g.mine g.order g.stretch (given_up_said sent until g) until waits (Told g.b wait)
+        (back g.b wait (is_begun sent g.b (record { old = g.old; mine = g.mine; order = g.order; stretch = g.stretch }))
+        (wait_sent since g.b.moment wait within now (wait_of setup line) until 0 g.begins soon late) (over_twice g.b.moment wait within now 0 (omega arith) few g.over))
 
-  by_restart : (restart : Restart) → endpoint.post.restart ≡ restart → TracksBy setup line (Behind now) sent now restart endpoint.post.pending → endpoint.post.restart ≡ Serving
-  by_restart (Waiting until) waits t = absurd (not_waiting until waits t.before t.up)
-  by_restart Announced announces t = absurd (not_announced t announces)
-  by_restart Serving serving t = serving
+    -- What is in flight was sent so often as the clock is late
 
-  -- So its agent is there.
-  pub has_its_agent : endpoint.post.restart ≡ Serving
-  has_its_agent = by_restart endpoint.post.restart refl (tracks_at setup line some set_up took taken are endpoint at).tracks
+    abbrev SaidOf : List Sent → Begun → ℕ → Type 0
+    SaidOf mine b one = b.moment + one ≤ now → OneOf (SaysAt b.text (b.moment + one)) mine
+
+    flight_said : (old : List Sent) (flight : InFlight) (f : Flies setup line (Behind now) sent old now flight) → Each (SaidOf f.mine f.b) chances
+    flight_said old flight f = eight (SaidOf f.mine f.b) (λ number most past. flying_said f.mine f.b flight now f.is f.on f.up number past)
+
+    flight_soon : (old : List Sent) (flight : InFlight) (f : Flies setup line (Behind now) sent old now flight) → now < f.b.moment + answer_wait
+    flight_soon old flight f = soon_by now flight.due flight.first f.b.moment f.up (due_by f.mine flight f.on) f.is.first
+
+    -- and no send of it since was so long ago
+    not_sent : (old : List Sent) (flight : InFlight) (f : Flies setup line (Behind now) sent old now flight) → endpoint.post.pending ≡ Some flight → (one : ℕ)
+        → SaidOf f.mine f.b one → since ≤ f.b.moment + one → f.b.moment + one + 2 * within + 0 ≤ now → ⊥
+    not_sent old flight f flies one has past twice =
+        flight_answered setup took line within endpoint set_up taken are at f.b one old f.mine f.order f.stretch (has (twice_past f.b.moment one within now 0 twice)) flight flies f.is
+        (Told f.b one) (back f.b one (is_begun sent f.b (record { old = old; mine = f.mine; order = f.order; stretch = f.stretch })) past twice)
+
+    -- It didn't announce itself without an answer
+
+    module _ (a : Announces setup line (Behind now) sent now endpoint.post.pending) (announces : endpoint.post.restart ≡ Announced) where
+      second : a.its.b.moment ≡ a.before.b.moment + answer_wait + wait_of setup line
+      second = same_first a.flight.first a.its.b.moment (a.before.b.moment + answer_wait + wait_of setup line) a.its.is.first a.before.begins
+
+      -- the one before it had a send since
+      before_it : now < a.its.b.moment + 2 * within + 0 → ⊥
+      before_it soon =
+          announced_answered setup took line within endpoint set_up taken are at a.before.b a.its.b wait (wait_of setup line) few a.before.old a.old a.before.mine a.its.mine a.before.order
+          a.before.stretch a.its.order a.its.stretch (given_up_said a.old a.flight.first a.before) announces second (Told a.before.b wait)
+          (back a.before.b wait (before_began a) (next_sent since a.before.b.moment wait within now (wait_of setup line) a.its.b.moment 0 second soon late)
+          (over_twice a.before.b.moment wait within now 0 (omega arith) few a.before.over))
+
+      by_first : (one : ℕ) → SaidOf a.its.mine a.its.b one → since ≤ a.its.b.moment + one → one ≡ 0 → (x : Bool) → nat_le (a.its.b.moment + one + 2 * within + 0) now ≡ x → ⊥
+      by_first one has past none true twice = not_sent a.old a.flight a.its a.flies one has past (leb-true (a.its.b.moment + one + 2 * within + 0) now twice)
+      by_first one has past none false fewer =
+          before_it (not_twice a.its.b.moment one within now 0 none (leb-false (a.its.b.moment + one + 2 * within + 0) now fewer))
+
+      by_soon : (one : ℕ) → SaidOf a.its.mine a.its.b one → since ≤ a.its.b.moment + one → (one ≡ 0) ⊎ (a.its.b.moment + one + 1 ≤ since + longest_pause) → ⊥
+      by_soon one has past (inl none) = by_first one has past none (nat_le (a.its.b.moment + one + 2 * within + 0) now) refl
+      by_soon one has past (inr next) =
+          not_sent a.old a.flight a.its a.flies one has past (next_twice since a.its.b.moment one wait within now (wait_of setup line) 0 next low late)
+
+      by_next : IsNext (SaidOf a.its.mine a.its.b) since a.its.b.moment → ⊥
+      by_next is = by_soon is.wait is.has is.late is.soon
+
+      by_test : (x : Bool) → nat_le since (a.its.b.moment + wait) ≡ x → ⊥
+      by_test true past =
+          by_next (next_send (SaidOf a.its.mine a.its.b) since a.its.b.moment (last_past since a.its.b.moment wait (leb-true since (a.its.b.moment + wait) past) low)
+          (flight_said a.old a.flight a.its))
+      by_test false before =
+          too_late since a.its.b.moment wait within now (wait_of setup line) 0 (flight_soon a.old a.flight a.its) (leb-false since (a.its.b.moment + wait) before) late
+
+      not_announced : ⊥
+      not_announced = by_test (nat_le since (a.its.b.moment + wait)) refl
+
+    by_restart : (restart : Restart) → endpoint.post.restart ≡ restart → TracksBy setup line (Behind now) sent now restart endpoint.post.pending → endpoint.post.restart ≡ Serving
+    by_restart (Waiting until) waits t = absurd (not_waiting until waits t.before t.up)
+    by_restart Announced announces t = absurd (not_announced t announces)
+    by_restart Serving serving t = serving
+
+    -- So its agent is there.
+    pub has_its_agent : endpoint.post.restart ≡ Serving
+    has_its_agent = by_restart endpoint.post.restart refl tracks

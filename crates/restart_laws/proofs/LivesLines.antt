@@ -42,7 +42,7 @@ use Rattle.life_laws.proofs.LinkedLives.{lives_stand}
 use Rattle.restart_laws.specs.AfterRestart.{AgentHasRoomThen, LifeGoesToAgent, LivesAreFairFrom}
 use Rattle.restart_laws.proofs.GatewayServes.{CameBack, IsChance, IsQuick, by_last, last_is}
 use Rattle.restart_laws.proofs.LineAlone.{Chase, Returns}
-use Rattle.restart_laws.proofs.LineServes.{has_its_agent}
+use Rattle.restart_laws.proofs.LineServes.{has_its_agent, keeps_its_agent}
 use Rattle.restart_laws.proofs.LivesFronts.{life_more, lives_front, longer}
 use Rattle.restart_laws.proofs.LivesSays.{IsPosted, Keeps, TellsOf, all_out, each_posts, life_is, lives_keep}
 use Rattle.restart_laws.proofs.LivesServe.{CameTo, IsTold, back, came_behind, found_in, is_told, no_later_life, sent_before, text_reaches, v}
@@ -354,57 +354,64 @@ late_moved : (since start wait within pause now clock : ℕ) → start ≤ since
     → (since - start) + answer_wait + pause + 2 * within + 0 ≤ now + 1 + wait
 late_moved since start wait within pause now clock on same late = omega (arith, on, same, late)
 
--- So it has its agent by then, where the network is fair from the start of its life on, or from later on
-agent_since : (setup : Setup) (steps : List LivesStep) (since within wait line : ℕ) (endpoint : Endpoint) → IsSetUp setup → lives_are_taken setup (lives_opening setup) steps ≡ true
-    → LivesAreFairFrom setup steps since within → AgentHasRoomThen setup steps since → IsChance within wait → let w = plain_lives setup steps in
-    ((b : Begun) → HasBegun w.life.setup w.life.took line b → LifeGoesToAgent setup w b.text) → endpoint_at (gateway_of w.life).endpoints line ≡ Some endpoint → w.life.start ≤ since
-    → since + answer_wait + setup.disconnected_wait + 2 * within ≤ clock_of setup w + 1 + wait → endpoint.post.restart ≡ Serving
-agent_since setup steps since within wait line endpoint set_up taken fair roomy is goes at on late =
-    has_its_agent w.life.setup w.life.took line (since - w.life.start) within endpoint life.set_up life.taken keeps.arrivals at
-    (Told setup steps since within set_up taken fair roomy line) chased wait is.among is.few
-    (late_moved since w.life.start wait within (wait_of w.life.setup line) (gateway_of w.life).now (clock_of setup w) on clock
-    (subst (λ (pause : ℕ). since + answer_wait + pause + 2 * within ≤ clock_of setup w + 1 + wait) (sym pause_same) late)) where
-      w : LivesWorld
-      w = plain_lives setup steps
+none_moved : (start : ℕ) → start - start ≡ 0
+none_moved start = omega arith
 
-      life : IsLife (clock_of setup (plain_lives setup steps)) (plain_lives setup steps).life
-      life = life_is setup (plain_lives setup steps) (lives_stand setup steps set_up taken)
+module _ (setup : Setup) (steps : List LivesStep) (since within wait line : ℕ) (endpoint : Endpoint) (set_up : IsSetUp setup)
+    (taken : lives_are_taken setup (lives_opening setup) steps ≡ true) (fair : LivesAreFairFrom setup steps since within) (roomy : AgentHasRoomThen setup steps since)
+    (is : IsChance within wait) (goes : (b : Begun) → HasBegun (plain_lives setup steps).life.setup (plain_lives setup steps).life.took line b → LifeGoesToAgent setup (plain_lives setup steps) b.text)
+    (at : endpoint_at (gateway_of (plain_lives setup steps).life).endpoints line ≡ Some endpoint) where
+  abbrev wl : LivesWorld
+  wl = plain_lives setup steps
 
-      keeps : Keeps setup (plain_lives setup steps)
-      keeps = lives_keep setup steps set_up taken
+  life : IsLife (clock_of setup wl) wl.life
+  life = life_is setup wl (lives_stand setup steps set_up taken)
 
-      clock : clock_of setup (plain_lives setup steps) ≡ (plain_lives setup steps).life.start + (gateway_of (plain_lives setup steps).life).now
-      clock = (lives_kept setup steps taken).clock
+  keeps : Keeps setup wl
+  keeps = lives_keep setup steps set_up taken
 
-      pause_same : wait_of (plain_lives setup steps).life.setup line ≡ setup.disconnected_wait
-      pause_same =
-          wait_is (plain_lives setup steps).life.setup line (place_of (gateway_of (plain_lives setup steps).life).endpoints line endpoint at).0
-          ∙ ap (λ (s : Setup). s.disconnected_wait) keeps.same
+  clock : clock_of setup wl ≡ wl.life.start + (gateway_of wl.life).now
+  clock = (lives_kept setup steps taken).clock
 
-      chased : (b : Begun) (wait : ℕ) → OneOf (λ (one : Begun). one ≡ b) (begun_in (of_line line (sent_of w.life.setup w.life.took))) → since - w.life.start ≤ b.moment + wait
-          → b.moment + wait + 2 * within + 0 ≤ (gateway_of w.life).now → Chase w.life.setup w.life.took line within b wait (Told setup steps since within set_up taken fair roomy line b wait)
-      chased b wait began past twice =
-          chase setup steps since within set_up taken fair roomy line b wait
-          (goes b (any_from_one (λ (one : Begun). one ≡ b) (begun_in (of_line line (sent_of w.life.setup w.life.took))) began)) began
-          (past_moved since w.life.start (b.moment + wait) past)
-          (twice_moved w.life.start (b.moment + wait) within (gateway_of w.life).now (clock_of setup w) clock twice)
+  pause_same : wait_of wl.life.setup line ≡ setup.disconnected_wait
+  pause_same =
+      wait_is wl.life.setup line (place_of (gateway_of wl.life).endpoints line endpoint at).0 ∙ ap (λ (s : Setup). s.disconnected_wait) keeps.same
+
+  chased : (b : Begun) (wait : ℕ) → OneOf (λ (one : Begun). one ≡ b) (begun_in (of_line line (sent_of wl.life.setup wl.life.took))) → since - wl.life.start ≤ b.moment + wait
+      → b.moment + wait + 2 * within + 0 ≤ (gateway_of wl.life).now → Chase wl.life.setup wl.life.took line within b wait (Told setup steps since within set_up taken fair roomy line b wait)
+  chased b wait began past twice =
+      chase setup steps since within set_up taken fair roomy line b wait
+      (goes b (any_from_one (λ (one : Begun). one ≡ b) (begun_in (of_line line (sent_of wl.life.setup wl.life.took))) began)) began
+      (past_moved since wl.life.start (b.moment + wait) past)
+      (twice_moved wl.life.start (b.moment + wait) within (gateway_of wl.life).now (clock_of setup wl) clock twice)
+
+  -- So it has its agent by then, where the network is fair from the start of its life on, or from later on
+  pub agent_since : wl.life.start ≤ since → since + answer_wait + setup.disconnected_wait + 2 * within ≤ clock_of setup wl + 1 + wait → endpoint.post.restart ≡ Serving
+  agent_since on late =
+      has_its_agent wl.life.setup wl.life.took line (since - wl.life.start) within endpoint life.set_up life.taken keeps.arrivals at
+      (Told setup steps since within set_up taken fair roomy line) chased wait is.among is.few
+      (late_moved since wl.life.start wait within (wait_of wl.life.setup line) (gateway_of wl.life).now (clock_of setup wl) on clock
+      (subst (λ (pause : ℕ). since + answer_wait + pause + 2 * within ≤ clock_of setup wl + 1 + wait) (sym pause_same) late))
+
+  -- and at any time, where it is so from the start of its life on
+  pub agent_from_start : since ≡ wl.life.start → endpoint.post.restart ≡ Serving
+  agent_from_start same =
+      keeps_its_agent wl.life.setup wl.life.took line (since - wl.life.start) within endpoint life.set_up life.taken keeps.arrivals at
+      (Told setup steps since within set_up taken fair roomy line) chased wait is.among is.few
+      (ap (λ (n : ℕ). n - wl.life.start) same ∙ none_moved wl.life.start)
 
 past_start : (since start moment : ℕ) → since < start → start ≤ moment → since ≤ moment
 past_start since start moment less past = omega (arith, less, past)
 
-itself : (n : ℕ) → n ≤ n
-itself n = omega arith
-
 young_quick : (within : ℕ) → within ≤ oldest_packet → IsQuick within
 young_quick within young = omega (arith, young)
 
--- and so it has by that long behind the later of the two
+-- so it has it by then; and at any time, where its life started later than the network came back
 pub agent_after : (setup : Setup) (steps : List LivesStep) (since within line : ℕ) (endpoint : Endpoint) → IsSetUp setup → lives_are_taken setup (lives_opening setup) steps ≡ true
     → within ≤ oldest_packet → LivesAreFairFrom setup steps since within → AgentHasRoomThen setup steps since → let w = plain_lives setup steps in
     ((b : Begun) → HasBegun w.life.setup w.life.took line b → LifeGoesToAgent setup w b.text) → endpoint_at (gateway_of w.life).endpoints line ≡ Some endpoint
-    → since + gap_of within + setup.disconnected_wait + 2 * within ≤ clock_of setup w + 1
-    → w.life.start + gap_of within + setup.disconnected_wait + 2 * within ≤ clock_of setup w + 1 → endpoint.post.restart ≡ Serving
-agent_after setup steps since within line endpoint set_up taken young fair roomy goes at late late_too = by_test (nat_le w.life.start since) refl where
+    → since + gap_of within + setup.disconnected_wait + 2 * within ≤ clock_of setup w + 1 → endpoint.post.restart ≡ Serving
+agent_after setup steps since within line endpoint set_up taken young fair roomy goes at late = by_test (nat_le w.life.start since) refl where
   w : LivesWorld
   w = plain_lives setup steps
 
@@ -417,7 +424,6 @@ agent_after setup steps since within line endpoint set_up taken young fair roomy
       (by_last since within (clock_of setup w) setup.disconnected_wait quick late)
   by_test false before =
       let less : since < w.life.start = leb-false w.life.start since before in
-      agent_since setup steps w.life.start within (last_in_time within 0 chances) line endpoint set_up taken
+      agent_from_start setup steps w.life.start within (last_in_time within 0 chances) line endpoint set_up taken
       (λ number letter found past. fair number letter found (past_start since w.life.start letter.post.packet.moment less past))
-      (λ some later order past. roomy some later order (past_start since w.life.start (clock_of setup (plain_lives setup some)) less past)) (last_is within quick) goes at
-      (itself w.life.start) (by_last w.life.start within (clock_of setup w) setup.disconnected_wait quick late_too)
+      (λ some later order past. roomy some later order (past_start since w.life.start (clock_of setup (plain_lives setup some)) less past)) (last_is within quick) goes at refl

@@ -1,16 +1,18 @@
 -- The worlds of the worked examples: the gateway of two lines starts again, while the network is down or where it is fair.
-use Rattle.std.specs.Prelude.{ℕ, codes, List, [], ◌∷◌, ◌++◌, flat_map}
+use Rattle.std.specs.Prelude.{ℕ, codes, List, [], ◌∷◌, ◌++◌, flat_map, Option, option_map}
 use Rattle.mg_line.specs.declared.phone.Act.TheVariants.{OffHook}
 use Rattle.mgcp_text.specs.declared.message.Message.TheVariants as messages
 use Rattle.mgcp_text.specs.Reading.{Outcome, bad_body, bad_version, message, no_header}
+use Rattle.restart.specs.declared.restart.Restart.{Restart}
 use Rattle.plain_machine.specs.Arriving.{arrivals_of}
+use Rattle.plain_machine.specs.Machine.{endpoint_at}
 use Rattle.machine_laws.specs.Saying.{Begun}
 use Rattle.agent_core.specs.World.{delivering, dialling, ticking}
 use Rattle.world_laws.specs.Example.{announced, seconds}
 use Rattle.delivery_laws.specs.Example.{up_to}
-use Rattle.outage_laws.specs.Example.{all_lost, sent_elsewhere}
+use Rattle.outage_laws.specs.Example.{all_lost, given_up_elsewhere, sent_elsewhere}
 use Rattle.outage_laws.specs.Premises.{announced_four_times}
-use Rattle.life_laws.specs.Lives.{LivesStep, restarting, stepping}
+use Rattle.life_laws.specs.Lives.{LivesStep, gateway_of, restarting, stepping}
 use Rattle.life_laws.specs.Example.{in_one_life, lives}
 
 -- its first life announces itself at 1, by packet 0, which is lost, and it starts again; the eight copies of the announcement of the next
@@ -99,3 +101,27 @@ responding (message (messages.Response code id params body)) = id ∷ []
 
 abbrev pub responses_after : List LivesStep → List ℕ
 responses_after steps = flat_map (λ a. responding a.outcome) (arrivals_of (lives steps).life.took)
+
+-- A line
+
+-- the eight copies of the notification, packets 3 to 10, are lost; given up at 23,502, line 1 announces itself at 28,502, in packet 11,
+-- which is handed over 300 ms later; the answer to it is packet 12
+abbrev pub unconnected_anew : List LivesStep
+unconnected_anew =
+    stepping (ticking 1) ∷ restarting 20
+    ∷ in_one_life (ticking 2 ∷ delivering 1 ∷ delivering 2 ∷ dialling 1 OffHook ∷ up_to 23 ++ ticking 23502 ∷ ticking 24001 ∷ ticking 25001
+    ∷ ticking 26001 ∷ ticking 27001 ∷ ticking 28001 ∷ ticking 28502 ∷ ticking 28802 ∷ delivering 11 ∷ ticking 29101 ∷ [])
+
+abbrev pub unconnected_still : List LivesStep
+unconnected_still = unconnected_anew ++ stepping (ticking 29102) ∷ []
+
+abbrev pub connected_anew : List LivesStep
+connected_anew = unconnected_still ++ stepping (delivering 12) ∷ []
+
+-- line 1 reports to another address, and has given its notification up
+abbrev pub unconnected_elsewhere : List LivesStep
+unconnected_elsewhere = in_one_life given_up_elsewhere
+
+-- whether line 1 has its agent
+abbrev pub restart_after : List LivesStep → Option Restart
+restart_after steps = option_map (λ endpoint. endpoint.post.restart) (endpoint_at (gateway_of (lives steps).life).endpoints 1)

@@ -3,10 +3,13 @@
 //! for one.
 #![tactic(auto, unfolding(crate::proofs::Computing::on_examples))]
 
-ghost use Rattle.std.specs.Prelude.{◌≡◌, ◌≤◌, ◌<◌, ◌+◌, ◌*◌, [], ◌∷◌, true, false};
+ghost use Rattle.std.specs.Prelude.{◌≡◌, ◌≤◌, ◌<◌, ◌+◌, ◌*◌, [], ◌∷◌, Some, true, false};
+ghost use Rattle.restart.specs.declared.restart.Restart.TheVariants.{Announced, Serving, Waiting};
 ghost use Rattle.plain_machine.specs.Example.{two_lines};
 ghost use Rattle.plain_machine.specs.Machine.{serves};
 ghost use Rattle.plain_machine.specs.Setup.{IsSetUp};
+ghost use Rattle.machine_laws.specs.Saying.{Begun};
+ghost use Rattle.agent_core.specs.World.{oldest_packet};
 ghost use Rattle.delivery_laws.specs.Chances.{last_chance};
 ghost use Rattle.delivery_laws.specs.Example.{endless, lifted};
 ghost use Rattle.outage_laws.specs.AfterOutage.{gap_of, longest_pause};
@@ -17,8 +20,11 @@ ghost use Rattle.life_laws.specs.Apart.{LieApart};
 ghost use Rattle.life_laws.specs.Example.{brought_after, firsts_after, lives, moments_after, owners_after, serves_after};
 ghost use Rattle.restart_laws.specs.AfterRestart.{AgentHasRoomThen, IsRunOfLives, LifeGoesToAgent, LivesAreFairFrom};
 ghost use Rattle.restart_laws.specs.Example.{answered_at_last, down_at_first, never_heard, served_never_again, started_alike_once};
-ghost use Rattle.restart_laws.specs.Example.{announced_alike, answered_anew, lifted_anew, lifted_elsewhere, lost_anew, lost_for_good, lost_still};
-ghost use Rattle.restart_laws.specs.Example.{responses_after, started_alike_slowly, started_anew, taken_anew, unanswered_yet};
+ghost use Rattle.restart_laws.specs.Example.{announced_alike, answered_anew, lifted_anew, lifted_elsewhere, lost_anew};
+ghost use Rattle.restart_laws.specs.Example.{lost_for_good, lost_still};
+ghost use Rattle.restart_laws.specs.Example.{connected_anew, responses_after, restart_after, started_alike_slowly};
+ghost use Rattle.restart_laws.specs.Example.{started_anew, taken_anew};
+ghost use Rattle.restart_laws.specs.Example.{unanswered_yet, unconnected_anew, unconnected_elsewhere, unconnected_still};
 
 /// The gateway starts again at 1, while the network is down. The eight sends of its announcement are lost, and the network is there again
 /// 1 ms behind the last, with 300 ms for a packet; the announcement is given up, and goes out anew 1 ms later. The gateway serves 4,000
@@ -128,4 +134,37 @@ pub fn else_what_a_new_life_sends_is_not_taken()
     ensures not_apart { ¬ LieApart (lives_of (lives started_alike_slowly)) }
     ensures none_of_this_life { firsts_after started_alike_slowly ≡ (0, 1) ∷ [] }
     ensures none_came_alike { responses_after started_alike_slowly ≡ [] }
+{}
+
+/// The notification of a new life's line is lost eight times, and the network is there again 1 ms behind the last, with 300 ms for a
+/// packet: the line gives it up, and announces itself 5,000 ms later. It has its agent 4,000 ms, that wait and twice 300 ms behind that,
+/// and 1 ms sooner it hasn't. All that the law asks for holds at once.
+pub fn a_line_of_a_new_life_has_its_agent_at_last()
+    ensures run { IsRunOfLives two_lines connected_anew }
+    ensures start { (lives connected_anew).life.start ≡ 1 }
+    ensures fair { LivesAreFairFrom two_lines connected_anew 19503 300 }
+    ensures fair_not_before { ¬ LivesAreFairFrom two_lines connected_anew 19502 300 }
+    ensures room { AgentHasRoomThen two_lines connected_anew 19503 }
+    ensures young { 300 ≤ oldest_packet }
+    ensures goes { (b : Begun) → HasBegun (lives connected_anew).life.setup (lives connected_anew).life.took 1 b →
+        LifeGoesToAgent two_lines (lives connected_anew) b.text }
+    ensures late { 19503 + gap_of 300 + two_lines.disconnected_wait + 2 * 300 ≡ clock_of two_lines (lives connected_anew) + 1 }
+    ensures serving { restart_after connected_anew ≡ Some Serving }
+    ensures fair_yet { LivesAreFairFrom two_lines unconnected_anew 19503 300 }
+    ensures too_soon { 19503 + gap_of 300 + two_lines.disconnected_wait + 2 * 300 ≡ clock_of two_lines (lives unconnected_anew) + 2 }
+    ensures not_yet { restart_after unconnected_anew ≡ Some Announced }
+{}
+
+/// It hasn't its agent where the answer isn't handed over, or where its commands go elsewhere.
+pub fn else_a_line_of_a_new_life_has_no_agent()
+    ensures run { IsRunOfLives two_lines unconnected_still }
+    ensures unfair { ¬ LivesAreFairFrom two_lines unconnected_still 19503 300 }
+    ensures room { AgentHasRoomThen two_lines unconnected_still 19503 }
+    ensures late { 19503 + gap_of 300 + two_lines.disconnected_wait + 2 * 300 ≤ clock_of two_lines (lives unconnected_still) + 1 }
+    ensures not_serving { restart_after unconnected_still ≡ Some Announced }
+    ensures run_elsewhere { IsRunOfLives two_lines unconnected_elsewhere }
+    ensures fair_elsewhere { LivesAreFairFrom two_lines unconnected_elsewhere 14501 0 }
+    ensures room_elsewhere { AgentHasRoomThen two_lines unconnected_elsewhere 14501 }
+    ensures late_elsewhere { 14501 + gap_of 0 + two_lines.disconnected_wait + 2 * 0 ≤ clock_of two_lines (lives unconnected_elsewhere) + 1 }
+    ensures waiting_elsewhere { restart_after unconnected_elsewhere ≡ Some (Waiting 28501) }
 {}

@@ -25,10 +25,10 @@ pub fn a_new_life_serves_after_an_outage()
         serves (gateway_of w.life).endpoints ≡ true }
 {}
 
-/// What the life that goes on has in flight when the network is there again, or begins since, is taken 3,999 ms and the network's
-/// time behind that moment at the latest, or that time behind its first send, and a response to it comes to that life by twice that time; unless the
-/// last of its eight sends was before. Taken is a first of the agent's with its id; where lives' ids lie apart it is of this life. That is
-/// said unless a response with its id came already, such as one to an earlier life's, which may come before the command begins. It is so
+/// What the life that goes on has in flight when the network is there again, or begins since, is taken 3,999 ms and the network's time
+/// behind that moment at the latest, or that time behind its first send, and a response to it comes to that life by twice that time; unless
+/// the last of its eight sends was before. Taken is a first of the agent's with its id; where lives' ids lie apart it is of this life. That
+/// is said unless a response with its id came already, such as one to an earlier life's, which may come before the command begins. It is so
 /// of announcements of the gateway itself, and of what of a line goes to the agent (RFC 3435, 3.5.3).
 pub fn what_a_new_life_has_in_flight_is_taken_after_an_outage()
     ensures line_taken { (setup : Setup) (steps : List LivesStep) (since within line : ℕ) (b : Begun) → IsRunOfLives setup steps →
@@ -67,15 +67,14 @@ pub fn what_a_new_life_has_in_flight_is_taken_after_an_outage()
         HasResponse w.life.took b.id }
 {}
 
-/// A line of the life that goes on whose commands go to the agent has its agent and nothing to announce by then: behind the moment at
-/// which the network came back, or the start of its life, where that was later, the time between the last send whose answer comes in time and its
-/// announcement, and twice the network's time, which is a packet's greatest age at most (RFC 3435, 3.5.3 and 4.4.7).
+/// A line of the life that goes on whose commands go to the agent has its agent and nothing to announce by then: behind the moment at which
+/// the network came back the time between the last send whose answer comes in time and its announcement, and twice the network's time,
+/// which is a packet's greatest age at most; also where its life started since (RFC 3435, 3.5.3 and 4.4.7).
 pub fn a_line_of_a_new_life_has_its_agent_again_after_an_outage()
     ensures { (setup : Setup) (steps : List LivesStep) (since within line : ℕ) (endpoint : Endpoint) → IsRunOfLives setup steps →
         within ≤ oldest_packet → LivesAreFairFrom setup steps since within → AgentHasRoomThen setup steps since →
         let w = plain_lives setup steps in
         ((b : Begun) → HasBegun w.life.setup w.life.took line b → LifeGoesToAgent setup w b.text) →
         endpoint_at (gateway_of w.life).endpoints line ≡ Some endpoint →
-        since + gap_of within + setup.disconnected_wait + 2 * within ≤ clock_of setup w + 1 →
-        w.life.start + gap_of within + setup.disconnected_wait + 2 * within ≤ clock_of setup w + 1 → endpoint.post.restart ≡ Serving }
+        since + gap_of within + setup.disconnected_wait + 2 * within ≤ clock_of setup w + 1 → endpoint.post.restart ≡ Serving }
 {}
