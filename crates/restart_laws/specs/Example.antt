@@ -1,5 +1,6 @@
 -- The worlds of the worked examples: the gateway of two lines starts again, while the network is down or where it is fair.
-use Rattle.std.specs.Prelude.{ℕ, codes, List, [], ◌∷◌, ◌++◌, flat_map, Option, option_map}
+use Rattle.std.specs.Prelude.{ℕ, ◌+◌, ◌*◌, codes, List, [], ◌∷◌, ◌++◌, map, flat_map, Option, option_map}
+use Rattle.std.specs.List.{range_with_len}
 use Rattle.mg_line.specs.declared.phone.Act.TheVariants.{OffHook}
 use Rattle.mgcp_text.specs.declared.message.Message.TheVariants as messages
 use Rattle.mgcp_text.specs.Reading.{Outcome, bad_body, bad_version, message, no_header}
@@ -121,6 +122,13 @@ connected_anew = unconnected_still ++ stepping (delivering 12) ∷ []
 -- line 1 reports to another address, and has given its notification up
 abbrev pub unconnected_elsewhere : List LivesStep
 unconnected_elsewhere = in_one_life given_up_elsewhere
+
+-- a packet may take 20,000 ms, though none is handed over that is older than 10,000: line 1 is lifted at 45,001, and four copies of its
+-- notification, packets 2 to 5, are handed over at 49,001; no answer to them is yet so old as it gives that up
+abbrev pub answered_slowly : List LivesStep
+answered_slowly =
+    in_one_life (announced ++ up_to 45 ++ dialling 1 OffHook ∷ ticking 46001 ∷ ticking 47001 ∷ ticking 48001 ∷ ticking 49001 ∷ delivering 2
+    ∷ delivering 3 ∷ delivering 4 ∷ delivering 5 ∷ map (λ second. ticking (second * 1000 + 1)) (range_with_len 50 19) ++ ticking 68501 ∷ [])
 
 -- whether line 1 has its agent
 abbrev pub restart_after : List LivesStep → Option Restart

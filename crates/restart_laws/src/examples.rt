@@ -20,7 +20,7 @@ ghost use Rattle.life_laws.specs.Apart.{LieApart};
 ghost use Rattle.life_laws.specs.Example.{brought_after, firsts_after, lives, moments_after, owners_after, serves_after};
 ghost use Rattle.restart_laws.specs.AfterRestart.{AgentHasRoomThen, IsRunOfLives, LifeGoesToAgent, LivesAreFairFrom};
 ghost use Rattle.restart_laws.specs.Example.{answered_at_last, down_at_first, never_heard, served_never_again, started_alike_once};
-ghost use Rattle.restart_laws.specs.Example.{announced_alike, answered_anew, lifted_anew, lifted_elsewhere, lost_anew};
+ghost use Rattle.restart_laws.specs.Example.{announced_alike, answered_anew, answered_slowly, lifted_anew, lifted_elsewhere, lost_anew};
 ghost use Rattle.restart_laws.specs.Example.{lost_for_good, lost_still};
 ghost use Rattle.restart_laws.specs.Example.{connected_anew, responses_after, restart_after, started_alike_slowly};
 ghost use Rattle.restart_laws.specs.Example.{started_anew, taken_anew};
@@ -155,7 +155,8 @@ pub fn a_line_of_a_new_life_has_its_agent_at_last()
     ensures not_yet { restart_after unconnected_anew ≡ Some Announced }
 {}
 
-/// It hasn't its agent where the answer isn't handed over, or where its commands go elsewhere.
+/// It hasn't its agent where the answer isn't handed over, where its commands go elsewhere, or where a packet may take longer than it is
+/// handed over at all.
 pub fn else_a_line_of_a_new_life_has_no_agent()
     ensures run { IsRunOfLives two_lines unconnected_still }
     ensures unfair { ¬ LivesAreFairFrom two_lines unconnected_still 19503 300 }
@@ -167,4 +168,11 @@ pub fn else_a_line_of_a_new_life_has_no_agent()
     ensures room_elsewhere { AgentHasRoomThen two_lines unconnected_elsewhere 14501 }
     ensures late_elsewhere { 14501 + gap_of 0 + two_lines.disconnected_wait + 2 * 0 ≤ clock_of two_lines (lives unconnected_elsewhere) + 1 }
     ensures waiting_elsewhere { restart_after unconnected_elsewhere ≡ Some (Waiting 28501) }
+    ensures run_slow { IsRunOfLives two_lines answered_slowly }
+    ensures fair_slow { LivesAreFairFrom two_lines answered_slowly 1 20000 }
+    ensures room_slow { AgentHasRoomThen two_lines answered_slowly 1 }
+    ensures goes_slow { (b : Begun) → HasBegun (lives answered_slowly).life.setup (lives answered_slowly).life.took 1 b →
+        LifeGoesToAgent two_lines (lives answered_slowly) b.text }
+    ensures late_slow { 1 + gap_of 20000 + two_lines.disconnected_wait + 2 * 20000 ≤ clock_of two_lines (lives answered_slowly) + 1 }
+    ensures waiting_slow { restart_after answered_slowly ≡ Some (Waiting 73501) }
 {}
