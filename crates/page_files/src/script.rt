@@ -756,8 +756,12 @@ class Ladder {
     const peer = direction === "in" ? row.peer : "";
     if (this.isRepeat(label, `${direction} ${peer} ${message.verb} ${message.id}`, row.at)) {
       this.mark(row, "again", label?.send ? `send ${label.send}` : "repeat");
-      this.open.get(key)?.rows.push(row);
-      return;
+      const open = this.open.get(key);
+      open?.rows.push(row);
+      // A page that came later hears the repeat first.
+      if (open || this.answered.has(key)) {
+        return;
+      }
     }
     // A line that has lost its agent, or a gateway that announces itself anew, has given up what it asked before.
     if (label === null && direction === "out" && message.verb === "RSIP") {
