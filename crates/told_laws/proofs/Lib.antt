@@ -4,6 +4,7 @@ pub mod OccursLemmas
 pub mod WalkLemmas
 pub mod WalkCourses
 pub mod WalkFrontLemmas
+pub mod FrontWalks
 pub mod AskedLemmas
 pub mod LineBounds
 pub mod ToldCourses

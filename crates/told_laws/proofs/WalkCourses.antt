@@ -20,19 +20,19 @@ use Rattle.told_laws.proofs.WalkLemmas.{ActWalks, At, Loses, WalksOn, answered_w
 
 -- no request was accepted
 
-abbrev NoneAsked : List CourseStep → Type 0
+abbrev pub NoneAsked : List CourseStep → Type 0
 NoneAsked [] = Unit {0}
 NoneAsked (acts act ∷ course) = NoneAsked course
 NoneAsked (accepts request ∷ course) = ⊥
 NoneAsked (notifies identifier observed ∷ course) = NoneAsked course
 
-none_both : (some more : List CourseStep) → NoneAsked some → NoneAsked more → NoneAsked (some ++ more)
+pub none_both : (some more : List CourseStep) → NoneAsked some → NoneAsked more → NoneAsked (some ++ more)
 none_both [] more none nor = nor
 none_both (acts act ∷ some) more none nor = none_both some more none nor
 none_both (accepts request ∷ some) more none nor = absurd none
 none_both (notifies identifier observed ∷ some) more none nor = none_both some more none nor
 
-none_told : (notice : Option Notice) → NoneAsked (steps_of notice)
+pub none_told : (notice : Option Notice) → NoneAsked (steps_of notice)
 none_told None = tt
 none_told (Some notice) = tt
 

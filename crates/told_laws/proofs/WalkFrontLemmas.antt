@@ -262,7 +262,7 @@ place_behind None place is = tt
 place_behind (Some request) place is = is
 
 -- where embedded requests come into force
-place_then : (latest : Option Request) (place next : Place) (waiting left : List Observed) → Embeds place waiting next left → IsPlaceOf latest place
+pub place_then : (latest : Option Request) (place next : Place) (waiting left : List Observed) → Embeds place waiting next left → IsPlaceOf latest place
     → IsPlaceOf latest next
 place_then None place next waiting left moves is = tt
 place_then (Some request) place next waiting left moves is = (λ (bare : EmbedsNone request.events). (let never : NoneBrought place = none_by_requests place (subst EmbedsNone (sym (is.0 bare)) bare) in sym (embeds_none (λ (p : Place) (w : List Observed). p.requests ≡ next.requests) place next waiting left never moves refl) ∙ is.0 bare), (embeds_keeps place next waiting left moves).0 ∙ is.1)
@@ -285,7 +285,7 @@ walk_place (notifies identifier observed ∷ course) end place waiting latest is
 
 -- Behind a notification, in step: what is kept of the acts since is quarantined still at the next request
 
-shut_at : (latest : Request) (place : Place) → IsPlaceOf (Some latest) place → is_loop latest.handling.notifying ≡ false
+pub shut_at : (latest : Request) (place : Place) → IsPlaceOf (Some latest) place → is_loop latest.handling.notifying ≡ false
     → (behind_notification place).is_shut ≡ true
 shut_at latest place is steps = is.1 ∙ ap not steps
 

@@ -190,3 +190,11 @@ pub record TellsWhatWasKept (latest request : Request) (told done some since obs
   pub order : left_by request.handling.quarantined (left ++ filter (is_kept latest.events) some) ++ filter (is_kept request.events) since
       ≡ front ++ rest
   pub told_so : of_telephone observed ≡ filter (collects request.events) front
+
+-- It tells, in their order, all that R has told of a front of these: what the request left of what was quarantined, and what of the acts
+-- since is kept.
+pub record TellsOfHeld (request : Request) (held since observed : List Observed) : Type 0 where
+  pub front : List Observed
+  pub rest : List Observed
+  pub order : left_by request.handling.quarantined held ++ filter (is_kept request.events) since ≡ front ++ rest
+  pub told_so : of_telephone observed ≡ filter (collects request.events) front

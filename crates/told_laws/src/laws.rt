@@ -18,7 +18,7 @@ ghost use Rattle.delivery_laws.specs.Rounds.{of_telephone};
 ghost use Rattle.told_laws.specs.Among.{AreAmong, IsToldInOrder};
 ghost use Rattle.delivery_laws.specs.Dialled.{done_in, told_along, latest_from, IsAskedForAll, IsToldOnce};
 ghost use Rattle.told_laws.specs.Stretch.{AnnouncesNothing, IsWhole, course_meanwhile, outliving, taken_meanwhile};
-ghost use Rattle.told_laws.specs.Walking.{nothing_asked, EmbedsNone, Walks, Stays, WalksButLost, AreActs, TellsAFront, TellsWhatWasKept};
+ghost use Rattle.told_laws.specs.Walking.{nothing_asked, EmbedsNone, Walks, Stays, WalksButLost, AreActs, TellsAFront, TellsOfHeld, TellsWhatWasKept};
 
 /// Whatever is asked of a line, and by whatever requests: what its notifications told, each at its first send, joined, and then what it
 /// keeps to tell it, was done at its telephone, in that order, and nothing of it twice, but for the ends of signals and of timer T.
@@ -68,6 +68,27 @@ pub fn what_is_done_meanwhile_is_told_behind_the_next_request()
         latest_from None before ≡ Some latest → is_loop latest.handling.notifying ≡ false → AreActs some → AreActs between →
         TellsWhatWasKept latest request (of_telephone (told_along before) ++ of_telephone earlier) (done_in before) (done_in some)
         (done_in between) observed }
+{}
+
+/// So nothing that is quarantined is forgotten: behind a notification, in step, and the acts since, what the line has quarantined is what the
+/// next request leaves, or discards; and of that, and of what was done since, the first notification behind it tells, in their order, each
+/// event that its R names, up to it. And the walk passes, at each front of the events, where the line stands.
+pub fn what_is_quarantined_is_told_behind_the_next_request()
+    ensures told { (setup : Setup) (line : ℕ) (before after : List GatewayEvent) (endpoint last : Endpoint)
+        (course some between behind : List CourseStep) (latest request : Request) (first second : List ℕ)
+        (earlier observed : List Observed) → endpoint_at (plain setup before).endpoints line ≡ Some endpoint →
+        endpoint_at (plain setup (before ++ after)).endpoints line ≡ Some last →
+        EmbedsNone request.events → last.line.quarantined.lost ≡ 0 →
+        course_of setup line before ≡ course ++ notifies first earlier ∷ some →
+        latest_from None course ≡ Some latest → is_loop latest.handling.notifying ≡ false → AreActs some →
+        course_from setup (plain setup before) line after ≡ accepts request ∷ (between ++ notifies second observed ∷ behind) →
+        AreActs between →
+        TellsOfHeld request (of_telephone endpoint.line.quarantined.events) (done_in between) observed }
+    ensures walked { (setup : Setup) (line : ℕ) (before after : List GatewayEvent) (endpoint last : Endpoint) →
+        endpoint_at (plain setup before).endpoints line ≡ Some endpoint →
+        endpoint_at (plain setup (before ++ after)).endpoints line ≡ Some last → last.line.quarantined.lost ≡ 0 →
+        Walks nothing_asked [] (course_of setup line before) (λ place waiting. Stays endpoint.line place waiting
+        × Walks place waiting (course_from setup (plain setup before) line after) (Stays last.line)) }
 {}
 
 /// And where a line is asked for all that its telephone does before that does anything, and so at each request since, and nothing is lost
