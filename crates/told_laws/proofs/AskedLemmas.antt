@@ -25,7 +25,7 @@ use Rattle.delivery_laws.specs.Keeping.{NotifiesAll}
 use Rattle.delivery_laws.specs.Rounds.{is_of_telephone, of_telephone}
 use Rattle.delivery_laws.proofs.DialledLemmas.{done_both, told_both}
 use Rattle.told_laws.specs.Among.{AreAmong}
-use Rattle.told_laws.specs.Walking.{is_collected, is_quiet, reaction_to, collects, are_quiet, left_by, Place, nothing_asked, behind_request, behind_notification, with_act, told_of_front, Walks, Stays}
+use Rattle.told_laws.specs.Walking.{is_collected, is_quiet, reaction_to, collects, are_quiet, left_by, Place, nothing_asked, behind_request, behind_notification, with_act, told_of_front, Walks, Stays, TellsOf}
 use Rattle.told_laws.proofs.AmongLemmas.{act_of_phone}
 use Rattle.told_laws.proofs.WalkFrontLemmas.{IsPlaceOf, all_of, embeds_none, none_by_requests, walk_ends, walk_place, walks_split}
 
@@ -168,14 +168,14 @@ all_told (notifies identifier observed ∷ course) line place waiting asks since
     noticed (all_told course line)
     (embeds_none
     (λ (p : Place) (w : List Observed). (front : List Observed) × (held : List Observed) × (w ≡ front ++ held)
-    × (of_telephone observed ≡ told_of_front p front) × Walks (behind_notification p) held course (Stays line)) place next waiting left
+    × TellsOf p front observed × Walks (behind_notification p) held course (Stays line)) place next waiting left
     (none_by_requests place asks.all.bare) moves walk) where
       noticed : TellsAll course line → (front : List Observed) × (held : List Observed) × (waiting ≡ front ++ held)
-          × (of_telephone observed ≡ told_of_front place front) × Walks (behind_notification place) held course (Stays line)
+          × TellsOf place front observed × Walks (behind_notification place) held course (Stays line)
           → waiting ++ done_in course ≡ of_telephone (observed ++ told_along course) ++ of_telephone line.quarantined.events
       noticed tells (front, held, order, told, rest) =
           let phone : AllPhone (front ++ held) = subst AllPhone order asks.phone in
-          let is : of_telephone observed ≡ front = told ∙ front_is place front asks.all asks.none_carried (phone_front front held phone) in
+          let is : of_telephone observed ≡ front = told.0 ∙ front_is place front asks.all asks.none_carried (phone_front front held phone) in
           let more = of_telephone (told_along course) in
           let quarantined = of_telephone line.quarantined.events in
           ap (λ (xs : List Observed). xs ++ done_in course) order

@@ -1,7 +1,7 @@
 -- What the worked examples are compared by.
 use Rattle.std.proofs.Common.{◌≡◌, ℕ, suc, ◌+◌, ◌<◌, Bool, true, false, inl, inr, Some, List, [], ◌∷◌, ◌++◌, length, refl, sym, ap, subst, ◌∙◌, append-nil, arith}
 use Rattle.std.specs.Prelude.{◌⊎◌, find, nat_lt, filter, if◌then◌else◌}
-use Rattle.std.proofs.lemmas.Bool.{ltb-true, and_parts}
+use Rattle.std.proofs.lemmas.Bool.{ltb-true, and_parts, true≢false}
 use Rattle.std.specs.List.{list_all}
 use Rattle.event_syntax.specs.declared.request.RequestedEvent.{RequestedEvent}
 use Rattle.mg_packages.specs.declared.event.LineEvent.{LineEvent}
@@ -23,7 +23,7 @@ use Rattle.mg_line.specs.Line.{LineState}
 use Rattle.delivery_laws.specs.Rounds.{of_telephone}
 use Rattle.told_laws.specs.Among.{AreAmong}
 use Rattle.delivery_laws.specs.Course.{CourseStep, acts, accepts, notifies}
-use Rattle.told_laws.specs.Walking.{collects, are_quiet, left_by, Place, nothing_asked, behind_request, behind_notification, End, with_act, told_of_front, Then, Walks, Stays, AreActs, AllButLost, no_step, a_step, a_lost_act}
+use Rattle.told_laws.specs.Walking.{collects, are_quiet, left_by, Place, nothing_asked, behind_request, behind_notification, End, with_act, Then, Walks, Stays, AreActs, AllButLost, no_step, a_step, a_lost_act, TellsOf, is_quiet, reaction_to, quiet_before, quiet_but_last}
 
 -- Some among others
 
@@ -154,6 +154,22 @@ pub kept_where_shut : (first : Observed) (occurred held : List Observed) → fir
 kept_where_shut first occurred held order none empty =
     (let clash : first ∷ [] ≡ [] = order ∙ ap (λ (xs : List Observed). xs ++ held) none ∙ empty in cc)
 
+-- Nor are two of them told in one.
+
+at_most_one : (test : Observed → Bool) (one first next : Observed) (b : Bool) → first ∷ next ∷ [] ≡ (if b then one ∷ [] else []) → ⊥
+at_most_one test one first next true is = cc
+at_most_one test one first next false is = cc
+
+pub never_together : (requests : EventRequests) (first next : Observed) (front held : List Observed) → is_quiet (reaction_to requests first) ≡ false
+    → first ∷ next ∷ [] ≡ front ++ held → first ∷ next ∷ [] ≡ filter (collects requests) front → quiet_but_last requests front ≡ true → ⊥
+never_together requests first next [] held loud order told quiet = absurd cc
+never_together requests first next (x ∷ []) held loud order told quiet = at_most_one (collects requests) x first next (collects requests x) told
+never_together requests first next (x ∷ (y ∷ front)) held loud order told quiet =
+    let same : x ≡ first = cc in
+    let is : is_quiet (reaction_to requests x) ≡ true =
+    (and_parts (is_quiet (reaction_to requests x)) (quiet_before requests y front) quiet).0 in
+    absurd (true≢false (sym is ∙ ap (λ (event : Observed). is_quiet (reaction_to requests event)) same ∙ loud))
+
 -- A walk from a request by which an act is told at once: nothing waits behind that.
 
 kept_alone : (requests : EventRequests) (event : Observed) → is_kept requests event ≡ true → with_act requests [] event ≡ event ∷ []
@@ -162,7 +178,7 @@ kept_alone requests event is = ap (λ (b : Bool). if b then [] ++ event ∷ [] e
 -- what becomes of a place at a notification
 abbrev pub AtNotification : List Observed → List CourseStep → End → End
 AtNotification observed course end place waiting =
-    (front : List Observed) × (held : List Observed) × (waiting ≡ front ++ held) × (of_telephone observed ≡ told_of_front place front)
+    (front : List Observed) × (held : List Observed) × (waiting ≡ front ++ held) × TellsOf place front observed
     × Walks (behind_notification place) held course end
 
 none_behind : (place : Place) (event : Observed) (told front held : List Observed) (rest : List CourseStep) (end : End)
@@ -173,12 +189,18 @@ none_behind place event told (x ∷ []) [] rest end order is walk = walk
 none_behind place event told (x ∷ []) (y ∷ held) rest end order is walk = absurd cc
 none_behind place event told (x ∷ (y ∷ front)) held rest end order is walk = absurd cc
 
+pub two_by_notification : (request : Request) (first next : Observed) (rest : List CourseStep) (end : End)
+    → of_telephone (first ∷ next ∷ []) ≡ first ∷ next ∷ [] → is_quiet (reaction_to request.events first) ≡ false
+    → AtNotification (first ∷ next ∷ []) rest end (behind_request request) (first ∷ next ∷ []) → ⊥
+two_by_notification request first next rest end phone loud (front, held, order, told, walk) =
+    never_together request.events first next front held loud order (sym phone ∙ told.0) told.1
+
 pub by_notification : (place : Place) (event : Observed) (waiting : List Observed) (rest : List CourseStep) (end : End) → waiting ≡ event ∷ []
     → of_telephone (event ∷ []) ≡ event ∷ [] → place.carried ≡ [] → AtNotification (event ∷ []) rest end place waiting
     → Walks (behind_notification place) [] rest end
 by_notification place event waiting rest end one phone none (front, held, order, told, walk) =
     none_behind place event [] front held rest end (sym one ∙ order)
-    (sym phone ∙ told ∙ ap (λ (xs : List Observed). xs ++ filter (collects place.requests) front) none) walk
+    (sym phone ∙ told.0 ∙ ap (λ (xs : List Observed). xs ++ filter (collects place.requests) front) none) walk
 
 -- one act, and its notification, behind a request that embeds none
 pub behind_one : (request : Request) (act : Act) (identifier : List ℕ) (rest : List CourseStep) (end : End) → NoneBrought (behind_request request)

@@ -19,8 +19,9 @@ use Rattle.event_requests.specs.Requests.{EventRequests, with_embedded}
 use Rattle.mg_line.specs.State.TheVariants.{Notification}
 use Rattle.mg_line.specs.Line.{LineState, Notice, LineDone, still, most_accumulated}
 use Rattle.mg_line.specs.Occurring.{notified, notified_if_full, with_event, letter_of, verdict_by, judged, timed, with_letter, dialled_by, embedded, acted, signals_after, occurred}
+use Rattle.delivery_laws.specs.Keeping.{is_bare}
 use Rattle.delivery_laws.specs.Rounds.{is_of_telephone, of_telephone}
-use Rattle.told_laws.specs.Walking.{is_collected, is_quiet, reaction_to, collects, are_quiet}
+use Rattle.told_laws.specs.Walking.{is_collected, is_quiet, reaction_to, collects, are_quiet, quiet_before, quiet_but_last}
 
 -- What an event does that occurs
 
@@ -52,6 +53,7 @@ pub record Ignoring (reaction : Reaction) (requests : EventRequests) (handling :
 
 pub record Taking (reaction : Reaction) (requests : EventRequests) (handling : Handling) (all : List Observed) (done : LineDone) : Type 0 where
   pub collected : is_collected reaction ≡ true
+  pub bare : is_bare reaction ≡ true
   pub how : ((is_quiet reaction ≡ true) × GathersAll all done) ⊎ TellsAll all done
   pub same : (done.line.requests ≡ requests) × (done.line.handling ≡ handling)
 
@@ -131,17 +133,22 @@ dialled_same None line moment = full_same line
 dialled_same (Some letter) line moment =
     judged_same (verdict_by line.digit_map (line.dialled ++ letter ∷ [])) (record line { dialled = line.dialled ++ letter ∷ [] }) letter moment
 
+quiet_bare : (reaction : Reaction) → is_quiet reaction ≡ true → is_bare reaction ≡ true
+quiet_bare (Plain action) quiet = refl
+quiet_bare (Embed request) quiet = absurd cc
+quiet_bare (AccumulateAndEmbed request) quiet = absurd cc
+
 takes_quiet : (reaction : Reaction) (line : LineState) (event : Observed) (done : LineDone) → is_collected reaction ≡ true → is_quiet reaction ≡ true
     → Same done.line line → Collects (line.accumulated ++ event ∷ []) done → Takes reaction line event done
-takes_quiet reaction line event done collected quiet same (inl gathers) = record { collected = collected; how = inl (quiet, gathers); same = same }
-takes_quiet reaction line event done collected quiet same (inr tells) = record { collected = collected; how = inr tells; same = same }
+takes_quiet reaction line event done collected quiet same (inl gathers) = record { collected = collected; bare = quiet_bare reaction quiet; how = inl (quiet, gathers); same = same }
+takes_quiet reaction line event done collected quiet same (inr tells) = record { collected = collected; bare = quiet_bare reaction quiet; how = inr tells; same = same }
 
 acted_occurs : (reaction : Reaction) (line : LineState) (event : Observed) (moment : ℕ) → OccursBy reaction line event (acted reaction line event moment)
 unfolding acted notified embedded
 acted_occurs (Plain Ignore) line event moment =
     inl (record { gathers = record { silent = refl; gathered = refl }; uncollected = refl; quiet = refl; same = (refl, refl) })
 acted_occurs (Plain Notify) line event moment =
-    inr (inl (record { collected = refl; how = inr (notified_tells (with_event line event)); same = (refl, refl) }))
+    inr (inl (record { collected = refl; bare = refl; how = inr (notified_tells (with_event line event)); same = (refl, refl) }))
 acted_occurs (Plain Accumulate) line event moment =
     let to : LineState = with_event line event in
     inr (inl (takes_quiet (Plain Accumulate) line event (notified_if_full to) refl refl (full_same to) (full_collects to)))
@@ -198,6 +205,29 @@ pub quiet_by : (requests : EventRequests) (list : List Observed) (event : Observ
     → is_quiet (reaction_to requests event) ≡ true → are_quiet requests (if b then list ++ event ∷ [] else list) ≡ true
 quiet_by requests list event true quiet is = all_more (λ (one : Observed). is_quiet (reaction_to requests one)) list event quiet is
 quiet_by requests list event false quiet is = quiet
+
+-- and any one behind quiet ones is the last of them
+quiet_next : (requests : EventRequests) (one : Observed) (list : List Observed) (event : Observed) → are_quiet requests (one ∷ list) ≡ true
+    → is_bare (reaction_to requests event) ≡ true → quiet_before requests one (list ++ event ∷ []) ≡ true
+quiet_next requests one [] event quiet bare =
+    ap (λ (b : Bool). b && is_bare (reaction_to requests event)) (and_parts (is_quiet (reaction_to requests one)) true quiet).0 ∙ bare
+quiet_next requests one (next ∷ list) event quiet bare =
+    let parts = and_parts (is_quiet (reaction_to requests one)) (are_quiet requests (next ∷ list)) quiet in
+    ap (λ (b : Bool). b && quiet_before requests next (list ++ event ∷ [])) parts.0 ∙ quiet_next requests next list event parts.1 bare
+
+quiet_alone : (requests : EventRequests) (one : Observed) (list : List Observed) → are_quiet requests (one ∷ list) ≡ true
+    → quiet_before requests one list ≡ true
+quiet_alone requests one [] quiet = quiet_bare (reaction_to requests one) (and_parts (is_quiet (reaction_to requests one)) true quiet).0
+quiet_alone requests one (next ∷ list) quiet =
+    let parts = and_parts (is_quiet (reaction_to requests one)) (are_quiet requests (next ∷ list)) quiet in
+    ap (λ (b : Bool). b && quiet_before requests next list) parts.0 ∙ quiet_alone requests next list parts.1
+
+pub but_last_by : (requests : EventRequests) (list : List Observed) (event : Observed) (b : Bool) → are_quiet requests list ≡ true
+    → is_bare (reaction_to requests event) ≡ true → quiet_but_last requests (if b then list ++ event ∷ [] else list) ≡ true
+but_last_by requests [] event true quiet bare = bare
+but_last_by requests [] event false quiet bare = refl
+but_last_by requests (one ∷ list) event true quiet bare = quiet_next requests one list event quiet bare
+but_last_by requests (one ∷ list) event false quiet bare = quiet_alone requests one list quiet
 
 -- the order, as the next one occurs
 pub next_by : (list : List Observed) (event : Observed) (rest : List Observed) (b : Bool)

@@ -19,7 +19,7 @@ use Rattle.delivery_laws.specs.Rounds.{is_of_telephone, of_telephone}
 use Rattle.told_laws.specs.Among.{AreAmong}
 use Rattle.delivery_laws.specs.Course.{CourseStep, acts, accepts, notifies}
 use Rattle.delivery_laws.specs.Dialled.{done_in, told_along, latest_from}
-use Rattle.told_laws.specs.Walking.{reaction_to, collects, are_quiet, left_by, EmbedsNone, Place, nothing_asked, behind_request, behind_notification, End, with_act, told_of_front, Brings, behind_embedded, Embeds, no_more, by_event, Walks, AreActs, TellsAFront, TellsWhatWasKept}
+use Rattle.told_laws.specs.Walking.{reaction_to, collects, are_quiet, left_by, EmbedsNone, Place, nothing_asked, behind_request, behind_notification, End, with_act, told_of_front, Brings, behind_embedded, Embeds, no_more, by_event, Walks, AreActs, TellsAFront, TellsWhatWasKept, TellsOf}
 use Rattle.delivery_laws.specs.Keeping.{is_bare}
 use Rattle.told_laws.proofs.WalkLemmas.{embeds_keeps}
 use Rattle.told_laws.proofs.AmongLemmas.{some_left, some_kept, among_none, among_same, among_is, among_front, among_both, among_pass}
@@ -148,7 +148,7 @@ walk_ends (notifies identifier observed ∷ course) end place waiting (next, her
       among = subst (λ (xs : List Observed). AreAmong xs (all_of next here ++ done_in course))
           (sym
           (ap (λ (xs : List Observed). xs ++ all) (filter-append is_of_telephone observed (told_along course))
-          ∙ ap (λ (xs : List Observed). (xs ++ more) ++ all) told
+          ∙ ap (λ (xs : List Observed). (xs ++ more) ++ all) told.0
           ∙ append_assoc (told_of_front next front) more all))
           (subst (λ (xs : List Observed). AreAmong (told_of_front next front ++ (more ++ all)) xs)
           (sym
@@ -215,9 +215,11 @@ front_told between after request identifier observed end left only bare walk =
     let told =
     acts_alone between (λ (p : Place) (w : List Observed). Walks p w (notifies identifier observed ∷ after) end) place left only never
     (walks_split between (notifies identifier observed ∷ after) end place left walk) in
+    let then_told =
     embeds_none
     (λ (p : Place) (w : List Observed). (front : List Observed) × (rest : List Observed) × (w ≡ front ++ rest)
-    × (of_telephone observed ≡ told_of_front p front) × Walks (behind_notification p) rest after end) place told.0 waiting told.1 never told.2 told.3
+    × TellsOf p front observed × Walks (behind_notification p) rest after end) place told.0 waiting told.1 never told.2 told.3 in
+    (then_told.0, then_told.1, then_told.2, then_told.3.0, then_told.4)
 
 -- The law, of a walk
 
@@ -338,7 +340,7 @@ module _ (before some between after : List CourseStep) (latest request : Request
       subst (λ (xs : List Observed). AreAmong (of_telephone earlier ++ left) xs)
       (append_assoc next.carried front left ∙ ap (λ (xs : List Observed). next.carried ++ xs) (sym order))
       (among_both (of_telephone earlier) (next.carried ++ front) left left
-      (subst (λ (xs : List Observed). AreAmong xs (next.carried ++ front)) (sym told) (told_among next front)) (among_same left)) in
+      (subst (λ (xs : List Observed). AreAmong xs (next.carried ++ front)) (sym told.0) (told_among next front)) (among_same left)) in
       at_request behind left (then_is.0 bare) shut
       (among_pass (told_before ++ left) (of_telephone (told_along before) ++ all_of place waiting) (done_in before)
       (subst (λ (xs : List Observed). AreAmong xs (of_telephone (told_along before) ++ all_of place waiting))

@@ -39,9 +39,9 @@ use Rattle.mg_line.proofs.DrainLemmas.{occurred_keeps}
 use Rattle.mg_line.proofs.LoseLemmas.{unasked_events_do_nothing}
 use Rattle.delivery_laws.specs.Rounds.{is_of_telephone, of_telephone}
 use Rattle.delivery_laws.specs.Course.{CourseStep, acts, accepts, notifies}
-use Rattle.told_laws.specs.Walking.{is_collected, is_quiet, reaction_to, collects, are_quiet, left_by, Place, behind_request, behind_notification, End, with_act, told_of_front, Brings, behind_embedded, Embeds, no_more, by_event, Then, Walks}
+use Rattle.told_laws.specs.Walking.{is_collected, is_quiet, reaction_to, collects, are_quiet, left_by, Place, behind_request, behind_notification, End, with_act, told_of_front, Brings, behind_embedded, Embeds, no_more, by_event, Then, Walks, TellsOf}
 use Rattle.told_laws.proofs.AmongLemmas.{IsDrained, act_of_phone}
-use Rattle.told_laws.proofs.OccursLemmas.{GathersAll, TellsAll, Collects, Same, Ignores, Turns, OccursBy, occurred_occurs, with_one, one_if, phone_more, collected_by, ignored_by, quiet_by, next_in, one_more, split_one}
+use Rattle.told_laws.proofs.OccursLemmas.{GathersAll, TellsAll, Collects, Same, Ignores, Turns, OccursBy, occurred_occurs, with_one, one_if, phone_more, collected_by, ignored_by, quiet_by, next_in, one_more, split_one, but_last_by}
 use Rattle.delivery_laws.proofs.EndpointLemmas.{steps_of}
 
 -- Embedded requests
@@ -158,7 +158,7 @@ silent_walks place waiting done silent at =
     subst (λ (n : Option Notice). Walks place waiting (steps_of n) (At done.line)) (sym silent) (here (At done.line) place waiting at)
 
 telling_walks : (place : Place) (front held : List Observed) (done : LineDone) (notice : Notice) → done.notice ≡ Some notice
-    → of_telephone notice.observed ≡ told_of_front place front → At done.line (behind_notification place) held
+    → TellsOf place front notice.observed → At done.line (behind_notification place) held
     → WalksOn place (front ++ held) done
 telling_walks place front held done notice tells told at =
     let behind : Then (behind_notification place) held (At done.line) = here (At done.line) (behind_notification place) held at in
@@ -301,7 +301,7 @@ turned_tells line place past event done waiting all has t order is tells =
     let to : Place = behind_embedded place t.request t.carried in
     let held : List Observed = of_telephone done.line.quarantined.events in
     walks_from (steps_of done.notice) (At done.line) place to waiting held (turned_embeds line place past event done waiting held has t order)
-    (telling_walks to [] held done tells.notice tells.tells (ap of_telephone tells.told ∙ is) (told_at to all done t.asks t.steps tells))
+    (telling_walks to [] held done tells.notice tells.tells (ap of_telephone tells.told ∙ is, refl) (told_at to all done t.asks t.steps tells))
 
 -- Draining
 
@@ -351,7 +351,8 @@ drain_more line place past event rest done next has left (inr (inl takes)) more 
       (subst (λ (w : List Observed). WalksOn place w done) (sym (next_in past event rest))
       (subst (λ (held : List Observed). WalksOn place (with_one past event ++ of_telephone held) done) left
       (telling_walks place (with_one past event) (of_telephone done.line.quarantined.events) done tells.notice tells.tells
-      (ap of_telephone tells.told ∙ collected_all line place past event has takes.collected)
+      (ap of_telephone tells.told ∙ collected_all line place past event has takes.collected,
+      but_last_by place.requests past event (is_of_telephone event) has.quiet takes.bare)
       (told_at place (line.accumulated ++ event ∷ []) done (takes.same.0 ∙ has.asks) (steps_on line done.line place takes.same has.steps) tells))))
 drain_more line place past event rest done next has left (inr (inr turns)) more =
     drain_turned line place past event rest done next has left (turned line place past event done has turns) more
@@ -416,7 +417,7 @@ alone_at done place now has left =
     subst (At done.line place) (ap (λ (held : List Observed). now ++ of_telephone held) left ∙ append-nil now) (has_at done.line place now has)
 
 told_alone : (place : Place) (front : List Observed) (done : LineDone) (notice : Notice) → done.notice ≡ Some notice
-    → of_telephone notice.observed ≡ told_of_front place front → At done.line (behind_notification place) [] → WalksOn place front done
+    → TellsOf place front notice.observed → At done.line (behind_notification place) [] → WalksOn place front done
 told_alone place front done notice tells told at =
     subst (λ (w : List Observed). WalksOn place w done) (append-nil front) (telling_walks place front [] done notice tells told at)
 
@@ -455,7 +456,8 @@ alone line event place past done has left (inr (inl takes)) = by_how takes.how w
       (alone_at done place (with_one past event) (gathered_has line place past event done has takes.same takes.collected later.0 later.1) left)
   by_how (inr tells) =
       told_alone place (with_one past event) done tells.notice tells.tells
-      (ap of_telephone tells.told ∙ collected_all line place past event has takes.collected)
+      (ap of_telephone tells.told ∙ collected_all line place past event has takes.collected,
+      but_last_by place.requests past event (is_of_telephone event) has.quiet takes.bare)
       (subst (At done.line (behind_notification place)) (ap of_telephone left)
       (told_at place (line.accumulated ++ event ∷ []) done (takes.same.0 ∙ has.asks) (steps_on line done.line place takes.same has.steps) tells))
 alone line event place past done has left (inr (inr turns)) =

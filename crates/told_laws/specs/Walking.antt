@@ -1,7 +1,7 @@
 -- How what a line tells walks through what was done at its telephone (RFC 3435, 2.3.3 and 4.4.1): each act is told, or is kept to be told,
 -- or was lost, and counted, or was dropped where the walk says so: neither R nor T named it, and it isn't persistent; R gave it nothing,
 -- or I; E without A took it, or emptied the list in which it was; or a request emptied that list.
-use Rattle.std.specs.Prelude.{◌≡◌, ℕ, zero, suc, ◌≤◌, min, Bool, true, false, not, if◌then◌else◌, List, [], ◌∷◌, ◌++◌, filter}
+use Rattle.std.specs.Prelude.{◌≡◌, ℕ, zero, suc, ◌≤◌, min, Bool, true, false, not, ◌&&◌, if◌then◌else◌, List, [], ◌∷◌, ◌++◌, filter}
 use Rattle.std.specs.List.{list_all}
 use Rattle.mg_packages.specs.declared.event.LineEvent.{LineEvent}
 use Rattle.event_values.specs.declared.handling.Quarantined.{Quarantined}
@@ -54,6 +54,15 @@ collects requests event = is_collected (reaction_to requests event)
 -- R has none of these told at once, nor a request embedded at one
 abbrev pub are_quiet : EventRequests → List Observed → Bool
 are_quiet requests events = list_all (λ event. is_quiet (reaction_to requests event)) events
+
+-- none of these but the last is told at once, and at none a request is embedded
+abbrev pub quiet_before : EventRequests → Observed → List Observed → Bool
+quiet_before requests event [] = is_bare (reaction_to requests event)
+quiet_before requests event (next ∷ events) = is_quiet (reaction_to requests event) && quiet_before requests next events
+
+abbrev pub quiet_but_last : EventRequests → List Observed → Bool
+quiet_but_last requests [] = true
+quiet_but_last requests (event ∷ events) = quiet_before requests event events
 
 -- what a request leaves of what is quarantined
 abbrev pub left_by : Quarantined → List Observed → List Observed
@@ -121,10 +130,16 @@ pub data Embeds : Place → List Observed → Place → List Observed → Type 0
 abbrev pub Then : Place → List Observed → End → Type 0
 Then place waiting end = (next : Place) × (left : List Observed) × Embeds place waiting next left × end next left
 
+-- A notification tells all that R has told of these: the last of them alone may be one that R has told at once, and there is none among
+-- them at which R embeds a request.
+abbrev pub TellsOf : Place → List Observed → List Observed → Type 0
+TellsOf place front observed =
+    (of_telephone observed ≡ told_of_front place front) × (quiet_but_last place.requests front ≡ true)
+
 -- From there, and what is waiting to be told, in its order. A request: what had occurred (of it nothing is told at once) is dropped, and
 -- the rest, which is quarantined, stays or is discarded; in step nothing occurs between a notification and the next request. A
--- notification: what it tells is all that R has told of a front of what waits; the rest waits on. Before each of them embedded requests
--- may come into force.
+-- notification: what it tells is all that R has told of a front of what waits, which passes over nothing that is told at once, and no
+-- event at which R embeds a request; the rest waits on. Before each of them embedded requests may come into force.
 abbrev pub Walks : Place → List Observed → List CourseStep → End → Type 0
 Walks place waiting [] end = Then place waiting end
 Walks place waiting (acts act ∷ course) end =
@@ -135,7 +150,7 @@ Walks place waiting (accepts request ∷ course) end =
     × Walks (behind_request request) (left_by request.handling.quarantined held) course end)
 Walks place waiting (notifies identifier observed ∷ course) end =
     Then place waiting (λ next left. (front : List Observed) × (held : List Observed) × (left ≡ front ++ held)
-    × (of_telephone observed ≡ told_of_front next front) × Walks (behind_notification next) held course end)
+    × TellsOf next front observed × Walks (behind_notification next) held course end)
 
 -- a line at its end: what had occurred and R has told is accumulated, and the rest is quarantined
 abbrev pub Stays : LineState → End

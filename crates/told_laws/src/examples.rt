@@ -18,7 +18,7 @@ ghost use Rattle.delivery_laws.specs.Rounds.{of_telephone};
 ghost use Rattle.told_laws.specs.Among.{AreAmong, kept_by};
 ghost use Rattle.delivery_laws.specs.Dialled.{latest_from, told_along};
 ghost use Rattle.told_laws.specs.Walking.{nothing_asked, EmbedsNone, reaction_to, Brings, TellsAFront, TellsWhatWasKept, Walks};
-ghost use Rattle.told_laws.specs.Walking.{AllButLost, WalksButLost};
+ghost use Rattle.told_laws.specs.Walking.{behind_request, AllButLost, TellsOf, WalksButLost};
 ghost use Rattle.told_laws.specs.Example.{dials_two, flashes_and_dials, has_keys_collected, has_lifting_told, has_lifting_kept};
 ghost use Rattle.told_laws.specs.Example.{has_all_told, has_all_told_in_loop, discards_then, flashed, flash_drops, flash_carries};
 ghost use Rattle.told_laws.specs.Example.{flashes_and_hangs_up, counts, waits, WalksThen, request_then, next_request_then, told_twice};
@@ -49,7 +49,7 @@ pub fn keys_are_told_together()
 
 /// A walk tells a front of what waits, all that R has told of it, and the rest waits on. What neither is named nor is persistent doesn't
 /// wait. A request drops what is told with others, but not what is told at once, unless it discards what is quarantined; and nothing that
-/// was done since a notification, in step.
+/// was done since a notification, in step. Nor does a notification pass over what is told at once, or an event at which R embeds a request.
 pub fn a_walk_says_where_each_act_is()
     ensures told { Walks nothing_asked [] (accepts has_keys_collected ∷ does (acts.Key keys.Five) ∷ does (acts.Key keys.Six)
         ∷ notifies (codes "A1") (five ∷ six ∷ []) ∷ []) (waits []) }
@@ -70,6 +70,10 @@ pub fn a_walk_says_where_each_act_is()
         ∷ does (acts.Key keys.Five) ∷ accepts has_all_told ∷ []) (waits []) }
     ensures in_loop { Walks nothing_asked [] (accepts has_all_told_in_loop ∷ does acts.OffHook ∷ notifies (codes "A1") (lifted ∷ [])
         ∷ does (acts.Key keys.Five) ∷ accepts has_all_told ∷ []) (waits []) }
+    ensures together { ¬ Walks nothing_asked [] (accepts has_all_told ∷ does acts.OffHook ∷ does (acts.Key keys.Five)
+        ∷ notifies (codes "A1") (lifted ∷ five ∷ []) ∷ []) (waits []) }
+    ensures passed_over { ¬ TellsOf (behind_request flash_drops) (lifted ∷ flashed ∷ []) (lifted ∷ []) }
+    ensures not_yet { TellsOf (behind_request flash_drops) (lifted ∷ []) (lifted ∷ []) }
 {}
 
 /// The first notification tells a front of what was quarantined at the request, and done since; it skips nothing of it.

@@ -1,4 +1,4 @@
-use Rattle.std.proofs.Common.{◌≡◌, List, [], ◌∷◌, codes, refl, sym}
+use Rattle.std.proofs.Common.{◌≡◌, true, false, List, [], ◌∷◌, codes, refl, sym}
 use Rattle.std.proofs.lemmas.Bool.{true≢false}
 use Rattle.event_values.specs.declared.observed.Observed.{Observed}
 use Rattle.mg_line.specs.declared.phone.Act.TheVariants.{OffHook, Key}
@@ -8,19 +8,19 @@ use Rattle.delivery_laws.specs.OnceExample.{five, lifted, six}
 use Rattle.told_laws.specs.Example.{has_all_told, has_keys_collected, has_lifting_told, waits}
 use Rattle.told_laws.specs.Walking.{Place, behind_notification, behind_request, collects, no_more, with_act, Walks}
 use Rattle.told_laws.proofs.Computing.{on_examples}
-use Rattle.told_laws.proofs.ExampleLemmas.{AtRequest, at_once_stays, bare_all, behind_one, ends_there, from_a_request, kept_where_shut, tells_first}
+use Rattle.told_laws.proofs.ExampleLemmas.{AtNotification, AtRequest, at_once_stays, bare_all, behind_one, ends_there, from_a_request, kept_where_shut, tells_first, two_by_notification}
 use Rattle.told_laws.proofs.WalkFrontLemmas.{front_told, none_by_requests, none_where_shut}
 use Rattle.told_laws.proofs.examples.a_walk_says_where_each_act_is.Goals as goal
 
 pub returns-clause-told : goal.returns-clause-told
 unfolding on_examples
 returns-clause-told c =
-    (_, _, no_more _ _, ([], [], refl, refl, λ is. refl, (_, _, no_more _ _, (_, _, no_more _ _, (_, _, no_more _ _, (five ∷ six ∷ [], [], refl, refl, (_, _, no_more _ _, refl)))))))
+    (_, _, no_more _ _, ([], [], refl, refl, λ is. refl, (_, _, no_more _ _, (_, _, no_more _ _, (_, _, no_more _ _, (five ∷ six ∷ [], [], refl, (refl, refl), (_, _, no_more _ _, refl)))))))
 
 pub returns-clause-front : goal.returns-clause-front
 unfolding on_examples
 returns-clause-front c =
-    (_, _, no_more _ _, ([], [], refl, refl, λ is. refl, (_, _, no_more _ _, (_, _, no_more _ _, (_, _, no_more _ _, (five ∷ [], six ∷ [], refl, refl, (_, _, no_more _ _, refl)))))))
+    (_, _, no_more _ _, ([], [], refl, refl, λ is. refl, (_, _, no_more _ _, (_, _, no_more _ _, (_, _, no_more _ _, (five ∷ [], six ∷ [], refl, (refl, refl), (_, _, no_more _ _, refl)))))))
 
 pub returns-clause-skipped : goal.returns-clause-skipped
 unfolding on_examples
@@ -75,7 +75,7 @@ returns-clause-discarded c =
 pub returns-clause-quarantined : goal.returns-clause-quarantined
 unfolding on_examples
 returns-clause-quarantined c =
-    (_, _, no_more _ _, ([], [], refl, refl, λ is. refl, (_, _, no_more _ _, (_, _, no_more _ _, (lifted ∷ [], [], refl, refl, (_, _, no_more _ _, (_, _, no_more _ _, ([], five ∷ [], refl, refl, λ is. refl, (_, _, no_more _ _, refl)))))))))
+    (_, _, no_more _ _, ([], [], refl, refl, λ is. refl, (_, _, no_more _ _, (_, _, no_more _ _, (lifted ∷ [], [], refl, (refl, refl), (_, _, no_more _ _, (_, _, no_more _ _, ([], five ∷ [], refl, refl, λ is. refl, (_, _, no_more _ _, refl)))))))))
 
 pub returns-clause-not_dropped : goal.returns-clause-not_dropped
 unfolding on_examples
@@ -93,4 +93,25 @@ returns-clause-not_dropped c =
 pub returns-clause-in_loop : goal.returns-clause-in_loop
 unfolding on_examples
 returns-clause-in_loop c =
-    (_, _, no_more _ _, ([], [], refl, refl, λ is. refl, (_, _, no_more _ _, (_, _, no_more _ _, (lifted ∷ [], [], refl, refl, (_, _, no_more _ _, (_, _, no_more _ _, (five ∷ [], [], refl, refl, λ is. absurd (true≢false (sym is)), (_, _, no_more _ _, refl)))))))))
+    (_, _, no_more _ _, ([], [], refl, refl, λ is. refl, (_, _, no_more _ _, (_, _, no_more _ _, (lifted ∷ [], [], refl, (refl, refl), (_, _, no_more _ _, (_, _, no_more _ _, (five ∷ [], [], refl, refl, λ is. absurd (true≢false (sym is)), (_, _, no_more _ _, refl)))))))))
+
+pub returns-clause-together : goal.returns-clause-together
+unfolding on_examples
+returns-clause-together c =
+    λ h.
+    (let place : Place = behind_request has_all_told in
+    let never = none_by_requests place (bare_all has_all_told.events.requested refl) in
+    let tells = notifies (codes "A1") (lifted ∷ five ∷ []) ∷ [] in
+    let w = from_a_request has_all_told (acts OffHook ∷ acts (Key Five) ∷ tells) (waits []) h in
+    let at = ends_there (λ (p : Place) (x : List Observed). Walks p (with_act p.requests x lifted) (acts (Key Five) ∷ tells) (waits [])) place [] never w in
+    let v = ends_there (λ (p : Place) (x : List Observed). Walks p (with_act p.requests x five) tells (waits [])) place (lifted ∷ []) never at in
+    two_by_notification has_all_told lifted five [] (waits []) refl refl
+    (ends_there (AtNotification (lifted ∷ five ∷ []) [] (waits [])) place (lifted ∷ five ∷ []) never v))
+
+pub returns-clause-passed_over : goal.returns-clause-passed_over
+unfolding on_examples
+returns-clause-passed_over c = λ h. (let clash : false ≡ true = h.1 in cc)
+
+pub returns-clause-not_yet : goal.returns-clause-not_yet
+unfolding on_examples
+returns-clause-not_yet c = (refl, refl)
