@@ -8,6 +8,7 @@ use Rattle.plain_machine.specs.Event.{GatewayEvent, phone}
 use Rattle.plain_machine.specs.Example.{ready, response, rqnt, two_lines}
 use Rattle.plain_machine.specs.Lists.{plain}
 use Rattle.plain_machine.specs.Machine.{endpoint_at}
+use Rattle.delivery_laws.specs.Course.{CourseStep, course_from}
 use Rattle.delivery_laws.specs.OnceExample.{asks_for_all}
 
 -- line 1 is asked for this
@@ -47,10 +48,15 @@ abbrev pub flash_embeds_then : Request
 flash_embeds_then = requests (codes "2") (codes "L/hf(E(R(L/hu(N)))),D/[0-9](N),L/hu(N)")
 
 -- line 1 is lifted, which is answered, and asked so; it flashes, key 5 is pressed, and the handset put back
+abbrev pub lifted_and_answered : List GatewayEvent
+lifted_and_answered = asks 7 (codes "X: 1\r\nR: L/hd(N)\r\n") ∷ phone 1 OffHook ∷ response 200 10000000 ∷ []
+
+abbrev pub asked_to_embed : List GatewayEvent
+asked_to_embed =
+    asks 8 (codes "X: 2\r\nR: L/hf(E(R(L/hu(N)))),D/[0-9](N),L/hu(N)\r\n") ∷ phone 1 Flash ∷ phone 1 (Key Five) ∷ phone 1 OnHook ∷ []
+
 abbrev pub next_embeds : List GatewayEvent
-next_embeds =
-    asks 7 (codes "X: 1\r\nR: L/hd(N)\r\n") ∷ phone 1 OffHook ∷ response 200 10000000
-    ∷ asks 8 (codes "X: 2\r\nR: L/hf(E(R(L/hu(N)))),D/[0-9](N),L/hu(N)\r\n") ∷ phone 1 Flash ∷ phone 1 (Key Five) ∷ phone 1 OnHook ∷ []
+next_embeds = lifted_and_answered ++ asked_to_embed
 
 -- line 1 is lifted, and key 5 is pressed, before it is asked for anything; then it is asked for keys, and key 6 is pressed
 abbrev pub asked_late : List GatewayEvent
@@ -64,10 +70,38 @@ asked_between =
     ∷ asks 8 (codes "X: 2\r\nR: L/hu(N)\r\n") ∷ asks 9 (codes "X: 3\r\nR: D/[0-9](N)\r\n") ∷ phone 1 (Key Six) ∷ []
 
 -- line 1 is lifted, which is answered, and asked for keys in loop; key 5 is told, which is answered, and key 6
+abbrev pub keys_told_in_loop : List GatewayEvent
+keys_told_in_loop =
+    asks 8 (codes "X: 2\r\nR: D/[0-9](N)\r\nQ: loop\r\n") ∷ phone 1 (Key Five) ∷ response 200 10000001 ∷ phone 1 (Key Six) ∷ []
+
 abbrev pub told_between : List GatewayEvent
-told_between =
-    asks 7 (codes "X: 1\r\nR: L/hd(N)\r\n") ∷ phone 1 OffHook ∷ response 200 10000000
-    ∷ asks 8 (codes "X: 2\r\nR: D/[0-9](N)\r\nQ: loop\r\n") ∷ phone 1 (Key Five) ∷ response 200 10000001 ∷ phone 1 (Key Six) ∷ []
+told_between = lifted_and_answered ++ keys_told_in_loop
+
+-- line 1 is lifted, and key 5 is pressed before that is answered
+abbrev pub pressed_meanwhile : List GatewayEvent
+pressed_meanwhile = asks 7 (codes "X: 1\r\nR: L/hd(N),D/[0-9](N)\r\n") ∷ phone 1 OffHook ∷ phone 1 (Key Five) ∷ []
+
+-- so it is in loop, where keys are collected
+abbrev pub has_keys_collected_in_loop : Request
+has_keys_collected_in_loop = with_handling (codes "loop") (requests (codes "1") (codes "L/hd(N),D/[0-9](A)"))
+
+abbrev pub pressed_in_loop : List GatewayEvent
+pressed_in_loop = asks 7 (codes "X: 1\r\nR: L/hd(N),D/[0-9](A)\r\nQ: loop\r\n") ∷ phone 1 OffHook ∷ phone 1 (Key Five) ∷ []
+
+-- that is answered, line 1 is asked for keys, and key 6 is pressed
+abbrev pub asked_for_keys : List GatewayEvent
+asked_for_keys = response 200 10000000 ∷ asks 9 (codes "X: 3\r\nR: D/[0-9](N)\r\n") ∷ phone 1 (Key Six) ∷ []
+
+-- and where it was asked to collect keys before that is answered
+abbrev pub collects_keys : Request
+collects_keys = requests (codes "2") (codes "D/[0-9](A)")
+
+abbrev pub asked_meanwhile : List GatewayEvent
+asked_meanwhile = pressed_meanwhile ++ asks 8 (codes "X: 2\r\nR: D/[0-9](A)\r\n") ∷ []
+
+-- what line 1 did, was asked and told at later events
+abbrev pub course_behind : List GatewayEvent → List GatewayEvent → List CourseStep
+course_behind before after = course_from two_lines (plain two_lines (ready ++ before)) 1 after
 
 -- line 1 is asked for all that its telephone does, at 1,000
 abbrev pub asked_for_all : List GatewayEvent

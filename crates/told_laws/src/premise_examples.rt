@@ -17,7 +17,9 @@ ghost use Rattle.told_laws.specs.Example.{flashed};
 ghost use Rattle.told_laws.specs.Premises.{asked_between, asked_late, flash_embeds_then, has_both_first, has_each_key_told};
 ghost use Rattle.told_laws.specs.Premises.{has_keys_in_loop, has_lifting_first, has_return_then, latest_embeds, lifting_embeds};
 ghost use Rattle.told_laws.specs.Premises.{asked_for_all, first_sent, next_embeds, told_between};
-ghost use Rattle.told_laws.specs.Walking.{EmbedsNone, TellsWhatWasKept, WalksButLost};
+ghost use Rattle.told_laws.specs.Premises.{asked_for_keys, asked_meanwhile, asked_to_embed, collects_keys, course_behind};
+ghost use Rattle.told_laws.specs.Premises.{has_keys_collected_in_loop, keys_told_in_loop, lifted_and_answered, pressed_in_loop, pressed_meanwhile};
+ghost use Rattle.told_laws.specs.Walking.{EmbedsNone, TellsOfHeld, TellsWhatWasKept, WalksButLost};
 
 /// What a line keeps isn't that of another: line 2 did nothing, and tells nothing, while line 1 keeps two events.
 pub fn else_another_line_is_told_of()
@@ -106,6 +108,56 @@ pub fn else_a_later_notification_tells_it()
     ensures done { done_in (does (acts.Key keys.Five) ∷ notifies (codes "2") (five ∷ []) ∷ does (acts.Key keys.Six) ∷ [])
         ≡ five ∷ six ∷ [] }
     ensures skipped { ¬ TellsWhatWasKept has_lifting_first has_keys_in_loop (lifted ∷ []) (lifted ∷ []) [] (five ∷ six ∷ []) (six ∷ []) }
+{}
+
+/// What is quarantined is told behind the next request: key 5, pressed before the first notification was answered; and a gateway that
+/// forgot it would tell something else.
+pub fn what_is_quarantined_is_told()
+    ensures before { course_then pressed_meanwhile
+        ≡ (accepts has_both_first ∷ does acts.OffHook ∷ []) ++ notifies (codes "1") (lifted ∷ []) ∷ does (acts.Key keys.Five) ∷ [] }
+    ensures held { of_telephone (line_then pressed_meanwhile).quarantined.events ≡ five ∷ [] }
+    ensures after { course_behind pressed_meanwhile asked_for_keys
+        ≡ accepts (has_each_key_told (codes "3")) ∷ ([] ++ notifies (codes "3") (five ∷ []) ∷ does (acts.Key keys.Six) ∷ []) }
+    ensures embeds_none { EmbedsNone (has_each_key_told (codes "3")).events }
+    ensures none_lost { (line_then (pressed_meanwhile ++ asked_for_keys)).quarantined.lost ≡ 0 }
+    ensures latest { latest_from None (accepts has_both_first ∷ does acts.OffHook ∷ []) ≡ Some has_both_first }
+    ensures in_step { is_loop has_both_first.handling.notifying ≡ false }
+    ensures told { TellsOfHeld (has_each_key_told (codes "3")) (five ∷ []) [] (five ∷ []) }
+    ensures forgot { ¬ TellsOfHeld (has_each_key_told (codes "3")) (five ∷ []) (six ∷ []) (six ∷ []) }
+{}
+
+/// In loop, or where a request came in between, key 5 is processed before the next request, which drops it: it is skipped. And so is what
+/// is done behind a request that embeds another, or before the first notification behind it.
+pub fn else_what_is_quarantined_is_not_told()
+    ensures in_loop { course_then pressed_in_loop
+        ≡ (accepts has_keys_collected_in_loop ∷ does acts.OffHook ∷ []) ++ notifies (codes "1") (lifted ∷ []) ∷ does (acts.Key keys.Five)
+        ∷ [] }
+    ensures latest { latest_from None (accepts has_keys_collected_in_loop ∷ does acts.OffHook ∷ []) ≡ Some has_keys_collected_in_loop }
+    ensures not_in_step { is_loop has_keys_collected_in_loop.handling.notifying ≡ true }
+    ensures other_in_step { is_loop has_both_first.handling.notifying ≡ false }
+    ensures held { of_telephone (line_then pressed_in_loop).quarantined.events ≡ five ∷ [] }
+    ensures behind_loop { course_behind pressed_in_loop asked_for_keys
+        ≡ accepts (has_each_key_told (codes "3")) ∷ (does (acts.Key keys.Six) ∷ notifies (codes "3") (six ∷ []) ∷ []) }
+    ensures none_lost { (line_then (pressed_in_loop ++ asked_for_keys)).quarantined.lost ≡ 0 }
+    ensures in_between { course_then asked_meanwhile
+        ≡ (accepts has_both_first ∷ does acts.OffHook ∷ []) ++ notifies (codes "1") (lifted ∷ [])
+        ∷ (does (acts.Key keys.Five) ∷ accepts collects_keys ∷ []) }
+    ensures held_between { of_telephone (line_then asked_meanwhile).quarantined.events ≡ five ∷ [] }
+    ensures behind_request { course_behind asked_meanwhile asked_for_keys
+        ≡ accepts (has_each_key_told (codes "3")) ∷ (does (acts.Key keys.Six) ∷ notifies (codes "3") (six ∷ []) ∷ []) }
+    ensures none_lost_between { (line_then (asked_meanwhile ++ asked_for_keys)).quarantined.lost ≡ 0 }
+    ensures skipped { ¬ TellsOfHeld (has_each_key_told (codes "3")) (five ∷ []) (six ∷ []) (six ∷ []) }
+    ensures answered { course_then lifted_and_answered
+        ≡ (accepts has_lifting_first ∷ does acts.OffHook ∷ []) ++ notifies (codes "1") (lifted ∷ []) ∷ [] }
+    ensures none_held { of_telephone (line_then lifted_and_answered).quarantined.events ≡ [] }
+    ensures embeds { course_behind lifted_and_answered asked_to_embed
+        ≡ accepts flash_embeds_then ∷ (does acts.Flash ∷ does (acts.Key keys.Five) ∷ does acts.OnHook
+        ∷ notifies (codes "2") (hung_up ∷ []) ∷ []) }
+    ensures skipped_behind_it { ¬ TellsOfHeld flash_embeds_then [] (flashed ∷ five ∷ hung_up ∷ []) (hung_up ∷ []) }
+    ensures told_before { course_behind lifted_and_answered keys_told_in_loop
+        ≡ accepts has_keys_in_loop ∷ ((does (acts.Key keys.Five) ∷ notifies (codes "2") (five ∷ []) ∷ does (acts.Key keys.Six) ∷ [])
+        ++ notifies (codes "2") (six ∷ []) ∷ []) }
+    ensures skipped_then { ¬ TellsOfHeld has_keys_in_loop [] (five ∷ six ∷ []) (six ∷ []) }
 {}
 
 /// What a line has in flight may have begun sooner than at 1,001 where the clock is at 1,000; than at 1,000, where it is set back, which no
