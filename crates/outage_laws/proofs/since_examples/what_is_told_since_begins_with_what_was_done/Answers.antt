@@ -1,11 +1,11 @@
-use Rattle.std.proofs.Common.{◌≡◌, ℕ, ◌+◌, ◌≤◌, Bool, true, false, ◌||◌, ◌&&◌, ◌==◌, codes, List, [], ◌∷◌, ◌++◌, inl, inr, refl, sym, ap, subst, ◌∙◌, arith}
+use Rattle.std.proofs.Common.{◌≡◌, ℕ, ◌≤◌, Bool, true, false, ◌||◌, ◌&&◌, ◌==◌, codes, List, [], ◌∷◌, ◌++◌, inl, inr, refl, sym, ap, subst, ◌∙◌}
 use Rattle.std.specs.Prelude.{nat_le}
 use Rattle.std.proofs.lemmas.Bool.{le-leb, leb-true}
 use Rattle.std.proofs.lemmas.Bool.Decides.{Decides-eqb}
 use Rattle.event_values.specs.declared.observed.Observed.{Observed}
 use Rattle.plain_machine.specs.declared.setup.Setup.{Setup}
 use Rattle.plain_machine.specs.Example.{two_lines}
-use Rattle.agent_core.specs.World.{World, WorldStep, delivering, dialling, issuing, now_in, plain_world, ticking, went, world_after, world_opening}
+use Rattle.agent_core.specs.World.{World, WorldStep, delivering, dialling, issuing, now_in, ticking, went, world_after, world_opening}
 use Rattle.delivery_laws.specs.Example.{redirected}
 use Rattle.delivery_laws.specs.Keeping.{happened_in}
 use Rattle.delivery_laws.specs.OnceExample.{five, lifted, six}
