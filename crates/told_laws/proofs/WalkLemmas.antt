@@ -350,9 +350,10 @@ drain_more line place past event rest done next has left (inr (inl takes)) more 
       subst (λ (n : Option Notice). WalksOn place (past ++ of_telephone (event ∷ rest)) (unless_notified n done next)) (sym tells.tells)
       (subst (λ (w : List Observed). WalksOn place w done) (sym (next_in past event rest))
       (subst (λ (held : List Observed). WalksOn place (with_one past event ++ of_telephone held) done) left
-      (telling_walks place (with_one past event) (of_telephone done.line.quarantined.events) done tells.notice tells.tells
-      (ap of_telephone tells.told ∙ collected_all line place past event has takes.collected,
-      but_last_by place.requests past event (is_of_telephone event) has.quiet takes.bare)
+      (telling_walks place (with_one past event) (of_telephone done.line.quarantined.events) done tells.notice tells.tells (
+        ap of_telephone tells.told ∙ collected_all line place past event has takes.collected,
+        but_last_by place.requests past event (is_of_telephone event) has.quiet takes.bare,
+      )
       (told_at place (line.accumulated ++ event ∷ []) done (takes.same.0 ∙ has.asks) (steps_on line done.line place takes.same has.steps) tells))))
 drain_more line place past event rest done next has left (inr (inr turns)) more =
     drain_turned line place past event rest done next has left (turned line place past event done has turns) more
@@ -455,9 +456,10 @@ alone line event place past done has left (inr (inl takes)) = by_how takes.how w
       silent_walks place (with_one past event) done later.1.silent
       (alone_at done place (with_one past event) (gathered_has line place past event done has takes.same takes.collected later.0 later.1) left)
   by_how (inr tells) =
-      told_alone place (with_one past event) done tells.notice tells.tells
-      (ap of_telephone tells.told ∙ collected_all line place past event has takes.collected,
-      but_last_by place.requests past event (is_of_telephone event) has.quiet takes.bare)
+      told_alone place (with_one past event) done tells.notice tells.tells (
+        ap of_telephone tells.told ∙ collected_all line place past event has takes.collected,
+        but_last_by place.requests past event (is_of_telephone event) has.quiet takes.bare,
+      )
       (subst (At done.line (behind_notification place)) (ap of_telephone left)
       (told_at place (line.accumulated ++ event ∷ []) done (takes.same.0 ∙ has.asks) (steps_on line done.line place takes.same has.steps) tells))
 alone line event place past done has left (inr (inr turns)) =
