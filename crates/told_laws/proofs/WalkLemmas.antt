@@ -49,8 +49,7 @@ use Rattle.delivery_laws.proofs.EndpointLemmas.{steps_of}
 pub here : (end : End) (place : Place) (waiting : List Observed) → end place waiting → Then place waiting end
 here end place waiting stands = (place, waiting, no_more place waiting, stands)
 
-embeds_both : (place middle next : Place) (waiting left last : List Observed) → Embeds place waiting middle left → Embeds middle left next last
-    → Embeds place waiting next last
+embeds_both : (place middle next : Place) (waiting left last : List Observed) → Embeds place waiting middle left → Embeds middle left next last → Embeds place waiting next last
 embeds_both place middle next waiting left last (no_more p w) more = more
 embeds_both place middle next waiting left last (by_event p n w front rest l carried event request unshut order quiet brings behind) more =
     by_event place next waiting front rest last carried event request unshut order quiet brings
