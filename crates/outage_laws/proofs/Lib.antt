@@ -64,5 +64,6 @@ pub mod UnservedSends
 pub mod EachLine
 pub mod NextDue
 mod RoomlessRounds
+mod RoomlessTicks
 mod RoomlessLine
 mod RoomlessHeld

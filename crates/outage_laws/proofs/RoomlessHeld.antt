@@ -27,7 +27,8 @@ use Rattle.outage_laws.specs.AfterOutage.{IsWell, gap_of, well_by}
 use Rattle.outage_laws.specs.LinePremises.{held_with, restart_with}
 use Rattle.outage_laws.specs.Roomless.{key_begun, roomless, roomless_given_up, roomless_soon, ticks_on, ticks_then}
 use Rattle.outage_laws.proofs.Computing.{on_examples}
-use Rattle.outage_laws.proofs.RoomlessLine.{at_22501, at_23501, at_9501, e_22501, e_9501, given_up_stays, is_of_line, not_taken, roomless_soon_stays, roomless_stays, w_0}
+use Rattle.outage_laws.proofs.RoomlessLine.{e_22501, e_9501, given_up_stays, is_of_line, not_taken, roomless_soon_stays, roomless_stays, w_0}
+use Rattle.outage_laws.proofs.RoomlessTicks.{at_22501, at_23501, at_9501}
 
 abbrev before : List GatewayEvent
 before = took_first roomless_soon

@@ -1,7 +1,8 @@
 use Rattle.delivery_laws.proofs.ExampleLemmas.{two_lines_set_up}
 use Rattle.outage_laws.specs.Roomless.{roomless}
 use Rattle.outage_laws.proofs.RoomlessHeld.{asked, calm, done, held_end, held_soon, late_soon, line_serves, not_well, now_end, now_soon, over, serving, took_is, unanswered, well_soon}
-use Rattle.outage_laws.proofs.RoomlessLine.{at_22501, e_22501, goes, is_fair, roomless_stays}
+use Rattle.outage_laws.proofs.RoomlessLine.{e_22501, goes, is_fair, roomless_stays}
+use Rattle.outage_laws.proofs.RoomlessTicks.{at_22501}
 use Rattle.outage_laws.proofs.roomless_examples.else_a_quarantine_waits_for_room.Goals as goal
 
 pub returns-clause-run : goal.returns-clause-run

@@ -2,7 +2,8 @@ use Rattle.std.proofs.Common.{arith, ap, ◌∙◌, inl, inr, refl, ◌≡◌, �
 use Rattle.plain_machine.specs.Machine.{Machine}
 use Rattle.delivery_laws.proofs.ExampleLemmas.{two_lines_set_up}
 use Rattle.outage_laws.specs.Roomless.{key_begun, roomless, roomless_given_up}
-use Rattle.outage_laws.proofs.RoomlessLine.{at_22501, e_22501, goes, is_fair, is_of_line, not_answered, not_taken, roomless_stays, at_23501, given_up_stays}
+use Rattle.outage_laws.proofs.RoomlessLine.{e_22501, goes, is_fair, is_of_line, not_answered, not_taken, roomless_stays, given_up_stays}
+use Rattle.outage_laws.proofs.RoomlessTicks.{at_22501, at_23501}
 use Rattle.machine_laws.proofs.EachLemmas.{any_from_one}
 use Rattle.delivery_laws.specs.Chances.{chances}
 use Rattle.plain_machine.specs.Event.{tick}
