@@ -107,12 +107,18 @@ has_return_told = requests (codes "A2") (codes "L/hd(I),D/5(I),D/6(A),L/hu(N)")
 
 -- Line 1, asked for all in step, is lifted, and key 5 is pressed until its quarantine is full, and behind that request key 6. Then the
 -- first notification is answered, and the handset put back.
-abbrev pub full_then_asked : List GatewayEvent
-full_then_asked =
+abbrev pub filled : List GatewayEvent
+filled =
     rqnt 7 (codes "aaln/1") (codes "X: C2\r\nR: L/hd(N),L/hu(N),L/hf(N),D/[0-9*#ABCD](N)\r\n") ∷ phone 1 OffHook
     ∷ replicate most_quarantined (phone 1 (Key Five))
-    ++ rqnt 8 (codes "aaln/1") (codes "X: A2\r\nR: L/hd(I),D/5(I),D/6(A),L/hu(N)\r\n") ∷ phone 1 (Key Six) ∷ response 200 10000000
+
+abbrev pub return_asked : List GatewayEvent
+return_asked =
+    rqnt 8 (codes "aaln/1") (codes "X: A2\r\nR: L/hd(I),D/5(I),D/6(A),L/hu(N)\r\n") ∷ phone 1 (Key Six) ∷ response 200 10000000
     ∷ phone 1 OnHook ∷ []
+
+abbrev pub full_then_asked : List GatewayEvent
+full_then_asked = filled ++ return_asked
 
 -- what was done is what was told, and then what is quarantined
 abbrev pub AllToldThen : List GatewayEvent → Type 0

@@ -17,12 +17,13 @@ ghost use Rattle.delivery_laws.specs.Course.{acts as does, accepts, notifies};
 ghost use Rattle.delivery_laws.specs.Rounds.{of_telephone};
 ghost use Rattle.told_laws.specs.Among.{AreAmong, kept_by};
 ghost use Rattle.delivery_laws.specs.Dialled.{latest_from, told_along};
-ghost use Rattle.told_laws.specs.Walking.{nothing_asked, EmbedsNone, reaction_to, Brings, TellsAFront, TellsWhatWasKept, Walks};
+ghost use Rattle.told_laws.specs.Walking.{nothing_asked, EmbedsNone, reaction_to, Brings, TellsAFront, TellsOfHeld, TellsWhatWasKept, Walks};
 ghost use Rattle.told_laws.specs.Walking.{behind_request, AllButLost, TellsOf, WalksButLost};
 ghost use Rattle.told_laws.specs.Example.{dials_two, flashes_and_dials, has_keys_collected, has_lifting_told, has_lifting_kept};
 ghost use Rattle.told_laws.specs.Example.{has_all_told, has_all_told_in_loop, discards_then, flashed, flash_drops, flash_carries};
 ghost use Rattle.told_laws.specs.Example.{flashes_and_hangs_up, counts, waits, WalksThen, request_then, next_request_then, told_twice};
-ghost use Rattle.told_laws.specs.Example.{dropped_in_loop, AllToldThen, full_then_asked, has_return_told};
+ghost use Rattle.told_laws.specs.Example.{dropped_in_loop, AllToldThen, filled, full_then_asked, has_return_told, return_asked};
+ghost use Rattle.told_laws.specs.Premises.{course_behind};
 ghost use Rattle.delivery_laws.specs.OnceExample.{lifted, hung_up, five, six, asks_for_all, dials, dials_before, discards};
 ghost use Rattle.delivery_laws.specs.OnceExample.{keys_are_collected, asked_and_full};
 ghost use Rattle.delivery_laws.specs.OnceExample.{course_then, line_then, told_then};
@@ -148,6 +149,13 @@ pub fn else_what_is_lost_is_skipped()
         (hung_up ∷ []) }
     ensures skipped_meanwhile { ¬ TellsWhatWasKept (request_then full_then_asked) has_return_told (lifted ∷ []) (lifted ∷ [])
         (replicate most_quarantined five) (six ∷ hung_up ∷ []) (hung_up ∷ []) }
+    ensures before { course_then filled
+        ≡ (accepts (request_then full_then_asked) ∷ does acts.OffHook ∷ []) ++ notifies (codes "C2") (lifted ∷ [])
+        ∷ replicate most_quarantined (does (acts.Key keys.Five)) }
+    ensures held { of_telephone (line_then filled).quarantined.events ≡ replicate most_quarantined five }
+    ensures after { course_behind filled return_asked ≡ accepts has_return_told ∷ (does (acts.Key keys.Six) ∷ does acts.OnHook
+        ∷ notifies (codes "A2") (hung_up ∷ []) ∷ []) }
+    ensures skipped_of_held { ¬ TellsOfHeld has_return_told (replicate most_quarantined five) (six ∷ hung_up ∷ []) (hung_up ∷ []) }
 {}
 
 /// The second notification behind a request may tell later events alone; and in loop a request may drop what was done since a notification.

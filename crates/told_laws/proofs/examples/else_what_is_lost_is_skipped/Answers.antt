@@ -48,3 +48,12 @@ returns-clause-skipped_meanwhile c =
     (sym (ap (λ (xs : List Observed). (xs ++ fives) ++ six ∷ hung_up ∷ []) empty) ∙ h.order) in
     let same : hung_up ≡ six = tells_behind test fives six hung_up h.front h.rest (hung_up ∷ []) [] refl refl order h.told_so in
     cc)
+
+pub returns-clause-skipped_of_held : goal.returns-clause-skipped_of_held
+unfolding on_examples
+returns-clause-skipped_of_held c =
+    λ h.
+    (let test = collects has_return_told.events in
+    let fives = replicate most_quarantined five in
+    let same : hung_up ≡ six = tells_behind test fives six hung_up h.front h.rest (hung_up ∷ []) [] refl refl h.order h.told_so in
+    cc)
