@@ -10,5 +10,7 @@ pub mod LivesInFlight
 pub mod LineAlone
 pub mod LineServes
 pub mod LivesLines
+pub mod LineWindow
+pub mod LivesWindow
 pub mod LivesLong
 pub mod LivesFairExamples

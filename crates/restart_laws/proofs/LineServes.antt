@@ -1,7 +1,7 @@
 -- A line by the events that its gateway took alone: where each command of it that was sent since a moment was answered within twice the
 -- network's time, it has nothing to announce once its answers had time to come.
-use Rattle.std.proofs.Common.{◌≡◌, ℕ, ◌+◌, ◌*◌, ◌<◌, ◌≤◌, Bool, true, false, List, Some, inl, inr, refl, sym, subst, arith}
-use Rattle.std.specs.Prelude.{◌⊎◌, nat_le}
+use Rattle.std.proofs.Common.{◌≡◌, ℕ, ◌+◌, ◌*◌, ◌<◌, ◌≤◌, Bool, true, false, List, Option, Some, inl, inr, refl, sym, subst, arith}
+use Rattle.std.specs.Prelude.{◌⊎◌, IfSome, nat_le}
 use Rattle.std.proofs.lemmas.Bool.{leb-true, leb-false}
 use Rattle.outbound.specs.Flight.{InFlight}
 use Rattle.restart.specs.declared.restart.Restart.{Restart}
@@ -20,27 +20,39 @@ use Rattle.machine_laws.proofs.EachLemmas.{Each, one_of_each, one_to}
 use Rattle.machine_laws.proofs.LineLemmas.{place_of}
 use Rattle.delivery_laws.specs.Chances.{chances, last_chance}
 use Rattle.delivery_laws.specs.Copies.{answer_wait}
+use Rattle.delivery_laws.specs.Rounds.{IsAwaited}
 use Rattle.delivery_laws.proofs.CarryLaws.{chances_low}
 use Rattle.delivery_laws.proofs.ChanceLaws.{eight}
 use Rattle.delivery_laws.proofs.OwnChanceLaws.{flying_said}
 use Rattle.delivery_laws.proofs.PostedLemmas.{SaysAt}
 use Rattle.outage_laws.specs.AfterOutage.{longest_pause}
 use Rattle.outage_laws.proofs.LineServesLaws.{began_before, last_past, next_sent, next_twice, not_twice, over_twice, same_first, soon_by, too_late, twice_past, wait_sent}
-use Rattle.outage_laws.proofs.LineTracks.{Announces, Behind, Flies, IsGivenUp, TracksBy}
+use Rattle.outage_laws.proofs.LineTracks.{Announces, Behind, Flies, FliesSo, IsGivenUp, TracksBy}
 use Rattle.outage_laws.proofs.NextSendLemmas.{IsNext, next_send}
 use Rattle.outage_laws.proofs.ServesLaws.{due_by}
 use Rattle.outage_laws.proofs.StretchLemmas.{is_begun}
 use Rattle.restart_laws.proofs.GatewayTracks.{ArePlain, IsTaken}
 use Rattle.restart_laws.proofs.LineAlone.{Chase, announced_answered, flight_answered, tracks_at, waiting_answered}
 
+-- what was sent first so long ago had a send since
+old_past : (since first within now pause wait slack : ℕ) → now < first + answer_wait → wait ≤ last_chance → since + answer_wait + pause + 2 * within + slack ≤ now + 1 + wait
+    → since ≤ first + last_chance
+old_past since first within now pause wait slack soon low late = omega (arith, soon, low, late)
+
+first_twice : (first one within now : ℕ) → one ≡ 0 → first + 2 * within < now → first + one + 2 * within + 1 ≤ now
+first_twice first one within now none late = omega (arith, none, late)
+
+first_is : (first moment more now : ℕ) → first ≡ moment → first + more < now → moment + more < now
+first_is first moment more now is late = omega (arith, is, late)
+
 from_none : (since moment : ℕ) → since ≡ 0 → since ≤ moment
 from_none since moment none = omega (arith, none)
 
-module _ (setup : Setup) (took : List GatewayEvent) (line since within : ℕ) (endpoint : Endpoint) (set_up : IsSetUp setup) (taken : IsTaken setup took) (are : ArePlain took)
+module _ (setup : Setup) (took : List GatewayEvent) (line since within slack : ℕ) (endpoint : Endpoint) (set_up : IsSetUp setup) (taken : IsTaken setup took) (are : ArePlain took)
     (at : endpoint_at (plain setup took).endpoints line ≡ Some endpoint) (Told : Begun → ℕ → ℕ → Type 0)
     (back : (b : Begun) (wait : ℕ) → OneOf (λ (one : Begun). one ≡ b) (begun_in (of_line line (sent_of setup took))) → since ≤ b.moment + wait
-    → b.moment + wait + 2 * within + 0 ≤ (plain setup took).now → Chase setup took line within b wait (Told b wait))
-    (wait : ℕ) (among : OneOf (λ (one : ℕ). one ≡ wait) chances) (few : wait + 2 * within < answer_wait) where
+    → b.moment + wait + 2 * within + slack ≤ (plain setup took).now → Chase setup took line within b wait (Told b wait))
+    (wait : ℕ) (among : OneOf (λ (one : ℕ). one ≡ wait) chances) (few : wait + 2 * within < answer_wait) (small : slack ≤ 1) where
   abbrev now : ℕ
   now = (plain setup took).now
 
@@ -76,6 +88,44 @@ module _ (setup : Setup) (took : List GatewayEvent) (line since within : ℕ) (e
       (began_before a.old a.its.mine a.before.b
       (is_begun a.old a.before.b (record { old = a.before.old; mine = a.before.mine; order = a.before.order; stretch = a.before.stretch })))
 
+  -- What is in flight was sent so often as the clock is late
+
+  abbrev SaidOf : List Sent → Begun → ℕ → Type 0
+  SaidOf mine b one = b.moment + one ≤ now → OneOf (SaysAt b.text (b.moment + one)) mine
+
+  flight_said : (old : List Sent) (flight : InFlight) (f : Flies setup line (Behind now) sent old now flight) → Each (SaidOf f.mine f.b) chances
+  flight_said old flight f = eight (SaidOf f.mine f.b) (λ number most past. flying_said f.mine f.b flight now f.is f.on f.up number past)
+
+  flight_soon : (old : List Sent) (flight : InFlight) (f : Flies setup line (Behind now) sent old now flight) → now < f.b.moment + answer_wait
+  flight_soon old flight f = soon_by now flight.due flight.first f.b.moment f.up (due_by f.mine flight f.on) f.is.first
+
+  -- and no send of it since was so long ago
+  not_sent : (old : List Sent) (flight : InFlight) (f : Flies setup line (Behind now) sent old now flight) → endpoint.post.pending ≡ Some flight → (one : ℕ)
+      → SaidOf f.mine f.b one → since ≤ f.b.moment + one → f.b.moment + one + 2 * within + slack ≤ now → ⊥
+  not_sent old flight f flies one has past twice =
+      flight_answered setup took line within endpoint set_up taken are at f.b one old f.mine f.order f.stretch (has (twice_past f.b.moment one within now slack twice)) flight flies f.is
+      (Told f.b one) (back f.b one (is_begun sent f.b (record { old = old; mine = f.mine; order = f.order; stretch = f.stretch })) past twice)
+
+  -- and where it serves, what it has in flight was first sent so short ago
+
+  module _ (serving : endpoint.post.restart ≡ Serving)
+      (never : (old : List Sent) (flight : InFlight) (f : Flies setup line (Behind now) sent old now flight) → endpoint.post.pending ≡ Some flight → f.b.moment + 2 * within < now → ⊥) where
+    flight_of : (flight : InFlight) → endpoint.post.pending ≡ Some flight → FliesSo setup line (Behind now) sent now flight
+    flight_of flight flies =
+        subst (λ (p : Option InFlight). IfSome p (FliesSo setup line (Behind now) sent now)) flies
+        (subst (λ (r : Restart). TracksBy setup line (Behind now) sent now r endpoint.post.pending) serving tracks)
+
+    awaited_by : (flight : InFlight) → endpoint.post.pending ≡ Some flight → (f : FliesSo setup line (Behind now) sent now flight) → (x : Bool)
+        → nat_le now (flight.first + 2 * within) ≡ x → now ≤ flight.first + 2 * within
+    awaited_by flight flies f true young = leb-true now (flight.first + 2 * within) young
+    awaited_by flight flies f false old =
+        absurd (never f.0 flight f.1 flies (first_is flight.first f.1.b.moment (2 * within) now f.1.is.first (leb-false now (flight.first + 2 * within) old)))
+
+    awaited_so : (flight : InFlight) → endpoint.post.pending ≡ Some flight → IsAwaited now (2 * within) endpoint.post.pending
+    awaited_so flight flies =
+        let f = flight_of flight flies in
+        record { flight = flight; flies = flies; sent = f.1.past; lately = awaited_by flight flies f (nat_le now (flight.first + 2 * within)) refl }
+
   -- From the first moment on it gives nothing up
 
   module _ (none : since ≡ 0) where
@@ -83,14 +133,14 @@ module _ (setup : Setup) (took : List GatewayEvent) (line since within : ℕ) (e
     never_waits until waits g =
         waiting_answered setup took line within endpoint set_up taken are at g.b wait few g.old g.mine g.order g.stretch (given_up_said sent until g) until waits (Told g.b wait)
         (back g.b wait (is_begun sent g.b (record { old = g.old; mine = g.mine; order = g.order; stretch = g.stretch }))
-        (from_none since (g.b.moment + wait) none) (over_twice g.b.moment wait within now 0 (omega arith) few g.over))
+        (from_none since (g.b.moment + wait) none) (over_twice g.b.moment wait within now slack small few g.over))
 
     never_announces : (a : Announces setup line (Behind now) sent now endpoint.post.pending) → endpoint.post.restart ≡ Announced → ⊥
     never_announces a announces =
         announced_answered setup took line within endpoint set_up taken are at a.before.b a.its.b wait (wait_of setup line) few a.before.old a.old a.before.mine a.its.mine a.before.order
         a.before.stretch a.its.order a.its.stretch (given_up_said a.old a.flight.first a.before) announces
         (same_first a.flight.first a.its.b.moment (a.before.b.moment + answer_wait + wait_of setup line) a.its.is.first a.before.begins) (Told a.before.b wait)
-        (back a.before.b wait (before_began a) (from_none since (a.before.b.moment + wait) none) (over_twice a.before.b.moment wait within now 0 (omega arith) few a.before.over))
+        (back a.before.b wait (before_began a) (from_none since (a.before.b.moment + wait) none) (over_twice a.before.b.moment wait within now slack small few a.before.over))
 
     by_first_restart : (restart : Restart) → endpoint.post.restart ≡ restart → TracksBy setup line (Behind now) sent now restart endpoint.post.pending
         → endpoint.post.restart ≡ Serving
@@ -101,34 +151,25 @@ module _ (setup : Setup) (took : List GatewayEvent) (line since within : ℕ) (e
     pub keeps_its_agent : endpoint.post.restart ≡ Serving
     keeps_its_agent = by_first_restart endpoint.post.restart refl tracks
 
+    module _ (one_more : slack ≡ 1) where
+      never_old : (old : List Sent) (flight : InFlight) (f : Flies setup line (Behind now) sent old now flight) → endpoint.post.pending ≡ Some flight → f.b.moment + 2 * within < now → ⊥
+      never_old old flight f flies old_enough =
+          not_sent old flight f flies 0 (flight_said old flight f).0 (from_none since (f.b.moment + 0) none)
+          (subst (λ (n : ℕ). f.b.moment + 0 + 2 * within + n ≤ now) (sym one_more) (first_twice f.b.moment 0 within now refl old_enough))
+
+      pub is_awaited_always : (flight : InFlight) → endpoint.post.pending ≡ Some flight → IsAwaited now (2 * within) endpoint.post.pending
+      is_awaited_always = awaited_so keeps_its_agent never_old
+
   -- From a later moment on it has it again by then
 
-  module _ (late : since + answer_wait + wait_of setup line + 2 * within + 0 ≤ (plain setup took).now + 1 + wait) where
+  module _ (late : since + answer_wait + wait_of setup line + 2 * within + slack ≤ (plain setup took).now + 1 + wait) where
     -- It doesn't wait to announce itself
 
     not_waiting : (until : ℕ) → endpoint.post.restart ≡ Waiting until → IsGivenUp setup line sent now until → now < until → ⊥
     not_waiting until waits g soon =
         waiting_answered setup took line within endpoint set_up taken are at g.b wait few g.old g.mine g.order g.stretch (given_up_said sent until g) until waits (Told g.b wait)
         (back g.b wait (is_begun sent g.b (record { old = g.old; mine = g.mine; order = g.order; stretch = g.stretch }))
-        (wait_sent since g.b.moment wait within now (wait_of setup line) until 0 g.begins soon late) (over_twice g.b.moment wait within now 0 (omega arith) few g.over))
-
-    -- What is in flight was sent so often as the clock is late
-
-    abbrev SaidOf : List Sent → Begun → ℕ → Type 0
-    SaidOf mine b one = b.moment + one ≤ now → OneOf (SaysAt b.text (b.moment + one)) mine
-
-    flight_said : (old : List Sent) (flight : InFlight) (f : Flies setup line (Behind now) sent old now flight) → Each (SaidOf f.mine f.b) chances
-    flight_said old flight f = eight (SaidOf f.mine f.b) (λ number most past. flying_said f.mine f.b flight now f.is f.on f.up number past)
-
-    flight_soon : (old : List Sent) (flight : InFlight) (f : Flies setup line (Behind now) sent old now flight) → now < f.b.moment + answer_wait
-    flight_soon old flight f = soon_by now flight.due flight.first f.b.moment f.up (due_by f.mine flight f.on) f.is.first
-
-    -- and no send of it since was so long ago
-    not_sent : (old : List Sent) (flight : InFlight) (f : Flies setup line (Behind now) sent old now flight) → endpoint.post.pending ≡ Some flight → (one : ℕ)
-        → SaidOf f.mine f.b one → since ≤ f.b.moment + one → f.b.moment + one + 2 * within + 0 ≤ now → ⊥
-    not_sent old flight f flies one has past twice =
-        flight_answered setup took line within endpoint set_up taken are at f.b one old f.mine f.order f.stretch (has (twice_past f.b.moment one within now 0 twice)) flight flies f.is
-        (Told f.b one) (back f.b one (is_begun sent f.b (record { old = old; mine = f.mine; order = f.order; stretch = f.stretch })) past twice)
+        (wait_sent since g.b.moment wait within now (wait_of setup line) until slack g.begins soon late) (over_twice g.b.moment wait within now slack small few g.over))
 
     -- It didn't announce itself without an answer
 
@@ -137,22 +178,22 @@ module _ (setup : Setup) (took : List GatewayEvent) (line since within : ℕ) (e
       second = same_first a.flight.first a.its.b.moment (a.before.b.moment + answer_wait + wait_of setup line) a.its.is.first a.before.begins
 
       -- the one before it had a send since
-      before_it : now < a.its.b.moment + 2 * within + 0 → ⊥
+      before_it : now < a.its.b.moment + 2 * within + slack → ⊥
       before_it soon =
           announced_answered setup took line within endpoint set_up taken are at a.before.b a.its.b wait (wait_of setup line) few a.before.old a.old a.before.mine a.its.mine a.before.order
           a.before.stretch a.its.order a.its.stretch (given_up_said a.old a.flight.first a.before) announces second (Told a.before.b wait)
-          (back a.before.b wait (before_began a) (next_sent since a.before.b.moment wait within now (wait_of setup line) a.its.b.moment 0 second soon late)
-          (over_twice a.before.b.moment wait within now 0 (omega arith) few a.before.over))
+          (back a.before.b wait (before_began a) (next_sent since a.before.b.moment wait within now (wait_of setup line) a.its.b.moment slack second soon late)
+          (over_twice a.before.b.moment wait within now slack small few a.before.over))
 
-      by_first : (one : ℕ) → SaidOf a.its.mine a.its.b one → since ≤ a.its.b.moment + one → one ≡ 0 → (x : Bool) → nat_le (a.its.b.moment + one + 2 * within + 0) now ≡ x → ⊥
-      by_first one has past none true twice = not_sent a.old a.flight a.its a.flies one has past (leb-true (a.its.b.moment + one + 2 * within + 0) now twice)
+      by_first : (one : ℕ) → SaidOf a.its.mine a.its.b one → since ≤ a.its.b.moment + one → one ≡ 0 → (x : Bool) → nat_le (a.its.b.moment + one + 2 * within + slack) now ≡ x → ⊥
+      by_first one has past none true twice = not_sent a.old a.flight a.its a.flies one has past (leb-true (a.its.b.moment + one + 2 * within + slack) now twice)
       by_first one has past none false fewer =
-          before_it (not_twice a.its.b.moment one within now 0 none (leb-false (a.its.b.moment + one + 2 * within + 0) now fewer))
+          before_it (not_twice a.its.b.moment one within now slack none (leb-false (a.its.b.moment + one + 2 * within + slack) now fewer))
 
       by_soon : (one : ℕ) → SaidOf a.its.mine a.its.b one → since ≤ a.its.b.moment + one → (one ≡ 0) ⊎ (a.its.b.moment + one + 1 ≤ since + longest_pause) → ⊥
-      by_soon one has past (inl none) = by_first one has past none (nat_le (a.its.b.moment + one + 2 * within + 0) now) refl
+      by_soon one has past (inl none) = by_first one has past none (nat_le (a.its.b.moment + one + 2 * within + slack) now) refl
       by_soon one has past (inr next) =
-          not_sent a.old a.flight a.its a.flies one has past (next_twice since a.its.b.moment one wait within now (wait_of setup line) 0 next low late)
+          not_sent a.old a.flight a.its a.flies one has past (next_twice since a.its.b.moment one wait within now (wait_of setup line) slack next low late)
 
       by_next : IsNext (SaidOf a.its.mine a.its.b) since a.its.b.moment → ⊥
       by_next is = by_soon is.wait is.has is.late is.soon
@@ -162,7 +203,7 @@ module _ (setup : Setup) (took : List GatewayEvent) (line since within : ℕ) (e
           by_next (next_send (SaidOf a.its.mine a.its.b) since a.its.b.moment (last_past since a.its.b.moment wait (leb-true since (a.its.b.moment + wait) past) low)
           (flight_said a.old a.flight a.its))
       by_test false before =
-          too_late since a.its.b.moment wait within now (wait_of setup line) 0 (flight_soon a.old a.flight a.its) (leb-false since (a.its.b.moment + wait) before) late
+          too_late since a.its.b.moment wait within now (wait_of setup line) slack (flight_soon a.old a.flight a.its) (leb-false since (a.its.b.moment + wait) before) late
 
       not_announced : ⊥
       not_announced = by_test (nat_le since (a.its.b.moment + wait)) refl
@@ -175,3 +216,24 @@ module _ (setup : Setup) (took : List GatewayEvent) (line since within : ℕ) (e
     -- So its agent is there.
     pub has_its_agent : endpoint.post.restart ≡ Serving
     has_its_agent = by_restart endpoint.post.restart refl tracks
+
+    -- and what it has in flight was first sent so short ago
+    module _ (one_more : slack ≡ 1) where
+      recent : (old : List Sent) (flight : InFlight) (f : Flies setup line (Behind now) sent old now flight) → since ≤ f.b.moment + last_chance
+      recent old flight f = old_past since f.b.moment within now (wait_of setup line) wait slack (flight_soon old flight f) low late
+
+      old_by_soon : (old : List Sent) (flight : InFlight) (f : Flies setup line (Behind now) sent old now flight) → endpoint.post.pending ≡ Some flight → f.b.moment + 2 * within < now → (one : ℕ)
+          → SaidOf f.mine f.b one → since ≤ f.b.moment + one → (one ≡ 0) ⊎ (f.b.moment + one + 1 ≤ since + longest_pause) → ⊥
+      old_by_soon old flight f flies old_enough one has past (inl none) =
+          not_sent old flight f flies one has past
+          (subst (λ (n : ℕ). f.b.moment + one + 2 * within + n ≤ now) (sym one_more) (first_twice f.b.moment one within now none old_enough))
+      old_by_soon old flight f flies old_enough one has past (inr next) =
+          not_sent old flight f flies one has past (next_twice since f.b.moment one wait within now (wait_of setup line) slack next low late)
+
+      not_old : (old : List Sent) (flight : InFlight) (f : Flies setup line (Behind now) sent old now flight) → endpoint.post.pending ≡ Some flight → f.b.moment + 2 * within < now → ⊥
+      not_old old flight f flies old_enough = by_next_one (next_send (SaidOf f.mine f.b) since f.b.moment (recent old flight f) (flight_said old flight f)) where
+        by_next_one : IsNext (SaidOf f.mine f.b) since f.b.moment → ⊥
+        by_next_one is = old_by_soon old flight f flies old_enough is.wait is.has is.late is.soon
+
+      pub is_awaited : (flight : InFlight) → endpoint.post.pending ≡ Some flight → IsAwaited now (2 * within) endpoint.post.pending
+      is_awaited = awaited_so has_its_agent not_old

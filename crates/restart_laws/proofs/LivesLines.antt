@@ -354,7 +354,7 @@ late_moved : (since start wait within pause now clock : ℕ) → start ≤ since
     → (since - start) + answer_wait + pause + 2 * within + 0 ≤ now + 1 + wait
 late_moved since start wait within pause now clock on same late = omega (arith, on, same, late)
 
-none_moved : (start : ℕ) → start - start ≡ 0
+pub none_moved : (start : ℕ) → start - start ≡ 0
 none_moved start = omega arith
 
 module _ (setup : Setup) (steps : List LivesStep) (since within wait line : ℕ) (endpoint : Endpoint) (set_up : IsSetUp setup)
@@ -364,20 +364,20 @@ module _ (setup : Setup) (steps : List LivesStep) (since within wait line : ℕ)
   abbrev wl : LivesWorld
   wl = plain_lives setup steps
 
-  life : IsLife (clock_of setup wl) wl.life
+  pub life : IsLife (clock_of setup wl) wl.life
   life = life_is setup wl (lives_stand setup steps set_up taken)
 
-  keeps : Keeps setup wl
+  pub keeps : Keeps setup wl
   keeps = lives_keep setup steps set_up taken
 
-  clock : clock_of setup wl ≡ wl.life.start + (gateway_of wl.life).now
+  pub clock : clock_of setup wl ≡ wl.life.start + (gateway_of wl.life).now
   clock = (lives_kept setup steps taken).clock
 
   pause_same : wait_of wl.life.setup line ≡ setup.disconnected_wait
   pause_same =
       wait_is wl.life.setup line (place_of (gateway_of wl.life).endpoints line endpoint at).0 ∙ ap (λ (s : Setup). s.disconnected_wait) keeps.same
 
-  chased : (b : Begun) (wait : ℕ) → OneOf (λ (one : Begun). one ≡ b) (begun_in (of_line line (sent_of wl.life.setup wl.life.took))) → since - wl.life.start ≤ b.moment + wait
+  pub chased : (b : Begun) (wait : ℕ) → OneOf (λ (one : Begun). one ≡ b) (begun_in (of_line line (sent_of wl.life.setup wl.life.took))) → since - wl.life.start ≤ b.moment + wait
       → b.moment + wait + 2 * within + 0 ≤ (gateway_of wl.life).now → Chase wl.life.setup wl.life.took line within b wait (Told setup steps since within set_up taken fair roomy line b wait)
   chased b wait began past twice =
       chase setup steps since within set_up taken fair roomy line b wait
@@ -388,22 +388,22 @@ module _ (setup : Setup) (steps : List LivesStep) (since within wait line : ℕ)
   -- So it has its agent by then, where the network is fair from the start of its life on, or from later on
   pub agent_since : wl.life.start ≤ since → since + answer_wait + setup.disconnected_wait + 2 * within ≤ clock_of setup wl + 1 + wait → endpoint.post.restart ≡ Serving
   agent_since on late =
-      has_its_agent wl.life.setup wl.life.took line (since - wl.life.start) within endpoint life.set_up life.taken keeps.arrivals at
-      (Told setup steps since within set_up taken fair roomy line) chased wait is.among is.few
+      has_its_agent wl.life.setup wl.life.took line (since - wl.life.start) within 0 endpoint life.set_up life.taken keeps.arrivals at
+      (Told setup steps since within set_up taken fair roomy line) chased wait is.among is.few (omega arith)
       (late_moved since wl.life.start wait within (wait_of wl.life.setup line) (gateway_of wl.life).now (clock_of setup wl) on clock
       (subst (λ (pause : ℕ). since + answer_wait + pause + 2 * within ≤ clock_of setup wl + 1 + wait) (sym pause_same) late))
 
   -- and at any time, where it is so from the start of its life on
   pub agent_from_start : since ≡ wl.life.start → endpoint.post.restart ≡ Serving
   agent_from_start same =
-      keeps_its_agent wl.life.setup wl.life.took line (since - wl.life.start) within endpoint life.set_up life.taken keeps.arrivals at
-      (Told setup steps since within set_up taken fair roomy line) chased wait is.among is.few
+      keeps_its_agent wl.life.setup wl.life.took line (since - wl.life.start) within 0 endpoint life.set_up life.taken keeps.arrivals at
+      (Told setup steps since within set_up taken fair roomy line) chased wait is.among is.few (omega arith)
       (ap (λ (n : ℕ). n - wl.life.start) same ∙ none_moved wl.life.start)
 
-past_start : (since start moment : ℕ) → since < start → start ≤ moment → since ≤ moment
+pub past_start : (since start moment : ℕ) → since < start → start ≤ moment → since ≤ moment
 past_start since start moment less past = omega (arith, less, past)
 
-young_quick : (within : ℕ) → within ≤ oldest_packet → IsQuick within
+pub young_quick : (within : ℕ) → within ≤ oldest_packet → IsQuick within
 young_quick within young = omega (arith, young)
 
 -- so it has it by then; and at any time, where its life started later than the network came back

@@ -1,12 +1,17 @@
 //! Laws of a network that was down and came back where the gateway started again.
-ghost use Rattle.std.specs.Prelude.{◌≡◌, ◌⊎◌, ◌≤◌, ◌+◌, ◌*◌, ℕ, List, Any, Some, true};
+ghost use Rattle.std.specs.Prelude.{◌≡◌, ◌⊎◌, ◌<◌, ◌≤◌, ◌+◌, ◌*◌, ◌++◌, ℕ, List, [], Any, Some, length, true};
 ghost use Rattle.plain_machine.specs.declared.setup.Setup.{Setup};
 ghost use Rattle.restart.specs.declared.restart.Restart.TheVariants.{Serving};
 ghost use Rattle.plain_machine.specs.declared.endpoint.Endpoint.{Endpoint};
+ghost use Rattle.plain_machine.specs.Event.{GatewayEvent};
+ghost use Rattle.plain_machine.specs.Lists.{plain};
 ghost use Rattle.plain_machine.specs.Machine.{endpoint_at, serves};
 ghost use Rattle.agent_core.specs.World.{oldest_packet};
 ghost use Rattle.machine_laws.specs.Saying.{Begun};
 ghost use Rattle.delivery_laws.specs.Chances.{last_chance};
+ghost use Rattle.delivery_laws.specs.Course.{course_from};
+ghost use Rattle.delivery_laws.specs.Dialled.{done_in};
+ghost use Rattle.delivery_laws.specs.Rounds.{IsAnsweredWithin, IsAskedWithin, of_telephone, rounds_take};
 ghost use Rattle.outage_laws.specs.AfterOutage.{gap_of, longest_pause};
 ghost use Rattle.outage_laws.specs.Alone.{HasBegun, HasResponse};
 ghost use Rattle.life_laws.specs.Lives.{Brought, LivesStep, clock_of, gateway_of, lives_of, number_of, plain_lives};
@@ -77,4 +82,41 @@ pub fn a_line_of_a_new_life_has_its_agent_again_after_an_outage()
         ((b : Begun) → HasBegun w.life.setup w.life.took line b → LifeGoesToAgent setup w b.text) →
         endpoint_at (gateway_of w.life).endpoints line ≡ Some endpoint →
         since + gap_of within + setup.disconnected_wait + 2 * within ≤ clock_of setup w + 1 → endpoint.post.restart ≡ Serving }
+{}
+
+/// From then on such a line of the life that goes on waits for no answer for longer than twice the network's time; and where it is asked
+/// again within so many ms, after as many rounds of both as there were events in its quarantine no more of them is quarantined than its
+/// telephone did since, and nothing that it did where it rests (RFC 3435, 3.5 and 4.4.1).
+pub fn a_quarantine_of_a_new_life_is_out_after_an_outage()
+    ensures answered { (setup : Setup) (steps : List LivesStep) (since within line : ℕ) (before after : List GatewayEvent)
+        (endpoint : Endpoint) → IsRunOfLives setup steps → within ≤ oldest_packet →
+        LivesAreFairFrom setup steps since within → AgentHasRoomThen setup steps since → let w = plain_lives setup steps in
+        ((b : Begun) → HasBegun w.life.setup w.life.took line b → LifeGoesToAgent setup w b.text) → w.life.took ≡ before ++ after →
+        serves (plain w.life.setup before).endpoints ≡ true → endpoint_at (gateway_of w.life).endpoints line ≡ Some endpoint →
+        since + gap_of within + setup.disconnected_wait + 2 * within ≤ w.life.start + (plain w.life.setup before).now →
+        IsAnsweredWithin w.life.setup line before after (2 * within) }
+    ensures out { (setup : Setup) (steps : List LivesStep) (since within line asking : ℕ) (before after : List GatewayEvent)
+        (was endpoint : Endpoint) → IsRunOfLives setup steps → within ≤ oldest_packet →
+        LivesAreFairFrom setup steps since within → AgentHasRoomThen setup steps since → let w = plain_lives setup steps in
+        ((b : Begun) → HasBegun w.life.setup w.life.took line b → LifeGoesToAgent setup w b.text) → w.life.took ≡ before ++ after →
+        serves (plain w.life.setup before).endpoints ≡ true →
+        endpoint_at (plain w.life.setup before).endpoints line ≡ Some was → endpoint_at (gateway_of w.life).endpoints line ≡ Some endpoint →
+        since + gap_of within + setup.disconnected_wait + 2 * within ≤ w.life.start + (plain w.life.setup before).now →
+        IsAskedWithin w.life.setup line before after asking →
+        (plain w.life.setup before).now + rounds_take (length was.line.quarantined.events) (2 * within) asking
+        < (gateway_of w.life).now →
+        length (of_telephone endpoint.line.quarantined.events)
+        ≤ length (done_in (course_from w.life.setup (plain w.life.setup before) line after)) }
+    ensures rests { (setup : Setup) (steps : List LivesStep) (since within line asking : ℕ) (before after : List GatewayEvent)
+        (was endpoint : Endpoint) → IsRunOfLives setup steps → within ≤ oldest_packet →
+        LivesAreFairFrom setup steps since within → AgentHasRoomThen setup steps since → let w = plain_lives setup steps in
+        ((b : Begun) → HasBegun w.life.setup w.life.took line b → LifeGoesToAgent setup w b.text) → w.life.took ≡ before ++ after →
+        serves (plain w.life.setup before).endpoints ≡ true →
+        endpoint_at (plain w.life.setup before).endpoints line ≡ Some was → endpoint_at (gateway_of w.life).endpoints line ≡ Some endpoint →
+        since + gap_of within + setup.disconnected_wait + 2 * within ≤ w.life.start + (plain w.life.setup before).now →
+        IsAskedWithin w.life.setup line before after asking →
+        (plain w.life.setup before).now + rounds_take (length was.line.quarantined.events) (2 * within) asking
+        < (gateway_of w.life).now →
+        done_in (course_from w.life.setup (plain w.life.setup before) line after) ≡ [] →
+        of_telephone endpoint.line.quarantined.events ≡ [] }
 {}
