@@ -45,7 +45,7 @@ use Rattle.outage_laws.proofs.LineFrontLaws.{none_announced, none_said, with_one
 use Rattle.outage_laws.proofs.LineServesLaws.{began_before, wait_is}
 use Rattle.restart_laws.proofs.GatewayServes.{CameBack}
 use Rattle.restart_laws.proofs.GatewayTracks.{ArePlain, IsTaken, alone, by_events, plain_before, taken_before, taken_parts}
-use Rattle.restart_laws.proofs.LineAlone.{Chase, Returns, Since}
+use Rattle.restart_laws.proofs.LineAlone.{Chase, Returns}
 use Rattle.restart_laws.proofs.LineServes.{has_its_agent, is_awaited, is_awaited_always, keeps_its_agent}
 
 -- The clock goes on

@@ -1,5 +1,5 @@
 -- In a world of lives whose network is fair from a moment on a command of the life that goes on is answered by its next send.
-use Rattle.std.proofs.Common.{◌≡◌, ℕ, ◌+◌, ◌-◌, ◌*◌, ◌≤◌, true, List, [], ◌∷◌, ◌++◌, inl, inr, sym, ap, ◌∙◌, subst, arith, append-nil, append_assoc}
+use Rattle.std.proofs.Common.{◌≡◌, ℕ, ◌+◌, ◌*◌, ◌≤◌, true, List, [], ◌∷◌, ◌++◌, inl, inr, sym, ap, ◌∙◌, subst, arith, append-nil, append_assoc}
 use Rattle.std.specs.Prelude.{◌⊎◌, All, Any}
 use Rattle.mgcp_text.specs.Reading.{read_text}
 use Rattle.transmission.specs.Texts.{texts_of}

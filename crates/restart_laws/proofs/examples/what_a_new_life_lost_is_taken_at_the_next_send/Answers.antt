@@ -1,4 +1,4 @@
-use Rattle.std.proofs.Common.{◌≡◌, ℕ, List, [], ◌∷◌, codes, inl, refl}
+use Rattle.std.proofs.Common.{◌≡◌, [], ◌∷◌, codes, inl, refl}
 use Rattle.std.proofs.lemmas.Bool.{leb-true}
 use Rattle.plain_machine.specs.Example.{two_lines}
 use Rattle.plain_machine.specs.Lists.{sent_of}
