@@ -1,16 +1,19 @@
 -- The worlds of the worked examples: the gateway of two lines starts again, while the network is down or where it is fair.
-use Rattle.std.specs.Prelude.{ℕ, ◌+◌, ◌*◌, codes, List, [], ◌∷◌, ◌++◌, map, flat_map, Option, option_map}
+use Rattle.std.specs.Prelude.{ℕ, ◌+◌, ◌*◌, codes, List, [], ◌∷◌, ◌++◌, drop, length, map, flat_map, take, Option, option_map}
 use Rattle.std.specs.List.{range_with_len}
 use Rattle.mg_line.specs.declared.phone.Act.TheVariants.{OffHook}
 use Rattle.mgcp_text.specs.declared.message.Message.TheVariants as messages
 use Rattle.mgcp_text.specs.Reading.{Outcome, bad_body, bad_version, message, no_header}
 use Rattle.restart.specs.declared.restart.Restart.{Restart}
 use Rattle.plain_machine.specs.Arriving.{arrivals_of}
-use Rattle.plain_machine.specs.Machine.{endpoint_at}
+use Rattle.plain_machine.specs.Event.{GatewayEvent}
+use Rattle.plain_machine.specs.Lists.{plain}
+use Rattle.plain_machine.specs.Machine.{Machine, endpoint_at}
 use Rattle.machine_laws.specs.Saying.{Begun}
-use Rattle.agent_core.specs.World.{delivering, dialling, ticking}
+use Rattle.agent_core.specs.World.{WorldStep, delivering, dialling, issuing, ticking}
 use Rattle.world_laws.specs.Example.{announced, seconds}
 use Rattle.delivery_laws.specs.Example.{up_to}
+use Rattle.delivery_laws.specs.Rounds.{of_telephone}
 use Rattle.outage_laws.specs.Example.{all_lost, given_up_elsewhere, sent_elsewhere}
 use Rattle.outage_laws.specs.Premises.{announced_four_times}
 use Rattle.life_laws.specs.Lives.{LivesStep, gateway_of, restarting, stepping}
@@ -133,3 +136,33 @@ answered_slowly =
 -- whether line 1 has its agent
 abbrev pub restart_after : List LivesStep → Option Restart
 restart_after steps = option_map (λ endpoint. endpoint.post.restart) (endpoint_at (gateway_of (lives steps).life).endpoints 1)
+
+-- A quarantine
+
+-- all that a world of one life did, 1 ms later and behind a start, with one packet before it
+abbrev pub a_start_later : WorldStep → LivesStep
+a_start_later (ticking moment) = stepping (ticking (moment + 1))
+a_start_later (delivering number) = stepping (delivering (number + 1))
+a_start_later (dialling line act) = stepping (dialling line act)
+a_start_later (issuing verb name rest) = stepping (issuing verb name rest)
+
+abbrev pub behind_a_start : List WorldStep → List LivesStep
+behind_a_start steps = stepping (ticking 1) ∷ restarting 20 ∷ map a_start_later steps
+
+-- what the life that goes on took, so much of it as it had taken behind the first steps, and what since
+abbrev pub life_took : List LivesStep → List GatewayEvent
+life_took steps = (lives steps).life.took
+
+abbrev pub took_by : List LivesStep → List LivesStep → List GatewayEvent
+took_by first steps = take (length (life_took first)) (life_took steps)
+
+abbrev pub took_since : List LivesStep → List LivesStep → List GatewayEvent
+took_since first steps = drop (length (life_took first)) (life_took steps)
+
+-- the gateway behind that
+abbrev pub gateway_by : List LivesStep → List LivesStep → Machine
+gateway_by first steps = plain (lives steps).life.setup (took_by first steps)
+
+-- how much of what line 1's telephone did is quarantined then
+abbrev pub held_in : Machine → Option ℕ
+held_in gateway = option_map (λ endpoint. length (of_telephone endpoint.line.quarantined.events)) (endpoint_at gateway.endpoints 1)

@@ -3,7 +3,7 @@
 //! for one.
 #![tactic(auto, unfolding(crate::proofs::Computing::on_examples))]
 
-ghost use Rattle.std.specs.Prelude.{◌≡◌, ◌≤◌, ◌<◌, ◌+◌, ◌*◌, [], ◌∷◌, Some, true, false};
+ghost use Rattle.std.specs.Prelude.{◌≡◌, ◌≤◌, ◌<◌, ◌+◌, ◌*◌, ◌++◌, [], ◌∷◌, Some, true, false};
 ghost use Rattle.restart.specs.declared.restart.Restart.TheVariants.{Announced, Serving, Waiting};
 ghost use Rattle.plain_machine.specs.Example.{two_lines};
 ghost use Rattle.plain_machine.specs.Machine.{serves};
@@ -11,9 +11,13 @@ ghost use Rattle.plain_machine.specs.Setup.{IsSetUp};
 ghost use Rattle.machine_laws.specs.Saying.{Begun};
 ghost use Rattle.agent_core.specs.World.{oldest_packet};
 ghost use Rattle.delivery_laws.specs.Chances.{last_chance};
+ghost use Rattle.delivery_laws.specs.Course.{course_from};
+ghost use Rattle.delivery_laws.specs.Dialled.{done_in};
 ghost use Rattle.delivery_laws.specs.Example.{endless, lifted};
+ghost use Rattle.delivery_laws.specs.Rounds.{IsAnsweredWithin, IsAskedWithin, rounds_take};
 ghost use Rattle.outage_laws.specs.AfterOutage.{gap_of, longest_pause};
 ghost use Rattle.outage_laws.specs.Alone.{HasBegun};
+ghost use Rattle.outage_laws.specs.Example.{connected_in_step, never_answered, never_asked, none_to_go, one_to_go, pressed_since};
 ghost use Rattle.outage_laws.specs.Premises.{reported_elsewhere};
 ghost use Rattle.life_laws.specs.Lives.{clock_of, gateway_of, lives_are_taken, lives_of, lives_opening, number_of, plain_lives};
 ghost use Rattle.life_laws.specs.Apart.{LieApart};
@@ -22,6 +26,7 @@ ghost use Rattle.restart_laws.specs.AfterRestart.{AgentHasRoomThen, IsRunOfLives
 ghost use Rattle.restart_laws.specs.Example.{answered_at_last, down_at_first, never_heard, served_never_again, started_alike_once};
 ghost use Rattle.restart_laws.specs.Example.{announced_alike, answered_anew, answered_slowly, lifted_anew, lifted_elsewhere, lost_anew};
 ghost use Rattle.restart_laws.specs.Example.{lost_for_good, lost_still};
+ghost use Rattle.restart_laws.specs.Example.{behind_a_start, gateway_by, held_in, life_took, took_by, took_since};
 ghost use Rattle.restart_laws.specs.Example.{connected_anew, responses_after, restart_after, started_alike_slowly};
 ghost use Rattle.restart_laws.specs.Example.{started_anew, taken_anew};
 ghost use Rattle.restart_laws.specs.Example.{unanswered_yet, unconnected_anew, unconnected_elsewhere, unconnected_still};
@@ -175,4 +180,61 @@ pub fn else_a_line_of_a_new_life_has_no_agent()
         LifeGoesToAgent two_lines (lives answered_slowly) b.text }
     ensures late_slow { 1 + gap_of 20000 + two_lines.disconnected_wait + 2 * 20000 ≤ clock_of two_lines (lives answered_slowly) + 1 }
     ensures waiting_slow { restart_after answered_slowly ≡ Some (Waiting 73501) }
+{}
+
+/// Line 1 of a gateway that started again dials 5 and 6 while the network is down, gives its notification up, and announces itself; then
+/// 7 is dialled as the notification of 5 begins. Each is answered 200 ms later, and no sooner, and 100 ms behind the answer the line is
+/// asked for the next: after two rounds of both nothing is quarantined, and 1 ms sooner one event is.
+pub fn a_quarantine_of_a_new_life_is_out_at_that_moment()
+    ensures run { IsRunOfLives two_lines (behind_a_start none_to_go) }
+    ensures start { (lives (behind_a_start none_to_go)).life.start ≡ 1 }
+    ensures young { 100 ≤ oldest_packet }
+    ensures fair { LivesAreFairFrom two_lines (behind_a_start none_to_go) 19503 100 }
+    ensures room { AgentHasRoomThen two_lines (behind_a_start none_to_go) 19503 }
+    ensures goes { let w = lives (behind_a_start none_to_go) in (b : Begun) → HasBegun w.life.setup w.life.took 1 b →
+        LifeGoesToAgent two_lines w b.text }
+    ensures split { life_took (behind_a_start none_to_go)
+        ≡ took_by (behind_a_start pressed_since) (behind_a_start none_to_go)
+        ++ took_since (behind_a_start pressed_since) (behind_a_start none_to_go) }
+    ensures serving { serves (gateway_by (behind_a_start pressed_since) (behind_a_start none_to_go)).endpoints ≡ true }
+    ensures held { held_in (gateway_by (behind_a_start pressed_since) (behind_a_start none_to_go)) ≡ Some 2 }
+    ensures late { 19503 + gap_of 100 + two_lines.disconnected_wait + 2 * 100
+        ≤ (lives (behind_a_start none_to_go)).life.start + (gateway_by (behind_a_start pressed_since) (behind_a_start none_to_go)).now }
+    ensures answered_no_sooner { ¬ IsAnsweredWithin (lives (behind_a_start none_to_go)).life.setup 1
+        (took_by (behind_a_start pressed_since) (behind_a_start none_to_go))
+        (took_since (behind_a_start pressed_since) (behind_a_start none_to_go)) 199 }
+    ensures asked { IsAskedWithin (lives (behind_a_start none_to_go)).life.setup 1
+        (took_by (behind_a_start pressed_since) (behind_a_start none_to_go))
+        (took_since (behind_a_start pressed_since) (behind_a_start none_to_go)) 100 }
+    ensures at_that_moment { (gateway_by (behind_a_start pressed_since) (behind_a_start none_to_go)).now + rounds_take 2 (2 * 100) 100
+        ≡ (gateway_of (lives (behind_a_start one_to_go)).life).now }
+    ensures one_left { held_in (gateway_of (lives (behind_a_start one_to_go)).life) ≡ Some 1 }
+    ensures over { (gateway_by (behind_a_start pressed_since) (behind_a_start none_to_go)).now + rounds_take 2 (2 * 100) 100 + 1
+        ≡ (gateway_of (lives (behind_a_start none_to_go)).life).now }
+    ensures rests { let w = lives (behind_a_start none_to_go) in
+        done_in (course_from w.life.setup (gateway_by (behind_a_start pressed_since) (behind_a_start none_to_go)) 1
+        (took_since (behind_a_start pressed_since) (behind_a_start none_to_go))) ≡ [] }
+    ensures none_left { held_in (gateway_of (lives (behind_a_start none_to_go)).life) ≡ Some 0 }
+{}
+
+/// Where no request comes nothing goes out, nor where an answer isn't handed over.
+pub fn else_a_quarantine_of_a_new_life_is_not_out()
+    ensures run { IsRunOfLives two_lines (behind_a_start never_asked) }
+    ensures fair { LivesAreFairFrom two_lines (behind_a_start never_asked) 19503 100 }
+    ensures room { AgentHasRoomThen two_lines (behind_a_start never_asked) 19503 }
+    ensures unasked { ¬ IsAskedWithin (lives (behind_a_start never_asked)).life.setup 1
+        (took_by (behind_a_start connected_in_step) (behind_a_start never_asked))
+        (took_since (behind_a_start connected_in_step) (behind_a_start never_asked)) 100 }
+    ensures over { (gateway_by (behind_a_start connected_in_step) (behind_a_start never_asked)).now + rounds_take 2 (2 * 100) 100
+        < (gateway_of (lives (behind_a_start never_asked)).life).now }
+    ensures held { held_in (gateway_of (lives (behind_a_start never_asked)).life) ≡ Some 2 }
+    ensures run_unanswered { IsRunOfLives two_lines (behind_a_start never_answered) }
+    ensures unfair { ¬ LivesAreFairFrom two_lines (behind_a_start never_answered) 19503 100 }
+    ensures room_unanswered { AgentHasRoomThen two_lines (behind_a_start never_answered) 19503 }
+    ensures asked { IsAskedWithin (lives (behind_a_start never_answered)).life.setup 1
+        (took_by (behind_a_start connected_in_step) (behind_a_start never_answered))
+        (took_since (behind_a_start connected_in_step) (behind_a_start never_answered)) 100 }
+    ensures over_unanswered { (gateway_by (behind_a_start connected_in_step) (behind_a_start never_answered)).now + rounds_take 2 (2 * 100) 100
+        < (gateway_of (lives (behind_a_start never_answered)).life).now }
+    ensures held_unanswered { held_in (gateway_of (lives (behind_a_start never_answered)).life) ≡ Some 1 }
 {}

@@ -1,5 +1,6 @@
 //! Laws of what follows where a gateway started again (RFC 3435, 3.5.3, 4.3, 4.4.6 and 4.4.7), over a network that was down and came back:
-//! by when the gateway of the life that goes on serves, what it has in flight is taken and answered, and its lines have their agent.
+//! by when the gateway of the life that goes on serves, what it has in flight is taken and answered, its lines have their agent, and a
+//! quarantine of one is out.
 //!
 //! Nothing here runs: each law is a function without a body, whose clauses are proved for every setup and every list of steps of lives.
 //! `specs/` says when a network is fair from a moment on in a world of lives, and when the agent has room then.
