@@ -5,6 +5,7 @@ use Rattle.mg_line.specs.declared.phone.Act.TheVariants.{OffHook}
 use Rattle.mgcp_text.specs.declared.message.Message.TheVariants as messages
 use Rattle.mgcp_text.specs.Reading.{Outcome, bad_body, bad_version, message, no_header}
 use Rattle.restart.specs.declared.restart.Restart.{Restart}
+use Rattle.plain_machine.specs.declared.setup.Setup.{Setup}
 use Rattle.plain_machine.specs.Arriving.{arrivals_of}
 use Rattle.plain_machine.specs.Event.{GatewayEvent}
 use Rattle.plain_machine.specs.Lists.{plain}
@@ -14,9 +15,10 @@ use Rattle.agent_core.specs.World.{WorldStep, delivering, dialling, issuing, tic
 use Rattle.world_laws.specs.Example.{announced, seconds}
 use Rattle.delivery_laws.specs.Example.{up_to}
 use Rattle.delivery_laws.specs.Rounds.{of_telephone}
-use Rattle.outage_laws.specs.Example.{all_lost, given_up_elsewhere, sent_elsewhere}
+use Rattle.outage_laws.specs.Example.{all_lost, connected_in_step, given_up_elsewhere, sent_elsewhere}
+use Rattle.outage_laws.specs.LinePremises.{announced_unheard, announced_unheard_yet, answered_before, answered_before_yet, back_yet, hung_up, hung_up_elsewhere, hung_up_elsewhere_yet, hung_up_unserved, hung_up_unserved_yet, hung_up_yet, pressed_again}
 use Rattle.outage_laws.specs.Premises.{announced_four_times}
-use Rattle.life_laws.specs.Lives.{LivesStep, gateway_of, restarting, stepping}
+use Rattle.life_laws.specs.Lives.{Life, LivesStep, gateway_of, plain_lives, restarting, stepping}
 use Rattle.life_laws.specs.Example.{in_one_life, lives}
 
 -- its first life announces itself at 1, by packet 0, which is lost, and it starts again; the eight copies of the announcement of the next
@@ -146,8 +148,11 @@ a_start_later (delivering number) = stepping (delivering (number + 1))
 a_start_later (dialling line act) = stepping (dialling line act)
 a_start_later (issuing verb name rest) = stepping (issuing verb name rest)
 
+abbrev pub behind_a_start_with : ℕ → List WorldStep → List LivesStep
+behind_a_start_with first steps = stepping (ticking 1) ∷ restarting first ∷ map a_start_later steps
+
 abbrev pub behind_a_start : List WorldStep → List LivesStep
-behind_a_start steps = stepping (ticking 1) ∷ restarting 20 ∷ map a_start_later steps
+behind_a_start steps = behind_a_start_with 20 steps
 
 -- what the life that goes on took, so much of it as it had taken behind the first steps, and what since
 abbrev pub life_took : List LivesStep → List GatewayEvent
@@ -166,3 +171,69 @@ gateway_by first steps = plain (lives steps).life.setup (took_by first steps)
 -- how much of what line 1's telephone did is quarantined then
 abbrev pub held_in : Machine → Option ℕ
 held_in gateway = option_map (λ endpoint. length (of_telephone endpoint.line.quarantined.events)) (endpoint_at gateway.endpoints 1)
+
+-- the same of a gateway with another setup
+abbrev pub life_with : Setup → List LivesStep → Life
+life_with setup steps = (plain_lives setup steps).life
+
+abbrev pub took_by_with : Setup → List LivesStep → List LivesStep → List GatewayEvent
+took_by_with setup first steps = take (length (life_with setup first).took) (life_with setup steps).took
+
+abbrev pub took_since_with : Setup → List LivesStep → List LivesStep → List GatewayEvent
+took_since_with setup first steps = drop (length (life_with setup first).took) (life_with setup steps).took
+
+abbrev pub gateway_by_with : Setup → List LivesStep → List LivesStep → Machine
+gateway_by_with setup first steps = plain (life_with setup steps).setup (took_by_with setup first steps)
+
+-- Where one premise alone is missing
+
+-- line 1 reports to another address, and gives up what it sent there
+abbrev pub astray : List LivesStep
+astray = behind_a_start hung_up_elsewhere
+
+abbrev pub astray_yet : List LivesStep
+astray_yet = behind_a_start hung_up_elsewhere_yet
+
+abbrev pub reported_astray : Begun
+reported_astray = record { id = 10000020; moment = 1; text = codes "NTFY 10000020 aaln/1@rgw.example.net MGCP 1.0\r\nX: A0\r\nO: L/hd\r\n" }
+
+-- a gateway that waits longer than its lines doesn't serve yet
+abbrev pub not_served : List LivesStep
+not_served = behind_a_start hung_up_unserved
+
+abbrev pub not_served_yet : List LivesStep
+not_served_yet = behind_a_start hung_up_unserved_yet
+
+-- the answer to the announcement of a line is longer than a datagram, or is of before, since the clock was put back
+abbrev pub unheard : List LivesStep
+unheard = behind_a_start_with 5 announced_unheard
+
+abbrev pub unheard_yet : List LivesStep
+unheard_yet = behind_a_start_with 5 announced_unheard_yet
+
+abbrev pub put_back : List LivesStep
+put_back = behind_a_start answered_before
+
+abbrev pub put_back_yet : List LivesStep
+put_back_yet = behind_a_start answered_before_yet
+
+-- a line that gave its notification up waits before it announces itself
+abbrev pub waits_on : List LivesStep
+waits_on = behind_a_start hung_up
+
+abbrev pub waits_on_yet : List LivesStep
+waits_on_yet = behind_a_start hung_up_yet
+
+-- it has its agent again, or isn't answered
+abbrev pub back_anew : List LivesStep
+back_anew = behind_a_start back_yet
+
+abbrev pub unanswered_anew : List LivesStep
+unanswered_anew = behind_a_start announced_unheard
+
+-- it is asked twice, and then dials 5
+abbrev pub pressed_anew : List LivesStep
+pressed_anew = behind_a_start pressed_again
+
+abbrev pub in_step_anew : List LivesStep
+in_step_anew = behind_a_start connected_in_step

@@ -234,7 +234,7 @@ pub fn else_a_quarantine_of_a_new_life_is_not_out()
     ensures asked { IsAskedWithin (lives (behind_a_start never_answered)).life.setup 1
         (took_by (behind_a_start connected_in_step) (behind_a_start never_answered))
         (took_since (behind_a_start connected_in_step) (behind_a_start never_answered)) 100 }
-    ensures over_unanswered { (gateway_by (behind_a_start connected_in_step) (behind_a_start never_answered)).now + rounds_take 2 (2 * 100) 100
-        < (gateway_of (lives (behind_a_start never_answered)).life).now }
+    ensures over_unanswered { (gateway_by (behind_a_start connected_in_step) (behind_a_start never_answered)).now
+        + rounds_take 2 (2 * 100) 100 < (gateway_of (lives (behind_a_start never_answered)).life).now }
     ensures held_unanswered { held_in (gateway_of (lives (behind_a_start never_answered)).life) ≡ Some 1 }
 {}

@@ -8,3 +8,4 @@
 
 pub mod examples;
 pub mod laws;
+pub mod quarantine_examples;
