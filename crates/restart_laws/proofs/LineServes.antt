@@ -50,7 +50,7 @@ from_none since moment none = omega (arith, none)
 
 module _ (setup : Setup) (took : List GatewayEvent) (line since within slack : ℕ) (endpoint : Endpoint) (set_up : IsSetUp setup) (taken : IsTaken setup took) (are : ArePlain took)
     (at : endpoint_at (plain setup took).endpoints line ≡ Some endpoint) (Told : Begun → ℕ → ℕ → Type 0)
-    (back : (b : Begun) (wait : ℕ) → OneOf (λ (one : Begun). one ≡ b) (begun_in (of_line line (sent_of setup took))) → since ≤ b.moment + wait
+    (back : (b : Begun) (wait : ℕ) → OneOf (λ (one : Begun). one ≡ b) (begun_in (of_line line (sent_of setup took))) → since ≤ b.moment + last_chance → since ≤ b.moment + wait
     → b.moment + wait + 2 * within + slack ≤ (plain setup took).now → Chase setup took line within b wait (Told b wait))
     (wait : ℕ) (among : OneOf (λ (one : ℕ). one ≡ wait) chances) (few : wait + 2 * within < answer_wait) (small : slack ≤ 1) where
   abbrev now : ℕ
@@ -100,11 +100,11 @@ module _ (setup : Setup) (took : List GatewayEvent) (line since within slack : �
   flight_soon old flight f = soon_by now flight.due flight.first f.b.moment f.up (due_by f.mine flight f.on) f.is.first
 
   -- and no send of it since was so long ago
-  not_sent : (old : List Sent) (flight : InFlight) (f : Flies setup line (Behind now) sent old now flight) → endpoint.post.pending ≡ Some flight → (one : ℕ)
-      → SaidOf f.mine f.b one → since ≤ f.b.moment + one → f.b.moment + one + 2 * within + slack ≤ now → ⊥
-  not_sent old flight f flies one has past twice =
+  not_sent : (old : List Sent) (flight : InFlight) (f : Flies setup line (Behind now) sent old now flight) → endpoint.post.pending ≡ Some flight
+      → since ≤ f.b.moment + last_chance → (one : ℕ) → SaidOf f.mine f.b one → since ≤ f.b.moment + one → f.b.moment + one + 2 * within + slack ≤ now → ⊥
+  not_sent old flight f flies recent one has past twice =
       flight_answered setup took line within endpoint set_up taken are at f.b one old f.mine f.order f.stretch (has (twice_past f.b.moment one within now slack twice)) flight flies f.is
-      (Told f.b one) (back f.b one (is_begun sent f.b (record { old = old; mine = f.mine; order = f.order; stretch = f.stretch })) past twice)
+      (Told f.b one) (back f.b one (is_begun sent f.b (record { old = old; mine = f.mine; order = f.order; stretch = f.stretch })) recent past twice)
 
   -- and where it serves, what it has in flight was first sent so short ago
 
@@ -133,14 +133,14 @@ module _ (setup : Setup) (took : List GatewayEvent) (line since within slack : �
     never_waits until waits g =
         waiting_answered setup took line within endpoint set_up taken are at g.b wait few g.old g.mine g.order g.stretch (given_up_said sent until g) until waits (Told g.b wait)
         (back g.b wait (is_begun sent g.b (record { old = g.old; mine = g.mine; order = g.order; stretch = g.stretch }))
-        (from_none since (g.b.moment + wait) none) (over_twice g.b.moment wait within now slack small few g.over))
+        (from_none since (g.b.moment + last_chance) none) (from_none since (g.b.moment + wait) none) (over_twice g.b.moment wait within now slack small few g.over))
 
     never_announces : (a : Announces setup line (Behind now) sent now endpoint.post.pending) → endpoint.post.restart ≡ Announced → ⊥
     never_announces a announces =
         announced_answered setup took line within endpoint set_up taken are at a.before.b a.its.b wait (wait_of setup line) few a.before.old a.old a.before.mine a.its.mine a.before.order
         a.before.stretch a.its.order a.its.stretch (given_up_said a.old a.flight.first a.before) announces
         (same_first a.flight.first a.its.b.moment (a.before.b.moment + answer_wait + wait_of setup line) a.its.is.first a.before.begins) (Told a.before.b wait)
-        (back a.before.b wait (before_began a) (from_none since (a.before.b.moment + wait) none) (over_twice a.before.b.moment wait within now slack small few a.before.over))
+        (back a.before.b wait (before_began a) (from_none since (a.before.b.moment + last_chance) none) (from_none since (a.before.b.moment + wait) none) (over_twice a.before.b.moment wait within now slack small few a.before.over))
 
     by_first_restart : (restart : Restart) → endpoint.post.restart ≡ restart → TracksBy setup line (Behind now) sent now restart endpoint.post.pending
         → endpoint.post.restart ≡ Serving
@@ -154,7 +154,7 @@ module _ (setup : Setup) (took : List GatewayEvent) (line since within slack : �
     module _ (one_more : slack ≡ 1) where
       never_old : (old : List Sent) (flight : InFlight) (f : Flies setup line (Behind now) sent old now flight) → endpoint.post.pending ≡ Some flight → f.b.moment + 2 * within < now → ⊥
       never_old old flight f flies old_enough =
-          not_sent old flight f flies 0 (flight_said old flight f).0 (from_none since (f.b.moment + 0) none)
+          not_sent old flight f flies (from_none since (f.b.moment + last_chance) none) 0 (flight_said old flight f).0 (from_none since (f.b.moment + 0) none)
           (subst (λ (n : ℕ). f.b.moment + 0 + 2 * within + n ≤ now) (sym one_more) (first_twice f.b.moment 0 within now refl old_enough))
 
       pub is_awaited_always : (flight : InFlight) → endpoint.post.pending ≡ Some flight → IsAwaited now (2 * within) endpoint.post.pending
@@ -169,6 +169,7 @@ module _ (setup : Setup) (took : List GatewayEvent) (line since within slack : �
     not_waiting until waits g soon =
         waiting_answered setup took line within endpoint set_up taken are at g.b wait few g.old g.mine g.order g.stretch (given_up_said sent until g) until waits (Told g.b wait)
         (back g.b wait (is_begun sent g.b (record { old = g.old; mine = g.mine; order = g.order; stretch = g.stretch }))
+        (last_past since g.b.moment wait (wait_sent since g.b.moment wait within now (wait_of setup line) until slack g.begins soon late) low)
         (wait_sent since g.b.moment wait within now (wait_of setup line) until slack g.begins soon late) (over_twice g.b.moment wait within now slack small few g.over))
 
     -- It didn't announce itself without an answer
@@ -182,25 +183,28 @@ module _ (setup : Setup) (took : List GatewayEvent) (line since within slack : �
       before_it soon =
           announced_answered setup took line within endpoint set_up taken are at a.before.b a.its.b wait (wait_of setup line) few a.before.old a.old a.before.mine a.its.mine a.before.order
           a.before.stretch a.its.order a.its.stretch (given_up_said a.old a.flight.first a.before) announces second (Told a.before.b wait)
-          (back a.before.b wait (before_began a) (next_sent since a.before.b.moment wait within now (wait_of setup line) a.its.b.moment slack second soon late)
+          (back a.before.b wait (before_began a)
+          (last_past since a.before.b.moment wait (next_sent since a.before.b.moment wait within now (wait_of setup line) a.its.b.moment slack second soon late) low)
+          (next_sent since a.before.b.moment wait within now (wait_of setup line) a.its.b.moment slack second soon late)
           (over_twice a.before.b.moment wait within now slack small few a.before.over))
 
-      by_first : (one : ℕ) → SaidOf a.its.mine a.its.b one → since ≤ a.its.b.moment + one → one ≡ 0 → (x : Bool) → nat_le (a.its.b.moment + one + 2 * within + slack) now ≡ x → ⊥
-      by_first one has past none true twice = not_sent a.old a.flight a.its a.flies one has past (leb-true (a.its.b.moment + one + 2 * within + slack) now twice)
-      by_first one has past none false fewer =
+      by_first : since ≤ a.its.b.moment + last_chance → (one : ℕ) → SaidOf a.its.mine a.its.b one → since ≤ a.its.b.moment + one → one ≡ 0 → (x : Bool) → nat_le (a.its.b.moment + one + 2 * within + slack) now ≡ x → ⊥
+      by_first recent_it one has past none true twice = not_sent a.old a.flight a.its a.flies recent_it one has past (leb-true (a.its.b.moment + one + 2 * within + slack) now twice)
+      by_first recent_it one has past none false fewer =
           before_it (not_twice a.its.b.moment one within now slack none (leb-false (a.its.b.moment + one + 2 * within + slack) now fewer))
 
-      by_soon : (one : ℕ) → SaidOf a.its.mine a.its.b one → since ≤ a.its.b.moment + one → (one ≡ 0) ⊎ (a.its.b.moment + one + 1 ≤ since + longest_pause) → ⊥
-      by_soon one has past (inl none) = by_first one has past none (nat_le (a.its.b.moment + one + 2 * within + slack) now) refl
-      by_soon one has past (inr next) =
-          not_sent a.old a.flight a.its a.flies one has past (next_twice since a.its.b.moment one wait within now (wait_of setup line) slack next low late)
+      by_soon : since ≤ a.its.b.moment + last_chance → (one : ℕ) → SaidOf a.its.mine a.its.b one → since ≤ a.its.b.moment + one → (one ≡ 0) ⊎ (a.its.b.moment + one + 1 ≤ since + longest_pause) → ⊥
+      by_soon recent_it one has past (inl none) = by_first recent_it one has past none (nat_le (a.its.b.moment + one + 2 * within + slack) now) refl
+      by_soon recent_it one has past (inr next) =
+          not_sent a.old a.flight a.its a.flies recent_it one has past (next_twice since a.its.b.moment one wait within now (wait_of setup line) slack next low late)
 
-      by_next : IsNext (SaidOf a.its.mine a.its.b) since a.its.b.moment → ⊥
-      by_next is = by_soon is.wait is.has is.late is.soon
+      by_next : since ≤ a.its.b.moment + last_chance → IsNext (SaidOf a.its.mine a.its.b) since a.its.b.moment → ⊥
+      by_next recent_it is = by_soon recent_it is.wait is.has is.late is.soon
 
       by_test : (x : Bool) → nat_le since (a.its.b.moment + wait) ≡ x → ⊥
       by_test true past =
-          by_next (next_send (SaidOf a.its.mine a.its.b) since a.its.b.moment (last_past since a.its.b.moment wait (leb-true since (a.its.b.moment + wait) past) low)
+          by_next (last_past since a.its.b.moment wait (leb-true since (a.its.b.moment + wait) past) low)
+          (next_send (SaidOf a.its.mine a.its.b) since a.its.b.moment (last_past since a.its.b.moment wait (leb-true since (a.its.b.moment + wait) past) low)
           (flight_said a.old a.flight a.its))
       by_test false before =
           too_late since a.its.b.moment wait within now (wait_of setup line) slack (flight_soon a.old a.flight a.its) (leb-false since (a.its.b.moment + wait) before) late
@@ -225,10 +229,10 @@ module _ (setup : Setup) (took : List GatewayEvent) (line since within slack : �
       old_by_soon : (old : List Sent) (flight : InFlight) (f : Flies setup line (Behind now) sent old now flight) → endpoint.post.pending ≡ Some flight → f.b.moment + 2 * within < now → (one : ℕ)
           → SaidOf f.mine f.b one → since ≤ f.b.moment + one → (one ≡ 0) ⊎ (f.b.moment + one + 1 ≤ since + longest_pause) → ⊥
       old_by_soon old flight f flies old_enough one has past (inl none) =
-          not_sent old flight f flies one has past
+          not_sent old flight f flies (recent old flight f) one has past
           (subst (λ (n : ℕ). f.b.moment + one + 2 * within + n ≤ now) (sym one_more) (first_twice f.b.moment one within now none old_enough))
       old_by_soon old flight f flies old_enough one has past (inr next) =
-          not_sent old flight f flies one has past (next_twice since f.b.moment one wait within now (wait_of setup line) slack next low late)
+          not_sent old flight f flies (recent old flight f) one has past (next_twice since f.b.moment one wait within now (wait_of setup line) slack next low late)
 
       not_old : (old : List Sent) (flight : InFlight) (f : Flies setup line (Behind now) sent old now flight) → endpoint.post.pending ≡ Some flight → f.b.moment + 2 * within < now → ⊥
       not_old old flight f flies old_enough = by_next_one (next_send (SaidOf f.mine f.b) since f.b.moment (recent old flight f) (flight_said old flight f)) where

@@ -28,7 +28,7 @@ use Rattle.machine_laws.proofs.LineLemmas.{place_of}
 use Rattle.machine_laws.proofs.OwningLemmas.{of_both}
 use Rattle.machine_laws.proofs.WaitLaws.{opening_waits}
 use Rattle.world_laws.proofs.WorldLaws.{gateway_alone, gateway_clock}
-use Rattle.delivery_laws.specs.Chances.{chances}
+use Rattle.delivery_laws.specs.Chances.{chances, last_chance}
 use Rattle.delivery_laws.specs.Copies.{answer_wait}
 use Rattle.delivery_laws.specs.Course.{course_from}
 use Rattle.delivery_laws.specs.Dialled.{done_in}
@@ -178,7 +178,7 @@ one_less first wait within now last late past = omega (arith, late, past)
 
 module _ (setup : Setup) (whole : List GatewayEvent) (since within line : ℕ) (before after : List GatewayEvent) (endpoint : Endpoint) (set_up : IsSetUp setup)
     (taken : IsTaken setup whole) (are : ArePlain whole) (Told : Begun → ℕ → ℕ → Type 0)
-    (back : (b : Begun) (wait : ℕ) → OneOf (λ (one : Begun). one ≡ b) (begun_in (of_line line (sent_of setup whole))) → since ≤ b.moment + wait
+    (back : (b : Begun) (wait : ℕ) → OneOf (λ (one : Begun). one ≡ b) (begun_in (of_line line (sent_of setup whole))) → since ≤ b.moment + last_chance → since ≤ b.moment + wait
     → b.moment + wait + 2 * within + 0 ≤ (plain setup whole).now → Chase setup whole line within b wait (Told b wait))
     (took : whole ≡ before ++ after) (serving : serves (plain setup before).endpoints ≡ true) (there : endpoint_at (plain setup whole).endpoints line ≡ Some endpoint)
     (wait : ℕ) (among : OneOf (λ (one : ℕ). one ≡ wait) chances) (few : wait + 2 * within < answer_wait)
@@ -215,12 +215,12 @@ module _ (setup : Setup) (whole : List GatewayEvent) (since within line : ℕ) (
     last_now : (plain setup front).now ≤ (plain setup whole).now
     last_now = subst (λ (x : List GatewayEvent). (plain setup front).now ≤ (plain setup x).now) (sym same_whole) (later_now setup front later whole_taken)
 
-    back_front : (b : Begun) (wait : ℕ) → OneOf (λ (one : Begun). one ≡ b) (begun_in (of_line line (sent_of setup front))) → since ≤ b.moment + wait
+    back_front : (b : Begun) (wait : ℕ) → OneOf (λ (one : Begun). one ≡ b) (begun_in (of_line line (sent_of setup front))) → since ≤ b.moment + last_chance → since ≤ b.moment + wait
         → b.moment + wait + 2 * within + 1 ≤ (plain setup front).now → Chase setup front line within b wait (Told b wait)
-    back_front b wait began past twice =
+    back_front b wait began recent past twice =
         chase_front setup front later line within whole_taken b wait (Told b wait)
         (subst (λ (x : List GatewayEvent). Chase setup x line within b wait (Told b wait)) same_whole
-        (back b wait (began_whole b began) past (one_less b.moment wait within (plain setup front).now (plain setup whole).now twice last_now))) twice
+        (back b wait (began_whole b began) recent past (one_less b.moment wait within (plain setup front).now (plain setup whole).now twice last_now))) twice
 
     pub forward : (plain setup before).now ≤ (plain setup front).now
     forward = later_now setup before some front_taken

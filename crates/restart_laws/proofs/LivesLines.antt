@@ -26,12 +26,11 @@ use Rattle.agent_core.specs.declared.packet.End.{End}
 use Rattle.agent_core.specs.declared.packet.End.TheVariants.{AgentEnd as agent_end, GatewayEnd as gateway_end}
 use Rattle.agent_core.specs.declared.packet.Packet.{Packet}
 use Rattle.agent_core.specs.World.{agent_of, delivering, dialling, gateway_address, is_among, issuing, oldest_packet, ticking}
-use Rattle.delivery_laws.specs.Chances.{chances}
+use Rattle.delivery_laws.specs.Chances.{chances, last_chance}
 use Rattle.delivery_laws.specs.Copies.{answer_wait}
 use Rattle.delivery_laws.proofs.OwnChanceLaws.{one_unfiltered}
 use Rattle.delivery_laws.proofs.PlaceLemmas.{one_beyond}
 use Rattle.delivery_laws.proofs.PostedLemmas.{SaysAt, sent_more}
-use Rattle.outage_laws.specs.Alone.{HasBegun}
 use Rattle.outage_laws.specs.AfterOutage.{gap_of, last_in_time}
 use Rattle.outage_laws.proofs.LineBackLaws.{same_rest}
 use Rattle.outage_laws.proofs.LineServesLaws.{wait_is}
@@ -39,7 +38,7 @@ use Rattle.life_laws.specs.Lives.{Letter, Life, LivesStep, LivesWorld, agent_the
 use Rattle.life_laws.proofs.HandedLaws.{lives_kept}
 use Rattle.life_laws.proofs.LifeSays.{IsLife}
 use Rattle.life_laws.proofs.LinkedLives.{lives_stand}
-use Rattle.restart_laws.specs.AfterRestart.{AgentHasRoomThen, LifeGoesToAgent, LivesAreFairFrom}
+use Rattle.restart_laws.specs.AfterRestart.{AgentHasRoomThen, LifeGoesToAgent, LineReachesTheAgentSince, LivesAreFairFrom}
 use Rattle.restart_laws.proofs.GatewayServes.{CameBack, IsChance, IsQuick, by_last, last_is}
 use Rattle.restart_laws.proofs.LineAlone.{Chase, Returns}
 use Rattle.restart_laws.proofs.LineServes.{has_its_agent, keeps_its_agent}
@@ -347,6 +346,9 @@ module _ (setup : Setup) (steps : List LivesStep) (since within : ℕ) (set_up :
 past_moved : (since start sent : ℕ) → since - start ≤ sent → since ≤ start + sent
 past_moved since start sent past = omega (arith, past)
 
+recent_moved : (since start moment wait : ℕ) → since - start ≤ moment + wait → since ≤ start + moment + wait
+recent_moved since start moment wait past = omega (arith, past)
+
 twice_moved : (start sent within now clock : ℕ) → clock ≡ start + now → sent + 2 * within + 0 ≤ now → start + sent + 2 * within ≤ clock
 twice_moved start sent within now clock same twice = omega (arith, same, twice)
 
@@ -359,7 +361,7 @@ none_moved start = omega arith
 
 module _ (setup : Setup) (steps : List LivesStep) (since within wait line : ℕ) (endpoint : Endpoint) (set_up : IsSetUp setup)
     (taken : lives_are_taken setup (lives_opening setup) steps ≡ true) (fair : LivesAreFairFrom setup steps since within) (roomy : AgentHasRoomThen setup steps since)
-    (is : IsChance within wait) (goes : (b : Begun) → HasBegun (plain_lives setup steps).life.setup (plain_lives setup steps).life.took line b → LifeGoesToAgent setup (plain_lives setup steps) b.text)
+    (is : IsChance within wait) (goes : LineReachesTheAgentSince setup (plain_lives setup steps) line since)
     (at : endpoint_at (gateway_of (plain_lives setup steps).life).endpoints line ≡ Some endpoint) where
   abbrev wl : LivesWorld
   wl = plain_lives setup steps
@@ -377,11 +379,11 @@ module _ (setup : Setup) (steps : List LivesStep) (since within wait line : ℕ)
   pause_same =
       wait_is wl.life.setup line (place_of (gateway_of wl.life).endpoints line endpoint at).0 ∙ ap (λ (s : Setup). s.disconnected_wait) keeps.same
 
-  pub chased : (b : Begun) (wait : ℕ) → OneOf (λ (one : Begun). one ≡ b) (begun_in (of_line line (sent_of wl.life.setup wl.life.took))) → since - wl.life.start ≤ b.moment + wait
-      → b.moment + wait + 2 * within + 0 ≤ (gateway_of wl.life).now → Chase wl.life.setup wl.life.took line within b wait (Told setup steps since within set_up taken fair roomy line b wait)
-  chased b wait began past twice =
+  pub chased : (b : Begun) (wait : ℕ) → OneOf (λ (one : Begun). one ≡ b) (begun_in (of_line line (sent_of wl.life.setup wl.life.took))) → since - wl.life.start ≤ b.moment + last_chance
+      → since - wl.life.start ≤ b.moment + wait → b.moment + wait + 2 * within + 0 ≤ (gateway_of wl.life).now → Chase wl.life.setup wl.life.took line within b wait (Told setup steps since within set_up taken fair roomy line b wait)
+  chased b wait began recent past twice =
       chase setup steps since within set_up taken fair roomy line b wait
-      (goes b (any_from_one (λ (one : Begun). one ≡ b) (begun_in (of_line line (sent_of wl.life.setup wl.life.took))) began)) began
+      (goes b (any_from_one (λ (one : Begun). one ≡ b) (begun_in (of_line line (sent_of wl.life.setup wl.life.took))) began) (recent_moved since wl.life.start b.moment last_chance recent)) began
       (past_moved since wl.life.start (b.moment + wait) past)
       (twice_moved wl.life.start (b.moment + wait) within (gateway_of wl.life).now (clock_of setup wl) clock twice)
 
@@ -403,13 +405,21 @@ module _ (setup : Setup) (steps : List LivesStep) (since within wait line : ℕ)
 pub past_start : (since start moment : ℕ) → since < start → start ≤ moment → since ≤ moment
 past_start since start moment less past = omega (arith, less, past)
 
+any_later : (since start moment wait : ℕ) → since < start → since ≤ start + moment + wait
+any_later since start moment wait less = omega (arith, less)
+
+-- where the life started later, all of its commands go there
+pub goes_later : (setup : Setup) (w : LivesWorld) (line since : ℕ) → LineReachesTheAgentSince setup w line since → since < w.life.start
+    → LineReachesTheAgentSince setup w line w.life.start
+goes_later setup w line since goes less = λ b began recent. goes b began (any_later since w.life.start b.moment last_chance less)
+
 pub young_quick : (within : ℕ) → within ≤ oldest_packet → IsQuick within
 young_quick within young = omega (arith, young)
 
 -- so it has it by then; and at any time, where its life started later than the network came back
 pub agent_after : (setup : Setup) (steps : List LivesStep) (since within line : ℕ) (endpoint : Endpoint) → IsSetUp setup → lives_are_taken setup (lives_opening setup) steps ≡ true
     → within ≤ oldest_packet → LivesAreFairFrom setup steps since within → AgentHasRoomThen setup steps since → let w = plain_lives setup steps in
-    ((b : Begun) → HasBegun w.life.setup w.life.took line b → LifeGoesToAgent setup w b.text) → endpoint_at (gateway_of w.life).endpoints line ≡ Some endpoint
+    LineReachesTheAgentSince setup w line since → endpoint_at (gateway_of w.life).endpoints line ≡ Some endpoint
     → since + gap_of within + setup.disconnected_wait + 2 * within ≤ clock_of setup w + 1 → endpoint.post.restart ≡ Serving
 agent_after setup steps since within line endpoint set_up taken young fair roomy goes at late = by_test (nat_le w.life.start since) refl where
   w : LivesWorld
@@ -426,4 +436,5 @@ agent_after setup steps since within line endpoint set_up taken young fair roomy
       let less : since < w.life.start = leb-false w.life.start since before in
       agent_from_start setup steps w.life.start within (last_in_time within 0 chances) line endpoint set_up taken
       (λ number letter found past. fair number letter found (past_start since w.life.start letter.post.packet.moment less past))
-      (λ some later order past. roomy some later order (past_start since w.life.start (clock_of setup (plain_lives setup some)) less past)) (last_is within quick) goes at refl
+      (λ some later order past. roomy some later order (past_start since w.life.start (clock_of setup (plain_lives setup some)) less past)) (last_is within quick)
+      (goes_later setup w line since goes less) at refl

@@ -9,20 +9,18 @@ use Rattle.plain_machine.specs.Event.{GatewayEvent}
 use Rattle.plain_machine.specs.Lists.{plain}
 use Rattle.plain_machine.specs.Machine.{endpoint_at, serves}
 use Rattle.plain_machine.specs.Setup.{IsSetUp}
-use Rattle.machine_laws.specs.Saying.{Begun}
 use Rattle.agent_core.specs.World.{oldest_packet}
 use Rattle.delivery_laws.specs.Chances.{chances}
 use Rattle.delivery_laws.specs.Copies.{answer_wait}
 use Rattle.delivery_laws.specs.Course.{course_from}
 use Rattle.delivery_laws.specs.Dialled.{done_in}
 use Rattle.delivery_laws.specs.Rounds.{IsAnsweredWithin, IsAskedWithin, of_telephone, rounds_take}
-use Rattle.outage_laws.specs.Alone.{HasBegun}
 use Rattle.outage_laws.specs.AfterOutage.{gap_of, last_in_time}
 use Rattle.life_laws.specs.Lives.{LivesStep, LivesWorld, clock_of, gateway_of, lives_are_taken, lives_opening, plain_lives}
-use Rattle.restart_laws.specs.AfterRestart.{AgentHasRoomThen, LifeGoesToAgent, LivesAreFairFrom}
+use Rattle.restart_laws.specs.AfterRestart.{AgentHasRoomThen, LineReachesTheAgentSince, LivesAreFairFrom}
 use Rattle.restart_laws.proofs.GatewayServes.{IsQuick, last_is}
 use Rattle.restart_laws.proofs.LineWindow.{answered_then, out_then, rests_then}
-use Rattle.restart_laws.proofs.LivesLines.{Told, chased, keeps, life, none_moved, past_start, young_quick}
+use Rattle.restart_laws.proofs.LivesLines.{Told, chased, goes_later, keeps, life, none_moved, past_start, young_quick}
 
 gap_moved : (since start within pause same now last : ℕ) → start ≤ since → same ≡ pause → last + 2 * within < answer_wait → since + (answer_wait - last) + pause + 2 * within ≤ start + now
     → (since - start) + answer_wait + same + 2 * within ≤ now + last
@@ -31,7 +29,7 @@ gap_moved since start within pause same now last on is few late = omega (arith, 
 -- where the network is fair from the start of the life on, or from later on
 module _ (setup : Setup) (steps : List LivesStep) (since within line : ℕ) (before after : List GatewayEvent) (endpoint : Endpoint) (set_up : IsSetUp setup)
     (taken : lives_are_taken setup (lives_opening setup) steps ≡ true) (quick : IsQuick within) (fair : LivesAreFairFrom setup steps since within) (roomy : AgentHasRoomThen setup steps since)
-    (goes : (b : Begun) → HasBegun (plain_lives setup steps).life.setup (plain_lives setup steps).life.took line b → LifeGoesToAgent setup (plain_lives setup steps) b.text)
+    (goes : LineReachesTheAgentSince setup (plain_lives setup steps) line since)
     (took : (plain_lives setup steps).life.took ≡ before ++ after) (serving : serves (plain (plain_lives setup steps).life.setup before).endpoints ≡ true)
     (there : endpoint_at (gateway_of (plain_lives setup steps).life).endpoints line ≡ Some endpoint)
     (late : (since ≡ (plain_lives setup steps).life.start)
@@ -84,7 +82,7 @@ module _ (setup : Setup) (steps : List LivesStep) (since within line : ℕ) (bef
 module _ (setup : Setup) (steps : List LivesStep) (since within line : ℕ) (before after : List GatewayEvent) (endpoint : Endpoint) (set_up : IsSetUp setup)
     (taken : lives_are_taken setup (lives_opening setup) steps ≡ true) (young : within ≤ oldest_packet) (fair : LivesAreFairFrom setup steps since within)
     (roomy : AgentHasRoomThen setup steps since)
-    (goes : (b : Begun) → HasBegun (plain_lives setup steps).life.setup (plain_lives setup steps).life.took line b → LifeGoesToAgent setup (plain_lives setup steps) b.text)
+    (goes : LineReachesTheAgentSince setup (plain_lives setup steps) line since)
     (took : (plain_lives setup steps).life.took ≡ before ++ after) (serving : serves (plain (plain_lives setup steps).life.setup before).endpoints ≡ true)
     (there : endpoint_at (gateway_of (plain_lives setup steps).life).endpoints line ≡ Some endpoint)
     (late : since + gap_of within + setup.disconnected_wait + 2 * within ≤ (plain_lives setup steps).life.start + (plain (plain_lives setup steps).life.setup before).now) where
@@ -104,7 +102,8 @@ module _ (setup : Setup) (steps : List LivesStep) (since within line : ℕ) (bef
         answered_since setup steps since within line before after endpoint set_up taken (young_quick within young) fair roomy goes took serving there (inr (leb-true x.life.start since on, late))
     by_test false earlier =
         let less : since < x.life.start = leb-false x.life.start since earlier in
-        answered_since setup steps x.life.start within line before after endpoint set_up taken (young_quick within young) (fair_later less) (roomy_later less) goes took serving there (inl refl)
+        answered_since setup steps x.life.start within line before after endpoint set_up taken (young_quick within young) (fair_later less) (roomy_later less)
+        (goes_later setup x line since goes less) took serving there (inl refl)
 
   module _ (was : Endpoint) (asking : ℕ) (at : endpoint_at (plain x.life.setup before).endpoints line ≡ Some was) (asked : IsAskedWithin x.life.setup line before after asking)
       (last : (plain x.life.setup before).now + rounds_take (length was.line.quarantined.events) (2 * within) asking < (gateway_of x.life).now) where
@@ -115,7 +114,8 @@ module _ (setup : Setup) (steps : List LivesStep) (since within line : ℕ) (bef
           out_since setup steps since within line before after endpoint set_up taken (young_quick within young) fair roomy goes took serving there (inr (leb-true x.life.start since on, late)) was asking at asked last
       by_test false earlier =
           let less : since < x.life.start = leb-false x.life.start since earlier in
-          out_since setup steps x.life.start within line before after endpoint set_up taken (young_quick within young) (fair_later less) (roomy_later less) goes took serving there (inl refl) was asking at asked last
+          out_since setup steps x.life.start within line before after endpoint set_up taken (young_quick within young) (fair_later less) (roomy_later less)
+          (goes_later setup x line since goes less) took serving there (inl refl) was asking at asked last
 
     pub rests_after : done_in (course_from x.life.setup (plain x.life.setup before) line after) ≡ [] → of_telephone endpoint.line.quarantined.events ≡ []
     rests_after rests = by_test (nat_le x.life.start since) refl where
@@ -124,4 +124,5 @@ module _ (setup : Setup) (steps : List LivesStep) (since within line : ℕ) (bef
           rests_since setup steps since within line before after endpoint set_up taken (young_quick within young) fair roomy goes took serving there (inr (leb-true x.life.start since on, late)) was asking at asked last rests
       by_test false earlier =
           let less : since < x.life.start = leb-false x.life.start since earlier in
-          rests_since setup steps x.life.start within line before after endpoint set_up taken (young_quick within young) (fair_later less) (roomy_later less) goes took serving there (inl refl) was asking at asked last rests
+          rests_since setup steps x.life.start within line before after endpoint set_up taken (young_quick within young) (fair_later less) (roomy_later less)
+          (goes_later setup x line since goes less) took serving there (inl refl) was asking at asked last rests

@@ -7,6 +7,9 @@ use Rattle.plain_machine.specs.declared.setup.Setup.{Setup}
 use Rattle.plain_machine.specs.Setup.{IsSetUp}
 use Rattle.agent_core.specs.declared.packet.End.TheVariants.{GatewayEnd as gateway_end}
 use Rattle.agent_core.specs.World.{delivering, is_among}
+use Rattle.machine_laws.specs.Saying.{Begun}
+use Rattle.delivery_laws.specs.Chances.{last_chance}
+use Rattle.outage_laws.specs.Alone.{HasBegun}
 use Rattle.life_laws.specs.Lives.{Letter, LivesStep, LivesWorld, agent_then, clock_of, lives_are_taken, lives_opening, number_of, plain_lives, stepping}
 
 -- these steps are a run: the first life is set up, and none of them is refused
@@ -43,3 +46,8 @@ abbrev pub LifeGoesToAgent : Setup → LivesWorld → List ℕ → Type 0
 LifeGoesToAgent setup w text =
     (number : ℕ) (letter : Letter) → slice_get w.letters number ≡ Some letter → letter.life ≡ number_of w → letter.post.end ≡ gateway_end
     → Any (λ (one : List ℕ). one ≡ text) (texts_of letter.post.packet.bytes) → is_among setup.agent.route letter.post.packet.to ≡ true
+
+-- each command of this line of that life whose last send was at that moment or later goes to the agent, whatever it began before
+abbrev pub LineReachesTheAgentSince : Setup → LivesWorld → ℕ → ℕ → Type 0
+LineReachesTheAgentSince setup w line since =
+    (b : Begun) → HasBegun w.life.setup w.life.took line b → since ≤ w.life.start + b.moment + last_chance → LifeGoesToAgent setup w b.text

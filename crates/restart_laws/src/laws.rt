@@ -16,7 +16,8 @@ ghost use Rattle.outage_laws.specs.AfterOutage.{gap_of, longest_pause};
 ghost use Rattle.outage_laws.specs.Alone.{HasBegun, HasResponse};
 ghost use Rattle.life_laws.specs.Lives.{Brought, LivesStep, clock_of, gateway_of, lives_of, number_of, plain_lives};
 ghost use Rattle.life_laws.specs.Apart.{LieApart, firsts_of_lives};
-ghost use Rattle.restart_laws.specs.AfterRestart.{AgentHasRoomThen, IsRunOfLives, LifeGoesToAgent, LivesAreFairFrom};
+ghost use Rattle.restart_laws.specs.AfterRestart.{AgentHasRoomThen, IsRunOfLives, LifeGoesToAgent, LineReachesTheAgentSince};
+ghost use Rattle.restart_laws.specs.AfterRestart.{LivesAreFairFrom};
 
 /// However often the gateway started before, and whatever its lives had sent, that of the life that goes on serves by then: behind the
 /// moment at which the network came back, or behind its start, where that was later, the time between the last send whose answer comes in
@@ -72,14 +73,15 @@ pub fn what_a_new_life_has_in_flight_is_taken_after_an_outage()
         HasResponse w.life.took b.id }
 {}
 
-/// A line of the life that goes on whose commands go to the agent has its agent and nothing to announce by then: behind the moment at which
-/// the network came back the time between the last send whose answer comes in time and its announcement, and twice the network's time,
-/// which is a packet's greatest age at most; also where its life started since (RFC 3435, 3.5.3 and 4.4.7).
+/// A line of the life that goes on whose commands go to the agent, those that are sent no more when the network came back left out, has its
+/// agent and nothing to announce by then: behind that moment the time between the last send whose answer comes in time and its
+/// announcement, and twice the network's time, which is a packet's greatest age at most; also where its life started since (RFC 3435,
+/// 3.5.3 and 4.4.7).
 pub fn a_line_of_a_new_life_has_its_agent_again_after_an_outage()
     ensures { (setup : Setup) (steps : List LivesStep) (since within line : ℕ) (endpoint : Endpoint) → IsRunOfLives setup steps →
         within ≤ oldest_packet → LivesAreFairFrom setup steps since within → AgentHasRoomThen setup steps since →
         let w = plain_lives setup steps in
-        ((b : Begun) → HasBegun w.life.setup w.life.took line b → LifeGoesToAgent setup w b.text) →
+        LineReachesTheAgentSince setup w line since →
         endpoint_at (gateway_of w.life).endpoints line ≡ Some endpoint →
         since + gap_of within + setup.disconnected_wait + 2 * within ≤ clock_of setup w + 1 → endpoint.post.restart ≡ Serving }
 {}
@@ -91,14 +93,14 @@ pub fn a_quarantine_of_a_new_life_is_out_after_an_outage()
     ensures answered { (setup : Setup) (steps : List LivesStep) (since within line : ℕ) (before after : List GatewayEvent)
         (endpoint : Endpoint) → IsRunOfLives setup steps → within ≤ oldest_packet →
         LivesAreFairFrom setup steps since within → AgentHasRoomThen setup steps since → let w = plain_lives setup steps in
-        ((b : Begun) → HasBegun w.life.setup w.life.took line b → LifeGoesToAgent setup w b.text) → w.life.took ≡ before ++ after →
+        LineReachesTheAgentSince setup w line since → w.life.took ≡ before ++ after →
         serves (plain w.life.setup before).endpoints ≡ true → endpoint_at (gateway_of w.life).endpoints line ≡ Some endpoint →
         since + gap_of within + setup.disconnected_wait + 2 * within ≤ w.life.start + (plain w.life.setup before).now →
         IsAnsweredWithin w.life.setup line before after (2 * within) }
     ensures out { (setup : Setup) (steps : List LivesStep) (since within line asking : ℕ) (before after : List GatewayEvent)
         (was endpoint : Endpoint) → IsRunOfLives setup steps → within ≤ oldest_packet →
         LivesAreFairFrom setup steps since within → AgentHasRoomThen setup steps since → let w = plain_lives setup steps in
-        ((b : Begun) → HasBegun w.life.setup w.life.took line b → LifeGoesToAgent setup w b.text) → w.life.took ≡ before ++ after →
+        LineReachesTheAgentSince setup w line since → w.life.took ≡ before ++ after →
         serves (plain w.life.setup before).endpoints ≡ true →
         endpoint_at (plain w.life.setup before).endpoints line ≡ Some was → endpoint_at (gateway_of w.life).endpoints line ≡ Some endpoint →
         since + gap_of within + setup.disconnected_wait + 2 * within ≤ w.life.start + (plain w.life.setup before).now →
@@ -110,7 +112,7 @@ pub fn a_quarantine_of_a_new_life_is_out_after_an_outage()
     ensures rests { (setup : Setup) (steps : List LivesStep) (since within line asking : ℕ) (before after : List GatewayEvent)
         (was endpoint : Endpoint) → IsRunOfLives setup steps → within ≤ oldest_packet →
         LivesAreFairFrom setup steps since within → AgentHasRoomThen setup steps since → let w = plain_lives setup steps in
-        ((b : Begun) → HasBegun w.life.setup w.life.took line b → LifeGoesToAgent setup w b.text) → w.life.took ≡ before ++ after →
+        LineReachesTheAgentSince setup w line since → w.life.took ≡ before ++ after →
         serves (plain w.life.setup before).endpoints ≡ true →
         endpoint_at (plain w.life.setup before).endpoints line ≡ Some was → endpoint_at (gateway_of w.life).endpoints line ≡ Some endpoint →
         since + gap_of within + setup.disconnected_wait + 2 * within ≤ w.life.start + (plain w.life.setup before).now →
