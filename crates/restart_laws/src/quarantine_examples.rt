@@ -17,14 +17,15 @@ ghost use Rattle.outage_laws.specs.Example.{sluggish};
 ghost use Rattle.outage_laws.specs.LinePremises.{long_winded};
 ghost use Rattle.life_laws.specs.Lives.{gateway_of, lives_are_taken, lives_opening, plain_lives};
 ghost use Rattle.life_laws.specs.Example.{lives};
-ghost use Rattle.restart_laws.specs.AfterRestart.{AgentHasRoomThen, IsRunOfLives, LifeGoesToAgent, LivesAreFairFrom};
+ghost use Rattle.restart_laws.specs.AfterRestart.{AgentHasRoomThen, IsRunOfLives, LifeGoesToAgent, LineReachesTheAgentSince};
+ghost use Rattle.restart_laws.specs.AfterRestart.{LivesAreFairFrom};
 ghost use Rattle.restart_laws.specs.Example.{answered_slowly, astray, astray_yet, back_anew, gateway_by, gateway_by_with, held_in};
 ghost use Rattle.restart_laws.specs.Example.{in_step_anew, life_took, life_with, pressed_anew, put_back, put_back_yet, took_by};
 ghost use Rattle.restart_laws.specs.Example.{took_by_with, took_since, took_since_with, unanswered_anew, unheard, unheard_yet};
 ghost use Rattle.restart_laws.specs.Example.{not_served, not_served_yet, waits_on, waits_on_yet};
 
 /// What was quarantined is quarantined yet, and a line of a new life waits for longer, where its agent is elsewhere, or where its gateway
-/// doesn't serve yet.
+/// doesn't serve yet. What it sent there no more when the network came back is no matter.
 pub fn else_a_line_of_a_new_life_waits_for_another()
     ensures run { IsRunOfLives two_lines astray_yet }
     ensures fair { LivesAreFairFrom two_lines astray_yet 14502 0 }
@@ -38,6 +39,8 @@ pub fn else_a_line_of_a_new_life_waits_for_another()
     ensures rests { done_in (course_from (lives astray_yet).life.setup (gateway_by astray astray_yet) 1 (took_since astray astray_yet))
         ≡ [] }
     ensures held { held_in (gateway_of (lives astray_yet).life) ≡ Some 1 }
+    ensures not_reached { ¬ LineReachesTheAgentSince two_lines (lives astray_yet) 1 19502 }
+    ensures reached { LineReachesTheAgentSince two_lines (lives astray_yet) 1 19503 }
     ensures run_unserved { IsRunOfLives sluggish not_served_yet }
     ensures fair_unserved { LivesAreFairFrom sluggish not_served_yet 2 0 }
     ensures room_unserved { AgentHasRoomThen sluggish not_served_yet 2 }

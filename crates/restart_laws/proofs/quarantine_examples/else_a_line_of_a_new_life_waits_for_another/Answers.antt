@@ -1,15 +1,24 @@
-use Rattle.std.proofs.Common.{[], refl, arith}
-use Rattle.std.proofs.lemmas.Bool.{ltb-true}
+use Rattle.std.proofs.Common.{◌≡◌, ◌≤◌, ◌+◌, ℕ, [], inl, refl, arith}
+use Rattle.std.proofs.lemmas.Bool.{leb-true, ltb-true}
 use Rattle.plain_machine.specs.Example.{two_lines}
+use Rattle.plain_machine.specs.Lists.{sent_of}
+use Rattle.machine_laws.specs.Belonging.{of_line}
+use Rattle.machine_laws.specs.Saying.{Begun, begun_in}
+use Rattle.machine_laws.proofs.EachLemmas.{any_from_one}
+use Rattle.delivery_laws.specs.Chances.{last_chance}
 use Rattle.delivery_laws.proofs.ExampleLemmas.{two_lines_set_up}
 use Rattle.delivery_laws.proofs.FrontLemmas.{asked_within, not_answered}
 use Rattle.outage_laws.specs.Example.{sluggish}
+use Rattle.outage_laws.proofs.MoreExamples.{none_since}
 use Rattle.life_laws.specs.Lives.{plain_lives}
 use Rattle.life_laws.specs.Example.{lives}
-use Rattle.restart_laws.specs.Example.{astray, astray_yet, life_with, took_by, took_by_with, took_since, took_since_with, not_served, not_served_yet}
+use Rattle.restart_laws.specs.Example.{astray, astray_yet, life_with, reported_astray, took_by, took_by_with, took_since, took_since_with, not_served, not_served_yet}
 use Rattle.restart_laws.proofs.Computing.{on_examples}
-use Rattle.restart_laws.proofs.LivesFairExamples.{life_goes, lives_fair, lives_roomy}
+use Rattle.restart_laws.proofs.LivesFairExamples.{life_goes, lives_astray, lives_fair, lives_roomy}
 use Rattle.restart_laws.proofs.quarantine_examples.else_a_line_of_a_new_life_waits_for_another.Goals as goal
+
+began_late : (moment : ℕ) → 19503 ≤ 1 + moment + last_chance → 2 ≤ moment
+began_late moment late = omega (arith, late)
 
 pub returns : goal.returns
 unfolding on_examples
@@ -24,6 +33,13 @@ returns c = record {
   over = ltb-true _ _ refl;
   rests = refl;
   held = refl;
+  not_reached = λ reach.
+      lives_astray two_lines (lives astray_yet) reported_astray.text 5 _ refl refl refl refl (inl refl)
+      (reach reported_astray
+      (any_from_one (λ (one : Begun). one ≡ reported_astray) (begun_in (of_line 1 (sent_of (lives astray_yet).life.setup (lives astray_yet).life.took))) (inl refl))
+      (leb-true _ _ refl));
+  reached = λ b began recent.
+      absurd (none_since 2 (begun_in (of_line 1 (sent_of (lives astray_yet).life.setup (lives astray_yet).life.took))) b refl began (began_late b.moment recent));
   run_unserved = (record { domain = refl; agent = refl; lines = omega arith; address = refl; ports = omega arith; first = omega arith }, refl);
   fair_unserved = lives_fair sluggish not_served_yet 2 0 refl;
   room_unserved = lives_roomy sluggish not_served_yet 2 refl;
