@@ -5,9 +5,9 @@ use Rattle.agent_core.specs.World.{WorldStep, delivering, dialling, issuing, tic
 use Rattle.outage_laws.specs.Example.{asks_in_step, connected_in_step}
 use Rattle.outage_laws.specs.LinePremises.{seconds_from}
 
--- 10,500 ms pass since the line has its agent again; 5 and 6, which were dialled in the outage, are quarantined yet
+-- 6,500 ms pass since the line has its agent again; 5 and 6, which were dialled in the outage, are quarantined yet
 abbrev pub rested_in_step : List WorldStep
-rested_in_step = connected_in_step ++ seconds_from 29 11 ++ ticking 39202 ∷ []
+rested_in_step = connected_in_step ++ seconds_from 29 7 ++ ticking 35202 ∷ []
 
 -- the handset is put back
 abbrev pub put_back_in_step : List WorldStep
@@ -17,29 +17,29 @@ put_back_in_step = rested_in_step ++ dialling 1 OnHook ∷ []
 -- 17 to 19
 abbrev pub six_told_in_step : List WorldStep
 six_told_in_step =
-    put_back_in_step ++ asks_in_step ∷ ticking 39302 ∷ delivering 14 ∷ ticking 39402 ∷ delivering 15 ∷ ticking 39502 ∷ delivering 16
-    ∷ asks_in_step ∷ ticking 39602 ∷ delivering 17 ∷ ticking 39702 ∷ delivering 18 ∷ ticking 39802 ∷ delivering 19 ∷ []
+    put_back_in_step ++ asks_in_step ∷ ticking 35302 ∷ delivering 14 ∷ ticking 35402 ∷ delivering 15 ∷ ticking 35502 ∷ delivering 16
+    ∷ asks_in_step ∷ ticking 35602 ∷ delivering 17 ∷ ticking 35702 ∷ delivering 18 ∷ ticking 35802 ∷ delivering 19 ∷ []
 
 -- and of the handset, in packets 20 to 22; and it is asked once more
 abbrev pub all_told_in_step : List WorldStep
 all_told_in_step =
-    six_told_in_step ++ asks_in_step ∷ ticking 39902 ∷ delivering 20 ∷ ticking 40002 ∷ delivering 21 ∷ ticking 40102 ∷ delivering 22
-    ∷ asks_in_step ∷ ticking 40202 ∷ delivering 23 ∷ []
+    six_told_in_step ++ asks_in_step ∷ ticking 35902 ∷ delivering 20 ∷ ticking 36002 ∷ delivering 21 ∷ ticking 36102 ∷ delivering 22
+    ∷ asks_in_step ∷ ticking 36202 ∷ delivering 23 ∷ []
 
 -- or what tells the handset isn't handed over
 abbrev pub kept_in_step : List WorldStep
-kept_in_step = six_told_in_step ++ asks_in_step ∷ ticking 39902 ∷ delivering 20 ∷ ticking 40202 ∷ []
+kept_in_step = six_told_in_step ++ asks_in_step ∷ ticking 35902 ∷ delivering 20 ∷ ticking 36202 ∷ []
 
 -- or nobody asks
 abbrev pub unasked_in_step : List WorldStep
-unasked_in_step = put_back_in_step ++ ticking 40202 ∷ []
+unasked_in_step = put_back_in_step ++ ticking 36202 ∷ []
 
 -- or it is asked for nothing any more: the keys are dropped, and the handset alone is told, in packet 15, and that is answered, in
 -- packet 16
 abbrev pub asked_for_nothing : List WorldStep
 asked_for_nothing =
-    put_back_in_step ++ issuing (codes "RQNT") (codes "aaln/1@rgw.example.net") (codes "X: C2\r\n") ∷ ticking 39302 ∷ delivering 14
-    ∷ ticking 39402 ∷ delivering 15 ∷ ticking 39502 ∷ delivering 16 ∷ ticking 40202 ∷ []
+    put_back_in_step ++ issuing (codes "RQNT") (codes "aaln/1@rgw.example.net") (codes "X: C2\r\n") ∷ ticking 35302 ∷ delivering 14
+    ∷ ticking 35402 ∷ delivering 15 ∷ ticking 35502 ∷ delivering 16 ∷ ticking 36202 ∷ []
 
 -- or they are told at once, with no pause: the last copy of the notification that was given up, packet 11, is handed over first, 9,201 ms
 -- old, and its answer, packet 14, comes in vain; the first request is packet 15

@@ -25,7 +25,7 @@ ghost use Rattle.outage_laws.specs.SinceThenExample.{ToldFrom, WasAskedForAllSin
 ghost use Rattle.outage_laws.specs.ToldBehindExample.{all_told_in_step, asked_for_nothing, kept_in_step, put_back_in_step, rested_in_step};
 ghost use Rattle.outage_laws.specs.ToldBehindExample.{six_told_in_step, told_too_soon, unasked_in_step};
 
-/// The eight sends of a notification are lost, and the network is there again 1 ms behind the last. By that long all is well, and 10,500 ms
+/// The eight sends of a notification are lost, and the network is there again 1 ms behind the last. By that long all is well, and 6,500 ms
 /// later what was dialled in the outage is quarantined yet, and the handset is put back: three rounds of twice 100 ms and 100 ms later, and
 /// 100 ms more, the agent was told all of it.
 pub fn all_is_told_behind_an_outage()
@@ -52,7 +52,7 @@ pub fn all_is_told_behind_an_outage()
 {}
 
 /// Before so many rounds something isn't told; nor where a packet isn't handed over, where nobody asks, or where a request asks for
-/// nothing. And sooner than 10,500 ms later a copy of what was given up may be taken before what is told since.
+/// nothing. And at once, in place of 6,500 ms later, a copy of what was given up may be taken before what is told since.
 pub fn else_something_isnt_told_behind_an_outage()
     ensures soon { now_in two_lines (world six_told_in_step)
         < (plain two_lines (took_first put_back_in_step)).now + rounds_take 3 (2 * 100) 100 }

@@ -1,5 +1,5 @@
 //! Worked examples of what is told behind an outage, as theorems: a world in which each premise holds, and worlds in which one alone is
-//! missing and the sentence fails. That a line gives nothing up for 10,500 ms before, and in the stretch, has its examples in `told_laws`.
+//! missing and the sentence fails. That a line gives nothing up for 6,500 ms before, and in the stretch, has its examples in `told_laws`.
 #![tactic(auto, unfolding(crate::proofs::Computing::on_examples))]
 
 ghost use Rattle.std.specs.Prelude.{◌≡◌, ◌≤◌, ◌<◌, ◌+◌, ◌*◌, ◌++◌, [], ◌∷◌, Some, false, true};

@@ -22,7 +22,7 @@ ghost use Rattle.told_laws.specs.Stretch.{AnnouncesNothing, outliving, taken_mea
 ghost use Rattle.outage_laws.specs.AfterOutage.{AgentHasRoomFrom, IsFairFrom};
 ghost use Rattle.outage_laws.specs.ToldSince.{FlightBeganSince, FlightsBeganSince, IsAskedForAllSince, IsToldFrom, IsToldSince};
 
-/// Whatever was lost and given up before: over a stretch in which a line gives nothing up, nor in the 10,500 ms before it, and over a
+/// Whatever was lost and given up before: over a stretch in which a line gives nothing up, nor in the 6,500 ms before it, and over a
 /// network that is fair from some moment on, what its telephone had done by a moment of the stretch the agent was told, so many rounds and
 /// once the network's time later, or it was told at its first send before the stretch. What is in flight at the end may be young, and is to
 /// have begun since the network is fair; what was on its way at the beginning may come, too. Where all that the line sends since the

@@ -49,7 +49,7 @@ pub fn all_is_well_after_an_outage()
         done_in (course_from setup (plain setup before) line after) ≡ [] → of_telephone endpoint.line.quarantined.events ≡ [] }
 {}
 
-/// And from 10,500 ms later on all that a telephone does is told, whatever was asked for, lost and given up before: where the line keeps
+/// And from 6,500 ms later on all that a telephone does is told, whatever was asked for, lost and given up before: where the line keeps
 /// all that its telephone does, is asked for all since, loses nothing more, and isn't left without a request for longer than so many ms,
 /// what was quarantined at that moment, and what its telephone had done since by a later one, the agent was told since, as many rounds
 /// later as there were events in its quarantine, and once the time of the network; and that is all, where the telephone rests from that

@@ -33,7 +33,6 @@ use Rattle.world_laws.proofs.LinkLaws.{Linked, Rises, world_linked}
 use Rattle.world_laws.proofs.ReachedLaws.{executed_each}
 use Rattle.world_laws.proofs.TakenLaws.{heard_lately}
 use Rattle.world_laws.proofs.WorldLaws.{gateway_alone}
-use Rattle.delivery_laws.specs.Chances.{last_chance}
 use Rattle.delivery_laws.specs.Copies.{answer_wait}
 use Rattle.delivery_laws.proofs.ClockLemmas.{front_forward}
 use Rattle.delivery_laws.proofs.CourseLemmas.{AllHear, Hears}
@@ -62,7 +61,7 @@ pub record Ready (now : ℕ) (s : Endpoint) : Type 0 where
 pub record Passed (A : ℕ → Type 0) (base top : ℕ) (was : Option InFlight) (new : List Begun) (s : Endpoint) : Type 0 where
   pub settled : List Begun
   pub split : flying was ++ new ≡ settled ++ flying s.post.pending
-  pub over : Each (λ (b : Begun). A b.id ⊎ (b.moment + last_chance ≤ top)) settled
+  pub over : Each (λ (b : Begun). A b.id ⊎ (b.moment + answer_wait ≤ top)) settled
   pub within : Each (λ (b : Begun). (base ≤ b.moment) × (b.moment ≤ top)) new
   pub ready : Ready top s
 
@@ -137,7 +136,7 @@ pub record Settled (taken : List Reached) (now : ℕ) (b : Begun) (later : List 
   pub rises : b.moment ≤ at + 1000
   pub short : at ≤ b.moment + answer_wait
   pub behind : Each (λ (c : Begun). at ≤ c.moment) later
-  pub so : IsLately at taken b.id ⊎ ((b.moment + last_chance ≤ now) × (b.moment + last_chance ≤ at + 1000))
+  pub so : IsLately at taken b.id ⊎ ((b.moment + answer_wait ≤ now) × (b.moment + answer_wait ≤ at + 1000))
 
 abbrev pub AllSettled : List Reached → ℕ → List Begun → List Begun → Type 0
 AllSettled taken now [] tail = Unit {0}
@@ -150,8 +149,8 @@ settled_taken taken more now (b ∷ done) tail all = (one, settled_taken taken m
   old : Settled taken now b (done ++ tail)
   old = all.0
 
-  so : IsLately old.at taken b.id ⊎ ((b.moment + last_chance ≤ now) × (b.moment + last_chance ≤ old.at + 1000))
-      → IsLately old.at (taken ++ more) b.id ⊎ ((b.moment + last_chance ≤ now) × (b.moment + last_chance ≤ old.at + 1000))
+  so : IsLately old.at taken b.id ⊎ ((b.moment + answer_wait ≤ now) × (b.moment + answer_wait ≤ old.at + 1000))
+      → IsLately old.at (taken ++ more) b.id ⊎ ((b.moment + answer_wait ≤ now) × (b.moment + answer_wait ≤ old.at + 1000))
   so (inl late) = inl (one_before (λ (one : Reached). (one.asked.id ≡ b.id) × ((old.at < one.asked.moment + 40000) × (one.asked.moment ≤ old.at))) taken more late)
   so (inr up) = inr up
 
@@ -170,10 +169,10 @@ settled_on taken now next (b ∷ done) tail more on grows all = (one, settled_on
   since : ℕ → Begun → Type 0
   since at c = at ≤ c.moment
 
-  so : IsLately old.at taken b.id ⊎ ((b.moment + last_chance ≤ now) × (b.moment + last_chance ≤ old.at + 1000))
-      → IsLately old.at taken b.id ⊎ ((b.moment + last_chance ≤ next) × (b.moment + last_chance ≤ old.at + 1000))
+  so : IsLately old.at taken b.id ⊎ ((b.moment + answer_wait ≤ now) × (b.moment + answer_wait ≤ old.at + 1000))
+      → IsLately old.at taken b.id ⊎ ((b.moment + answer_wait ≤ next) × (b.moment + answer_wait ≤ old.at + 1000))
   so (inl late) = inl late
-  so (inr up) = inr ((let far : b.moment + last_chance ≤ now = up.0 in omega (arith, far, on)), up.1)
+  so (inr up) = inr ((let far : b.moment + answer_wait ≤ now = up.0 in omega (arith, far, on)), up.1)
 
   one : Settled taken next b (done ++ more)
   one = record {
@@ -206,12 +205,12 @@ abbrev IsNear : ℕ → Begun → Type 0
 IsNear now b = (now ≤ b.moment + answer_wait) × (b.moment ≤ now + 1000)
 
 fresh_settled : (taken : List Reached) (now next : ℕ) (settled tail : List Begun) → now ≤ next → next ≤ now + 1000 → RiseFrom now (settled ++ tail) → Each (IsNear now) (settled ++ tail)
-    → Each (λ (b : Begun). IsLately now taken b.id ⊎ (b.moment + last_chance ≤ next)) settled → AllSettled taken next settled tail
+    → Each (λ (b : Begun). IsLately now taken b.id ⊎ (b.moment + answer_wait ≤ next)) settled → AllSettled taken next settled tail
 fresh_settled taken now next [] tail on soon rises near over = tt
 fresh_settled taken now next (b ∷ settled) tail on soon rises near over =
     (one, fresh_settled taken now next settled tail on soon rises.1 near.1 over.1) where
-      so : IsLately now taken b.id ⊎ (b.moment + last_chance ≤ next)
-          → IsLately now taken b.id ⊎ ((b.moment + last_chance ≤ next) × (b.moment + last_chance ≤ now + 1000))
+      so : IsLately now taken b.id ⊎ (b.moment + answer_wait ≤ next)
+          → IsLately now taken b.id ⊎ ((b.moment + answer_wait ≤ next) × (b.moment + answer_wait ≤ now + 1000))
       so (inl late) = inl late
       so (inr up) = inr (up, omega (arith, up, soon))
 

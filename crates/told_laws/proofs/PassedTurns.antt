@@ -1,9 +1,9 @@
--- What an event does to the commands of a line: each that was in flight, or began, is in flight, or a final response to it came, or its last
--- send is over; and it began at that event's time. So does each turn of the line leave it.
+-- What an event does to the commands of a line: each that was in flight, or began, is in flight, or a final response to it came, or so long
+-- after its first send it was given up; and it began at that event's time. So does each turn of the line leave it.
 use Rattle.std.proofs.Common.{◌≡◌, ◌≢◌, ℕ, ◌+◌, ◌-◌, ◌<◌, ◌≤◌, Bool, true, false, ◌==◌, ◌&&◌, if◌then◌else◌, List, [], ◌∷◌, ◌++◌, Option, Some, None, inl, inr, refl, sym, ap, subst, ◌∙◌, append-nil, append_assoc, arith}
 use Rattle.std.specs.Prelude.{◌⊎◌, IfSome, nat_le}
 use Rattle.std.specs.Option.{unwrap_or}
-use Rattle.std.proofs.lemmas.Bool.{and_parts, leb-true}
+use Rattle.std.proofs.lemmas.Bool.{and_parts, leb-false, leb-true}
 use Rattle.std.specs.declared.net.socket_addr.SocketAddrV4.{SocketAddrV4}
 use Rattle.endpoint_names.specs.declared.entity.Entity.{Entity}
 use Rattle.endpoint_names.specs.declared.route.Route.{Route}
@@ -55,7 +55,7 @@ use Rattle.machine_laws.proofs.EachLemmas.{Each, each_push}
 use Rattle.machine_laws.proofs.FlightLaws.{WaitsOn, asked_waits, fired_waits, phoned_waits, redirected_announced}
 use Rattle.delivery_laws.specs.Chances.{last_chance}
 use Rattle.delivery_laws.specs.Copies.{answer_wait}
-use Rattle.delivery_laws.proofs.ChanceLemmas.{next_at}
+use Rattle.delivery_laws.proofs.ChanceLemmas.{next_at, offset_low}
 use Rattle.delivery_laws.proofs.DialledFlightLemmas.{flying}
 use Rattle.delivery_laws.proofs.OnTurns.{heard_id}
 use Rattle.delivery_laws.proofs.RestLemmas.{Rests, answer_begins, asked_awaits, begun_both, flight_waits, noted_silent, rests_again, rests_is, rests_on}
@@ -89,16 +89,28 @@ soon_due flight timely =
     let last : offset (most_repeats + 1) ≡ answer_wait = offset_last in
     omega (arith, next, less, last)
 
--- one that is given up was first sent long before
-up_late : (flight : InFlight) → repeat_of flight flight.due ≡ GivenUp → IsTimely flight → flight.first + last_chance ≤ flight.due
+-- one that is given up was first sent long before: it was sent as often as it may be, and its answer was waited for
+up_late : (flight : InFlight) → repeat_of flight flight.due ≡ GivenUp → IsTimely flight → flight.first + answer_wait ≤ flight.due
 up_late flight up timely = by_case (given_up flight flight.due up) where
-  by_case : (most_repeats ≤ flight.repeats) ⊎ (sending_time ≤ flight.due - flight.first) → flight.first + last_chance ≤ flight.due
-  by_case (inl many) =
+  at_last : most_repeats ≤ flight.repeats → flight.first + answer_wait ≤ flight.due
+  at_last many =
       let next : flight.due ≡ flight.first + offset (flight.repeats + 1) = timely.1 in
       let more : offset (most_repeats + 1) ≤ offset (flight.repeats + 1) = offset_rises (most_repeats + 1) (flight.repeats + 1) (omega (arith, many)) in
       let last : offset (most_repeats + 1) ≡ answer_wait = offset_last in
       omega (arith, next, more, last)
-  by_case (inr late) = omega (arith, late)
+
+  by_few : (b : Bool) → nat_le most_repeats flight.repeats ≡ b → sending_time ≤ flight.due - flight.first → flight.first + answer_wait ≤ flight.due
+  by_few true many late = at_last (leb-true most_repeats flight.repeats many)
+  by_few false fewer late =
+      absurd (
+      let less : flight.repeats < most_repeats = leb-false most_repeats flight.repeats fewer in
+      let low : offset (flight.repeats + 1) ≤ last_chance = offset_low flight.repeats less in
+      let next : flight.due ≡ flight.first + offset (flight.repeats + 1) = timely.1 in
+      omega (arith, late, low, next))
+
+  by_case : (most_repeats ≤ flight.repeats) ⊎ (sending_time ≤ flight.due - flight.first) → flight.first + answer_wait ≤ flight.due
+  by_case (inl many) = at_last many
+  by_case (inr late) = by_few (nat_le most_repeats flight.repeats) refl late
 
 -- A final response isn't provisional
 
@@ -142,7 +154,7 @@ never_put_off post response high is = by_pending post.pending is where
 -- A holds of the ids of the responses that came; an event at this time, and up to that; and what was in flight before it
 module _ (A : ℕ → Type 0) (base top : ℕ) (pre : List Begun) where
   abbrev pub IsOver : Begun → Type 0
-  IsOver b = A b.id ⊎ (b.moment + last_chance ≤ top)
+  IsOver b = A b.id ⊎ (b.moment + answer_wait ≤ top)
 
   abbrev pub IsWithin : Begun → Type 0
   IsWithin b = (base ≤ b.moment) × (b.moment ≤ top)
@@ -190,7 +202,7 @@ module _ (A : ℕ → Type 0) (base top : ℕ) (pre : List Begun) where
       }
 
   -- what was in flight is over
-  begins_over : (sent : List Sent) (flight : InFlight) → A flight.id ⊎ (flight.first + last_chance ≤ top) → Begins sent (Some flight) → Begins sent None
+  begins_over : (sent : List Sent) (flight : InFlight) → A flight.id ⊎ (flight.first + answer_wait ≤ top) → Begins sent (Some flight) → Begins sent None
   begins_over sent flight over b = record {
     settled = b.settled ++ flying (Some flight);
     split = b.split ∙ sym (append-nil (b.settled ++ flying (Some flight)));

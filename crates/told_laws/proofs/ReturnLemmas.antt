@@ -15,7 +15,7 @@ use Rattle.machine_laws.specs.Saying.{Begun, OneOf}
 use Rattle.machine_laws.proofs.EachLemmas.{Each, each_back, each_mapped, each_weaker, one_before, one_behind, one_weaker}
 use Rattle.agent_core.specs.World.{WorldStep, gateway_in, now_in, plain_world, steps_are_taken, world_opening}
 use Rattle.world_laws.specs.Reached.{Reached, executed_with, heard_in, reached}
-use Rattle.delivery_laws.specs.Chances.{last_chance}
+use Rattle.delivery_laws.specs.Copies.{answer_wait}
 use Rattle.delivery_laws.proofs.BeganLemmas.{line_began}
 use Rattle.delivery_laws.proofs.CountLemmas.{few_within, is_within, those_within}
 use Rattle.delivery_laws.proofs.DialledFlightLemmas.{flying}
@@ -276,7 +276,7 @@ module _ (taken : List Reached) (now from high : ℕ) where
         later : low + 18500 ≤ one.at → Each (SoLate (low + 18500)) (done ++ tail)
         later far = each_weaker (SoLate one.at) (SoLate (low + 18500)) (λ c behind. omega (arith, far, behind)) (done ++ tail) one.behind
 
-        by_so : IsLately one.at taken b.id ⊎ ((b.moment + last_chance ≤ now) × (b.moment + last_chance ≤ one.at + 1000)) → Parts ids low high done
+        by_so : IsLately one.at taken b.id ⊎ ((b.moment + answer_wait ≤ now) × (b.moment + answer_wait ≤ one.at + 1000)) → Parts ids low high done
             → (Each (SoLate (low + 18500)) (done ++ tail) → Parts ids (low + 18500) high done) → Parts ids low high (b ∷ done)
         by_so (inl lately) rest on = record {
           answered = b.id ∷ rest.answered;
@@ -288,7 +288,7 @@ module _ (taken : List Reached) (now from high : ℕ) where
           time = rest.time;
         }
         by_so (inr up) rest on =
-            let far : low + 18500 ≤ one.at = (let gone : b.moment + last_chance ≤ one.at + 1000 = up.1 in omega (arith, gone, first)) in
+            let far : low + 18500 ≤ one.at = (let gone : b.moment + answer_wait ≤ one.at + 1000 = up.1 in omega (arith, gone, first)) in
             let behind = on (later far) in
             record {
               answered = behind.answered;

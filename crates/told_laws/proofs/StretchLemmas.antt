@@ -19,7 +19,6 @@ use Rattle.agent_core.specs.World.{World, WorldStep, gateway_in, now_in, plain_w
 use Rattle.world_laws.specs.Reached.{Reached, taken_in}
 use Rattle.world_laws.proofs.ReachedLaws.{Apart}
 use Rattle.world_laws.proofs.WorldLaws.{Came, Comes}
-use Rattle.delivery_laws.specs.Chances.{last_chance}
 use Rattle.delivery_laws.specs.Copies.{answer_wait}
 use Rattle.delivery_laws.specs.GivenUp.{has_given_up}
 use Rattle.delivery_laws.proofs.BeganLemmas.{line_began}
@@ -42,8 +41,8 @@ use Rattle.told_laws.proofs.SettledLemmas.{began_at, begun_on, sent_at}
 pub meanwhile_is : (was is : World) (events : List GatewayEvent) → is.gateway_took ≡ was.gateway_took ++ events → took_meanwhile was is ≡ events
 meanwhile_is was is events same = ap (drop (length was.gateway_took)) same ∙ drop-append_seam was.gateway_took events
 
--- none that was sent last by a moment comes so much later
-too_old : (b : Begun) (one : Reached) (was now : ℕ) → Comes one b → b.moment + last_chance ≤ was → was + outliving ≤ now → now ≤ one.asked.moment → ⊥
+-- none that was given up by a moment comes so much later
+too_old : (b : Begun) (one : Reached) (was now : ℕ) → Comes one b → b.moment + answer_wait ≤ was → was + outliving ≤ now → now ≤ one.asked.moment → ⊥
 too_old b one was now comes low long late = (let within = comes.within in omega (arith, within, low, long, late))
 
 -- What was taken isn't taken again
@@ -68,7 +67,7 @@ spaced_behind (x ∷ taken) more spaced = spaced_behind taken more spaced.1
 -- Each command that is over was taken, or was given up
 
 abbrev IsOld : ℕ → List Reached → Begun → Type 0
-IsOld now taken b = Took taken b ⊎ (b.moment + last_chance ≤ now)
+IsOld now taken b = Took taken b ⊎ (b.moment + answer_wait ≤ now)
 
 module _ (line : ℕ) (all : List Reached) (now : ℕ) where
   abbrev of_it : List Reached
@@ -106,7 +105,7 @@ module _ (line : ℕ) (all : List Reached) (now : ℕ) where
         order : (before ++ b ∷ []) ++ rest ≡ before ++ b ∷ rest
         order = append_assoc before (b ∷ []) rest
 
-        by_so : IsLately one.at all b.id ⊎ ((b.moment + last_chance ≤ now) × (b.moment + last_chance ≤ one.at + 1000)) → IsOld now of_it b
+        by_so : IsLately one.at all b.id ⊎ ((b.moment + answer_wait ≤ now) × (b.moment + answer_wait ≤ one.at + 1000)) → IsOld now of_it b
         by_so (inl late) =
             inl (one_weaker (λ (x : Reached). Came (before ++ b ∷ rest) x × IsAt one.at b.id x) (λ (x : Reached). Comes x b)
             (λ x is. its_own before rest b one.at x returns one.rises one.short is.1 (one_of_both (Comes x) before (b ∷ rest) is.0)) of_it

@@ -1,9 +1,9 @@
 -- What an agent is told of a line over a stretch of time (RFC 3435, 3.5.1, 4.3 and 4.4.1).
-use Rattle.std.specs.Prelude.{◌≡◌, ◌⊎◌, ℕ, ◌-◌, true, false, List, [], ◌++◌, drop, length, Option, None, Some}
+use Rattle.std.specs.Prelude.{◌≡◌, ◌⊎◌, ℕ, ◌+◌, ◌-◌, true, false, List, [], ◌++◌, drop, length, Option, None, Some}
 use Rattle.event_values.specs.declared.observed.Observed.{Observed}
 use Rattle.mgcp_text.specs.Reading.{read_text}
-use Rattle.history.specs.Memory.{memory_time}
 use Rattle.outbound.specs.Flight.{InFlight}
+use Rattle.outbound.specs.Sends.{sending_time}
 use Rattle.restart.specs.Restarting.{is_serving}
 use Rattle.plain_machine.specs.declared.setup.Setup.{Setup}
 use Rattle.plain_machine.specs.declared.endpoint.Endpoint.{Endpoint}
@@ -11,8 +11,8 @@ use Rattle.plain_machine.specs.Event.{GatewayEvent}
 use Rattle.plain_machine.specs.Lists.{sent_from}
 use Rattle.machine_laws.specs.Belonging.{of_line}
 use Rattle.call_agent.specs.Agent.{observed_on}
-use Rattle.agent_core.specs.World.{World, agent_in, gateway_in}
-use Rattle.delivery_laws.specs.Chances.{last_chance}
+use Rattle.agent_core.specs.World.{World, agent_in, gateway_in, oldest_packet}
+use Rattle.delivery_laws.specs.Copies.{answer_wait}
 use Rattle.delivery_laws.specs.Course.{CourseStep, course_from}
 use Rattle.delivery_laws.specs.GivenUp.{has_given_up}
 use Rattle.delivery_laws.specs.Telling.{told_as}
@@ -39,9 +39,10 @@ AnnouncesNothing setup line was is last =
 abbrev pub GivesNothingUp : Setup → ℕ → World → World → Endpoint → Endpoint → Type 0
 GivesNothingUp setup line was is first last = (is_serving first.post.restart ≡ true) × AnnouncesNothing setup line was is last
 
--- so many ms after its last send no copy of a command comes any more
+-- So many ms after a command was given up no copy of it comes any more: each is sent less than `sending_time` after the first, and is
+-- handed over while it is `oldest_packet` old at most; and the command was given up `answer_wait` after its first send.
 abbrev pub outliving : ℕ
-outliving = memory_time - last_chance
+outliving = sending_time + oldest_packet - answer_wait
 
 -- What is on its way
 

@@ -117,7 +117,7 @@ pub fn what_the_agent_took_was_done_in_that_order()
         (done_in (course_of setup line (plain_world setup steps).gateway_took)) }
 {}
 
-/// So over a stretch, whatever was before it: where the line gives nothing up in it, nor in the 10,500 ms before it, what the agent took of
+/// So over a stretch, whatever was before it: where the line gives nothing up in it, nor in the 6,500 ms before it, what the agent took of
 /// it in the stretch is what the line told in it, each once and in that order: but first what was on its way at its beginning, if it came,
 /// and without what is on its way at its end. No numbers need be left: an id comes back later than anything of it is remembered.
 pub fn what_the_agent_took_over_a_stretch_is_whole()

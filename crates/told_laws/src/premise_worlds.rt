@@ -69,7 +69,7 @@ pub fn else_what_was_answered_early_is_not_taken()
     ensures not_whole { ¬ WasWhole rests answered_early }
 {}
 
-/// Where there is no time before the stretch, in which something could be given up; or where something is given up in the 10,500 ms before
+/// Where there is no time before the stretch, in which something could be given up; or where something is given up in the 6,500 ms before
 /// it, at whose beginning the line serves: what is taken wasn't told in it (`else_a_stretch_may_not_be_whole`).
 pub fn else_a_stretch_begins_too_soon()
     ensures calm_before { GaveNothingUp given_up_once [] }

@@ -18,7 +18,7 @@ pub returns : goal.returns
 unfolding on_examples
 returns c = record {
   calm_before = (refl, refl);
-  too_short = λ late. (let soon : 29001 + 10500 ≤ 29001 = late in absurd (omega (arith, soon)));
+  too_short = λ late. (let soon : 29001 + 6500 ≤ 29001 = late in absurd (omega (arith, soon)));
   same = refl;
   serves = refl;
   gave_up = λ calm. (let clash : true ≡ false = calm.1 in cc);
