@@ -6,8 +6,9 @@ use Rattle.mg_line.specs.declared.phone.Key.TheVariants.{Five}
 use Rattle.plain_machine.specs.declared.setup.Setup.{Setup}
 use Rattle.plain_machine.specs.declared.endpoint.Endpoint.{Endpoint}
 use Rattle.plain_machine.specs.Example.{two_lines}
+use Rattle.plain_machine.specs.Setup.{shortest_wait}
 use Rattle.call_agent.specs.Agent.{observed_on}
-use Rattle.agent_core.specs.World.{WorldStep, agent_in, delivering, dialling, plain_world}
+use Rattle.agent_core.specs.World.{WorldStep, agent_in, delivering, dialling, plain_world, ticking}
 use Rattle.world_laws.specs.Example.{announced}
 use Rattle.delivery_laws.specs.Dialled.{told_along}
 use Rattle.delivery_laws.specs.DialledExample.{asked}
@@ -50,6 +51,23 @@ unanswered = asked ++ dialling 1 OffHook ∷ seconds_from 1 17
 -- it gives that up, announces itself, and is answered
 abbrev pub gives_up_since : List WorldStep
 gives_up_since = seconds_from 18 12 ++ delivering 12 ∷ delivering 14 ∷ []
+
+-- Where the stretch begins as long behind that as may be, and a copy comes yet
+
+-- lines wait as short as they may
+abbrev pub hurried : Setup
+hurried = record two_lines { disconnected_wait = shortest_wait }
+
+-- line 1 is lifted, and gives the notification up, packets 4 to 11; 1 ms later it announces itself, packet 12, and is answered, packet 13
+abbrev pub back_at_once : List WorldStep
+back_at_once = asked ++ dialling 1 OffHook ∷ seconds_from 1 23 ++ ticking 23501 ∷ ticking 23502 ∷ delivering 12 ∷ delivering 13 ∷ []
+
+-- it rests until that packet 11 is 10,000 ms old
+abbrev pub short_rest : List WorldStep
+short_rest = seconds_from 24 6 ++ ticking 29501 ∷ []
+
+abbrev pub rested_shortly : List WorldStep
+rested_shortly = back_at_once ++ short_rest
 
 -- Where the gateway isn't set up well
 

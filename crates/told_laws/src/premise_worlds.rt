@@ -23,9 +23,9 @@ ghost use Rattle.told_laws.specs.Among.{AreAmong};
 ghost use Rattle.told_laws.specs.Stretch.{outliving};
 ghost use Rattle.told_laws.specs.WorldExample.{given_up_once, gives_up_sooner, last_comes, rests, seconds_from};
 ghost use Rattle.told_laws.specs.WorldExample.{GaveNothingUp, WasWhole, told_at, taken_at};
-ghost use Rattle.told_laws.specs.WorldPremises.{GivesNothingUpIn, IsWholeIn, answered_early, asked_for_its_agent, line_in, lying};
-ghost use Rattle.told_laws.specs.WorldPremises.{gives_up_since, observed_in, rested, taken_in, taken_out_of_order, told_in};
-ghost use Rattle.told_laws.specs.WorldPremises.{unanswered};
+ghost use Rattle.told_laws.specs.WorldPremises.{GivesNothingUpIn, IsWholeIn, answered_early, asked_for_its_agent, back_at_once, hurried};
+ghost use Rattle.told_laws.specs.WorldPremises.{gives_up_since, line_in, lying, observed_in, rested, rested_shortly, short_rest, taken_in};
+ghost use Rattle.told_laws.specs.WorldPremises.{taken_out_of_order, told_in, unanswered};
 
 /// Where a gateway isn't set up well the agent may be told what was never done, though all else that the two laws ask for holds.
 pub fn else_what_was_never_done_is_taken()
@@ -79,6 +79,23 @@ pub fn else_a_stretch_begins_too_soon()
     ensures gave_up { ¬ GaveNothingUp unanswered gives_up_since }
     ensures long { now_in two_lines (world unanswered) + outliving ≤ now_in two_lines (world gives_up_sooner) }
     ensures numbers { HasNumbersLeft (own_in two_lines (world (gives_up_sooner ++ last_comes))) }
+{}
+
+/// Nor are 5,999 ms long enough: where the line announces itself 1 ms after it gave its notification up, and is answered at once, the last
+/// copy of that, which was sent 4,000 ms before, is handed over 10,000 ms old, and taken.
+pub fn else_a_copy_comes_behind_a_short_pause()
+    ensures set_up { IsSetUp hurried }
+    ensures steps { steps_are_taken hurried world_opening (rested_shortly ++ last_comes) ≡ true }
+    ensures gave_up { has_given_up (of_line 1 (sent_of hurried (took_with hurried back_at_once))) (line_in hurried back_at_once).post
+        ≡ true }
+    ensures calm_before { GivesNothingUpIn hurried back_at_once short_rest }
+    ensures calm { GivesNothingUpIn hurried rested_shortly last_comes }
+    ensures short { now_in hurried (plain_world hurried back_at_once) + 5999 ≡ now_in hurried (plain_world hurried rested_shortly) }
+    ensures too_short { ¬ (now_in hurried (plain_world hurried back_at_once) + outliving
+        ≤ now_in hurried (plain_world hurried rested_shortly)) }
+    ensures not_told { told_in hurried rested_shortly last_comes ≡ [] }
+    ensures taken { taken_in hurried rested_shortly last_comes ≡ off_hook ∷ [] }
+    ensures not_whole { ¬ IsWholeIn hurried rested_shortly last_comes }
 {}
 
 /// Who gave nothing up by the end serves there; so that a line serves at the beginning of a stretch follows of what is before it.
