@@ -31,9 +31,12 @@ well_again = given_up_once ++ delivering 15 ∷ delivering 16 ∷ []
 abbrev pub seconds_from : ℕ → ℕ → List WorldStep
 seconds_from first many = map (λ second. ticking (second * 1000 + 1)) (range_with_len first many)
 
--- 11 s later key 6 is pressed, and told, packet 17
+-- 6,500 ms later key 6 is pressed, and told, packet 17
+abbrev pub so_long : List WorldStep
+so_long = seconds_from 30 6 ++ ticking 35501 ∷ []
+
 abbrev pub later_on : List WorldStep
-later_on = well_again ++ seconds_from 30 11
+later_on = well_again ++ so_long
 
 abbrev pub presses_six : List WorldStep
 presses_six = dialling 1 (Key Six) ∷ delivering 17 ∷ []

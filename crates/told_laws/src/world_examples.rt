@@ -1,7 +1,7 @@
 //! Worked examples of what the agent takes of a line.
 #![tactic(auto, unfolding(crate::proofs::WorldComputing::on_examples))]
 
-ghost use Rattle.std.specs.Prelude.{◌≡◌, [], ◌∷◌, ◌++◌, true, false};
+ghost use Rattle.std.specs.Prelude.{◌≡◌, ◌+◌, [], ◌∷◌, ◌++◌, true, false};
 ghost use Rattle.plain_machine.specs.Example.{two_lines};
 ghost use Rattle.plain_machine.specs.Lists.{sent_of};
 ghost use Rattle.machine_laws.specs.Belonging.{of_line};
@@ -10,8 +10,10 @@ ghost use Rattle.delivery_laws.specs.GivenUp.{has_given_up};
 ghost use Rattle.delivery_laws.specs.OnceExample.{lifted as off_hook, five, six};
 ghost use Rattle.delivery_laws.specs.DialledExample.{asked, answered, world, endpoint_then, done_then, told_then};
 ghost use Rattle.told_laws.specs.Among.{AreAmong};
-ghost use Rattle.told_laws.specs.WorldExample.{taken_late, given_up_once, come_late, well_again, later_on, seconds_from, presses_six};
+ghost use Rattle.told_laws.specs.Stretch.{outliving};
+ghost use Rattle.told_laws.specs.WorldExample.{taken_late, given_up_once, come_late, well_again, so_long, later_on, presses_six};
 ghost use Rattle.told_laws.specs.WorldExample.{rests, gives_up, gives_up_sooner, last_comes, told_at, taken_at, GaveNothingUp, WasWhole};
+ghost use Rattle.told_laws.specs.WorldExample.{seconds_from};
 
 /// Where a line gave a notification up, a copy of that may come to the agent behind a later one; where it gave none up, none does.
 pub fn what_is_given_up_may_be_taken_late()
@@ -25,13 +27,14 @@ pub fn what_is_given_up_may_be_taken_late()
     ensures in_order { told_then answered ≡ off_hook ∷ [] }
 {}
 
-/// 11 s behind a notification that was given up, and once its line serves again, what is told is taken, whole.
+/// 6,500 ms behind the moment at which a line that gave a notification up serves again, what it tells is taken, whole.
 pub fn what_comes_later_is_whole()
     ensures steps { steps_are_taken two_lines world_opening (later_on ++ presses_six) ≡ true }
     ensures gave_up { has_given_up (of_line 1 (sent_of two_lines (world well_again).gateway_took)) (endpoint_then well_again).post ≡ true }
     ensures begins { now_in two_lines (world well_again) ≡ 29001 }
-    ensures later { now_in two_lines (world later_on) ≡ 40001 }
-    ensures calm_before { GaveNothingUp well_again (seconds_from 30 11) }
+    ensures later { now_in two_lines (world later_on) ≡ 35501 }
+    ensures long { now_in two_lines (world well_again) + outliving ≡ now_in two_lines (world later_on) }
+    ensures calm_before { GaveNothingUp well_again so_long }
     ensures calm { GaveNothingUp later_on presses_six }
     ensures told { told_at later_on presses_six ≡ six ∷ [] }
     ensures taken { taken_at later_on presses_six ≡ six ∷ [] }

@@ -15,6 +15,7 @@ returns c =
       gave_up = refl;
       begins = refl;
       later = refl;
+      long = refl;
       calm_before = (refl, refl);
       calm = (refl, refl);
       told = refl;
