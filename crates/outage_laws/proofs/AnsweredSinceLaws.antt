@@ -1,21 +1,21 @@
--- Over a network that is fair from a moment on a line that serves, and gives nothing up of what it begins, waits for an answer for twice the
--- network's time at most, whatever was given up before.
+-- Over a network that is fair from a moment on a line that gives nothing up of what it begins waits for an answer for twice the network's time
+-- at most, whatever was given up before.
 use Rattle.std.proofs.Common.{◌≡◌, ℕ, ◌+◌, ◌*◌, ◌<◌, ◌≤◌, Bool, true, false, List, [], ◌∷◌, ◌++◌, length, Option, Some, None, inl, inr, refl, sym, ap, ◌∙◌, subst, arith, append_assoc}
-use Rattle.std.specs.Prelude.{◌⊎◌, ◌||◌, Any, IfSome, nat_le, not, slice_get}
+use Rattle.std.specs.Prelude.{◌⊎◌, Any, IfSome, nat_le, slice_get}
 use Rattle.std.proofs.lemmas.Bool.{leb-true, leb-false}
 use Rattle.std.proofs.lemmas.List.{length-append}
+use Rattle.std.proofs.lemmas.Option.{none-some}
 use Rattle.history.specs.KeptFirst.{KeptFirst}
 use Rattle.history.specs.Kept.{firsts_in}
 use Rattle.mg_line.specs.State.TheVariants.{Notification}
 use Rattle.outbound.specs.Flight.{InFlight}
 use Rattle.restart.specs.declared.restart.Restart.{Restart}
 use Rattle.restart.specs.declared.restart.Restart.TheVariants.{Waiting, Announced, Serving}
-use Rattle.restart.specs.Restarting.{is_serving}
 use Rattle.transmission.specs.Texts.{texts_of}
 use Rattle.plain_machine.specs.declared.setup.Setup.{Setup}
 use Rattle.plain_machine.specs.declared.endpoint.Endpoint.{Endpoint}
 use Rattle.plain_machine.specs.Event.{GatewayEvent}
-use Rattle.plain_machine.specs.Lists.{plain, sent_from, sent_of}
+use Rattle.plain_machine.specs.Lists.{plain, sent_from}
 use Rattle.plain_machine.specs.Machine.{endpoint_at, serves}
 use Rattle.plain_machine.specs.Message.{Sent}
 use Rattle.plain_machine.specs.Setup.{IsSetUp}
@@ -45,21 +45,21 @@ use Rattle.delivery_laws.proofs.FairLaws.{IsBefore, later_before, one_first, sta
 use Rattle.delivery_laws.proofs.FirstBroughtLaws.{own_of_line}
 use Rattle.delivery_laws.proofs.FirstSendLemmas.{PostedThen, handed_behind, posted_then}
 use Rattle.delivery_laws.proofs.FrontSteps.{TookThem, took_them}
-use Rattle.delivery_laws.proofs.GivenUpFronts.{flew}
 use Rattle.delivery_laws.proofs.InTimeLaws.{has_flight}
+use Rattle.delivery_laws.proofs.OnTurns.{IsIt}
 use Rattle.delivery_laws.proofs.ReturnedLaws.{IsReturned, plain_so, reads_so}
-use Rattle.delivery_laws.proofs.RestLemmas.{begun_both}
 use Rattle.delivery_laws.proofs.StepLemmas.{taken_front}
 use Rattle.delivery_laws.proofs.WorldLemmas.{line_begun}
-use Rattle.delivery_laws.proofs.DialledFlightLemmas.{has_announced}
-use Rattle.told_laws.proofs.LastTurns.{IsLast, LastOf, line_last}
-use Rattle.told_laws.proofs.SettledLemmas.{IsThere, sent_at, serving_is, start}
+use Rattle.told_laws.proofs.SettledLemmas.{IsThere, sent_at}
 use Rattle.outage_laws.specs.AfterOutage.{AgentHasRoomFrom, IsFairFrom}
 use Rattle.outage_laws.specs.ToldSince.{FlightsBeganSince}
 use Rattle.outage_laws.proofs.BeganEvents.{last_among}
-use Rattle.outage_laws.proofs.CalmStretches.{calm_front}
+use Rattle.outage_laws.proofs.CalmStretches.{calm_back, never_waits}
 use Rattle.outage_laws.proofs.FlightsSince.{all_flights}
+use Rattle.outage_laws.proofs.LineTrackLaws.{line_says, tracks_at}
+use Rattle.outage_laws.proofs.LineTracks.{Behind, Flies, FliesSo, LineTracks, TracksBy}
 use Rattle.outage_laws.proofs.OwnCopyLemmas.{posted_past, take_copy}
+use Rattle.outage_laws.proofs.StretchLemmas.{begun_whole}
 
 -- Moments
 
@@ -102,22 +102,53 @@ module _ (setup : Setup) (first later : List WorldStep) (since within : ℕ) (ta
         too_soon post.packet.moment within (now_in setup (plain_world setup (first ++ behind.0))) (now_in setup (plain_world setup t.before)) (now_in setup (plain_world setup first)) on
         (ap (λ (s : List WorldStep). now_in setup (plain_world setup s)) (sym behind.1) ∙ handed_now setup t.before number) t.soon late)
 
--- What a line that serves has in flight is what it began last
+-- What a line has in flight is what it began last
 
 pub record LastBegun (setup : Setup) (line : ℕ) (events : List GatewayEvent) (flight : InFlight) : Type 0 where
   pub front : List Begun
   pub is : line_begun setup line events ≡ front ++ (record { id = flight.id; moment = flight.first; text = flight.text }) ∷ []
 
-pub last_begun : (setup : Setup) (line : ℕ) → 1 ≤ line → (events : List GatewayEvent) (s : Endpoint) (flight : InFlight) → endpoint_at (plain setup events).endpoints line ≡ Some s
-    → s.post.restart ≡ Serving → s.post.pending ≡ Some flight → LastBegun setup line events flight
-last_begun setup line one events s flight at serving flies = record {
-  front = begun_in l.front;
-  is = ap begun_in l.is ∙ begun_both l.front l.back ∙ ap (λ (x : List Begun). begun_in l.front ++ x) l.begins;
-} where
-  l : IsLast (of_line line (sent_of setup events)) flight
-  l =
-      subst (λ (pending : Option InFlight). LastOf (of_line line (sent_of setup events)) Serving pending) flies
-      (subst (λ (r : Restart). LastOf (of_line line (sent_of setup events)) r s.post.pending) serving (line_last setup line one events s at))
+abbrev begun_as : ℕ → ℕ → List ℕ → Begun
+begun_as id moment text = record { id = id; moment = moment; text = text }
+
+as_flown : (b : Begun) (flight : InFlight) → IsIt b flight → begun_as b.id b.moment b.text ≡ begun_as flight.id flight.first flight.text
+as_flown b flight is =
+    ap (λ (id : ℕ). begun_as id b.moment b.text) (sym is.id) ∙ ap (λ (moment : ℕ). begun_as flight.id moment b.text) (sym is.first)
+    ∙ ap (λ (text : List ℕ). begun_as flight.id flight.first text) (sym is.text)
+
+same_flight : (a b : InFlight) → Some a ≡ Some b → a ≡ b
+same_flight a b same = cc
+
+module _ (setup : Setup) (line : ℕ) (one : 1 ≤ line) (set_up : IsSetUp setup) (steps : List WorldStep) (s : Endpoint) (flight : InFlight)
+    (taken : steps_are_taken setup world_opening steps ≡ true) (at : endpoint_at (gateway_in setup (plain_world setup steps)).endpoints line ≡ Some s)
+    (flies : s.post.pending ≡ Some flight) where
+  abbrev then_now : ℕ
+  then_now = now_in setup (plain_world setup steps)
+
+  abbrev said : List Sent
+  said = line_says setup line (plain_world setup steps)
+
+  tracks : LineTracks setup line (Behind then_now) then_now said s
+  tracks = tracks_at setup line one set_up steps taken s at
+
+  flight_of : (restart : Restart) (pending : Option InFlight) → pending ≡ Some flight → TracksBy setup line (Behind then_now) said then_now restart pending
+      → FliesSo setup line (Behind then_now) said then_now flight
+  flight_of (Waiting until) pending is t = absurd (none-some flight (sym t.none ∙ is))
+  flight_of Announced pending is t =
+      (t.old, subst (λ (x : InFlight). Flies setup line (Behind then_now) said t.old then_now x) (same_flight t.flight flight (sym t.flies ∙ is)) t.its)
+  flight_of Serving pending is t = subst (λ (p : Option InFlight). IfSome p (FliesSo setup line (Behind then_now) said then_now)) is t
+
+  found_so : FliesSo setup line (Behind then_now) said then_now flight
+  found_so = flight_of s.post.restart s.post.pending flies tracks.tracks
+
+  pub last_begun : LastBegun setup line (plain_world setup steps).gateway_took flight
+  last_begun =
+      let old = found_so.0 in
+      let f = found_so.1 in
+      record {
+        front = begun_in old;
+        is = begun_whole said old f.mine f.b f.order f.stretch ∙ ap (λ (x : Begun). begun_in old ++ x ∷ []) (as_flown f.b flight f.is);
+      }
 
 -- In a world: what is in flight was first sent in twice the time
 
@@ -127,7 +158,7 @@ before_on a b c one two = (one.0 ++ two.0, two.1 ∙ ap (λ (x : List WorldStep)
 module _ (setup : Setup) (first later : List WorldStep) (since within line : ℕ) (s : Endpoint) (flight : InFlight) (set_up : IsSetUp setup)
     (taken : steps_are_taken setup world_opening (first ++ later) ≡ true) (fair : IsFairFrom setup (first ++ later) since within)
     (roomy : AgentHasRoomFrom setup (first ++ later) since)
-    (at : endpoint_at (gateway_in setup (plain_world setup first)).endpoints line ≡ Some s) (serving : s.post.restart ≡ Serving) (flies : s.post.pending ≡ Some flight)
+    (at : endpoint_at (gateway_in setup (plain_world setup first)).endpoints line ≡ Some s) (flies : s.post.pending ≡ Some flight)
     (past : since ≤ flight.first) (goes : GoesToAgent setup (plain_world setup (first ++ later)) flight.text) where
   abbrev w : World
   w = plain_world setup first
@@ -149,7 +180,7 @@ module _ (setup : Setup) (first later : List WorldStep) (since within line : ℕ
   b = record { id = flight.id; moment = flight.first; text = flight.text }
 
   its_last : LastBegun setup line w.gateway_took flight
-  its_last = last_begun setup line one w.gateway_took s flight at serving flies
+  its_last = last_begun setup line one set_up first s flight front_taken at flies
 
   abbrev front : List Begun
   front = its_last.front
@@ -294,18 +325,10 @@ module _ (setup : Setup) (first later : List WorldStep) (since within line : ℕ
 
 -- Over the stretch
 
-pub still_serves : (sent : List Sent) (s : Endpoint) → has_given_up sent s.post ≡ false → s.post.restart ≡ Serving
-still_serves sent s none = serving_is s.post.restart (by_restart (has_announced sent) s.post.restart none) where
-  by_restart : (b : Bool) (restart : Restart) → (b || not (is_serving restart)) ≡ false → is_serving restart ≡ true
-  by_restart true restart none = absurd cc
-  by_restart false (Waiting until) none = absurd cc
-  by_restart false Announced none = absurd cc
-  by_restart false Serving none = refl
-
 module _ (setup : Setup) (steps : List WorldStep) (since within line : ℕ) (some later : List GatewayEvent) (was is : Endpoint) (set_up : IsSetUp setup)
     (taken : steps_are_taken setup world_opening steps ≡ true) (fair : IsFairFrom setup steps since within) (roomy : AgentHasRoomFrom setup steps since)
     (took : (plain_world setup steps).gateway_took ≡ some ++ later) (serving : serves (plain setup some).endpoints ≡ true)
-    (at_was : endpoint_at (plain setup some).endpoints line ≡ Some was) (serves_line : was.post.restart ≡ Serving)
+    (at_was : endpoint_at (plain setup some).endpoints line ≡ Some was)
     (at_is : endpoint_at (gateway_in setup (plain_world setup steps)).endpoints line ≡ Some is)
     (none : has_given_up (of_line line (sent_from setup (plain setup some) later)) is.post ≡ false) (began : FlightsBeganSince setup line some later since)
     (reach : (b : Begun) → IsOfLine setup (plain_world setup steps) line b → since ≤ b.moment → GoesToAgent setup (plain_world setup steps) b.text) where
@@ -316,52 +339,75 @@ module _ (setup : Setup) (steps : List WorldStep) (since within line : ℕ) (som
   at_end f rest order =
       subst (λ (x : List GatewayEvent). IsThere setup line x is) (took ∙ ap (λ (x : List GatewayEvent). some ++ x) order ∙ sym (append_assoc some f rest)) at_is
 
-  serves_then : (f rest : List GatewayEvent) (s : Endpoint) → later ≡ f ++ rest → IsThere setup line (some ++ f) s → s.post.restart ≡ Serving
-  serves_then f rest s order here =
-      still_serves (sent_at setup line some f) s
-      (calm_front setup line some_line some f rest was s is at_was here (at_end f rest order) (flew setup line some_line some was at_was).rests serves_line
-      (start setup line some_line some was at_was serves_line)
-      (subst (λ (x : List GatewayEvent). has_given_up (sent_at setup line some x) is.post ≡ false) order none))
+  -- it doesn't wait to announce itself
+  waits_not : (f rest : List GatewayEvent) (s : Endpoint) (until : ℕ) → later ≡ f ++ rest → IsThere setup line (some ++ f) s → s.post.restart ≡ Waiting until → ⊥
+  waits_not f rest s until order here waits =
+      never_waits setup line some_line (some ++ f) rest s is until here (at_end f rest order)
+      (calm_back setup line some f rest is.post (subst (λ (x : List GatewayEvent). has_given_up (sent_at setup line some x) is.post ≡ false) order none)) waits
 
   met : (f rest : List GatewayEvent) → later ≡ f ++ rest → TookThem setup world_opening steps (some ++ f)
   met f rest order = took_them setup steps (some ++ f) rest (took ∙ ap (λ (x : List GatewayEvent). some ++ x) order ∙ sym (append_assoc some f rest))
 
-  by_pending : (f rest : List GatewayEvent) (s : Endpoint) → later ≡ f ++ rest → IsThere setup line (some ++ f) s → s.line.state ≡ Notification
-      → (pending : Option InFlight) → s.post.pending ≡ pending → IsAwaited (plain setup (some ++ f)).now (2 * within) s.post.pending
-  by_pending f rest s order here waits None flies =
-      absurd (has_flight setup line some_line (some ++ f) s here (serving_lasts setup some f serving) waits (serves_then f rest s order here) flies)
-  by_pending f rest s order here waits (Some flight) flies = subst (λ (x : List GatewayEvent). IsAwaited (plain setup x).now (2 * within) s.post.pending) t.took
-      (awaited_since setup t.first t.later since within line s flight set_up (subst (λ (x : List WorldStep). steps_are_taken setup world_opening x ≡ true) t.order taken)
-      (subst (λ (x : List WorldStep). IsFairFrom setup x since within) t.order fair) (subst (λ (x : List WorldStep). AgentHasRoomFrom setup x since) t.order roomy)
-      there (serves_then f rest s order here) flies past goes) where
-        t : TookThem setup world_opening steps (some ++ f)
-        t = met f rest order
+  module _ (f rest : List GatewayEvent) (s : Endpoint) (order : later ≡ f ++ rest) (here : IsThere setup line (some ++ f) s) where
+    met_then : TookThem setup world_opening steps (some ++ f)
+    met_then = met f rest order
 
-        there : endpoint_at (gateway_in setup (plain_world setup t.first)).endpoints line ≡ Some s
-        there = subst (λ (x : List GatewayEvent). endpoint_at (plain setup x).endpoints line ≡ Some s) (sym t.took) here
+    then_at : endpoint_at (gateway_in setup (plain_world setup met_then.first)).endpoints line ≡ Some s
+    then_at = subst (λ (x : List GatewayEvent). endpoint_at (plain setup x).endpoints line ≡ Some s) (sym met_then.took) here
 
-        past : since ≤ flight.first
-        past = subst (λ (pending : Option InFlight). IfSome pending (λ x. since ≤ x.first)) flies (all_flights setup line since steps some later was taken took at_was began f rest s order here)
+    whole_taken : steps_are_taken setup world_opening (met_then.first ++ met_then.later) ≡ true
+    whole_taken = subst (λ (x : List WorldStep). steps_are_taken setup world_opening x ≡ true) met_then.order taken
 
-        b : Begun
-        b = record { id = flight.id; moment = flight.first; text = flight.text }
+    first_taken : steps_are_taken setup world_opening met_then.first ≡ true
+    first_taken = taken_front setup world_opening met_then.first met_then.later whole_taken
 
-        l : LastBegun setup line (some ++ f) flight
-        l = last_begun setup line some_line (some ++ f) s flight here (serves_then f rest s order here) flies
+    -- so something is in flight while it waits for an answer
+    abbrev its_now : ℕ
+    its_now = now_in setup (plain_world setup met_then.first)
 
-        more : (begun : List Begun) × (line_began setup line (t.first ++ t.later) ≡ line_began setup line t.first ++ begun)
-        more = began_more setup line t.first t.later
+    flies_then : (restart : Restart) → s.post.restart ≡ restart
+        → TracksBy setup line (Behind its_now) (line_says setup line (plain_world setup met_then.first)) its_now restart s.post.pending
+        → s.line.state ≡ Notification → s.post.pending ≡ None → ⊥
+    flies_then (Waiting until) is_so tracks_so waits nothing = waits_not f rest s until order here is_so
+    flies_then Announced is_so tracks_so waits nothing = absurd (none-some tracks_so.flight (sym nothing ∙ tracks_so.flies))
+    flies_then Serving is_so tracks_so waits nothing = absurd (has_flight setup line some_line (some ++ f) s here (serving_lasts setup some f serving) waits is_so nothing)
 
-        is_of_line : IsOfLine setup (plain_world setup steps) line b
-        is_of_line =
-            any_from_one (λ (x : Begun). x ≡ b) (line_begun setup line (plain_world setup steps).gateway_took)
-            (subst (OneOf (λ (x : Begun). x ≡ b))
-            (sym (ap (λ (x : List WorldStep). line_began setup line x) t.order ∙ more.1))
-            (one_before (λ (x : Begun). x ≡ b) (line_began setup line t.first) more.0
-            (subst (OneOf (λ (x : Begun). x ≡ b)) (sym (ap (line_begun setup line) t.took ∙ l.is)) (last_among l.front b))))
+    never_none : s.line.state ≡ Notification → s.post.pending ≡ None → ⊥
+    never_none waits nothing = flies_then s.post.restart refl (tracks_at setup line some_line set_up met_then.first first_taken s then_at).tracks waits nothing
 
-        goes : GoesToAgent setup (plain_world setup (t.first ++ t.later)) flight.text
-        goes = subst (λ (x : List WorldStep). GoesToAgent setup (plain_world setup x) flight.text) t.order (reach b is_of_line past)
+    module _ (flight : InFlight) (flies : s.post.pending ≡ Some flight) where
+      past_so : since ≤ flight.first
+      past_so = subst (λ (pending : Option InFlight). IfSome pending (λ x. since ≤ x.first)) flies (all_flights setup line since steps some later was taken took at_was began f rest s order here)
+
+      abbrev its_begun : Begun
+      its_begun = record { id = flight.id; moment = flight.first; text = flight.text }
+
+      its_last_then : LastBegun setup line (plain_world setup met_then.first).gateway_took flight
+      its_last_then = last_begun setup line some_line set_up met_then.first s flight first_taken then_at flies
+
+      began_on : (begun : List Begun) × (line_began setup line (met_then.first ++ met_then.later) ≡ line_began setup line met_then.first ++ begun)
+      began_on = began_more setup line met_then.first met_then.later
+
+      is_of_line : IsOfLine setup (plain_world setup steps) line its_begun
+      is_of_line =
+          any_from_one (λ (x : Begun). x ≡ its_begun) (line_begun setup line (plain_world setup steps).gateway_took)
+          (subst (OneOf (λ (x : Begun). x ≡ its_begun))
+          (sym (ap (λ (x : List WorldStep). line_began setup line x) met_then.order ∙ began_on.1))
+          (one_before (λ (x : Begun). x ≡ its_begun) (line_began setup line met_then.first) began_on.0
+          (subst (OneOf (λ (x : Begun). x ≡ its_begun)) (sym its_last_then.is) (last_among its_last_then.front its_begun))))
+
+      goes_there : GoesToAgent setup (plain_world setup (met_then.first ++ met_then.later)) flight.text
+      goes_there = subst (λ (x : List WorldStep). GoesToAgent setup (plain_world setup x) flight.text) met_then.order (reach its_begun is_of_line past_so)
+
+      awaited_then : IsAwaited (plain setup (some ++ f)).now (2 * within) s.post.pending
+      awaited_then =
+          subst (λ (x : List GatewayEvent). IsAwaited (plain setup x).now (2 * within) s.post.pending) met_then.took
+          (awaited_since setup met_then.first met_then.later since within line s flight set_up whole_taken (subst (λ (x : List WorldStep). IsFairFrom setup x since within) met_then.order fair)
+          (subst (λ (x : List WorldStep). AgentHasRoomFrom setup x since) met_then.order roomy) then_at flies past_so goes_there)
+
+    by_pending : s.line.state ≡ Notification → (pending : Option InFlight) → s.post.pending ≡ pending → IsAwaited (plain setup (some ++ f)).now (2 * within) s.post.pending
+    by_pending waits None flies = absurd (never_none waits flies)
+    by_pending waits (Some flight) flies = awaited_then flight flies
 
   pub answered_since : IsAnsweredWithin setup line some later (2 * within)
   answered_since = λ f rest s order here waits. by_pending f rest s order here waits s.post.pending refl

@@ -1,6 +1,8 @@
 -- Of a stretch in which a line gives nothing up it gives nothing up in any part.
-use Rattle.std.proofs.Common.{◌≡◌, ℕ, ◌≤◌, Bool, true, false, ◌||◌, List, [], ◌∷◌, ◌++◌, Some, inl, refl, sym, ap, ◌∙◌, subst, append_assoc}
+use Rattle.std.proofs.Common.{◌≡◌, ℕ, ◌≤◌, Bool, true, false, ◌||◌, List, [], ◌∷◌, ◌++◌, Some, inl, inr, refl, sym, ap, ◌∙◌, subst, append_assoc}
 use Rattle.std.specs.Prelude.{not}
+use Rattle.restart.specs.declared.restart.Restart.{Restart}
+use Rattle.restart.specs.declared.restart.Restart.TheVariants.{Serving, Waiting}
 use Rattle.restart.specs.Restarting.{is_serving}
 use Rattle.plain_machine.specs.declared.endpoint.Endpoint.{Endpoint}
 use Rattle.plain_machine.specs.declared.post.Post.{Post}
@@ -13,10 +15,10 @@ use Rattle.plain_machine.specs.Machine.{Machine, endpoint_at, opening}
 use Rattle.plain_machine.specs.Message.{Sent}
 use Rattle.plain_machine.proofs.ListLaws.{machine_on}
 use Rattle.machine_laws.proofs.WaitLaws.{events_wait}
-use Rattle.restart.specs.declared.restart.Restart.TheVariants.{Serving}
 use Rattle.delivery_laws.specs.GivenUp.{announces, has_given_up}
 use Rattle.delivery_laws.proofs.CourseLemmas.{events_stand, hear_all}
-use Rattle.delivery_laws.proofs.DialledFlightLemmas.{Flies, FliesBeside, flight_turns, has_announced, starts_gone, stays_gone}
+use Rattle.delivery_laws.proofs.DialledFlightLemmas.{Flies, FliesBeside, flight_turns, has_announced, is_waiting, starts_gone, stays_gone}
+use Rattle.delivery_laws.proofs.GivenUpFronts.{flew}
 use Rattle.delivery_laws.proofs.RestLemmas.{Rests}
 use Rattle.told_laws.proofs.SettledLemmas.{IsThere, Start, given_both, sent_at, sent_both}
 
@@ -91,3 +93,18 @@ calm_back setup line took some more post none = by_test (has_given_up (sent_at s
       absurd (
       let clash : true ≡ false = sym (given_behind (sent_at setup line took some) (sent_at setup line (took ++ some) more) post given) ∙ whole in cc)
   by_test false is = is
+
+-- A line that gives nothing up doesn't wait to announce itself.
+pub never_waits : (setup : Setup) (line : ℕ) → 1 ≤ line → (took later : List GatewayEvent) (s last : Endpoint) (until : ℕ) → IsThere setup line took s
+    → IsThere setup line (took ++ later) last → has_given_up (sent_at setup line took later) last.post ≡ false → s.post.restart ≡ Waiting until → ⊥
+never_waits setup line some took later s last until here at_last none waits = absurd (let clash : true ≡ false = sym gone ∙ none in cc) where
+  begin : Flies AnyId ⊥ [] s
+  begin = record { rests = (flew setup line some took s here).rests; either = inr (inr (ap (λ (r : Restart). is_waiting r) waits)) }
+
+  gone : has_given_up (sent_at setup line took later) last.post ≡ true
+  gone =
+      stays_gone (sent_at setup line took later) last
+      ((events_stand setup IsFinal (FliesBeside AnyId ⊥) (flight_turns AnyId ⊥ setup) line some (plain setup took) [] [] 0 later
+      (hear_all setup IsFinal (λ response high. tt) (arrivals_from 0 later))
+      (record { order = events_wait setup took; holds = λ x at. subst (Flies AnyId ⊥ []) (same_end s x (sym here ∙ at)) begin })).holds last
+      (ap (λ (m : Machine). endpoint_at m.endpoints line) (sym (machine_on setup (opening setup) took later)) ∙ at_last))

@@ -3,7 +3,6 @@
 use Rattle.std.proofs.Common.{◌≡◌, ℕ, ◌+◌, ◌*◌, ◌<◌, ◌≤◌, true, false, List, [], ◌++◌, length, Option, Some, None, refl, sym, ◌∙◌, subst, append-nil, append_assoc}
 use Rattle.std.specs.Prelude.{IfSome}
 use Rattle.outbound.specs.Flight.{InFlight}
-use Rattle.restart.specs.declared.restart.Restart.TheVariants.{Serving}
 use Rattle.plain_machine.specs.declared.setup.Setup.{Setup}
 use Rattle.plain_machine.specs.declared.endpoint.Endpoint.{Endpoint}
 use Rattle.plain_machine.specs.Event.{GatewayEvent}
@@ -21,18 +20,16 @@ use Rattle.delivery_laws.specs.GivenUp.{has_given_up}
 use Rattle.delivery_laws.specs.Keeping.{happened_in}
 use Rattle.delivery_laws.specs.OwnChances.{IsOfLine}
 use Rattle.delivery_laws.specs.Rounds.{IsAnsweredWithin, IsAskedWithin, rounds_take}
-use Rattle.delivery_laws.proofs.PairedSteps.{stood}
-use Rattle.delivery_laws.proofs.StepLemmas.{taken_front}
 use Rattle.delivery_laws.proofs.WorldLemmas.{line_begun}
 use Rattle.told_laws.specs.Stretch.{AnnouncesNothing, GivesNothingUp, outliving, taken_meanwhile}
-use Rattle.told_laws.proofs.SettledLemmas.{IsThere, sent_at, serving_is, start}
+use Rattle.told_laws.proofs.SettledLemmas.{sent_at}
 use Rattle.told_laws.proofs.StretchLemmas.{meanwhile_is}
 use Rattle.outage_laws.specs.AfterOutage.{AgentHasRoomFrom, IsFairFrom}
 use Rattle.outage_laws.specs.ToldSince.{FlightBeganSince, FlightsBeganSince, IsAskedForAllSince, IsToldFrom, IsToldSince}
 use Rattle.outage_laws.proofs.FlightsSince.{all_flights}
-use Rattle.outage_laws.proofs.AnsweredSinceLaws.{LastBegun, answered_since, last_begun, still_serves}
+use Rattle.outage_laws.proofs.AnsweredSinceLaws.{LastBegun, answered_since, last_begun}
 use Rattle.outage_laws.proofs.BeganEvents.{last_among}
-use Rattle.outage_laws.proofs.CalmStretches.{calm_back, calm_front}
+use Rattle.outage_laws.proofs.CalmStretches.{calm_back}
 use Rattle.outage_laws.proofs.KeepsServes.{keeps_serves}
 use Rattle.outage_laws.proofs.ToldFromLaws.{all_from, told_from}
 use Rattle.outage_laws.proofs.ToldSinceLaws.{told_since}
@@ -67,12 +64,6 @@ module _ (setup : Setup) (line : ℕ) (some : 1 ≤ line) (first pause stretch :
   abbrev some_took : List GatewayEvent
   some_took = u.gateway_took ++ front
 
-  taken_up : steps_are_taken setup world_opening up ≡ true
-  taken_up = taken_front setup world_opening up stretch taken
-
-  serving : was.post.restart ≡ Serving
-  serving = serving_is was.post.restart calm_since.0
-
   whole : w.gateway_took ≡ u.gateway_took ++ (front ++ later)
   whole = split ∙ append_assoc u.gateway_took front later
 
@@ -80,20 +71,13 @@ module _ (setup : Setup) (line : ℕ) (some : 1 ≤ line) (first pause stretch :
   none =
       subst (λ (x : List GatewayEvent). has_given_up (sent_at setup line u.gateway_took x) is.post ≡ false) (meanwhile_is u w (front ++ later) whole) calm_since.1
 
-  -- the line serves at that moment, and at the end
-  there_serves : there.post.restart ≡ Serving
-  there_serves =
-      still_serves (sent_at setup line u.gateway_took front) there
-      (calm_front setup line some u.gateway_took front later was there is at_was at_there (subst (λ (x : List GatewayEvent). IsThere setup line x is) split at_is)
-      ((stood setup line some up set_up taken_up).flies was at_was).rests serving (start setup line some u.gateway_took was at_was serving) none)
-
   calm : has_given_up (sent_at setup line some_took later) is.post ≡ false
   calm = calm_back setup line u.gateway_took front later is.post none
 
   pub fair_answered : IsAnsweredWithin setup line some_took later (2 * within)
   fair_answered =
-      answered_since setup all since within line some_took later there is set_up taken fair roomy split (serving_lasts setup u.gateway_took front serves_then) at_there there_serves
-      at_is calm began reach
+      answered_since setup all since within line some_took later there is set_up taken fair roomy split (serving_lasts setup u.gateway_took front serves_then) at_there at_is calm began
+      reach
 
   -- what is in flight at the end
   pub fair_flew : FlightBeganSince setup w since is.post.pending
@@ -106,7 +90,7 @@ module _ (setup : Setup) (line : ℕ) (some : 1 ≤ line) (first pause stretch :
         subst (λ (pending : Option InFlight). IfSome pending (λ x. since ≤ x.first)) flies
         (all_flights setup line since all some_took later there taken split at_there began later [] is (sym (append-nil later)) (subst (λ (x : List GatewayEvent). endpoint_at (plain setup x).endpoints line ≡ Some is) split at_is)) in
         let l : LastBegun setup line w.gateway_took flight =
-        last_begun setup line some w.gateway_took is flight at_is (still_serves (sent_at setup line some_took later) is calm) flies in (
+        last_begun setup line some set_up all is flight taken at_is flies in (
           past,
           reach b
               (any_from_one (λ (x : Begun). x ≡ b) (line_begun setup line w.gateway_took)

@@ -1,6 +1,5 @@
 //! Laws of what is dialled over a stretch, whatever was given up before it.
 ghost use Rattle.std.specs.Prelude.{◌≡◌, ◌≤◌, ◌<◌, ◌+◌, ◌*◌, ◌++◌, [], ℕ, List, Some, length, false, true};
-ghost use Rattle.restart.specs.declared.restart.Restart.TheVariants.{Serving};
 ghost use Rattle.plain_machine.specs.declared.setup.Setup.{Setup};
 ghost use Rattle.plain_machine.specs.declared.endpoint.Endpoint.{Endpoint};
 ghost use Rattle.plain_machine.specs.Event.{GatewayEvent};
@@ -147,14 +146,13 @@ pub fn what_is_dialled_since_then_is_told()
         (taken_meanwhile setup line u w)) × (told.rest ≡ []) }
 {}
 
-/// Over a network that is fair from some moment on, and whatever was given up before, a line that serves, of a gateway that does, waits for
-/// the answer to its command for twice the network's time at most over a stretch in which it gives nothing up, and has nothing in flight
-/// that began before the network was fair, where what began since goes to the agent, which has room (RFC 3435, 3.5 and 4.4.1).
+/// Over a network that is fair from some moment on, and whatever was given up before, a line of a gateway that serves waits for the answer
+/// to its command, its announcement too, for twice the network's time at most over a stretch in which it gives nothing up, and has nothing
+/// in flight that began before the network was fair, where what began since goes to the agent, which has room (RFC 3435, 3.5 and 4.4.1).
 pub fn a_network_that_is_fair_since_answers_in_time()
-    ensures { (setup : Setup) (steps : List WorldStep) (since within line : ℕ) (some later : List GatewayEvent) (was is : Endpoint) →
+    ensures { (setup : Setup) (steps : List WorldStep) (since within line : ℕ) (some later : List GatewayEvent) (is : Endpoint) →
         IsRun setup steps → IsFairFrom setup steps since within → AgentHasRoomFrom setup steps since → let w = plain_world setup steps in
         w.gateway_took ≡ some ++ later → serves (plain setup some).endpoints ≡ true →
-        endpoint_at (plain setup some).endpoints line ≡ Some was → was.post.restart ≡ Serving →
         endpoint_at (gateway_in setup w).endpoints line ≡ Some is →
         has_given_up (of_line line (sent_from setup (plain setup some) later)) is.post ≡ false →
         FlightsBeganSince setup line some later since →
@@ -168,8 +166,7 @@ pub fn what_is_quarantined_goes_out_once_the_network_is_fair()
     ensures out { (setup : Setup) (steps : List WorldStep) (since within asking line : ℕ) (some later : List GatewayEvent)
         (was is : Endpoint) → IsRun setup steps → IsFairFrom setup steps since within → AgentHasRoomFrom setup steps since →
         let w = plain_world setup steps in w.gateway_took ≡ some ++ later → serves (plain setup some).endpoints ≡ true →
-        endpoint_at (plain setup some).endpoints line ≡ Some was → was.post.restart ≡ Serving →
-        endpoint_at (gateway_in setup w).endpoints line ≡ Some is →
+        endpoint_at (plain setup some).endpoints line ≡ Some was → endpoint_at (gateway_in setup w).endpoints line ≡ Some is →
         has_given_up (of_line line (sent_from setup (plain setup some) later)) is.post ≡ false →
         FlightsBeganSince setup line some later since →
         ((b : Begun) → IsOfLine setup w line b → since ≤ b.moment → GoesToAgent setup w b.text) →
@@ -179,8 +176,7 @@ pub fn what_is_quarantined_goes_out_once_the_network_is_fair()
     ensures rests { (setup : Setup) (steps : List WorldStep) (since within asking line : ℕ) (some later : List GatewayEvent)
         (was is : Endpoint) → IsRun setup steps → IsFairFrom setup steps since within → AgentHasRoomFrom setup steps since →
         let w = plain_world setup steps in w.gateway_took ≡ some ++ later → serves (plain setup some).endpoints ≡ true →
-        endpoint_at (plain setup some).endpoints line ≡ Some was → was.post.restart ≡ Serving →
-        endpoint_at (gateway_in setup w).endpoints line ≡ Some is →
+        endpoint_at (plain setup some).endpoints line ≡ Some was → endpoint_at (gateway_in setup w).endpoints line ≡ Some is →
         has_given_up (of_line line (sent_from setup (plain setup some) later)) is.post ≡ false →
         FlightsBeganSince setup line some later since →
         ((b : Begun) → IsOfLine setup w line b → since ≤ b.moment → GoesToAgent setup w b.text) →
