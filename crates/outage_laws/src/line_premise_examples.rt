@@ -5,9 +5,10 @@
 ghost use Rattle.std.specs.Prelude.{◌≡◌, ◌<◌, ◌≤◌, ◌+◌, ◌*◌, ◌++◌, ℕ, Any, [], ◌∷◌, length, true, false};
 ghost use Rattle.restart.specs.declared.restart.Restart.TheVariants.{Announced, Waiting};
 ghost use Rattle.plain_machine.specs.Example.{two_lines};
-ghost use Rattle.plain_machine.specs.Lists.{plain};
+ghost use Rattle.plain_machine.specs.Lists.{plain, sent_from};
 ghost use Rattle.plain_machine.specs.Machine.{serves};
 ghost use Rattle.plain_machine.specs.Setup.{IsSetUp};
+ghost use Rattle.machine_laws.specs.Belonging.{of_line};
 ghost use Rattle.machine_laws.specs.Saying.{Begun};
 ghost use Rattle.agent_core.specs.World.{now_in, oldest_packet, plain_world, steps_are_taken, world_opening};
 ghost use Rattle.world_laws.specs.Example.{world};
@@ -15,8 +16,10 @@ ghost use Rattle.delivery_laws.specs.Chances.{chances};
 ghost use Rattle.delivery_laws.specs.Copies.{IsRun, answer_wait};
 ghost use Rattle.delivery_laws.specs.Course.{course_from};
 ghost use Rattle.delivery_laws.specs.Dialled.{done_in};
-ghost use Rattle.delivery_laws.specs.Example.{hasty, hasty_took, hasty_world, took_between, took_between_with, took_first, took_with};
+ghost use Rattle.delivery_laws.specs.Example.{hasty, hasty_took, hasty_world, line_with, took_between, took_between_with, took_first};
+ghost use Rattle.delivery_laws.specs.Example.{took_with};
 ghost use Rattle.delivery_laws.specs.Fairness.{GoesToAgent};
+ghost use Rattle.delivery_laws.specs.GivenUp.{has_given_up};
 ghost use Rattle.delivery_laws.specs.OwnChances.{IsOfLine};
 ghost use Rattle.delivery_laws.specs.Rounds.{IsAnsweredWithin, IsAskedWithin, rounds_take};
 ghost use Rattle.outage_laws.specs.AfterOutage.{AgentHasRoomFrom, IsFairFrom, gap_of};
@@ -25,6 +28,7 @@ ghost use Rattle.outage_laws.specs.LinePremises.{announced_unheard, announced_un
 ghost use Rattle.outage_laws.specs.LinePremises.{answered_before_yet, answered_ever_later, back_at_once, back_yet, held_with, hung_up};
 ghost use Rattle.outage_laws.specs.LinePremises.{hung_up_elsewhere, hung_up_elsewhere_yet, hung_up_unserved, hung_up_unserved_yet};
 ghost use Rattle.outage_laws.specs.LinePremises.{connected_soon, hung_up_yet, long_winded, pressed_again, restart_with, waits_yet};
+ghost use Rattle.outage_laws.specs.ToldSince.{FlightsBeganSince};
 
 /// A line has not its agent again where the gateway isn't set up well, and what the line sends is longer than a datagram; nor where a step
 /// is refused, by which the clock is put back.
@@ -141,7 +145,8 @@ pub fn else_a_line_waits_for_another()
     ensures held_unserved { held_with sluggish hung_up_unserved_yet ≡ 2 }
 {}
 
-/// So it is before that time.
+/// So it is before that time. Of a line that waits then to announce itself all holds, too, that the law of what is quarantined once the
+/// network is fair asks for, but that it gives nothing up.
 pub fn else_a_quarantine_is_not_out()
     ensures run { IsRun two_lines hung_up_yet }
     ensures fair { IsFairFrom two_lines hung_up_yet 19502 0 }
@@ -152,6 +157,14 @@ pub fn else_a_quarantine_is_not_out()
     ensures asked { IsAskedWithin two_lines 1 (took_first hung_up) (took_between hung_up hung_up_yet) 0 }
     ensures over { (plain two_lines (took_first hung_up)).now + rounds_take 1 (2 * 0) 0 < now_in two_lines (world hung_up_yet) }
     ensures held { held_with two_lines hung_up_yet ≡ 1 }
+    ensures split { took_with two_lines hung_up_yet ≡ took_with two_lines hung_up ++ took_between_with two_lines hung_up hung_up_yet }
+    ensures serving { serves (plain two_lines (took_first hung_up)).endpoints ≡ true }
+    ensures waits { restart_with two_lines hung_up ≡ Waiting 28501 }
+    ensures gave_up { has_given_up (of_line 1 (sent_from two_lines (plain two_lines (took_first hung_up))
+        (took_between hung_up hung_up_yet))) (line_with two_lines (took_first hung_up_yet)).post ≡ true }
+    ensures began { FlightsBeganSince two_lines 1 (took_first hung_up) (took_between hung_up hung_up_yet) 19502 }
+    ensures held_first { length (line_with two_lines (took_first hung_up)).line.quarantined.events ≡ 1 }
+    ensures rests { done_in (course_from two_lines (plain two_lines (took_first hung_up)) 1 (took_between hung_up hung_up_yet)) ≡ [] }
 {}
 
 /// So it is where the events are those of another world; and before as many rounds.

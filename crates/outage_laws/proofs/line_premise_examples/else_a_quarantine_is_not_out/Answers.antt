@@ -2,11 +2,12 @@ use Rattle.std.proofs.Common.{[], refl}
 use Rattle.std.proofs.lemmas.Bool.{ltb-true}
 use Rattle.plain_machine.specs.Example.{two_lines}
 use Rattle.delivery_laws.specs.Example.{took_between, took_first}
-use Rattle.delivery_laws.proofs.ExampleLemmas.{to_agent, two_lines_set_up}
+use Rattle.delivery_laws.proofs.ExampleLemmas.{to_agent, took_split, two_lines_set_up}
 use Rattle.delivery_laws.proofs.FrontLemmas.{agent_has_room, asked_within, not_answered}
 use Rattle.outage_laws.specs.LinePremises.{hung_up, hung_up_yet}
 use Rattle.outage_laws.proofs.Computing.{on_examples}
 use Rattle.outage_laws.proofs.FairFromExamples.{fair_from_is, room_from}
+use Rattle.outage_laws.proofs.HadTimeExamples.{flights_since}
 use Rattle.outage_laws.proofs.line_premise_examples.else_a_quarantine_is_not_out.Goals as goal
 
 pub returns : goal.returns
@@ -21,4 +22,11 @@ returns c = record {
   asked = asked_within two_lines 1 (took_first hung_up) (took_between hung_up hung_up_yet) 0 refl;
   over = ltb-true _ _ refl;
   held = refl;
+  split = took_split two_lines hung_up hung_up_yet refl;
+  serving = refl;
+  waits = refl;
+  gave_up = refl;
+  began = flights_since two_lines 1 (took_first hung_up) (took_between hung_up hung_up_yet) 19502 refl;
+  held_first = refl;
+  rests = refl;
 }
