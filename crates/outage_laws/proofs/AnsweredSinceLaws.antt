@@ -108,10 +108,10 @@ pub record LastBegun (setup : Setup) (line : ℕ) (events : List GatewayEvent) (
   pub front : List Begun
   pub is : line_begun setup line events ≡ front ++ (record { id = flight.id; moment = flight.first; text = flight.text }) ∷ []
 
-abbrev begun_as : ℕ → ℕ → List ℕ → Begun
+abbrev pub begun_as : ℕ → ℕ → List ℕ → Begun
 begun_as id moment text = record { id = id; moment = moment; text = text }
 
-as_flown : (b : Begun) (flight : InFlight) → IsIt b flight → begun_as b.id b.moment b.text ≡ begun_as flight.id flight.first flight.text
+pub as_flown : (b : Begun) (flight : InFlight) → IsIt b flight → begun_as b.id b.moment b.text ≡ begun_as flight.id flight.first flight.text
 as_flown b flight is =
     ap (λ (id : ℕ). begun_as id b.moment b.text) (sym is.id) ∙ ap (λ (moment : ℕ). begun_as flight.id moment b.text) (sym is.first)
     ∙ ap (λ (text : List ℕ). begun_as flight.id flight.first text) (sym is.text)
@@ -138,7 +138,7 @@ module _ (setup : Setup) (line : ℕ) (one : 1 ≤ line) (set_up : IsSetUp setup
       (t.old, subst (λ (x : InFlight). Flies setup line (Behind then_now) said t.old then_now x) (same_flight t.flight flight (sym t.flies ∙ is)) t.its)
   flight_of Serving pending is t = subst (λ (p : Option InFlight). IfSome p (FliesSo setup line (Behind then_now) said then_now)) is t
 
-  found_so : FliesSo setup line (Behind then_now) said then_now flight
+  pub found_so : FliesSo setup line (Behind then_now) said then_now flight
   found_so = flight_of s.post.restart s.post.pending flies tracks.tracks
 
   pub last_begun : LastBegun setup line (plain_world setup steps).gateway_took flight

@@ -96,6 +96,16 @@ opening_taken : (setup : Setup) → TookTaken setup world_opening
 unfolding are_taken
 opening_taken setup = refl
 
+-- an event that the gateway of a world took isn't refused
+pub event_taken : (setup : Setup) (steps : List WorldStep) (some later : List GatewayEvent) (event : GatewayEvent) → steps_are_taken setup world_opening steps ≡ true
+    → (plain_world setup steps).gateway_took ≡ some ++ event ∷ later → refusal_of (plain setup some) event ≡ None
+unfolding are_taken
+event_taken setup steps some later event taken took =
+    is_none-None (refusal_of (plain setup some) event)
+    (and_parts (is_none (refusal_of (plain setup some) event)) (are_taken setup (effect setup (plain setup some) event).value later)
+    (taken_behind setup (opening setup) some (event ∷ later)
+    (subst (λ (x : List GatewayEvent). are_taken setup (opening setup) x ≡ true) took (steps_taken setup world_opening steps taken (opening_taken setup))))).0
+
 -- What is in flight at each time
 
 pub all_flights : (setup : Setup) (line since : ℕ) (steps : List WorldStep) (some later : List GatewayEvent) (was : Endpoint) → steps_are_taken setup world_opening steps ≡ true

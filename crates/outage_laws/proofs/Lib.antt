@@ -53,6 +53,9 @@ pub mod FewLemmas
 pub mod QuickFronts
 pub mod SlowQuarantines
 pub mod SlowTold
+pub mod StillServes
+pub mod StretchServes
+pub mod SlowSince
 pub mod HadTimeExamples
 pub mod MoreExamples
 pub mod LineTexts

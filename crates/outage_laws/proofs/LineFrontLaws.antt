@@ -328,3 +328,17 @@ module _ (setup : Setup) (line : ℕ) where
 
     pub none_announced : has_announced (of_line line (effect setup m event).sent) ≡ false
     none_announced = event_there event refl
+
+  -- an event that is no tick leaves a line serving
+  module _ (some : 1 ≤ line) (before : List GatewayEvent) (was is : Endpoint) (at : endpoint_at (plain setup before).endpoints line ≡ Some was) (serving : was.post.restart ≡ Serving) where
+    starts : (s : Endpoint) → endpoint_at (plain setup before).endpoints line ≡ Some s → IsThere [] s
+    starts s found =
+        (subst (λ (x : Endpoint). x.post.restart ≡ Serving) (let both : Some was ≡ Some s = sym at ∙ found in (let one : was ≡ s = cc in one)) serving, refl)
+
+    pub still_there : (e : GatewayEvent) → ((moment : ℕ) → e ≡ tick moment → ⊥) → endpoint_at (effect setup (plain setup before) e).value.endpoints line ≡ Some is → is.post.restart ≡ Serving
+    still_there (datagram source bytes) other there =
+        (datagram_holds setup line some AnyResponse IsThere (plain setup before) (there_turns (plain setup before).now) [] source bytes (events_wait setup before)
+        (hear_all setup AnyResponse (λ response. tt) (arrivals_at (plain setup before).now (datagram source bytes))) starts is there).0
+    still_there (phone n act) other there =
+        (phone_holds setup line some AnyResponse IsThere (plain setup before) (there_turns (plain setup before).now) [] n act starts is there).0
+    still_there (tick moment) other there = absurd (other moment refl)

@@ -59,22 +59,22 @@ sooner_by : (before short within front now asking few many all_few all_many : �
     → short + now ≡ front + within → short ≤ within → before + all_many < now → before + all_few < front
 sooner_by before short within front now asking few many all_few all_many one two fewer is less late = omega (arith, one, two, fewer, is, less, late)
 
-sooner : (before short within front now asking n : ℕ) → short + now ≡ front + within → short ≤ within → before + rounds_take (suc n) (2 * within) asking < now
+pub sooner : (before short within front now asking n : ℕ) → short + now ≡ front + within → short ≤ within → before + rounds_take (suc n) (2 * within) asking < now
     → before + rounds_take (suc n) (2 * short) asking < front
 sooner before short within front now asking n is less late =
     sooner_by before short within front now asking (n * (2 * short + asking)) (n * (2 * within + asking)) (suc n * (2 * short + asking)) (suc n * (2 * within + asking))
     (suc-mul n (2 * short + asking)) (suc-mul n (2 * within + asking)) (times_no_less n (2 * short + asking) (2 * within + asking) (each_less short within asking less)) is less late
 
-less_by : (before rounds front : ℕ) → before + rounds < front → before < front
+pub less_by : (before rounds front : ℕ) → before + rounds < front → before < front
 less_by before rounds front late = omega (arith, late)
 
-none_held : (end held done : ℕ) → end ≤ held + done → held ≡ 0 → end ≤ done
+pub none_held : (end held done : ℕ) → end ≤ held + done → held ≡ 0 → end ≤ done
 none_held end held done few none = omega (arith, few, none)
 
-all_done : (end held some more all : ℕ) → end ≤ held + more → held ≤ some → all ≡ some + more → end ≤ all
+pub all_done : (end held some more all : ℕ) → end ≤ held + more → held ≤ some → all ≡ some + more → end ≤ all
 all_done end held some more all grown few sum = omega (arith, grown, few, sum)
 
-none_of : (events : List Observed) (count : ℕ) → length events ≤ count → count ≡ 0 → events ≡ []
+pub none_of : (events : List Observed) (count : ℕ) → length events ≤ count → count ≡ 0 → events ≡ []
 none_of [] count few none = refl
 none_of (event ∷ events) count few none = absurd (omega (arith, few, none))
 

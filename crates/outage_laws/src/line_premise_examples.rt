@@ -146,7 +146,7 @@ pub fn else_a_line_waits_for_another()
 {}
 
 /// So it is before that time. Of a line that waits then to announce itself all holds, too, that the law of what is quarantined once the
-/// network is fair asks for, but that it gives nothing up.
+/// network is fair asks for, but that it serves, or gives nothing up.
 pub fn else_a_quarantine_is_not_out()
     ensures run { IsRun two_lines hung_up_yet }
     ensures fair { IsFairFrom two_lines hung_up_yet 19502 0 }

@@ -1,5 +1,6 @@
 //! Laws of what is dialled over a stretch, whatever was given up before it.
-ghost use Rattle.std.specs.Prelude.{◌≡◌, ◌≤◌, ◌<◌, ◌+◌, ◌*◌, ◌++◌, [], ℕ, List, Some, length, false, true};
+ghost use Rattle.std.specs.Prelude.{◌≡◌, ◌⊎◌, ◌≤◌, ◌<◌, ◌+◌, ◌*◌, ◌++◌, [], ℕ, List, Some, length, false, true};
+ghost use Rattle.restart.specs.declared.restart.Restart.TheVariants.{Serving};
 ghost use Rattle.plain_machine.specs.declared.setup.Setup.{Setup};
 ghost use Rattle.plain_machine.specs.declared.endpoint.Endpoint.{Endpoint};
 ghost use Rattle.plain_machine.specs.Event.{GatewayEvent};
@@ -160,14 +161,15 @@ pub fn a_network_that_is_fair_since_answers_in_time()
         IsAnsweredWithin setup line some later (2 * within) }
 {}
 
-/// So, over a stretch like that, where the line waits for no request longer than so many ms, what was quarantined at its beginning is out
-/// after as many rounds as events were: no more of it than the telephone did since, and none where that rests (RFC 3435, 4.4.1).
+/// So, over a stretch like that, or one at whose beginning the line serves, whatever it gives up: where the line waits for no request longer
+/// than so many ms, what was quarantined at the beginning is out after as many rounds as events were: no more of it than the telephone did
+/// since, and none where that rests (RFC 3435, 4.3 and 4.4.1).
 pub fn what_is_quarantined_goes_out_once_the_network_is_fair()
     ensures out { (setup : Setup) (steps : List WorldStep) (since within asking line : ℕ) (some later : List GatewayEvent)
         (was is : Endpoint) → IsRun setup steps → IsFairFrom setup steps since within → AgentHasRoomFrom setup steps since →
         let w = plain_world setup steps in w.gateway_took ≡ some ++ later → serves (plain setup some).endpoints ≡ true →
         endpoint_at (plain setup some).endpoints line ≡ Some was → endpoint_at (gateway_in setup w).endpoints line ≡ Some is →
-        has_given_up (of_line line (sent_from setup (plain setup some) later)) is.post ≡ false →
+        (was.post.restart ≡ Serving) ⊎ (has_given_up (of_line line (sent_from setup (plain setup some) later)) is.post ≡ false) →
         FlightsBeganSince setup line some later since →
         ((b : Begun) → IsOfLine setup w line b → since ≤ b.moment → GoesToAgent setup w b.text) →
         IsAskedWithin setup line some later asking →
@@ -177,7 +179,7 @@ pub fn what_is_quarantined_goes_out_once_the_network_is_fair()
         (was is : Endpoint) → IsRun setup steps → IsFairFrom setup steps since within → AgentHasRoomFrom setup steps since →
         let w = plain_world setup steps in w.gateway_took ≡ some ++ later → serves (plain setup some).endpoints ≡ true →
         endpoint_at (plain setup some).endpoints line ≡ Some was → endpoint_at (gateway_in setup w).endpoints line ≡ Some is →
-        has_given_up (of_line line (sent_from setup (plain setup some) later)) is.post ≡ false →
+        (was.post.restart ≡ Serving) ⊎ (has_given_up (of_line line (sent_from setup (plain setup some) later)) is.post ≡ false) →
         FlightsBeganSince setup line some later since →
         ((b : Begun) → IsOfLine setup w line b → since ≤ b.moment → GoesToAgent setup w b.text) →
         IsAskedWithin setup line some later asking →
