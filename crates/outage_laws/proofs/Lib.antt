@@ -18,6 +18,7 @@ pub mod PostedSince
 pub mod LineBackLaws
 pub mod LineServesLaws
 pub mod LineFrontLaws
+mod AnnouncesLemmas
 pub mod LineWindowLaws
 pub mod ServesFrontLaws
 pub mod YoungLemmas
@@ -70,3 +71,4 @@ mod RoomlessRounds
 mod RoomlessTicks
 mod RoomlessLine
 mod RoomlessHeld
+mod RoomlessFull

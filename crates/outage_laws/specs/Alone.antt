@@ -1,5 +1,8 @@
 -- What a gateway sends of its own, whoever its agent is and whatever the network does: by the events that it took (RFC 3435, 3.5.3).
-use Rattle.std.specs.Prelude.{◌≡◌, ℕ, List, Any}
+use Rattle.std.specs.Prelude.{◌≡◌, ◌≢◌, ◌≤◌, ℕ, List, Any, None, Option}
+use Rattle.outbound.specs.Flight.{InFlight}
+use Rattle.restart.specs.declared.restart.Restart.{Restart}
+use Rattle.restart.specs.declared.restart.Restart.TheVariants.{Announced, Serving, Waiting}
 use Rattle.plain_machine.specs.declared.setup.Setup.{Setup}
 use Rattle.plain_machine.specs.Arriving.{TextArrival, arrivals_from, arrivals_of}
 use Rattle.plain_machine.specs.Event.{GatewayEvent}
@@ -31,3 +34,9 @@ HasResponseSince setup before after id =
 abbrev pub IsSentSince : Setup → List GatewayEvent → List GatewayEvent → ℕ → List ℕ → ℕ → Type 0
 IsSentSince setup before after line text moment =
     Any (λ (one : Sent). (text_of one.said ≡ text) × (one.moment ≡ moment)) (of_line line (sent_from setup (plain setup before) after))
+
+-- A line announces itself, unless it has its agent: its announcement is in flight, or falls due by then (RFC 3435, 4.4.7)
+abbrev pub AnnouncesBy : Restart → Option InFlight → ℕ → Type 0
+AnnouncesBy (Waiting until) pending by = until ≤ by
+AnnouncesBy Announced pending by = pending ≢ None
+AnnouncesBy Serving pending by = Unit {0}

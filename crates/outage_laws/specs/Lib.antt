@@ -14,3 +14,5 @@ pub mod SinceThenExample
 pub mod Roomless
 pub mod MorePremises
 pub mod SlowExample
+pub mod SlowerExample
+pub mod SinceExample

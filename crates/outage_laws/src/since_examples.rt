@@ -3,19 +3,23 @@
 #![tactic(auto, unfolding(crate::proofs::Computing::on_examples))]
 
 ghost use Rattle.std.specs.Prelude.{[], ◌∷◌, None};
+ghost use Rattle.quarantine.specs.Held.{most_lost};
 ghost use Rattle.plain_machine.specs.Example.{two_lines};
 ghost use Rattle.agent_core.specs.World.{delivering};
 ghost use Rattle.world_laws.specs.Example.{world};
 ghost use Rattle.delivery_laws.specs.DialledExample.{endpoint_then};
 ghost use Rattle.delivery_laws.specs.Example.{notified, redirected};
 ghost use Rattle.delivery_laws.specs.OnceExample.{five, lifted as off_hook, six};
-ghost use Rattle.outage_laws.specs.AfterOutage.{IsFairFrom};
+ghost use Rattle.outage_laws.specs.AfterOutage.{AgentHasRoomFrom, IsFairFrom};
 ghost use Rattle.outage_laws.specs.Carrying.{IsHandedBack};
 ghost use Rattle.outage_laws.specs.Example.{found_again};
-ghost use Rattle.outage_laws.specs.ToldSince.{FlightBeganSince, IsToldFrom, IsToldSince};
+ghost use Rattle.outage_laws.specs.Roomless.{roomless};
+ghost use Rattle.outage_laws.specs.SinceExample.{having_lost};
+ghost use Rattle.outage_laws.specs.ToldSince.{FlightBeganSince, IsAskedForAllSince, IsToldFrom, IsToldSince};
 
 /// What was on its way at first is taken before all else; and then that begins with what was done, unless it was told before. What is in
 /// flight goes to the agent; what is handed back is that packet; and a packet that is handed over 1 ms too late isn't handed over in time.
+/// No more acts are lost since, nor as many as are counted. Whether the agent had room before that moment is no matter.
 pub fn what_is_told_since_begins_with_what_was_done()
     ensures late_first { IsToldFrom (endpoint_then notified).post.pending (five ∷ []) (off_hook ∷ five ∷ []) }
     ensures more { IsToldFrom None (five ∷ []) (five ∷ six ∷ []) }
@@ -27,4 +31,10 @@ pub fn what_is_told_since_begins_with_what_was_done()
     ensures another_packet { ¬ IsHandedBack (delivering 10 ∷ []) 11 }
     ensures in_time { IsFairFrom two_lines found_again 3502 300 }
     ensures too_late { ¬ IsFairFrom two_lines found_again 3502 299 }
+    ensures asked_for { IsAskedForAllSince (having_lost 0) [] (having_lost 0) }
+    ensures lost_before { IsAskedForAllSince (having_lost 1) [] (having_lost 1) }
+    ensures lost_one { ¬ IsAskedForAllSince (having_lost 0) [] (having_lost 1) }
+    ensures lost_most { ¬ IsAskedForAllSince (having_lost most_lost) [] (having_lost most_lost) }
+    ensures room_since { AgentHasRoomFrom two_lines roomless 22502 }
+    ensures no_room { ¬ AgentHasRoomFrom two_lines roomless 22501 }
 {}

@@ -9,3 +9,4 @@
 pub mod examples;
 pub mod laws;
 pub mod quarantine_examples;
+pub mod word_examples;

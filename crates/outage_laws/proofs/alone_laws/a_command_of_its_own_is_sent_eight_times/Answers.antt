@@ -1,3 +1,4 @@
+use Rattle.outage_laws.proofs.AnnouncesLemmas.{line_announces}
 use Rattle.outage_laws.proofs.EachLine.{each_eight}
 use Rattle.outage_laws.proofs.OwnSendLaws.{line_young, own_eight, own_young}
 use Rattle.outage_laws.proofs.alone_laws.a_command_of_its_own_is_sent_eight_times.Goals as goal
@@ -13,3 +14,6 @@ returns-clause-line_given_up c = λ setup events line endpoint flight at flies. 
 
 pub returns-clause-own_given_up : goal.returns-clause-own_given_up
 returns-clause-own_given_up c = λ setup events flight flies. own_young setup events flight flies
+
+pub returns-clause-line_announces : goal.returns-clause-line_announces
+returns-clause-line_announces c = λ setup events line endpoint taken at. line_announces setup events line endpoint taken at

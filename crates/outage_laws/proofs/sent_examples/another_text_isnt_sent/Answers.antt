@@ -1,5 +1,6 @@
-use Rattle.std.proofs.Common.{◌≡◌, ℕ, List, [], ◌∷◌, inl, inr, length, refl, ap, subst, arith}
+use Rattle.std.proofs.Common.{◌≡◌, ℕ, ◌≤◌, List, [], ◌∷◌, inl, inr, length, refl, ap, subst, arith}
 use Rattle.std.specs.Prelude.{map}
+use Rattle.std.proofs.lemmas.Bool.{leb-true}
 use Rattle.plain_machine.specs.Event.{tick}
 use Rattle.plain_machine.specs.Example.{two_lines}
 use Rattle.plain_machine.specs.Lists.{plain, sent_from, sent_of}
@@ -54,6 +55,9 @@ unfolding on_examples
 began_another (inl is) = absurd (let longer : ◌≡◌ {A = ℕ} 48 1 = ap (λ (b : Begun). length b.text) is in omega (arith, longer))
 began_another (inr none) = absurd none
 
+too_soon : 28501 ≤ 28500 → ⊥
+too_soon soon = omega (arith, soon)
+
 pub returns : goal.returns
 unfolding on_examples
 returns c = record {
@@ -65,4 +69,10 @@ returns c = record {
   another_text_begun = λ is.
       began_another
       (one_from_any (λ (one : Begun). one ≡ record announcement { text = never_begun.text }) (begun_in (of_line 0 (sent_of two_lines (tick 1 ∷ [])))) is);
+  taken = refl;
+  now = refl;
+  announces = leb-true _ _ refl;
+  no_sooner = λ soon. too_soon soon;
+  put_back = λ soon. too_soon soon;
+  none_in_flight = λ some. some refl;
 }

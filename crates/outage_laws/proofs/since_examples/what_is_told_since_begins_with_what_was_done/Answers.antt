@@ -1,19 +1,23 @@
-use Rattle.std.proofs.Common.{◌≡◌, ℕ, ◌≤◌, Bool, true, false, ◌||◌, ◌&&◌, ◌==◌, codes, List, [], ◌∷◌, ◌++◌, inl, inr, refl, sym, ap, subst, ◌∙◌}
+use Rattle.std.proofs.Common.{◌≡◌, ℕ, ◌<◌, ◌≤◌, arith, Bool, true, false, ◌||◌, ◌&&◌, ◌==◌, codes, List, [], ◌∷◌, ◌++◌, inl, inr, refl, sym, ap, subst, ◌∙◌}
 use Rattle.std.specs.Prelude.{nat_le}
 use Rattle.std.proofs.lemmas.Bool.{le-leb, leb-true}
 use Rattle.std.proofs.lemmas.Bool.Decides.{Decides-eqb}
 use Rattle.event_values.specs.declared.observed.Observed.{Observed}
+use Rattle.quarantine.specs.Held.{most_lost}
 use Rattle.plain_machine.specs.declared.setup.Setup.{Setup}
 use Rattle.plain_machine.specs.Example.{two_lines}
 use Rattle.agent_core.specs.World.{World, WorldStep, delivering, dialling, issuing, now_in, ticking, went, world_after, world_opening}
 use Rattle.delivery_laws.specs.Example.{redirected}
-use Rattle.delivery_laws.specs.Keeping.{happened_in}
+use Rattle.delivery_laws.specs.Keeping.{KeepsAll, happened_in}
 use Rattle.delivery_laws.specs.OnceExample.{five, lifted, six}
+use Rattle.delivery_laws.proofs.AskingLemmas.{notifies_each}
 use Rattle.delivery_laws.proofs.ExampleLemmas.{goes_astray}
 use Rattle.outage_laws.specs.AfterOutage.{IsFairFrom}
 use Rattle.outage_laws.specs.Example.{found_again}
+use Rattle.outage_laws.specs.SinceExample.{having_lost}
 use Rattle.outage_laws.proofs.Computing.{on_examples}
 use Rattle.outage_laws.proofs.FairFromExamples.{fair_from_is}
+use Rattle.outage_laws.proofs.RoomlessFull.{no_room_then, room_by_then}
 use Rattle.outage_laws.proofs.since_examples.what_is_told_since_begins_with_what_was_done.Goals as goal
 
 since_is : (late since taken : List Observed) → late ≡ [] → taken ≡ late ++ since → since ≡ taken
@@ -78,19 +82,76 @@ fair_too_late fair =
     (subst (λ (steps : List WorldStep). handed_by two_lines 7800 6 world_opening steps ≡ true) (sym h.order)
     (is_handed_by two_lines 7800 6 world_opening h.before h.later h.soon))
 
-pub returns : goal.returns
+keeps_so : (lost : ℕ) → KeepsAll (having_lost lost)
 unfolding on_examples
-returns c = record {
-  late_first = record { late = lifted ∷ []; since = five ∷ []; late_is = inr refl; order = refl; rest = []; whole = refl };
-  more = record { late = []; since = five ∷ six ∷ []; late_is = refl; order = refl; rest = six ∷ []; whole = refl };
-  not_told = λ h. none_told h.since h.rest (since_is h.late h.since [] h.late_is h.order) h.whole;
-  another = λ h. six_told h.since h.rest (since_is h.late h.since (six ∷ []) h.late_is h.order) h.whole;
-  told_before = record { late = []; since = six ∷ []; late_is = refl; order = refl; rest = []; whole = refl };
-  elsewhere = λ began.
-      goes_astray two_lines redirected (codes "NTFY 10000000 aaln/1@rgw.example.net MGCP 1.0\r\nX: A0\r\nO: L/hd\r\n") 4 _ refl refl refl (inl refl)
-      began.1;
-  handed_back = record { between = []; later = []; order = refl };
-  another_packet = λ h. handed_one h.between h.later h.order;
-  in_time = fair_from_is two_lines found_again 3502 300 refl;
-  too_late = λ fair. fair_too_late fair;
-}
+keeps_so lost = record { asked = notifies_each _ refl refl; untimed = refl; accumulated = refl; of_phone = tt; normal = λ is. refl }
+
+one_more : ◌≡◌ {A = ℕ} 1 0 → ⊥
+one_more same = omega (arith, same)
+
+not_below : (n : ℕ) → n < n → ⊥
+not_below n less = omega (arith, less)
+
+pub returns-clause-late_first : goal.returns-clause-late_first
+unfolding on_examples
+returns-clause-late_first c = record { late = lifted ∷ []; since = five ∷ []; late_is = inr refl; order = refl; rest = []; whole = refl }
+
+pub returns-clause-more : goal.returns-clause-more
+unfolding on_examples
+returns-clause-more c = record { late = []; since = five ∷ six ∷ []; late_is = refl; order = refl; rest = six ∷ []; whole = refl }
+
+pub returns-clause-not_told : goal.returns-clause-not_told
+unfolding on_examples
+returns-clause-not_told c = λ h. none_told h.since h.rest (since_is h.late h.since [] h.late_is h.order) h.whole
+
+pub returns-clause-another : goal.returns-clause-another
+unfolding on_examples
+returns-clause-another c = λ h. six_told h.since h.rest (since_is h.late h.since (six ∷ []) h.late_is h.order) h.whole
+
+pub returns-clause-told_before : goal.returns-clause-told_before
+unfolding on_examples
+returns-clause-told_before c = record { late = []; since = six ∷ []; late_is = refl; order = refl; rest = []; whole = refl }
+
+pub returns-clause-elsewhere : goal.returns-clause-elsewhere
+unfolding on_examples
+returns-clause-elsewhere c = λ began.
+    goes_astray two_lines redirected (codes "NTFY 10000000 aaln/1@rgw.example.net MGCP 1.0\r\nX: A0\r\nO: L/hd\r\n") 4 _ refl refl refl (inl refl)
+    began.1
+
+pub returns-clause-handed_back : goal.returns-clause-handed_back
+unfolding on_examples
+returns-clause-handed_back c = record { between = []; later = []; order = refl }
+
+pub returns-clause-another_packet : goal.returns-clause-another_packet
+unfolding on_examples
+returns-clause-another_packet c = λ h. handed_one h.between h.later h.order
+
+pub returns-clause-in_time : goal.returns-clause-in_time
+unfolding on_examples
+returns-clause-in_time c = fair_from_is two_lines found_again 3502 300 refl
+
+pub returns-clause-too_late : goal.returns-clause-too_late
+unfolding on_examples
+returns-clause-too_late c = λ fair. fair_too_late fair
+
+pub returns-clause-asked_for : goal.returns-clause-asked_for
+unfolding on_examples
+returns-clause-asked_for c = record { keeps = keeps_so 0; since = tt; none_lost = refl; counted = omega arith }
+
+pub returns-clause-lost_before : goal.returns-clause-lost_before
+unfolding on_examples
+returns-clause-lost_before c = record { keeps = keeps_so 1; since = tt; none_lost = refl; counted = omega arith }
+
+pub returns-clause-lost_one : goal.returns-clause-lost_one
+unfolding on_examples
+returns-clause-lost_one c = λ h. one_more h.none_lost
+
+pub returns-clause-lost_most : goal.returns-clause-lost_most
+unfolding on_examples
+returns-clause-lost_most c = λ h. not_below most_lost h.counted
+
+pub returns-clause-room_since : goal.returns-clause-room_since
+returns-clause-room_since c = room_by_then
+
+pub returns-clause-no_room : goal.returns-clause-no_room
+returns-clause-no_room c = λ room. no_room_then room

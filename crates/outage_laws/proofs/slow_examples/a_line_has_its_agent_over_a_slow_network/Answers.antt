@@ -3,6 +3,7 @@ use Rattle.plain_machine.specs.Example.{two_lines}
 use Rattle.delivery_laws.proofs.ExampleLemmas.{to_agent, two_lines_set_up}
 use Rattle.delivery_laws.proofs.FrontLemmas.{agent_has_room}
 use Rattle.outage_laws.specs.SlowExample.{connected_at_longest, connected_slowly}
+use Rattle.outage_laws.specs.SlowerExample.{connected_4000, connected_7000, connected_9000}
 use Rattle.outage_laws.proofs.Computing.{on_examples}
 use Rattle.outage_laws.proofs.FairFromExamples.{fair_from_is, not_fair_from, room_from}
 use Rattle.outage_laws.proofs.slow_examples.a_line_has_its_agent_over_a_slow_network.Goals as goal
@@ -70,3 +71,99 @@ returns-clause-not_yet_longest c = refl
 pub returns-clause-connected_longest : goal.returns-clause-connected_longest
 unfolding on_examples
 returns-clause-connected_longest c = refl
+
+pub returns-clause-run_4000 : goal.returns-clause-run_4000
+unfolding on_examples
+returns-clause-run_4000 c = (two_lines_set_up, refl)
+
+pub returns-clause-fair_4000 : goal.returns-clause-fair_4000
+unfolding on_examples
+returns-clause-fair_4000 c = fair_from_is two_lines connected_4000 11502 4000 refl
+
+pub returns-clause-not_before_4000 : goal.returns-clause-not_before_4000
+unfolding on_examples
+returns-clause-not_before_4000 c = not_fair_from two_lines connected_4000 11501 4000 7 _ refl refl refl refl
+
+pub returns-clause-room_4000 : goal.returns-clause-room_4000
+unfolding on_examples
+returns-clause-room_4000 c = room_from two_lines connected_4000 11502 (agent_has_room two_lines connected_4000 refl)
+
+pub returns-clause-goes_4000 : goal.returns-clause-goes_4000
+unfolding on_examples
+returns-clause-goes_4000 c = λ b of. to_agent two_lines connected_4000 b.text refl
+
+pub returns-clause-late_4000 : goal.returns-clause-late_4000
+unfolding on_examples
+returns-clause-late_4000 c = refl
+
+pub returns-clause-not_yet_4000 : goal.returns-clause-not_yet_4000
+unfolding on_examples
+returns-clause-not_yet_4000 c = refl
+
+pub returns-clause-connected_4000 : goal.returns-clause-connected_4000
+unfolding on_examples
+returns-clause-connected_4000 c = refl
+
+pub returns-clause-run_7000 : goal.returns-clause-run_7000
+unfolding on_examples
+returns-clause-run_7000 c = (two_lines_set_up, refl)
+
+pub returns-clause-fair_7000 : goal.returns-clause-fair_7000
+unfolding on_examples
+returns-clause-fair_7000 c = fair_from_is two_lines connected_7000 7502 7000 refl
+
+pub returns-clause-not_before_7000 : goal.returns-clause-not_before_7000
+unfolding on_examples
+returns-clause-not_before_7000 c = not_fair_from two_lines connected_7000 7501 7000 6 _ refl refl refl refl
+
+pub returns-clause-room_7000 : goal.returns-clause-room_7000
+unfolding on_examples
+returns-clause-room_7000 c = room_from two_lines connected_7000 7502 (agent_has_room two_lines connected_7000 refl)
+
+pub returns-clause-goes_7000 : goal.returns-clause-goes_7000
+unfolding on_examples
+returns-clause-goes_7000 c = λ b of. to_agent two_lines connected_7000 b.text refl
+
+pub returns-clause-late_7000 : goal.returns-clause-late_7000
+unfolding on_examples
+returns-clause-late_7000 c = refl
+
+pub returns-clause-not_yet_7000 : goal.returns-clause-not_yet_7000
+unfolding on_examples
+returns-clause-not_yet_7000 c = refl
+
+pub returns-clause-connected_7000 : goal.returns-clause-connected_7000
+unfolding on_examples
+returns-clause-connected_7000 c = refl
+
+pub returns-clause-run_9000 : goal.returns-clause-run_9000
+unfolding on_examples
+returns-clause-run_9000 c = (two_lines_set_up, refl)
+
+pub returns-clause-fair_9000 : goal.returns-clause-fair_9000
+unfolding on_examples
+returns-clause-fair_9000 c = fair_from_is two_lines connected_9000 3502 9000 refl
+
+pub returns-clause-not_before_9000 : goal.returns-clause-not_before_9000
+unfolding on_examples
+returns-clause-not_before_9000 c = not_fair_from two_lines connected_9000 3501 9000 5 _ refl refl refl refl
+
+pub returns-clause-room_9000 : goal.returns-clause-room_9000
+unfolding on_examples
+returns-clause-room_9000 c = room_from two_lines connected_9000 3502 (agent_has_room two_lines connected_9000 refl)
+
+pub returns-clause-goes_9000 : goal.returns-clause-goes_9000
+unfolding on_examples
+returns-clause-goes_9000 c = λ b of. to_agent two_lines connected_9000 b.text refl
+
+pub returns-clause-late_9000 : goal.returns-clause-late_9000
+unfolding on_examples
+returns-clause-late_9000 c = refl
+
+pub returns-clause-not_yet_9000 : goal.returns-clause-not_yet_9000
+unfolding on_examples
+returns-clause-not_yet_9000 c = refl
+
+pub returns-clause-connected_9000 : goal.returns-clause-connected_9000
+unfolding on_examples
+returns-clause-connected_9000 c = refl
