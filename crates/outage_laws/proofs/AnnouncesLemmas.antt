@@ -1,9 +1,8 @@
 -- A line that has no agent announces itself: its announcement is in flight, or goes out when its wait is over.
-use Rattle.std.proofs.Common.{◌≡◌, ℕ, ◌+◌, ◌≤◌, Bool, true, false, ◌==◌, if◌then◌else◌, List, [], ◌∷◌, ◌++◌, Option, Some, None, refl, sym, ap, ◌∙◌, subst, arith, append-nil, append_assoc}
+use Rattle.std.proofs.Common.{◌≡◌, ℕ, ◌+◌, ◌≤◌, Bool, true, false, if◌then◌else◌, List, [], ◌∷◌, ◌++◌, Option, Some, None, sym, ap, ◌∙◌, subst, arith, append-nil, append_assoc}
 use Rattle.std.specs.Prelude.{IfSome, is_none}
 use Rattle.std.proofs.lemmas.Bool.{and_parts, ne_eqb}
 use Rattle.endpoint_names.specs.declared.entity.Entity.{Entity}
-use Rattle.mg_line.specs.declared.phone.Act.{Act}
 use Rattle.mg_line.specs.Line.{LineDone, Notice}
 use Rattle.mg_line.specs.State.{State}
 use Rattle.mg_line.specs.Acting.{phoned}
@@ -47,7 +46,7 @@ use Rattle.machine_laws.proofs.TurnLemmas.{of_line as of_its_line, on_made}
 use Rattle.machine_laws.proofs.WaitLaws.{events_wait}
 use Rattle.world_laws.proofs.WorldLaws.{gateway_alone}
 use Rattle.delivery_laws.proofs.CourseLemmas.{hear_all}
-use Rattle.told_laws.proofs.LineEvents.{Holds, TurnKeeps, TurnsAt, datagram_holds, phone_holds, tick_holds}
+use Rattle.told_laws.proofs.LineEvents.{TurnKeeps, TurnsAt, datagram_holds, phone_holds, tick_holds}
 use Rattle.told_laws.proofs.SettledLemmas.{clock_on}
 use Rattle.outage_laws.specs.Alone.{AnnouncesBy}
 

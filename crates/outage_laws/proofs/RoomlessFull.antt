@@ -1,5 +1,5 @@
 -- Where 4,096 commands are young at the agent it has no room; and from a moment that hasn't come it has room, whatever was before.
-use Rattle.std.proofs.Common.{◌≡◌, ℕ, ◌+◌, ◌<◌, ◌≤◌, true, List, [], ◌++◌, length, refl, sym, ap, ◌∙◌, subst, arith, append-nil}
+use Rattle.std.proofs.Common.{◌≡◌, ℕ, ◌+◌, ◌<◌, ◌≤◌, true, List, [], ◌++◌, length, sym, ap, ◌∙◌, subst, arith, append-nil}
 use Rattle.history.specs.Entry.{Entry}
 use Rattle.history.specs.Kept.{young_firsts}
 use Rattle.history.specs.Memory.{most_firsts}
