@@ -121,7 +121,7 @@ module _ (line : ℕ) (all : List Reached) (now : ℕ) (done : List Begun) (was 
   near_it b x one soon same late comes = (comes.id ∙ same, (let within = comes.within in omega (arith, soon, late, within)))
 
   -- what began with this event isn't answered in it
-  not_new : (b : Begun) → OneOf (λ (c : Begun). c ≡ b) new → line_of_id b.id ≡ line → b.moment ≤ now + 1000 → IsLately now all b.id → ⊥
+  pub not_new : (b : Begun) → OneOf (λ (c : Begun). c ≡ b) new → line_of_id b.id ≡ line → b.moment ≤ now + 1000 → IsLately now all b.id → ⊥
   not_new b there of soon late =
       one_to (Late b) ⊥
       (λ one is. never_behind (done ++ flying was) new b returns

@@ -29,5 +29,8 @@ pub mod ListLemmas
 pub mod CalmLemmas
 pub mod StretchLemmas
 pub mod StretchCourses
+pub mod FateLemmas
+pub mod FateSteps
+pub mod FateCourses
 pub mod Computing
 pub mod WorldComputing

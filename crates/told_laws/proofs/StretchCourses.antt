@@ -42,7 +42,7 @@ use Rattle.told_laws.proofs.StretchLemmas.{in_pairs, meanwhile_is, whole_of}
 
 -- what the course of a line tells is what the commands tell that it began
 
-course_begun : (setup : Setup) (line : ℕ) → 1 ≤ line → IsSetUp setup → (events : List GatewayEvent) (endpoint : Endpoint) → endpoint_at (plain setup events).endpoints line ≡ Some endpoint
+pub course_begun : (setup : Setup) (line : ℕ) → 1 ≤ line → IsSetUp setup → (events : List GatewayEvent) (endpoint : Endpoint) → endpoint_at (plain setup events).endpoints line ≡ Some endpoint
     → told_along (course_of setup line events) ≡ flat_map told_by (line_begun setup line events)
 course_begun setup line some set_up events endpoint at =
     course_tells setup line some events endpoint at
@@ -62,7 +62,7 @@ told_then setup line some set_up took events was is at_was at_is =
 
 -- what the agent was told of a line is what it took of it
 
-observed_is : (setup : Setup) (steps : List WorldStep) (line : ℕ) → IsSetUp setup → steps_are_taken setup world_opening steps ≡ true
+pub observed_is : (setup : Setup) (steps : List WorldStep) (line : ℕ) → IsSetUp setup → steps_are_taken setup world_opening steps ≡ true
     → observed_on line (agent_in setup (plain_world setup steps)) ≡ flat_map told_taken (line_taken line (taken_in (plain_world setup steps)))
 observed_is setup steps line set_up taken =
     let w = plain_world setup steps in

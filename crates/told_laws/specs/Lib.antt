@@ -1,6 +1,7 @@
 pub mod Among
 pub mod Walking
 pub mod Stretch
+pub mod Fate
 pub mod Example
 pub mod WorldExample
 pub mod Premises

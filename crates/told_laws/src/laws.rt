@@ -17,6 +17,7 @@ ghost use Rattle.delivery_laws.specs.Course.{CourseStep, accepts, notifies, cour
 ghost use Rattle.delivery_laws.specs.Rounds.{of_telephone};
 ghost use Rattle.told_laws.specs.Among.{AreAmong, IsToldInOrder};
 ghost use Rattle.delivery_laws.specs.Dialled.{done_in, told_along, latest_from, IsAskedForAll, IsToldOnce};
+ghost use Rattle.told_laws.specs.Fate.{IsTakenOf, fates_of, joined, kept_of};
 ghost use Rattle.told_laws.specs.Stretch.{AnnouncesNothing, IsWhole, course_meanwhile, outliving, taken_meanwhile};
 ghost use Rattle.told_laws.specs.Walking.{nothing_asked, EmbedsNone, Walks, Stays, WalksButLost, AreActs, TellsAFront, TellsOfHeld, TellsWhatWasKept};
 
@@ -131,6 +132,25 @@ pub fn what_the_agent_took_over_a_stretch_is_whole()
         IsWhole was.post.pending is.post.pending
         (told_along (course_meanwhile setup line (plain_world setup (first ++ pause)) (plain_world setup ((first ++ pause) ++ stretch))))
         (taken_meanwhile setup line (plain_world setup (first ++ pause)) (plain_world setup ((first ++ pause) ++ stretch))) }
+{}
+
+/// And whatever a line gave up: what the agent took of it is what some of its commands told, each of them once. Those that the line didn't
+/// give up were taken in the order in which it began them, all but what is in flight: so what they told was done at its telephone, in that
+/// order, and nothing of it twice, but for the ends of signals and of timer T. One that it gave up, behind which it announces itself, may be
+/// taken late, behind later ones, or never. No numbers need be left.
+pub fn what_the_agent_took_was_told_once()
+    ensures taken { (setup : Setup) (steps : List WorldStep) (line : ℕ) (endpoint : Endpoint) →
+        IsSetUp setup → steps_are_taken setup world_opening steps ≡ true →
+        endpoint_at (gateway_in setup (plain_world setup steps)).endpoints line ≡ Some endpoint →
+        IsTakenOf (fates_of setup line (plain_world setup steps).gateway_took endpoint) endpoint.post.pending
+        (observed_on line (agent_in setup (plain_world setup steps))) }
+    ensures told { (setup : Setup) (line : ℕ) (events : List GatewayEvent) (endpoint : Endpoint) →
+        IsSetUp setup → endpoint_at (plain setup events).endpoints line ≡ Some endpoint →
+        joined (fates_of setup line events endpoint) ≡ told_along (course_of setup line events) }
+    ensures in_order { (setup : Setup) (line : ℕ) (events : List GatewayEvent) (endpoint : Endpoint) (observed : List Observed) →
+        IsSetUp setup → endpoint_at (plain setup events).endpoints line ≡ Some endpoint →
+        (took : IsTakenOf (fates_of setup line events endpoint) endpoint.post.pending observed) →
+        AreAmong (of_telephone (joined (kept_of took.taken))) (done_in (course_of setup line events)) }
 {}
 
 /// Whoever the agent is: behind events that are taken, what a line has in flight began at some moment or later, where that has come, and
