@@ -32,5 +32,6 @@ pub mod StretchCourses
 pub mod FateLemmas
 pub mod FateSteps
 pub mod FateCourses
+pub mod FateExampleLemmas
 pub mod Computing
 pub mod WorldComputing

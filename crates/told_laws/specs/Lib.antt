@@ -7,3 +7,4 @@ pub mod WorldExample
 pub mod Premises
 pub mod WorldPremises
 pub mod WalkExample
+pub mod FateExample

@@ -6,6 +6,7 @@
 #![tactic(auto)]
 
 pub mod examples;
+pub mod fate_examples;
 pub mod laws;
 pub mod premise_examples;
 pub mod premise_worlds;
