@@ -67,6 +67,7 @@ pub mod UnservedRoom
 pub mod UnservedSends
 pub mod EachLine
 pub mod NextDue
+mod RoomlessMachine
 mod RoomlessRounds
 mod RoomlessTicks
 mod RoomlessLine

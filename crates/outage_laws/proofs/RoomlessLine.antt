@@ -40,7 +40,7 @@ use Rattle.call_agent.specs.Hearing.{after, agent_effect, hears}
 use Rattle.agent_core.specs.declared.packet.End.TheVariants.{AgentEnd as agent_end, GatewayEnd as gateway_end}
 use Rattle.agent_core.specs.declared.packet.Posted.{Posted}
 use Rattle.agent_core.specs.World.{World, WorldStep, agent_in, agent_of, delivering, dialling, gateway_address, gateway_in, gateway_refused, now_in, plain_world, posted_as, step_refusal, steps_are_taken, ticking, to_agent, to_gateway, went, world_opening}
-use Rattle.world_laws.specs.Reached.{Reached, key_kept, key_reached, own_in, taken_in}
+use Rattle.world_laws.specs.Reached.{Reached, key_kept, key_reached, taken_in}
 use Rattle.world_laws.proofs.LinkLaws.{Linked, world_linked}
 use Rattle.world_laws.proofs.TakenLaws.{agent_keys}
 use Rattle.delivery_laws.specs.Fairness.{GoesToAgent}
@@ -52,24 +52,25 @@ use Rattle.delivery_laws.proofs.RestLemmas.{begun_both}
 use Rattle.delivery_laws.proofs.StepLemmas.{agent_more, step_more}
 use Rattle.delivery_laws.proofs.WellLemmas.{IsWell, sent_well}
 use Rattle.outage_laws.specs.AfterOutage.{IsFairFrom}
-use Rattle.outage_laws.specs.Roomless.{asked_at_once, base, full_at_once, key_begun, key_message, keyed, pressed, roomless, roomless_given_up, roomless_later, roomless_soon, two_more, untaken_first, untaken_on, untaken_then}
+use Rattle.outage_laws.specs.Roomless.{asked_at_once, full_at_once, key_begun, key_message, keyed, roomless, roomless_given_up, roomless_later, roomless_soon, two_more, untaken_first, untaken_on, untaken_then}
 use Rattle.outage_laws.proofs.OldestServes.{of_stays}
 use Rattle.outage_laws.proofs.PlainArrivals.{come_taken}
-use Rattle.outage_laws.proofs.RoomlessRounds.{IsGoing, IsGone, IsLow, IsOther, Ready, alone, at_now, command_is, delivered_is, delivery_taken, dial_refusal, dialled_is, filled, found_last, from_first, gateway_then, goes_there, gone_on, heard, key_command, key_sent, looks_full, low_other, none_old, own_then, posted_is, taken_on, tells_at_once}
+use Rattle.outage_laws.proofs.RoomlessMachine.{key_sent, pressed, tells}
+use Rattle.outage_laws.proofs.RoomlessRounds.{IsGoing, IsGone, IsLow, IsOther, Ready, alone, at_now, at_once, command_is, delivered_is, delivery_taken, dial_refusal, dialled_is, filled, found_last, from_first, gateway_then, goes_there, gone_on, heard, key_command, looks_full, low_other, none_old, posted_is, taken_on}
 use Rattle.outage_laws.proofs.RoomlessTicks.{text, post_at, posts_of, TickIs, at_1, at_501, tick_501, at_1501, tick_1501, at_2501, tick_2501, at_3501, tick_3501, at_4501, tick_4501, at_5501, tick_5501, at_6501, tick_6501, at_7501, tick_7501, at_8501, tick_8501, at_9501, tick_9501, at_10501, tick_10501, at_11501, tick_11501, at_12501, tick_12501, at_13501, tick_13501, at_14501, tick_14501, at_15501, tick_15501, at_16501, tick_16501, at_17501, tick_17501, at_18501, tick_18501, at_19501, tick_19501, at_20501, tick_20501, at_21501, tick_21501, at_22501, tick_22501, at_23501, tick_23501, quiet_twice, none_posted, may_twice, clock_twice, post_is}
 
 -- The world there
 
-abbrev front : List WorldStep
+abbrev pub front : List WorldStep
 front = keyed asked_at_once 6 4094
 
 abbrev pub w_0 : World
 w_0 = plain_world two_lines front
 
-abbrev a_0 : AgentMachine
+abbrev pub a_0 : AgentMachine
 a_0 = agent_in two_lines w_0
 
-abbrev r : Ready (base asked_at_once) 1 1 from_first 1 front 4095 8194
+abbrev pub r : Ready at_once 1 1 from_first 1 front 4095 8194
 r = filled
 
 abbrev GoneBelow : ℕ → List WorldStep → Type 0
@@ -89,7 +90,6 @@ pub record Stays (steps : List WorldStep) (g : Machine) (t place below : ℕ) (e
   pub going : Each IsGoing (plain_world two_lines steps).posted
   pub gone : GoneBelow below steps
   pub took : (plain_world two_lines steps).gateway_took ≡ w_0.gateway_took ++ events
-  pub began : length (own_in two_lines (plain_world two_lines steps)) ≡ 4097
 
 pub ticked_is : (w : World) (t : ℕ) → went two_lines w (ticking t) ≡ to_agent two_lines (to_gateway two_lines w (tick t)) (hears (tick t))
 unfolding went
@@ -103,18 +103,18 @@ pub tick_may : (w : World) (t : ℕ) → step_refusal two_lines w (ticking t) �
 unfolding step_refusal refusal_of
 tick_may w t = refl
 
-found_front : (xs ys : List Posted) (number : ℕ) → number < length xs → slice_get (xs ++ ys) number ≡ slice_get xs number
+pub found_front : (xs ys : List Posted) (number : ℕ) → number < length xs → slice_get (xs ++ ys) number ≡ slice_get xs number
 found_front [] ys number less = absurd (omega (arith, less))
 found_front (x ∷ xs) ys zero less = refl
 found_front (x ∷ xs) ys (suc number) less = found_front xs ys number (omega (arith, less))
 
-below_length : (number below place len : ℕ) → number < below → below ≤ place → len ≡ place → number < len
+pub below_length : (number below place len : ℕ) → number < below → below ≤ place → len ≡ place → number < len
 below_length number below place len less low same = omega (arith, less, low, same)
 
 more_place : (below place many : ℕ) → below ≤ place → below ≤ place + many
 more_place below place many low = omega (arith, low)
 
-tick_on : (steps : List WorldStep) (g : Machine) (now t place below : ℕ) (events : List GatewayEvent) (posts : List Posted) → Stays steps g now place below events → tick_refusal now t ≡ None
+pub tick_on : (steps : List WorldStep) (g : Machine) (now t place below : ℕ) (events : List GatewayEvent) (posts : List Posted) → Stays steps g now place below events → tick_refusal now t ≡ None
     → Each IsGoing posts → TickIs g t posts → Stays (steps ++ ticking t ∷ []) (effect two_lines g (tick t)).value t (place + length posts) below (events ++ tick t ∷ [])
 tick_on steps g now t place below events posts s may going is = record {
   taken = taken_on steps (ticking t) s.taken
@@ -133,9 +133,6 @@ tick_on steps g now t place below events posts s may going is = record {
       (s.gone number post
       (sym (found_front w.posted posts number (below_length number below place (length w.posted) less s.low s.posts)) ∙ ap (λ (x : List Posted). slice_get x number) (sym posted_is_so) ∙ found) less);
   took = ap (λ (x : World). x.gateway_took) w_is ∙ ap (λ (x : List GatewayEvent). x ++ tick t ∷ []) s.took ∙ append_assoc w_0.gateway_took events (tick t ∷ []);
-  began = ap (λ (x : World). length (own_in two_lines x)) w_is ∙ ap length (own_then w (tick t))
-      ∙ ap (λ (m : Machine). length (own_in two_lines w ++ begun_in (effect two_lines m (tick t)).sent)) s.gateway
-      ∙ ap (λ (x : List Begun). length (own_in two_lines w ++ x)) is.begins ∙ ap length (append-nil (own_in two_lines w)) ∙ s.began;
 } where
   w : World
   w = plain_world two_lines steps
@@ -159,7 +156,7 @@ tick_on steps g now t place below events posts s may going is = record {
 
 -- The text, as it went out first
 
-abbrev key : GatewayEvent
+abbrev pub key : GatewayEvent
 key = phone 1 (Key Five)
 
 abbrev s_1 : List WorldStep
@@ -169,7 +166,7 @@ one_is : plain_world two_lines s_1 ≡ to_gateway two_lines w_0 key
 one_is = step_more two_lines front (dialling 1 (Key Five)) ∙ dialled_is w_0
 
 sent_one : (effect two_lines (gateway_in two_lines w_0) key).sent ≡ key_sent 1 4095 ∷ []
-sent_one = ap (λ (m : Machine). (effect two_lines m key).sent) r.gateway ∙ tells_at_once.sends 4095
+sent_one = ap (λ (m : Machine). (effect two_lines m key).sent) r.gateway ∙ (tells 1 2).sends 4095
 
 linked : Linked two_lines w_0
 linked = world_linked two_lines front two_lines_set_up r.taken
@@ -208,7 +205,7 @@ this_or_before : (number place : ℕ) → number < place + 1 → (place < suc nu
 this_or_before number place less more = omega (arith, less, more)
 
 -- the last packet is handed over as it was sent, and isn't taken
-deliver_on : (steps : List WorldStep) (g : Machine) (t place : ℕ) (events : List GatewayEvent) → Stays steps g t (place + 1) place events
+pub deliver_on : (steps : List WorldStep) (g : Machine) (t place : ℕ) (events : List GatewayEvent) → Stays steps g t (place + 1) place events
     → slice_get (plain_world two_lines steps).posted place ≡ Some (post_at t) → t < 1 + 30000 → Stays (steps ++ delivering place ∷ []) g t (place + 1) (place + 1) events
 deliver_on steps g t place events s last soon = record {
   taken = taken_on steps (delivering place) s.taken (delivery_taken w place (post_at t) t last clock_is (none_old t));
@@ -223,7 +220,6 @@ deliver_on steps g t place events s last soon = record {
   going = subst (Each IsGoing) (sym posted_is_so) s.going;
   gone = λ number post found less. by_test number post (ap (λ (x : List Posted). slice_get x number) (sym posted_is_so) ∙ found) less (nat_le (suc number) place) refl;
   took = ap (λ (x : World). x.gateway_took) w_is ∙ s.took;
-  began = ap (λ (x : World). length (own_in two_lines x)) w_is ∙ s.began;
 } where
   w : World
   w = plain_world two_lines steps
@@ -272,7 +268,7 @@ deliver_on steps g t place events s last soon = record {
       subst (λ (n : ℕ). IsGone (steps ++ delivering place ∷ []) n post) (sym is)
       (subst (IsGone (steps ++ delivering place ∷ []) place) (same_post (post_at t) post (sym last ∙ ap (slice_get w.posted) (sym is) ∙ found)) mine)
 
-silent : (steps : List WorldStep) (g : Machine) (now t place : ℕ) (events : List GatewayEvent) → Stays steps g now place place events → tick_refusal now t ≡ None → TickIs g t []
+pub silent : (steps : List WorldStep) (g : Machine) (now t place : ℕ) (events : List GatewayEvent) → Stays steps g now place place events → tick_refusal now t ≡ None → TickIs g t []
     → Stays (steps ++ ticking t ∷ []) (effect two_lines g (tick t)).value t place place (events ++ tick t ∷ [])
 silent steps g now t place events s may is = subst (λ (p : ℕ). Stays (steps ++ ticking t ∷ []) (effect two_lines g (tick t)).value t p place (events ++ tick t ∷ [])) (none_more place) (tick_on steps g now t place place events [] s may tt is) where
   none_more : (x : ℕ) → x + 0 ≡ x
@@ -313,12 +309,12 @@ posted_one =
     ∙ ap (λ (sent : List Sent). w_0.posted ++ map (posted_as gateway_end (gateway_address two_lines)) (put_out sent)) sent_one
     ∙ ap (λ (posts : List Posted). w_0.posted ++ posts) (posted_is 1 4095) ∙ ap (λ (post : Posted). w_0.posted ++ post ∷ []) post_is
 
-stays_1 : Stays s_1 (pressed (base asked_at_once) 4095).value 1 8195 8194 (key ∷ [])
+stays_1 : Stays s_1 (pressed at_once 4095).value 1 8195 8194 (key ∷ [])
 stays_1 = record {
   taken = taken_on front (dialling 1 (Key Five)) r.taken
-      (dial_refusal w_0 ∙ ap (λ (m : Machine). gateway_refused (refusal_of m key)) r.gateway ∙ ap gateway_refused (tells_at_once.may 4095));
+      (dial_refusal w_0 ∙ ap (λ (m : Machine). gateway_refused (refusal_of m key)) r.gateway ∙ ap gateway_refused ((tells 1 2).may 4095));
   gateway = ap (gateway_in two_lines) one_is ∙ gateway_then w_0 key ∙ ap (λ (m : Machine). (effect two_lines m key).value) r.gateway;
-  clock = tells_at_once.clock 4095;
+  clock = (tells 1 2).clock 4095;
   agent_now = ap (λ (x : World). (agent_in two_lines x).now) one_is ∙ r.now;
   flights = ap (λ (x : World). (agent_in two_lines x).flights) one_is ∙ r.flights;
   kept = ap (λ (x : World). (agent_in two_lines x).history) one_is;
@@ -332,12 +328,10 @@ stays_1 = record {
       (sym (found_front w_0.posted (post_at 1 ∷ []) number (below_length number 8194 8194 (length w_0.posted) less (omega arith) r.posts)) ∙ ap (λ (x : List Posted). slice_get x number) (sym posted_one) ∙ found)
       (omega arith));
   took = ap (λ (x : World). x.gateway_took) one_is;
-  began = ap (λ (x : World). length (own_in two_lines x)) one_is ∙ ap length (own_then w_0 key) ∙ ap (λ (sent : List Sent). length (own_in two_lines w_0 ++ begun_in sent)) sent_one
-      ∙ length-append (own_in two_lines w_0) (key_begun 1 4095 ∷ []) ∙ ap (λ (x : ℕ). x + 1) r.began;
 }
 
-stays_2 : Stays (s_1 ++ delivering 8194 ∷ []) (pressed (base asked_at_once) 4095).value 1 8195 8195 (key ∷ [])
-stays_2 = deliver_on s_1 (pressed (base asked_at_once) 4095).value 1 8194 (key ∷ []) stays_1 (ap (λ (x : List Posted). slice_get x 8194) posted_one ∙ found_last w_0.posted (post_at 1) 8194 r.posts) (omega arith)
+stays_2 : Stays (s_1 ++ delivering 8194 ∷ []) (pressed at_once 4095).value 1 8195 8195 (key ∷ [])
+stays_2 = deliver_on s_1 (pressed at_once 4095).value 1 8194 (key ∷ []) stays_1 (ap (λ (x : List Posted). slice_get x 8194) posted_one ∙ found_last w_0.posted (post_at 1) 8194 r.posts) (omega arith)
 
 abbrev s_2 : List WorldStep
 s_2 = s_1 ++ delivering 8194 ∷ []
@@ -373,9 +367,6 @@ stays_0 = record {
   gone = λ number post found less.
       gone_on s_2 (dialling 1 (Key Five) ∷ []) number post (stays_2.gone number post (ap (λ (x : List Posted). slice_get x number) (sym posted_two) ∙ found) less);
   took = ap (λ (x : World). x.gateway_took) two_is ∙ ap (λ (x : List GatewayEvent). x ++ key ∷ []) stays_2.took ∙ append_assoc w_0.gateway_took (key ∷ []) (key ∷ []);
-  began = ap (λ (x : World). length (own_in two_lines x)) two_is ∙ ap length (own_then (plain_world two_lines s_2) key)
-      ∙ ap (λ (sent : List Sent). length (own_in two_lines (plain_world two_lines s_2) ++ begun_in sent)) sent_two
-      ∙ ap length (append-nil (own_in two_lines (plain_world two_lines s_2))) ∙ stays_2.began;
 }
 
 -- Step by step

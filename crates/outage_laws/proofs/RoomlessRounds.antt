@@ -3,8 +3,7 @@ use Rattle.std.proofs.Common.{◌≡◌, ◌++◌, ◌-◌, ◌≤◌, ◌&&◌,
 use Rattle.std.specs.Prelude.{◌⊎◌, IfSome, codes, length, option_map, slice_get, map, nat_lt, is_none}
 use Rattle.std.specs.Option.{option_or}
 use Rattle.std.specs.declared.net.socket_addr.SocketAddrV4.{SocketAddrV4}
-use Rattle.std.proofs.lemmas.Bool.{eq-eqb, lt-ltb, ltb-true, ne_eqb}
-use Rattle.std.proofs.lemmas.Nat.{div-mul-add}
+use Rattle.std.proofs.lemmas.Bool.{lt-ltb, ltb-true, ne_eqb}
 use Rattle.mgcp_text.specs.declared.message.Message.TheVariants as messages
 use Rattle.mgcp_text.specs.Reading.{message}
 use Rattle.mgcp_text.specs.declared.message.Verb.TheVariants.{Ntfy}
@@ -24,12 +23,12 @@ use Rattle.history.specs.Looking.{Found, latest, repeated}
 use Rattle.history.specs.Memory.{is_young, memory_time}
 use Rattle.plain_machine.specs.Event.{phone}
 use Rattle.plain_machine.specs.Refusing.{refusal_of}
-use Rattle.plain_machine.specs.Message.{Sent, command, datagram_of, own_of}
+use Rattle.plain_machine.specs.Message.{Sent, datagram_of}
 use Rattle.machine_laws.proofs.EachLemmas.{Each, each_at}
 use Rattle.call_agent.specs.Taking.{command_of, read_command}
 use Rattle.agent_core.specs.declared.packet.End.TheVariants.{GatewayEnd as gateway_end}
 use Rattle.agent_core.specs.World.{agent_of, gateway_address, is_among, posted_as}
-use Rattle.outage_laws.specs.Roomless.{asked_at_once, base, key_message, keyed, keys, numbered, pressed, key_begun}
+use Rattle.outage_laws.specs.Roomless.{asked_at_once, key_begun, key_message, keyed, keys}
 use Rattle.mgcp_text.specs.Reading.{Outcome, read_text}
 use Rattle.history.specs.Looking.{Looked, new, full, look_of, recalled_from, told_by}
 use Rattle.history.specs.Memory.{most_firsts}
@@ -73,92 +72,20 @@ use Rattle.delivery_laws.proofs.StepLemmas.{agent_more, step_more}
 use Rattle.delivery_laws.proofs.WellLemmas.{IsWell, sent_well}
 use Rattle.std.proofs.lemmas.List.{length-append}
 use Rattle.plain_machine.specs.Answering.{handled}
-use Rattle.plain_machine.specs.Effect.{Effect, silently}
-use Rattle.plain_machine.specs.declared.endpoint.Endpoint.{Endpoint}
-use Rattle.outbound.specs.Flight.{reply_by}
-use Rattle.outbound.specs.declared.reply.Reply.TheVariants.{Stranger}
-use Rattle.restart.specs.Restarting.{heard_of}
-use Rattle.plain_machine.specs.declared.response.Response.{Response}
-use Rattle.plain_machine.specs.Responding.{own_heard, responded, responded_as, responded_on, response_with}
-use Rattle.plain_machine.specs.Machine.{Endpoints, Machine, on_line}
+use Rattle.plain_machine.specs.Effect.{Effect}
+use Rattle.plain_machine.specs.Machine.{Machine}
 use Rattle.plain_machine.specs.Example.{two_lines}
 use Rattle.plain_machine.specs.Packing.{put_out}
-use Rattle.plain_machine.specs.Posting.{id_on, numbers, line_of_id}
+use Rattle.plain_machine.specs.Posting.{id_on}
 use Rattle.transmission.specs.declared.output.OutDatagram.{OutDatagram}
 use Rattle.outage_laws.proofs.Computing.{on_examples}
+use Rattle.outage_laws.proofs.RoomlessMachine.{Tells, answered_as, asked_machine, key_sent, numbered, pressed, tells}
 use Rattle.std.proofs.lemmas.Option.{none-some}
 use Rattle.machine_laws.specs.Saying.{begun_in}
 use Rattle.delivery_laws.specs.Fairness.{IsHandedOver}
 use Rattle.delivery_laws.proofs.RestLemmas.{begun_both}
 use Rattle.outage_laws.specs.AfterOutage.{IsFairFrom}
 use Rattle.outage_laws.proofs.FairFromExamples.{fair_from_is}
-
--- What the gateway does with an answer, by parts that compute
-
-of_first : (n : ℕ) → n < numbers → line_of_id (id_on 1 n) ≡ 1
-of_first n below = div-mul-add 1 numbers n below
-
-not_last : (n : ℕ) → n + 1 < numbers → (n + 1 == numbers) ≡ false
-not_last n below = ne_eqb (n + 1) numbers (λ same. absurd (omega (arith, below, same)))
-
-same_id : (n : ℕ) → (id_on 1 n == id_on 1 n) ≡ true
-same_id n = eq-eqb (id_on 1 n) (id_on 1 n) refl
-
-abbrev ends : Machine → ℕ → Endpoints
-ends machine n = (pressed machine n).value.endpoints
-
-abbrev resp : ℕ → Response
-resp n = response_with two_lines (id_on 1 n) 200 []
-
-abbrev by_answer : Machine → ℕ → ℕ → Bool → Effect Endpoints
-by_answer machine moment n b = on_line (ends machine n) 1 (λ (e : Endpoint). responded_as (heard_of e.post.restart (if b then reply_by 200 else Stranger) 200 None) two_lines 1 moment (resp n) e)
-
-abbrev by_line : Machine → ℕ → ℕ → ℕ → Effect Endpoints
-by_line machine moment n l = if l == 0 then own_heard two_lines (ends machine n) moment (resp n) else on_line (ends machine n) l (responded_on two_lines l moment (resp n))
-
-abbrev by_number : Machine → ℕ → Bool → Effect Endpoints
-by_number machine n b = silently (numbered machine (if b then 0 else n + 1)).endpoints
-
-abbrev Whole : Machine → ℕ → ℕ → Effect Endpoints
-Whole machine moment n = responded two_lines (ends machine n) moment (resp n)
-
-abbrev pub key_sent : ℕ → ℕ → Sent
-key_sent moment n = record { to = at two_lines.agent.route 0; moment = moment; owner = own_of 1; said = command (key_message n) }
-
--- Behind these a key is told at once, under each number; and the answer to that is followed by the next number.
-pub record Tells (machine : Machine) (moment : ℕ) : Type 0 where
-  pub sends : (n : ℕ) → (pressed machine n).sent ≡ key_sent moment n ∷ []
-  pub may : (n : ℕ) → refusal_of (numbered machine n) (phone 1 (Key Five)) ≡ None
-  pub clock : (n : ℕ) → (pressed machine n).value.now ≡ moment
-  pub mine : (n : ℕ) → by_line machine moment n 1 ≡ by_answer machine moment n (id_on 1 n == id_on 1 n)
-  pub next : (n : ℕ) → by_answer machine moment n true ≡ by_number machine n (n + 1 == numbers)
-  pub handles : (n : ℕ) (source : SocketAddrV4) → handled two_lines (pressed machine n).value source (message (messages.Response 200 (id_on 1 n) [] []))
-      ≡ record { value = record (pressed machine n).value { endpoints = (Whole machine moment n).value }; sent = (Whole machine moment n).sent }
-  pub restored : (n : ℕ) → record (pressed machine n).value { endpoints = (numbered machine (n + 1)).endpoints } ≡ numbered machine (n + 1)
-
-pub tells_at_once : Tells (base asked_at_once) 1
-unfolding on_examples
-tells_at_once = record {
-  sends = λ n. refl;
-  may = λ n. refl;
-  clock = λ n. refl;
-  mine = λ n. refl;
-  next = λ n. refl;
-  handles = λ n source. refl;
-  restored = λ n. refl;
-}
-
-module _ (machine : Machine) (moment : ℕ) (t : Tells machine moment) where
-  ends_then : (n : ℕ) → n + 1 < numbers → Whole machine moment n ≡ silently (numbered machine (n + 1)).endpoints
-  ends_then n below =
-      ap (by_line machine moment n) (of_first n (omega (arith, below))) ∙ t.mine n ∙ ap (by_answer machine moment n) (same_id n) ∙ t.next n ∙ ap (by_number machine n) (not_last n below)
-
-  answered_as : (n : ℕ) (source : SocketAddrV4) → n + 1 < numbers
-      → handled two_lines (pressed machine n).value source (message (messages.Response 200 (id_on 1 n) [] [])) ≡ silently (numbered machine (n + 1))
-  answered_as n source below =
-      t.handles n source
-      ∙ ap (λ (is : Effect Endpoints). (record { value = record (pressed machine n).value { endpoints = is.value }; sent = is.sent })) (ends_then n below)
-      ∙ ap (λ (m : Machine). silently m) (t.restored n)
 
 -- What is sent, and read
 
@@ -673,7 +600,11 @@ module _ (machine : Machine) (moment least : ℕ) (from : ℕ → ℕ) (more : �
 abbrev pub from_first : ℕ → ℕ
 from_first number = 0
 
-first_ready : Ready (base asked_at_once) 1 1 from_first 1 asked_at_once 1 6
+-- the gateway behind the request
+abbrev pub at_once : Machine
+at_once = asked_machine 1 2
+
+pub first_ready : Ready at_once 1 1 from_first 1 asked_at_once 1 6
 unfolding on_examples
 first_ready = record {
   taken = refl;
@@ -683,7 +614,7 @@ first_ready = record {
   low = (tt, ((omega arith, omega arith, refl), (tt, ((omega arith, omega arith, refl), tt))));
   count = refl;
   posts = refl;
-  going = ((λ from. refl), ((λ from. absurd cc), ((λ from. refl), ((λ from. absurd cc), ((λ from. absurd cc), ((λ from. refl), tt))))));
+  going = ((λ from. refl), ((λ from. absurd cc), ((λ from. absurd cc), ((λ from. refl), ((λ from. refl), ((λ from. absurd cc), tt))))));
   gone = gone_of asked_at_once 1 from_first 0 refl (omega arith, (omega arith, (omega arith, (omega arith, (omega arith, (omega arith, tt))))))
       ((λ late. late), ((λ late. late), ((λ late. late), ((λ late. late), ((λ late. late), ((λ late. late), tt)))))) (fair_from_is two_lines asked_at_once 0 0 refl);
   began = refl;
@@ -732,5 +663,5 @@ module _ (front : List WorldStep) (machine : Machine) (moment least : ℕ) (from
 
 -- 4,096 commands are taken
 
-pub filled : Ready (base asked_at_once) 1 1 from_first 1 (keyed asked_at_once 6 4094) 4095 8194
-filled = ready asked_at_once (base asked_at_once) 1 1 from_first 1 6 (omega arith) tells_at_once first_ready 4094 (omega arith)
+pub filled : Ready at_once 1 1 from_first 1 (keyed asked_at_once 6 4094) 4095 8194
+filled = ready asked_at_once at_once 1 1 from_first 1 6 (omega arith) (tells 1 2) first_ready 4094 (omega arith)

@@ -6,24 +6,21 @@ use Rattle.mgcp_text.specs.declared.message.Verb.TheVariants.{Ntfy}
 use Rattle.mgcp_text.specs.Writing.{written}
 use Rattle.mg_line.specs.declared.phone.Act.TheVariants.{Key, OffHook}
 use Rattle.mg_line.specs.declared.phone.Key.TheVariants.{Five}
-use Rattle.plain_machine.specs.declared.endpoint.Endpoint.{Endpoint}
-use Rattle.plain_machine.specs.Example.{two_lines}
-use Rattle.plain_machine.specs.Event.{GatewayEvent, phone, tick}
-use Rattle.plain_machine.specs.Effect.{Effect}
-use Rattle.plain_machine.specs.Happening.{effect}
-use Rattle.plain_machine.specs.Machine.{Machine}
+use Rattle.plain_machine.specs.Event.{GatewayEvent, tick}
 use Rattle.plain_machine.specs.Posting.{id_on}
 use Rattle.machine_laws.specs.Saying.{Begun}
-use Rattle.agent_core.specs.World.{WorldStep, delivering, dialling, gateway_in, issuing, plain_world, ticking}
+use Rattle.agent_core.specs.World.{WorldStep, delivering, dialling, issuing, ticking}
 use Rattle.world_laws.specs.Example.{announced}
 
--- the agent asks line 1 for each key, again and again
-abbrev pub asks_for_keys : WorldStep
-asks_for_keys = issuing (codes "RQNT") (codes "aaln/1@rgw.example.net") (codes "X: C2\r\nR: D/[0-9*#](N)\r\nQ: loop\r\n")
+-- the agent asks line 1 for all that its telephone does, again and again
+abbrev pub asks_in_loop : WorldStep
+asks_in_loop =
+    issuing (codes "RQNT") (codes "aaln/1@rgw.example.net")
+    (codes "X: C2\r\nR: L/hd(N),L/hu(N),L/hf(N),D/[0-9*#ABCD](N)\r\nQ: loop\r\n")
 
--- line 1 is lifted, and tells that, packet 2, which is answered, packet 3; it is asked, packet 4, and accepts that, packet 5
+-- line 1 is asked, packet 2, and accepts that, packet 3; it is lifted, and tells that, packet 4, which is answered, packet 5
 abbrev pub asked_at_once : List WorldStep
-asked_at_once = announced ++ dialling 1 OffHook ∷ delivering 2 ∷ delivering 3 ∷ asks_for_keys ∷ delivering 4 ∷ delivering 5 ∷ []
+asked_at_once = announced ++ asks_in_loop ∷ delivering 2 ∷ delivering 3 ∷ dialling 1 OffHook ∷ delivering 4 ∷ delivering 5 ∷ []
 
 -- so many keys, each with its notification, which is handed over at once, as its answer is; the first has the packet with this number
 unfoldable pub keys : ℕ → ℕ → List WorldStep
@@ -32,21 +29,6 @@ keys place (suc k) = keys place k ++ dialling 1 (Key Five) ∷ delivering (place
 
 abbrev pub keyed : List WorldStep → ℕ → ℕ → List WorldStep
 keyed front place k = front ++ keys place k
-
--- the gateway behind these
-abbrev pub base : List WorldStep → Machine
-base front = gateway_in two_lines (plain_world two_lines front)
-
--- a gateway, where the next number of line 1 is this; and once the key is pressed
-abbrev pub numbered_first : ℕ → List Endpoint → List Endpoint
-numbered_first number [] = []
-numbered_first number (one ∷ others) = record one { post = record one.post { number = number } } ∷ others
-
-abbrev pub numbered : Machine → ℕ → Machine
-numbered m number = record m { endpoints = record m.endpoints { list = numbered_first number m.endpoints.list } }
-
-abbrev pub pressed : Machine → ℕ → Effect Machine
-pressed m number = effect two_lines (numbered m number) (phone 1 (Key Five))
 
 -- the notification of one key, under this number
 abbrev pub key_message : ℕ → Message
@@ -101,7 +83,3 @@ ticks_then =
 
 abbrev pub ticks_on : List GatewayEvent
 ticks_on = tick 21501 ∷ tick 22501 ∷ []
-
--- the gateway behind both keys
-abbrev pub twice_pressed : Machine
-twice_pressed = (effect two_lines (pressed (base asked_at_once) 4095).value (phone 1 (Key Five))).value
