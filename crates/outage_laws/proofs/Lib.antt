@@ -73,3 +73,7 @@ mod RoomlessTicks
 mod RoomlessLine
 mod RoomlessHeld
 mod RoomlessFull
+mod RoomlessSteps
+mod RoomlessAnew
+mod RoomlessLate
+mod RoomlessOwn

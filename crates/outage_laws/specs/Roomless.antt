@@ -10,7 +10,7 @@ use Rattle.plain_machine.specs.Event.{GatewayEvent, tick}
 use Rattle.plain_machine.specs.Posting.{id_on}
 use Rattle.machine_laws.specs.Saying.{Begun}
 use Rattle.agent_core.specs.World.{WorldStep, delivering, dialling, issuing, ticking}
-use Rattle.world_laws.specs.Example.{announced}
+use Rattle.world_laws.specs.Example.{announced, seconds}
 
 -- the agent asks line 1 for all that its telephone does, again and again
 abbrev pub asks_in_loop : WorldStep
@@ -83,3 +83,21 @@ ticks_then =
 
 abbrev pub ticks_on : List GatewayEvent
 ticks_on = tick 21501 ∷ tick 22501 ∷ []
+
+-- Of the gateway itself. Its announcement, packets 0 to 7, isn't handed over, and is given up at 23,501; 1 ms later the next one is, packet
+-- 8, and answered, packet 9. Then line 1 is lifted, and tells that, packets 10 and 11, and is asked, packets 12 and 13.
+abbrev pub asked_late : List WorldStep
+asked_late =
+    seconds 24 ++ ticking 23501 ∷ ticking 23502 ∷ delivering 8 ∷ delivering 9 ∷ dialling 1 OffHook ∷ delivering 10 ∷ delivering 11
+    ∷ asks_in_loop ∷ delivering 12 ∷ delivering 13 ∷ []
+
+-- 4,094 keys are told, so that the agent has taken 4,096 commands; then the last copy of the first announcement comes, 4,001 ms behind its
+-- send, and isn't taken
+abbrev pub own_roomless_then : List WorldStep
+own_roomless_then = keyed asked_late 14 4094 ++ delivering 7 ∷ []
+
+-- and 8 s pass
+abbrev pub own_roomless : List WorldStep
+own_roomless =
+    own_roomless_then ++ ticking 24502 ∷ ticking 25502 ∷ ticking 26502 ∷ ticking 27502 ∷ ticking 28502 ∷ ticking 29502 ∷ ticking 30502
+    ∷ ticking 31502 ∷ []

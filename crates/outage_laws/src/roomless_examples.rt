@@ -8,10 +8,10 @@ ghost use Rattle.plain_machine.specs.Lists.{plain, sent_from};
 ghost use Rattle.plain_machine.specs.Machine.{serves};
 ghost use Rattle.machine_laws.specs.Belonging.{of_line};
 ghost use Rattle.machine_laws.specs.Saying.{Begun};
-ghost use Rattle.agent_core.specs.World.{now_in};
+ghost use Rattle.agent_core.specs.World.{gateway_in, now_in};
 ghost use Rattle.world_laws.specs.Example.{world};
 ghost use Rattle.world_laws.specs.Reached.{Reached, taken_in};
-ghost use Rattle.delivery_laws.specs.Chances.{chances};
+ghost use Rattle.delivery_laws.specs.Chances.{chances, last_chance};
 ghost use Rattle.delivery_laws.specs.Copies.{IsRun, answer_wait};
 ghost use Rattle.delivery_laws.specs.Course.{course_from};
 ghost use Rattle.delivery_laws.specs.Dialled.{done_in};
@@ -21,11 +21,14 @@ ghost use Rattle.delivery_laws.specs.GivenUp.{has_given_up};
 ghost use Rattle.delivery_laws.specs.OwnChances.{HasCome, IsOfLine};
 ghost use Rattle.delivery_laws.specs.Rounds.{IsAnsweredWithin, IsAskedWithin, rounds_take};
 ghost use Rattle.outage_laws.specs.AfterOutage.{IsFairFrom, IsWell, gap_of, longest_pause, well_by};
+ghost use Rattle.outage_laws.specs.Example.{announcement};
 ghost use Rattle.outage_laws.specs.LinePremises.{held_with, restart_with};
-ghost use Rattle.outage_laws.specs.Roomless.{key_begun, roomless, roomless_given_up, roomless_soon, ticks_on, ticks_then};
+ghost use Rattle.outage_laws.specs.Roomless.{key_begun, own_roomless, roomless, roomless_given_up, roomless_soon, ticks_on, ticks_then};
 
 /// Where the agent has no room: 4,096 commands are young there, taken one behind the other, and the next notification isn't taken, though
-/// each of its copies is handed over at once; nor is it answered. It is given up, and the line has no agent then.
+/// each of its copies is handed over at once; nor is it answered. It is given up, and the line has no agent then. Nor is the last copy of a
+/// gateway's first announcement taken, which is handed over as long behind its send as the network takes, 4,001 ms: as the second one is
+/// answered, and a line tells 4,095 events.
 pub fn else_an_agent_has_no_room()
     ensures run { IsRun two_lines roomless }
     ensures fair { IsFairFrom two_lines roomless 0 0 }
@@ -45,6 +48,16 @@ pub fn else_an_agent_has_no_room()
     ensures in_time { 19500 + 2 * 0 < answer_wait }
     ensures late_too { 0 + answer_wait + two_lines.disconnected_wait + 2 * 0 ≤ 23501 + 1 + 19500 }
     ensures waits { restart_with two_lines roomless_given_up ≡ Waiting 28501 }
+    ensures own_run { IsRun two_lines own_roomless }
+    ensures own_fair { IsFairFrom two_lines own_roomless 19501 4001 }
+    ensures of_the_gateway { IsOfLine two_lines (world own_roomless) 0 announcement }
+    ensures own_since { 19501 ≤ announcement.moment + last_chance }
+    ensures own_now { now_in two_lines (world own_roomless) ≡ 31502 }
+    ensures own_old { announcement.moment + 2 * 4001 ≤ 31502 }
+    ensures own_late { 19501 + longest_pause + 2 * 4001 ≤ 31502 + 1 }
+    ensures own_serving { serves (gateway_in two_lines (world own_roomless)).endpoints ≡ true }
+    ensures own_not_taken { ¬ Any (λ (one : Reached). one.asked.id ≡ announcement.id) (taken_in (world own_roomless)) }
+    ensures own_none_came { ¬ HasCome (world own_roomless) announcement.id }
 {}
 
 /// Before that it waits for its answer for longer than twice the network's time, what was quarantined is quarantined yet, and all isn't

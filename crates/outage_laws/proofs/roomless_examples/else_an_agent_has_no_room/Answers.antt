@@ -8,6 +8,7 @@ use Rattle.machine_laws.proofs.EachLemmas.{any_from_one}
 use Rattle.delivery_laws.specs.Chances.{chances}
 use Rattle.plain_machine.specs.Event.{tick}
 use Rattle.outage_laws.proofs.RoomlessHeld.{late_given_up, late_too, line_waits, now_given_up}
+use Rattle.outage_laws.proofs.RoomlessOwn as own
 use Rattle.outage_laws.proofs.roomless_examples.else_an_agent_has_no_room.Goals as goal
 
 pub returns-clause-run : goal.returns-clause-run
@@ -60,3 +61,33 @@ returns-clause-late_too c = late_too
 
 pub returns-clause-waits : goal.returns-clause-waits
 returns-clause-waits c = line_waits
+
+pub returns-clause-own_run : goal.returns-clause-own_run
+returns-clause-own_run c = own.is_run
+
+pub returns-clause-own_fair : goal.returns-clause-own_fair
+returns-clause-own_fair c = own.is_fair
+
+pub returns-clause-of_the_gateway : goal.returns-clause-of_the_gateway
+returns-clause-of_the_gateway c = own.is_of_line
+
+pub returns-clause-own_since : goal.returns-clause-own_since
+returns-clause-own_since c = omega arith
+
+pub returns-clause-own_now : goal.returns-clause-own_now
+returns-clause-own_now c = own.now_is
+
+pub returns-clause-own_old : goal.returns-clause-own_old
+returns-clause-own_old c = omega arith
+
+pub returns-clause-own_late : goal.returns-clause-own_late
+returns-clause-own_late c = omega arith
+
+pub returns-clause-own_serving : goal.returns-clause-own_serving
+returns-clause-own_serving c = own.serving
+
+pub returns-clause-own_not_taken : goal.returns-clause-own_not_taken
+returns-clause-own_not_taken c = own.not_taken
+
+pub returns-clause-own_none_came : goal.returns-clause-own_none_came
+returns-clause-own_none_came c = own.not_answered
