@@ -77,3 +77,5 @@ mod RoomlessSteps
 mod RoomlessAnew
 mod RoomlessLate
 mod RoomlessOwn
+mod RoomlessRest
+mod RoomlessTold

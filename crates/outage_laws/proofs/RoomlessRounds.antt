@@ -75,6 +75,7 @@ use Rattle.plain_machine.specs.Answering.{handled}
 use Rattle.plain_machine.specs.Effect.{Effect}
 use Rattle.plain_machine.specs.Machine.{Machine}
 use Rattle.plain_machine.specs.Example.{two_lines}
+use Rattle.plain_machine.specs.Lists.{plain}
 use Rattle.plain_machine.specs.Packing.{put_out}
 use Rattle.plain_machine.specs.Posting.{id_on}
 use Rattle.transmission.specs.declared.output.OutDatagram.{OutDatagram}
@@ -82,7 +83,10 @@ use Rattle.outage_laws.proofs.Computing.{on_examples}
 use Rattle.outage_laws.proofs.RoomlessMachine.{Tells, answered_as, asked_machine, key_sent, numbered, pressed, tells}
 use Rattle.std.proofs.lemmas.Option.{none-some}
 use Rattle.machine_laws.specs.Saying.{begun_in}
+use Rattle.delivery_laws.specs.Course.{CourseStep, accepted_at, accepts, acts, course_from, course_in, course_of, notified_in, notifies}
+use Rattle.delivery_laws.specs.Dialled.{AskForAll}
 use Rattle.delivery_laws.specs.Fairness.{IsHandedOver}
+use Rattle.told_laws.proofs.AskedCourses.{course_on}
 use Rattle.delivery_laws.proofs.RestLemmas.{begun_both}
 use Rattle.outage_laws.specs.AfterOutage.{IsFairFrom}
 use Rattle.outage_laws.proofs.FairFromExamples.{fair_from_is}
@@ -335,6 +339,33 @@ gone_of front now from since clock early all fair = λ number post found late.
     (by_now post.packet.moment now (now_in two_lines (plain_world two_lines front))
     (subst (λ (o : Option Posted). IfSome o (λ (p : Posted). p.packet.moment ≤ now)) found
     (each_at (λ (p : Posted). p.packet.moment ≤ now) (plain_world two_lines front).posted number early)) clock)
+
+-- Each request that is accepted asks for all
+
+none_notified : notified_in 1 [] ≡ []
+unfolding on_examples
+none_notified = refl
+
+response_course : (m : Machine) (source : SocketAddrV4) (text : List ℕ) (id : ℕ) → texts_of text ≡ text ∷ [] → read_text text ≡ message (messages.Response 200 id [] [])
+    → (handled two_lines m source (message (messages.Response 200 id [] []))).sent ≡ [] → course_from two_lines m 1 (datagram source text ∷ []) ≡ []
+unfolding course_from course_in
+response_course m source text id one reads quiet =
+    ap (λ (texts : List (List ℕ)). course_in two_lines m 1 source texts ++ []) one
+    ∙ ap (λ (o : Outcome). ((accepted_at two_lines m 1 o ++ notified_in 1 (handled two_lines m source o).sent) ++ []) ++ []) reads
+    ∙ ap (λ (sent : List Sent). ((notified_in 1 sent) ++ []) ++ []) quiet
+    ∙ ap (λ (course : List CourseStep). (course ++ []) ++ []) none_notified
+
+ask_both : (some more : List CourseStep) → AskForAll some → AskForAll more → AskForAll (some ++ more)
+ask_both [] more one two = two
+ask_both (acts act ∷ some) more one two = ask_both some more one two
+ask_both (accepts request ∷ some) more one two = (one.0, ask_both some more one.1 two)
+ask_both (notifies identifier observed ∷ some) more one two = ask_both some more one two
+
+pub asks_more : (some more : List GatewayEvent) → AskForAll (course_of two_lines 1 some) → AskForAll (course_from two_lines (plain two_lines some) 1 more)
+    → AskForAll (course_of two_lines 1 (some ++ more))
+asks_more some more one two =
+    subst AskForAll (sym (course_on two_lines (opening two_lines) 1 some more))
+    (ask_both (course_of two_lines 1 some) (course_from two_lines (plain two_lines some) 1 more) one two)
 
 module _ (machine : Machine) (moment least : ℕ) (from : ℕ → ℕ) (more : ℕ) (low_least : least ≤ 10000000) (t : Tells machine moment) (steps : List WorldStep) (n place : ℕ) (few : n + 1 < most_firsts)
     (r : Ready machine moment least from more steps n place) where
@@ -594,6 +625,32 @@ module _ (machine : Machine) (moment least : ℕ) (from : ℕ → ℕ) (more : �
         ∙ ap (own_in two_lines) two_is ∙ ap (own_in two_lines) one_is ∙ own_then w key
         ∙ ap (λ (sent : List Sent). own_in two_lines w ++ begun_in sent) sent_one
 
+  -- what the gateway took
+
+  abbrev answer : GatewayEvent
+  answer = datagram (at two_lines.agent.route 0) (answer_to (key_command n))
+
+  took_three : (plain_world two_lines three).gateway_took ≡ (w.gateway_took ++ key ∷ []) ++ answer ∷ []
+  took_three =
+      ap (λ (x : World). x.gateway_took) three_is
+      ∙ ap (λ (x : List GatewayEvent). x ++ answer ∷ []) (ap (λ (x : World). x.gateway_took) two_is ∙ ap (λ (x : World). x.gateway_took) one_is)
+
+  pressed_so : plain two_lines (w.gateway_took ++ key ∷ []) ≡ (pressed machine n).value
+  pressed_so = gateway_then w key ∙ ap (λ (m : Machine). (effect two_lines m key).value) r.gateway
+
+  no_course : course_from two_lines (pressed machine n).value 1 (answer ∷ []) ≡ []
+  no_course =
+      response_course (pressed machine n).value (at two_lines.agent.route 0) (answer_to (key_command n)) (id_on 1 n) (alone (answer_to (key_command n)) answer_goes) reads
+      (ap (λ (e : Effect Machine). e.sent) (answered_as machine moment t n (at two_lines.agent.route 0) (omega (arith, few))))
+
+  pub asks_then : AskForAll (course_of two_lines 1 w.gateway_took) → AskForAll (course_from two_lines (numbered machine n) 1 (key ∷ []))
+      → AskForAll (course_of two_lines 1 (plain_world two_lines three).gateway_took)
+  asks_then before at_key =
+      subst (λ (x : List GatewayEvent). AskForAll (course_of two_lines 1 x)) (sym took_three)
+      (asks_more (w.gateway_took ++ key ∷ []) (answer ∷ [])
+      (asks_more w.gateway_took (key ∷ []) before (subst (λ (m : Machine). AskForAll (course_from two_lines m 1 (key ∷ []))) (sym r.gateway) at_key))
+      (subst AskForAll (sym (ap (λ (m : Machine). course_from two_lines m 1 (answer ∷ [])) pressed_so ∙ no_course)) tt))
+
 -- So many keys
 
 -- all packets
@@ -660,6 +717,15 @@ module _ (front : List WorldStep) (machine : Machine) (moment least : ℕ) (from
       (subst (λ (m : ℕ). Ready machine moment least from more (keyed front place (suc k)) m (place + 2 * k + 2)) (number_on k)
       (subst (λ (s : List WorldStep). Ready machine moment least from more s (k + 1 + 1) (place + 2 * k + 2)) (keyed_more k)
       (next_key machine moment least from more low_least t (keyed front place k) (k + 1) (place + 2 * k) (few_on k low) (ready k (low_before k low)))))
+
+  pub asks_ready : AskForAll (course_of two_lines 1 (plain_world two_lines front).gateway_took)
+      → ((n : ℕ) → AskForAll (course_from two_lines (numbered machine n) 1 (phone 1 (Key Five) ∷ []))) → (k : ℕ) → k ≤ 4094
+      → AskForAll (course_of two_lines 1 (plain_world two_lines (keyed front place k)).gateway_took)
+  asks_ready first each zero low = subst (λ (s : List WorldStep). AskForAll (course_of two_lines 1 (plain_world two_lines s).gateway_took)) keyed_none first
+  asks_ready first each (suc k) low =
+      subst (λ (s : List WorldStep). AskForAll (course_of two_lines 1 (plain_world two_lines s).gateway_took)) (keyed_more k)
+      (asks_then machine moment least from more low_least t (keyed front place k) (k + 1) (place + 2 * k) (few_on k low) (ready k (low_before k low))
+      (asks_ready first each k (low_before k low)) (each (k + 1)))
 
 -- 4,096 commands are taken
 

@@ -6,7 +6,7 @@ use Rattle.mgcp_text.specs.declared.message.Verb.TheVariants.{Ntfy}
 use Rattle.mgcp_text.specs.Writing.{written}
 use Rattle.mg_line.specs.declared.phone.Act.TheVariants.{Key, OffHook}
 use Rattle.mg_line.specs.declared.phone.Key.TheVariants.{Five}
-use Rattle.plain_machine.specs.Event.{GatewayEvent, tick}
+use Rattle.plain_machine.specs.Event.{GatewayEvent, phone, tick}
 use Rattle.plain_machine.specs.Posting.{id_on}
 use Rattle.machine_laws.specs.Saying.{Begun}
 use Rattle.agent_core.specs.World.{WorldStep, delivering, dialling, issuing, ticking}
@@ -21,6 +21,10 @@ asks_in_loop =
 -- line 1 is asked, packet 2, and accepts that, packet 3; it is lifted, and tells that, packet 4, which is answered, packet 5
 abbrev pub asked_at_once : List WorldStep
 asked_at_once = announced ++ asks_in_loop ∷ delivering 2 ∷ delivering 3 ∷ dialling 1 OffHook ∷ delivering 4 ∷ delivering 5 ∷ []
+
+-- of these, where it has accepted the request
+abbrev pub asked_first : List WorldStep
+asked_first = announced ++ asks_in_loop ∷ delivering 2 ∷ []
 
 -- so many keys, each with its notification, which is handed over at once, as its answer is; the first has the packet with this number
 unfoldable pub keys : ℕ → ℕ → List WorldStep
@@ -101,3 +105,35 @@ abbrev pub own_roomless : List WorldStep
 own_roomless =
     own_roomless_then ++ ticking 24502 ∷ ticking 25502 ∷ ticking 26502 ∷ ticking 27502 ∷ ticking 28502 ∷ ticking 29502 ∷ ticking 30502
     ∷ ticking 31502 ∷ []
+
+-- Of what is told: the agent has taken 4,096 commands at 1; the line rests for 21 s, in which it gives nothing up; then the next key is
+-- pressed, and its notification, packet 8,194, is handed over at once, and isn't taken; and a ms passes
+
+abbrev pub rest_first : List WorldStep
+rest_first =
+    ticking 1001 ∷ ticking 2001 ∷ ticking 3001 ∷ ticking 4001 ∷ ticking 5001 ∷ ticking 6001 ∷ ticking 7001
+    ∷ ticking 8001 ∷ ticking 9001 ∷ ticking 10001 ∷ []
+
+abbrev pub rest_then : List WorldStep
+rest_then =
+    ticking 11001 ∷ ticking 12001 ∷ ticking 13001 ∷ ticking 14001 ∷ ticking 15001 ∷ ticking 16001 ∷ ticking 17001
+    ∷ ticking 18001 ∷ ticking 19001 ∷ ticking 20001 ∷ ticking 21001 ∷ []
+
+abbrev pub rested_soon : List WorldStep
+rested_soon = keyed asked_at_once 6 4094 ++ rest_first
+
+abbrev pub rested : List WorldStep
+rested = rested_soon ++ rest_then
+
+abbrev pub untold_then : List WorldStep
+untold_then = dialling 1 (Key Five) ∷ delivering 8194 ∷ ticking 21002 ∷ []
+
+abbrev pub untold : List WorldStep
+untold = rested ++ untold_then
+
+-- what the gateway takes behind the rest: up to the key, and then
+abbrev pub key_only : List GatewayEvent
+key_only = phone 1 (Key Five) ∷ []
+
+abbrev pub tick_only : List GatewayEvent
+tick_only = tick 21002 ∷ []

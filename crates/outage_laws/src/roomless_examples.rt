@@ -13,22 +13,26 @@ ghost use Rattle.world_laws.specs.Example.{world};
 ghost use Rattle.world_laws.specs.Reached.{Reached, taken_in};
 ghost use Rattle.delivery_laws.specs.Chances.{chances, last_chance};
 ghost use Rattle.delivery_laws.specs.Copies.{IsRun, answer_wait};
-ghost use Rattle.delivery_laws.specs.Course.{course_from};
-ghost use Rattle.delivery_laws.specs.Dialled.{done_in};
-ghost use Rattle.delivery_laws.specs.Example.{line_with, took_first};
+ghost use Rattle.delivery_laws.specs.Course.{course_from, course_of};
+ghost use Rattle.delivery_laws.specs.Dialled.{IsAskedForAll, done_in, told_along};
+ghost use Rattle.delivery_laws.specs.Example.{line_with, took_between, took_first};
 ghost use Rattle.delivery_laws.specs.Fairness.{GoesToAgent};
 ghost use Rattle.delivery_laws.specs.GivenUp.{has_given_up};
+ghost use Rattle.delivery_laws.specs.Keeping.{happened_in};
 ghost use Rattle.delivery_laws.specs.OwnChances.{HasCome, IsOfLine};
 ghost use Rattle.delivery_laws.specs.Rounds.{IsAnsweredWithin, IsAskedWithin, rounds_take};
+ghost use Rattle.told_laws.specs.Stretch.{AnnouncesNothing, outliving, taken_meanwhile};
 ghost use Rattle.outage_laws.specs.AfterOutage.{IsFairFrom, IsWell, gap_of, longest_pause, well_by};
 ghost use Rattle.outage_laws.specs.Example.{announcement};
 ghost use Rattle.outage_laws.specs.LinePremises.{held_with, restart_with};
-ghost use Rattle.outage_laws.specs.Roomless.{key_begun, own_roomless, roomless, roomless_given_up, roomless_soon, ticks_on, ticks_then};
+ghost use Rattle.outage_laws.specs.Roomless.{asked_first, key_begun, key_only, own_roomless, rested, rested_soon, roomless};
+ghost use Rattle.outage_laws.specs.Roomless.{roomless_given_up, roomless_soon, tick_only, ticks_on, ticks_then, untold};
+ghost use Rattle.outage_laws.specs.ToldSince.{FlightBeganSince, FlightsBeganSince, IsAskedForAllSince, IsToldFrom, IsToldSince};
 
 /// Where the agent has no room: 4,096 commands are young there, taken one behind the other, and the next notification isn't taken, though
 /// each of its copies is handed over at once; nor is it answered. It is given up, and the line has no agent then. Nor is the last copy of a
 /// gateway's first announcement taken, which is handed over as long behind its send as the network takes, 4,001 ms: as the second one is
-/// answered, and a line tells 4,095 events.
+/// answered, and a line tells 4,095 events. And where a line rested for 20 s and gave nothing up, the key that is pressed then isn't told.
 pub fn else_an_agent_has_no_room()
     ensures run { IsRun two_lines roomless }
     ensures fair { IsFairFrom two_lines roomless 0 0 }
@@ -58,10 +62,17 @@ pub fn else_an_agent_has_no_room()
     ensures own_serving { serves (gateway_in two_lines (world own_roomless)).endpoints ≡ true }
     ensures own_not_taken { ¬ Any (λ (one : Reached). one.asked.id ≡ announcement.id) (taken_in (world own_roomless)) }
     ensures own_none_came { ¬ HasCome (world own_roomless) announcement.id }
+    ensures asked_first { took_first untold ≡ took_first asked_first ++ took_between asked_first untold }
+    ensures asked { IsAskedForAll (course_of two_lines 1 (took_first asked_first))
+        (course_from two_lines (plain two_lines (took_first asked_first)) 1 (took_between asked_first untold))
+        (line_with two_lines (took_first untold)).line }
+    ensures not_told { ¬ IsToldSince (line_with two_lines (took_first rested)).post.pending
+        (told_along (course_of two_lines 1 (took_first rested))) (done_in (course_of two_lines 1 (took_first rested ++ key_only)))
+        (taken_meanwhile two_lines 1 (world rested) (world untold)) }
 {}
 
 /// Before that it waits for its answer for longer than twice the network's time, what was quarantined is quarantined yet, and all isn't
-/// well.
+/// well. And where the line rested for 20 s before, in which it gave nothing up, the key that is pressed then isn't told.
 pub fn else_a_quarantine_waits_for_room()
     ensures run { IsRun two_lines roomless }
     ensures fair { IsFairFrom two_lines roomless 0 0 }
@@ -82,4 +93,26 @@ pub fn else_a_quarantine_waits_for_room()
     ensures held { held_with two_lines roomless ≡ 1 }
     ensures done { done_in (course_from two_lines (plain two_lines (took_first roomless_soon)) 1 (ticks_then ++ ticks_on)) ≡ [] }
     ensures not_well { ¬ IsWell two_lines (world roomless) 0 0 }
+    ensures told_fair { IsRun two_lines untold × IsFairFrom two_lines untold 0 0 }
+    ensures told_goes { (line : ℕ) (b : Begun) → IsOfLine two_lines (world untold) line b → GoesToAgent two_lines (world untold) b.text }
+    ensures told_moments { (now_in two_lines (world rested_soon) ≡ 10001) × (now_in two_lines (world rested) ≡ 21001) ×
+        ((plain two_lines (took_first rested ++ key_only)).now ≡ 21001) × (now_in two_lines (world untold) ≡ 21002) }
+    ensures told_late { (well_by two_lines 0 0 ≤ 10001) × (10001 + outliving ≤ 21001) ×
+        (serves (gateway_in two_lines (world rested)).endpoints ≡ true) }
+    ensures told_calm { AnnouncesNothing two_lines 1 (world rested_soon) (world rested) (line_with two_lines (took_first rested)) ×
+        AnnouncesNothing two_lines 1 (world rested) (world untold) (line_with two_lines (took_first untold)) }
+    ensures told_asked { IsAskedForAllSince (line_with two_lines (took_first rested)).line
+        (course_from two_lines (gateway_in two_lines (world rested)) 1 (key_only ++ tick_only))
+        (line_with two_lines (took_first untold)).line }
+    ensures told_split { took_first untold ≡ (took_first rested ++ key_only) ++ tick_only }
+    ensures told_began { FlightBeganSince two_lines (world untold) 0 (line_with two_lines (took_first untold)).post.pending ×
+        FlightsBeganSince two_lines 1 (took_first rested ++ key_only) tick_only 0 }
+    ensures told_waits { IsAskedWithin two_lines 1 (took_first rested ++ key_only) tick_only 0 ×
+        IsAnsweredWithin two_lines 1 (took_first rested ++ key_only) tick_only 1 }
+    ensures told_rests { ((line_with two_lines (took_first rested ++ key_only)).line.quarantined.events ≡ []) ×
+        (done_in (course_from two_lines (plain two_lines (took_first rested ++ key_only)) 1 tick_only) ≡ []) }
+    ensures not_told { ¬ IsToldFrom (line_with two_lines (took_first rested)).post.pending
+        (happened_in (line_with two_lines (took_first rested)).line.quarantined.events ++
+        done_in (course_from two_lines (gateway_in two_lines (world rested)) 1 key_only))
+        (taken_meanwhile two_lines 1 (world rested) (world untold)) }
 {}

@@ -3,6 +3,8 @@ use Rattle.outage_laws.specs.Roomless.{roomless}
 use Rattle.outage_laws.proofs.RoomlessHeld.{asked, calm, done, held_end, held_soon, late_soon, line_serves, not_well, now_end, now_soon, over, serving, took_is, unanswered, well_soon}
 use Rattle.outage_laws.proofs.RoomlessLine.{e_22501, goes, is_fair, roomless_stays}
 use Rattle.outage_laws.proofs.RoomlessTicks.{at_22501}
+use Rattle.outage_laws.specs.Roomless.{untold}
+use Rattle.outage_laws.proofs.RoomlessRest as rest
 use Rattle.outage_laws.proofs.roomless_examples.else_a_quarantine_waits_for_room.Goals as goal
 
 pub returns-clause-run : goal.returns-clause-run
@@ -58,3 +60,36 @@ returns-clause-done c = done
 
 pub returns-clause-not_well : goal.returns-clause-not_well
 returns-clause-not_well c = not_well
+
+pub returns-clause-told_fair : goal.returns-clause-told_fair
+returns-clause-told_fair c = ((two_lines_set_up, rest.untold_stays.taken), is_fair untold rest.at_21002 21002 8195 rest.e_21002 rest.untold_stays)
+
+pub returns-clause-told_goes : goal.returns-clause-told_goes
+returns-clause-told_goes c = λ line b of. goes untold rest.at_21002 21002 8195 rest.e_21002 rest.untold_stays b.text
+
+pub returns-clause-told_moments : goal.returns-clause-told_moments
+returns-clause-told_moments c = (rest.now_soon, rest.now_rested, rest.now_pressed, rest.now_untold)
+
+pub returns-clause-told_late : goal.returns-clause-told_late
+returns-clause-told_late c = (rest.well_soon, rest.long, rest.serving)
+
+pub returns-clause-told_calm : goal.returns-clause-told_calm
+returns-clause-told_calm c = (rest.calm_before, rest.calm_since)
+
+pub returns-clause-told_asked : goal.returns-clause-told_asked
+returns-clause-told_asked c = rest.asked_for_all
+
+pub returns-clause-told_split : goal.returns-clause-told_split
+returns-clause-told_split c = rest.split
+
+pub returns-clause-told_began : goal.returns-clause-told_began
+returns-clause-told_began c = (rest.flew, rest.began)
+
+pub returns-clause-told_waits : goal.returns-clause-told_waits
+returns-clause-told_waits c = (rest.asked, rest.answered)
+
+pub returns-clause-told_rests : goal.returns-clause-told_rests
+returns-clause-told_rests c = (rest.held_then, rest.done_no_more)
+
+pub returns-clause-not_told : goal.returns-clause-not_told
+returns-clause-not_told c = rest.not_told

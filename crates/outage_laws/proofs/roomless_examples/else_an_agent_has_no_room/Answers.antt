@@ -9,6 +9,7 @@ use Rattle.delivery_laws.specs.Chances.{chances}
 use Rattle.plain_machine.specs.Event.{tick}
 use Rattle.outage_laws.proofs.RoomlessHeld.{late_given_up, late_too, line_waits, now_given_up}
 use Rattle.outage_laws.proofs.RoomlessOwn as own
+use Rattle.outage_laws.proofs.RoomlessTold as telling
 use Rattle.outage_laws.proofs.roomless_examples.else_an_agent_has_no_room.Goals as goal
 
 pub returns-clause-run : goal.returns-clause-run
@@ -91,3 +92,12 @@ returns-clause-own_not_taken c = own.not_taken
 
 pub returns-clause-own_none_came : goal.returns-clause-own_none_came
 returns-clause-own_none_came c = own.not_answered
+
+pub returns-clause-asked_first : goal.returns-clause-asked_first
+returns-clause-asked_first c = telling.split_untold
+
+pub returns-clause-asked : goal.returns-clause-asked
+returns-clause-asked c = telling.asked
+
+pub returns-clause-not_told : goal.returns-clause-not_told
+returns-clause-not_told c = telling.not_told_along
