@@ -79,3 +79,4 @@ mod RoomlessLate
 mod RoomlessOwn
 mod RoomlessRest
 mod RoomlessTold
+mod RoomlessEver

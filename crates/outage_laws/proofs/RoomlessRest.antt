@@ -565,7 +565,7 @@ held_then = ap (λ (m : Machine). (line_in m).line.quarantined.events) pressed_i
 
 -- The agent was told nothing
 
-observed_so : (was is : AgentMachine) → is.taken ≡ was.taken → observed_on 1 is ≡ observed_on 1 was
+pub observed_so : (was is : AgentMachine) → is.taken ≡ was.taken → observed_on 1 is ≡ observed_on 1 was
 unfolding on_examples
 observed_so was is same = ap (λ (x : List (List Observed)). observed_on 1 (record was { taken = x })) same
 

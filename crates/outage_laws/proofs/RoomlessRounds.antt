@@ -1,5 +1,5 @@
 -- Key after key is told and taken: by induction, with the number of the line's next command as a variable.
-use Rattle.std.proofs.Common.{◌≡◌, ◌++◌, ◌-◌, ◌≤◌, ◌&&◌, inl, inr, suc, ℕ, ◌+◌, ◌*◌, ◌<◌, ◌==◌, Bool, true, false, [], ◌∷◌, List, Option, Some, None, refl, ap, sym, ◌∙◌, append-nil, append_assoc, zero, arith, if◌then◌else◌, subst}
+use Rattle.std.proofs.Common.{◌||◌, ◌≡◌, ◌++◌, ◌-◌, ◌≤◌, ◌&&◌, inl, inr, suc, ℕ, ◌+◌, ◌*◌, ◌<◌, ◌==◌, Bool, true, false, [], ◌∷◌, List, Option, Some, None, refl, ap, sym, ◌∙◌, append-nil, append_assoc, zero, arith, if◌then◌else◌, subst}
 use Rattle.std.specs.Prelude.{◌⊎◌, IfSome, codes, length, option_map, slice_get, map, nat_lt, is_none}
 use Rattle.std.specs.Option.{option_or}
 use Rattle.std.specs.declared.net.socket_addr.SocketAddrV4.{SocketAddrV4}
@@ -86,6 +86,10 @@ use Rattle.machine_laws.specs.Saying.{begun_in}
 use Rattle.delivery_laws.specs.Course.{CourseStep, accepted_at, accepts, acts, course_from, course_in, course_of, notified_in, notifies}
 use Rattle.delivery_laws.specs.Dialled.{AskForAll}
 use Rattle.delivery_laws.specs.Fairness.{IsHandedOver}
+use Rattle.delivery_laws.specs.GivenUp.{announces}
+use Rattle.machine_laws.specs.Belonging.{of_line}
+use Rattle.machine_laws.proofs.OwningLemmas.{of_both}
+use Rattle.std.specs.List.{list_any}
 use Rattle.told_laws.proofs.AskedCourses.{course_on}
 use Rattle.delivery_laws.proofs.RestLemmas.{begun_both}
 use Rattle.outage_laws.specs.AfterOutage.{IsFairFrom}
@@ -366,6 +370,32 @@ pub asks_more : (some more : List GatewayEvent) → AskForAll (course_of two_lin
 asks_more some more one two =
     subst AskForAll (sym (course_on two_lines (opening two_lines) 1 some more))
     (ask_both (course_of two_lines 1 some) (course_from two_lines (plain two_lines some) 1 more) one two)
+
+-- Line 1 announces nothing
+
+abbrev pub has_announced : List Sent → Bool
+has_announced sent = list_any (λ (one : Sent). announces one.said) (of_line 1 sent)
+
+any_both : (some more : List Sent) → list_any (λ (one : Sent). announces one.said) some ≡ false → list_any (λ (one : Sent). announces one.said) more ≡ false
+    → list_any (λ (one : Sent). announces one.said) (some ++ more) ≡ false
+any_both [] more none others = others
+any_both (x ∷ some) more none others = by_head (announces x.said) none (λ last. any_both some more last others) where
+  by_head : (b : Bool) → (b || list_any (λ (one : Sent). announces one.said) some) ≡ false
+      → (list_any (λ (one : Sent). announces one.said) some ≡ false → list_any (λ (one : Sent). announces one.said) (some ++ more) ≡ false)
+      → (b || list_any (λ (one : Sent). announces one.said) (some ++ more)) ≡ false
+  by_head true is last = absurd cc
+  by_head false is last = last is
+
+pub announced_both : (some more : List Sent) → has_announced some ≡ false → has_announced more ≡ false → has_announced (some ++ more) ≡ false
+announced_both some more none others = ap (list_any (λ (one : Sent). announces one.said)) (of_both 1 some more) ∙ any_both (of_line 1 some) (of_line 1 more) none others
+
+key_announces : (moment n : ℕ) → has_announced (key_sent moment n ∷ []) ≡ false
+unfolding on_examples
+key_announces moment n = refl
+
+none_announces : has_announced [] ≡ false
+unfolding on_examples
+none_announces = refl
 
 module _ (machine : Machine) (moment least : ℕ) (from : ℕ → ℕ) (more : ℕ) (low_least : least ≤ 10000000) (t : Tells machine moment) (steps : List WorldStep) (n place : ℕ) (few : n + 1 < most_firsts)
     (r : Ready machine moment least from more steps n place) where
@@ -651,6 +681,22 @@ module _ (machine : Machine) (moment least : ℕ) (from : ℕ → ℕ) (more : �
       (asks_more w.gateway_took (key ∷ []) before (subst (λ (m : Machine). AskForAll (course_from two_lines m 1 (key ∷ []))) (sym r.gateway) at_key))
       (subst AskForAll (sym (ap (λ (m : Machine). course_from two_lines m 1 (answer ∷ [])) pressed_so ∙ no_course)) tt))
 
+  -- what it sent
+
+  sent_three : sent_of two_lines (plain_world two_lines three).gateway_took ≡ (sent_of two_lines w.gateway_took ++ key_sent moment n ∷ []) ++ []
+  sent_three =
+      ap (λ (x : List GatewayEvent). sent_of two_lines x) took_three ∙ sent_more two_lines (opening two_lines) (w.gateway_took ++ key ∷ []) answer
+      ∙ ap (λ (x : List Sent). x ++ (effect two_lines (plain two_lines (w.gateway_took ++ key ∷ [])) answer).sent)
+      (sent_more two_lines (opening two_lines) w.gateway_took key ∙ ap (λ (x : List Sent). sent_of two_lines w.gateway_took ++ x) sent_one)
+      ∙ ap (λ (m : Machine). (sent_of two_lines w.gateway_took ++ key_sent moment n ∷ []) ++ (effect two_lines m answer).sent) pressed_so
+      ∙ ap (λ (e : Effect Machine). (sent_of two_lines w.gateway_took ++ key_sent moment n ∷ []) ++ e.sent) effect_three
+
+  pub quiet_then : has_announced (sent_of two_lines w.gateway_took) ≡ false → has_announced (sent_of two_lines (plain_world two_lines three).gateway_took) ≡ false
+  quiet_then before =
+      ap has_announced sent_three
+      ∙ announced_both (sent_of two_lines w.gateway_took ++ key_sent moment n ∷ []) []
+      (announced_both (sent_of two_lines w.gateway_took) (key_sent moment n ∷ []) before (key_announces moment n)) none_announces
+
 -- So many keys
 
 -- all packets
@@ -726,6 +772,13 @@ module _ (front : List WorldStep) (machine : Machine) (moment least : ℕ) (from
       subst (λ (s : List WorldStep). AskForAll (course_of two_lines 1 (plain_world two_lines s).gateway_took)) (keyed_more k)
       (asks_then machine moment least from more low_least t (keyed front place k) (k + 1) (place + 2 * k) (few_on k low) (ready k (low_before k low))
       (asks_ready first each k (low_before k low)) (each (k + 1)))
+
+  pub quiet_ready : has_announced (sent_of two_lines (plain_world two_lines front).gateway_took) ≡ false → (k : ℕ) → k ≤ 4094
+      → has_announced (sent_of two_lines (plain_world two_lines (keyed front place k)).gateway_took) ≡ false
+  quiet_ready first zero low = subst (λ (s : List WorldStep). has_announced (sent_of two_lines (plain_world two_lines s).gateway_took) ≡ false) keyed_none first
+  quiet_ready first (suc k) low =
+      subst (λ (s : List WorldStep). has_announced (sent_of two_lines (plain_world two_lines s).gateway_took) ≡ false) (keyed_more k)
+      (quiet_then machine moment least from more low_least t (keyed front place k) (k + 1) (place + 2 * k) (few_on k low) (ready k (low_before k low)) (quiet_ready first k (low_before k low)))
 
 -- 4,096 commands are taken
 

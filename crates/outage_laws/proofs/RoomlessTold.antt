@@ -66,7 +66,7 @@ asks_untold =
 
 -- It was asked before anything was done
 
-abbrev line_in : Machine → Endpoint
+abbrev pub line_in : Machine → Endpoint
 line_in m = unwrap_or (endpoint_at m.endpoints 1) (opening_endpoint two_lines 1)
 
 undone_first : done_in (course_of two_lines 1 (took_first asked_first)) ≡ []
@@ -99,7 +99,7 @@ none_lost_since : (line_in at_21002).line.quarantined.lost ≡ 0
 unfolding on_examples
 none_lost_since = refl
 
-asked_then : IsAskedForAll (course_of two_lines 1 (took_first asked_first)) (course_from two_lines (plain two_lines (took_first asked_first)) 1 (took_between asked_first rested))
+pub asked_then : IsAskedForAll (course_of two_lines 1 (took_first asked_first)) (course_from two_lines (plain two_lines (took_first asked_first)) 1 (took_between asked_first rested))
     (line_with two_lines (took_first rested)).line
 asked_then = record {
   undone = undone_first;
@@ -129,7 +129,7 @@ line_there : endpoint_at (rest_at 21001).endpoints 1 ≡ Some (line_in (rest_at 
 unfolding on_examples
 line_there = refl
 
-at_rest : endpoint_at (plain two_lines (took_first rested)).endpoints 1 ≡ Some (line_with two_lines (took_first rested))
+pub at_rest : endpoint_at (plain two_lines (took_first rested)).endpoints 1 ≡ Some (line_with two_lines (took_first rested))
 at_rest = ap (λ (m : Machine). endpoint_at m.endpoints 1) rested_stays.gateway ∙ line_there ∙ sym (ap (λ (m : Machine). Some (line_in m)) rested_stays.gateway)
 
 once : IsToldOnce (course_of two_lines 1 (took_first rested)) (line_with two_lines (took_first rested)).line
@@ -138,16 +138,16 @@ once =
     (course_told two_lines 1 (took_first asked_first) (took_between asked_first rested) (line_with two_lines (took_first rested))
     (ap (λ (x : List GatewayEvent). endpoint_at (plain two_lines x).endpoints 1) (sym split_rested) ∙ at_rest) asked_then)
 
-abbrev told_before : List Observed
+abbrev pub told_before : List Observed
 told_before = happened_in (told_along (course_of two_lines 1 (took_first rested)))
 
-all_told : done_in (course_of two_lines 1 (took_first rested)) ≡ told_before
+pub all_told : done_in (course_of two_lines 1 (took_first rested)) ≡ told_before
 all_told = once ∙ ap (λ (x : List Observed). told_before ++ happened_in x) held_none ∙ append-nil told_before
 
-abbrev five : Observed
+abbrev pub five : Observed
 five = observed_at (Key Five)
 
-done_then : done_in (course_of two_lines 1 (took_first rested ++ key_only)) ≡ told_before ++ five ∷ []
+pub done_then : done_in (course_of two_lines 1 (took_first rested ++ key_only)) ≡ told_before ++ five ∷ []
 done_then =
     ap done_in (course_on two_lines (opening two_lines) 1 (took_first rested) key_only)
     ∙ done_both (course_of two_lines 1 (took_first rested)) (course_from two_lines (plain two_lines (took_first rested)) 1 key_only)

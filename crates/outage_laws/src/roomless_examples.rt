@@ -1,14 +1,16 @@
 //! Worked examples of an agent that has no room: in worlds where all else is as the laws ask, and 4,096 commands are young at the agent, a
 //! command isn't taken nor answered, and what follows of that isn't so.
 
-ghost use Rattle.std.specs.Prelude.{◌≡◌, ◌≤◌, ◌<◌, ◌+◌, ◌*◌, ◌++◌, [], ℕ, Any, true, false};
+ghost use Rattle.std.specs.Prelude.{◌≡◌, ◌≤◌, ◌<◌, ◌+◌, ◌*◌, ◌++◌, [], ℕ, List, Any, true, false};
+ghost use Rattle.event_values.specs.declared.observed.Observed.{Observed};
 ghost use Rattle.restart.specs.declared.restart.Restart.TheVariants.{Serving, Waiting};
 ghost use Rattle.plain_machine.specs.Example.{two_lines};
-ghost use Rattle.plain_machine.specs.Lists.{plain, sent_from};
+ghost use Rattle.plain_machine.specs.Lists.{plain, sent_from, sent_of};
 ghost use Rattle.plain_machine.specs.Machine.{serves};
 ghost use Rattle.machine_laws.specs.Belonging.{of_line};
 ghost use Rattle.machine_laws.specs.Saying.{Begun};
-ghost use Rattle.agent_core.specs.World.{gateway_in, now_in};
+ghost use Rattle.call_agent.specs.Agent.{observed_on};
+ghost use Rattle.agent_core.specs.World.{agent_in, gateway_in, now_in};
 ghost use Rattle.world_laws.specs.Example.{world};
 ghost use Rattle.world_laws.specs.Reached.{Reached, taken_in};
 ghost use Rattle.delivery_laws.specs.Chances.{chances, last_chance};
@@ -16,7 +18,7 @@ ghost use Rattle.delivery_laws.specs.Copies.{IsRun, answer_wait};
 ghost use Rattle.delivery_laws.specs.Course.{course_from, course_of};
 ghost use Rattle.delivery_laws.specs.Dialled.{IsAskedForAll, done_in, told_along};
 ghost use Rattle.delivery_laws.specs.Example.{line_with, took_between, took_first};
-ghost use Rattle.delivery_laws.specs.Fairness.{GoesToAgent};
+ghost use Rattle.delivery_laws.specs.Fairness.{GoesToAgent, IsFair, ReachTheAgent};
 ghost use Rattle.delivery_laws.specs.GivenUp.{has_given_up};
 ghost use Rattle.delivery_laws.specs.Keeping.{happened_in};
 ghost use Rattle.delivery_laws.specs.OwnChances.{HasCome, IsOfLine};
@@ -24,6 +26,7 @@ ghost use Rattle.delivery_laws.specs.Rounds.{IsAnsweredWithin, IsAskedWithin, ro
 ghost use Rattle.told_laws.specs.Stretch.{AnnouncesNothing, outliving, taken_meanwhile};
 ghost use Rattle.outage_laws.specs.AfterOutage.{IsFairFrom, IsWell, gap_of, longest_pause, well_by};
 ghost use Rattle.outage_laws.specs.Example.{announcement};
+ghost use Rattle.outage_laws.specs.HadTime.{FlightGoesToAgent};
 ghost use Rattle.outage_laws.specs.LinePremises.{held_with, restart_with};
 ghost use Rattle.outage_laws.specs.Roomless.{asked_first, key_begun, key_only, own_roomless, rested, rested_soon, roomless};
 ghost use Rattle.outage_laws.specs.Roomless.{roomless_given_up, roomless_soon, tick_only, ticks_on, ticks_then, untold};
@@ -115,4 +118,9 @@ pub fn else_a_quarantine_waits_for_room()
         (happened_in (line_with two_lines (took_first rested)).line.quarantined.events ++
         done_in (course_from two_lines (gateway_in two_lines (world rested)) 1 key_only))
         (taken_meanwhile two_lines 1 (world rested) (world untold)) }
+    ensures told_ever { (has_given_up (of_line 1 (sent_of two_lines (took_first untold)))
+        (line_with two_lines (took_first untold)).post ≡ false) × IsFair two_lines untold 0 × ReachTheAgent two_lines untold 1 ×
+        FlightGoesToAgent two_lines (world untold) (line_with two_lines (took_first untold)).post.pending }
+    ensures not_told_ever { ¬ ((rest : List Observed) × (happened_in (observed_on 1 (agent_in two_lines (world untold))) ≡
+        done_in (course_of two_lines 1 (took_first rested ++ key_only)) ++ rest)) }
 {}

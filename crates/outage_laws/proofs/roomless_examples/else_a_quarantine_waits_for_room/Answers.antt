@@ -4,6 +4,7 @@ use Rattle.outage_laws.proofs.RoomlessHeld.{asked, calm, done, held_end, held_so
 use Rattle.outage_laws.proofs.RoomlessLine.{e_22501, goes, is_fair, roomless_stays}
 use Rattle.outage_laws.proofs.RoomlessTicks.{at_22501}
 use Rattle.outage_laws.specs.Roomless.{untold}
+use Rattle.outage_laws.proofs.RoomlessEver as ever
 use Rattle.outage_laws.proofs.RoomlessRest as rest
 use Rattle.outage_laws.proofs.roomless_examples.else_a_quarantine_waits_for_room.Goals as goal
 
@@ -93,3 +94,9 @@ returns-clause-told_rests c = (rest.held_then, rest.done_no_more)
 
 pub returns-clause-not_told : goal.returns-clause-not_told
 returns-clause-not_told c = rest.not_told
+
+pub returns-clause-told_ever : goal.returns-clause-told_ever
+returns-clause-told_ever c = (ever.calm, ever.fair, ever.reaches, ever.flies)
+
+pub returns-clause-not_told_ever : goal.returns-clause-not_told_ever
+returns-clause-not_told_ever c = ever.not_told_ever
