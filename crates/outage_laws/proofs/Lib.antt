@@ -68,10 +68,10 @@ pub mod UnservedSends
 pub mod EachLine
 pub mod NextDue
 mod RoomlessMachine
-mod RoomlessRounds
-mod RoomlessTicks
-mod RoomlessLine
-mod RoomlessHeld
+pub mod RoomlessRounds
+pub mod RoomlessTicks
+pub mod RoomlessLine
+pub mod RoomlessHeld
 mod RoomlessFull
 mod RoomlessSteps
 mod RoomlessAnew
