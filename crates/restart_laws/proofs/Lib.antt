@@ -14,3 +14,7 @@ pub mod LineWindow
 pub mod LivesWindow
 pub mod LivesLong
 pub mod LivesFairExamples
+mod OneLife
+mod StartedWorld
+mod RoomlessAnew
+mod RoomlessOnce

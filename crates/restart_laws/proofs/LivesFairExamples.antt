@@ -63,7 +63,7 @@ some_at (letter ∷ letters) zero low = (letter, refl)
 some_at (letter ∷ letters) (suc number) low = some_at letters number (omega (arith, low))
 
 -- a packet that was there before is the same
-was_there : (setup : Setup) (before more : List LivesStep) (number : ℕ) (letter : Letter) → number < length (plain_lives setup before).letters
+pub was_there : (setup : Setup) (before more : List LivesStep) (number : ℕ) (letter : Letter) → number < length (plain_lives setup before).letters
     → slice_get (plain_lives setup (before ++ more)).letters number ≡ Some letter → slice_get (plain_lives setup before).letters number ≡ Some letter
 was_there setup before more number letter low found =
     let was = some_at (plain_lives setup before).letters number low in

@@ -88,7 +88,7 @@ sent_past setup steps number letter text set_up taken found inside = by_end lett
 
 -- What is handed over
 
-handed_to_agent : (setup : Setup) (w : LivesWorld) (number : ℕ) (letter : Letter) → slice_get w.letters number ≡ Some letter → letter.post.end ≡ gateway_end
+pub handed_to_agent : (setup : Setup) (w : LivesWorld) (number : ℕ) (letter : Letter) → slice_get w.letters number ≡ Some letter → letter.post.end ≡ gateway_end
     → is_among setup.agent.route letter.post.packet.to ≡ true
     → lived setup w (stepping (delivering number)) ≡ to_agent_of setup letter.life w (hears (datagram letter.post.packet.sender letter.post.packet.bytes))
 unfolding lived

@@ -1,2 +1,3 @@
 pub mod AfterRestart
 pub mod Example
+pub mod Roomless

@@ -1,6 +1,6 @@
 //! Worked examples, as theorems: worlds of lives in which each premise of a law holds, and worlds in which one alone is missing and the
-//! law's sentence fails; and each sentence of a definition has one that a slip in it breaks. A world without room at its agent is too large
-//! for one.
+//! law's sentence fails; and each sentence of a definition has one that a slip in it breaks. Where the agent has no room is in
+//! roomless_examples.
 #![tactic(auto, unfolding(crate::proofs::Computing::on_examples))]
 
 ghost use Rattle.std.specs.Prelude.{◌≡◌, ◌≤◌, ◌<◌, ◌+◌, ◌*◌, ◌++◌, [], ◌∷◌, Some, true, false};

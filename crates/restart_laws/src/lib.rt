@@ -9,4 +9,5 @@
 pub mod examples;
 pub mod laws;
 pub mod quarantine_examples;
+pub mod roomless_examples;
 pub mod word_examples;

@@ -1,0 +1,89 @@
+//! Worked examples of an agent that has no room, in lives: all else is as the laws ask, 4,096 commands are young at the agent, and what the
+//! laws say isn't so.
+
+ghost use Rattle.std.specs.Prelude.{◌≡◌, ◌≤◌, ◌<◌, ◌+◌, ◌*◌, ◌++◌, [], Any, Some, true, false};
+ghost use Rattle.restart.specs.declared.restart.Restart.TheVariants.{Waiting};
+ghost use Rattle.plain_machine.specs.Example.{two_lines};
+ghost use Rattle.plain_machine.specs.Lists.{plain};
+ghost use Rattle.plain_machine.specs.Machine.{serves};
+ghost use Rattle.machine_laws.specs.Saying.{Begun};
+ghost use Rattle.delivery_laws.specs.Chances.{last_chance};
+ghost use Rattle.delivery_laws.specs.Course.{course_from};
+ghost use Rattle.delivery_laws.specs.Dialled.{done_in};
+ghost use Rattle.delivery_laws.specs.Example.{took_first};
+ghost use Rattle.delivery_laws.specs.Rounds.{IsAnsweredWithin, IsAskedWithin, rounds_take};
+ghost use Rattle.outage_laws.specs.AfterOutage.{gap_of, longest_pause};
+ghost use Rattle.outage_laws.specs.Alone.{HasBegun, HasResponse};
+ghost use Rattle.outage_laws.specs.LinePremises.{held_with};
+ghost use Rattle.outage_laws.specs.Roomless.{key_begun, roomless, roomless_given_up, roomless_soon, ticks_on, ticks_then};
+ghost use Rattle.life_laws.specs.Lives.{Brought, clock_of, gateway_of, lives_of, number_of};
+ghost use Rattle.life_laws.specs.Apart.{LieApart, firsts_of_lives};
+ghost use Rattle.life_laws.specs.Example.{lives};
+ghost use Rattle.restart_laws.specs.AfterRestart.{AgentHasRoomThen, IsRunOfLives, LifeGoesToAgent, LivesAreFairFrom};
+ghost use Rattle.restart_laws.specs.Example.{restart_after};
+ghost use Rattle.restart_laws.specs.Roomless.{announced_anew, roomless_anew, starting};
+
+/// A gateway whose first life told 4,096 commands, all of which are young at the agent, starts again: its announcement isn't taken, though
+/// each of its copies is handed over at once and no earlier life had its id; nor is it answered. So the gateway doesn't serve by then.
+pub fn else_a_new_life_has_no_room()
+    ensures run { IsRunOfLives two_lines roomless_anew }
+    ensures fair { LivesAreFairFrom two_lines roomless_anew 1 0 }
+    ensures no_room { ¬ AgentHasRoomThen two_lines roomless_anew 1 }
+    ensures start { (lives roomless_anew).life.start ≡ 1 }
+    ensures now { clock_of two_lines (lives roomless_anew) ≡ 4001 }
+    ensures late { 1 + gap_of 0 + two_lines.restart_wait + 2 * 0 ≡ 4001 + 1 }
+    ensures late_too { (lives roomless_anew).life.start + gap_of 0 + two_lines.restart_wait + 2 * 0 ≤ 4001 + 1 }
+    ensures serves_not { serves (gateway_of (lives roomless_anew).life).endpoints ≡ false }
+    ensures begun { HasBegun (lives roomless_anew).life.setup (lives roomless_anew).life.took 0 announced_anew }
+    ensures in_flight { 1 ≤ (lives roomless_anew).life.start + announced_anew.moment + last_chance }
+    ensures apart { LieApart (lives_of (lives roomless_anew)) }
+    ensures late_own { (lives roomless_anew).life.start + announced_anew.moment + 2 * 0 ≤ 4001 }
+    ensures late_since { 1 + longest_pause + 2 * 0 ≤ 4001 + 1 }
+    ensures none_taken { ¬ Any (λ (one : Brought). one.reached.asked.id ≡ announced_anew.id) (firsts_of_lives (lives roomless_anew)) }
+    ensures none_came { ¬ HasResponse (lives roomless_anew).life.took announced_anew.id }
+{}
+
+/// So it is of a notification of a line, where the gateway started again before it told anything; that is given up, and the line has no
+/// agent then.
+pub fn else_a_line_of_a_new_life_has_no_room()
+    ensures run { IsRunOfLives two_lines (starting roomless) }
+    ensures fair { LivesAreFairFrom two_lines (starting roomless) 0 0 }
+    ensures no_room { ¬ AgentHasRoomThen two_lines (starting roomless) 0 }
+    ensures second_life { number_of (lives (starting roomless)) ≡ 1 }
+    ensures begun { HasBegun (lives (starting roomless)).life.setup (lives (starting roomless)).life.took 1 (key_begun 1 4095) }
+    ensures goes { LifeGoesToAgent two_lines (lives (starting roomless)) (key_begun 1 4095).text }
+    ensures apart { LieApart (lives_of (lives (starting roomless))) }
+    ensures now { clock_of two_lines (lives (starting roomless)) ≡ 22501 }
+    ensures late { 0 + longest_pause + 2 * 0 ≤ 22501 + 1 }
+    ensures none_taken { ¬ Any (λ (one : Brought). one.reached.asked.id ≡ (key_begun 1 4095).id)
+        (firsts_of_lives (lives (starting roomless))) }
+    ensures none_came { ¬ HasResponse (lives (starting roomless)).life.took (key_begun 1 4095).id }
+    ensures run_given_up { IsRunOfLives two_lines (starting roomless_given_up) }
+    ensures fair_given_up { LivesAreFairFrom two_lines (starting roomless_given_up) 0 0 }
+    ensures goes_given_up { (b : Begun) → HasBegun (lives (starting roomless_given_up)).life.setup
+        (lives (starting roomless_given_up)).life.took 1 b → LifeGoesToAgent two_lines (lives (starting roomless_given_up)) b.text }
+    ensures now_given_up { clock_of two_lines (lives (starting roomless_given_up)) ≡ 23501 }
+    ensures late_given_up { 0 + gap_of 0 + two_lines.disconnected_wait + 2 * 0 ≤ 23501 + 1 }
+    ensures waits { restart_after (starting roomless_given_up) ≡ Some (Waiting 28501) }
+{}
+
+/// Before that it waits for its answer for longer than twice the network's time, and what was quarantined is quarantined yet.
+pub fn else_a_quarantine_of_a_new_life_waits_for_room()
+    ensures run { IsRunOfLives two_lines (starting roomless) }
+    ensures fair { LivesAreFairFrom two_lines (starting roomless) 0 0 }
+    ensures no_room { ¬ AgentHasRoomThen two_lines (starting roomless) 0 }
+    ensures goes { (b : Begun) → HasBegun (lives (starting roomless)).life.setup (lives (starting roomless)).life.took 1 b →
+        LifeGoesToAgent two_lines (lives (starting roomless)) b.text }
+    ensures life { (lives (starting roomless)).life ≡ record { setup = two_lines; start = 0; took = took_first roomless } }
+    ensures took { took_first roomless ≡ took_first roomless_soon ++ (ticks_then ++ ticks_on) }
+    ensures serving { serves (plain two_lines (took_first roomless_soon)).endpoints ≡ true }
+    ensures soon { (plain two_lines (took_first roomless_soon)).now ≡ 9501 }
+    ensures now { clock_of two_lines (lives (starting roomless)) ≡ 22501 }
+    ensures late { 0 + gap_of 0 + two_lines.disconnected_wait + 2 * 0 ≤ 9501 }
+    ensures asked { IsAskedWithin two_lines 1 (took_first roomless_soon) (ticks_then ++ ticks_on) 0 }
+    ensures over { 9501 + rounds_take 1 (2 * 0) 0 < 22501 }
+    ensures unanswered { ¬ IsAnsweredWithin two_lines 1 (took_first roomless_soon) (ticks_then ++ ticks_on) (2 * 0) }
+    ensures held_soon { held_with two_lines roomless_soon ≡ 1 }
+    ensures held { held_with two_lines roomless ≡ 1 }
+    ensures done { done_in (course_from two_lines (plain two_lines (took_first roomless_soon)) 1 (ticks_then ++ ticks_on)) ≡ [] }
+{}
