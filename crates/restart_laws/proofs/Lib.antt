@@ -13,6 +13,7 @@ pub mod LivesLines
 pub mod LineWindow
 pub mod LivesWindow
 pub mod LivesLong
+pub mod LivesSlow
 pub mod LivesFairExamples
 mod OneLife
 mod StartedWorld

@@ -79,7 +79,7 @@ module _ (setup : Setup) (some : List GatewayEvent) where
 
 -- Fronts of the same
 
-abbrev IsFront : List GatewayEvent → List GatewayEvent → Type 0
+abbrev pub IsFront : List GatewayEvent → List GatewayEvent → Type 0
 IsFront a b = (more : List GatewayEvent) × (b ≡ a ++ more)
 
 heads : (s t : GatewayEvent) (a b : List GatewayEvent) → s ∷ a ≡ t ∷ b → s ≡ t
@@ -88,7 +88,7 @@ heads s t a b same = cc
 tails : (s t : GatewayEvent) (a b : List GatewayEvent) → s ∷ a ≡ t ∷ b → a ≡ b
 tails s t a b same = cc
 
-one_front : (a b x y : List GatewayEvent) → a ++ x ≡ b ++ y → IsFront a b ⊎ IsFront b a
+pub one_front : (a b x y : List GatewayEvent) → a ++ x ≡ b ++ y → IsFront a b ⊎ IsFront b a
 one_front [] b x y same = inl (b, refl)
 one_front (s ∷ a) [] x y same = inr (s ∷ a, refl)
 one_front (s ∷ a) (t ∷ b) x y same = by_rest (one_front a b x y (tails s t (a ++ x) (b ++ y) same)) where

@@ -66,9 +66,9 @@ step_near setup w (stepping (delivering number)) k none = near_same (clock_of se
 -- Behind a beginning
 
 -- from one world of lives on the clock goes on, and a later life starts later
-record IsOn (setup : Setup) (u x : LivesWorld) : Type 0 where
-  clock : clock_of setup u ≤ clock_of setup x
-  life : (number_of x ≡ number_of u) ⊎ (clock_of setup u ≤ x.life.start)
+pub record IsOn (setup : Setup) (u x : LivesWorld) : Type 0 where
+  pub clock : clock_of setup u ≤ clock_of setup x
+  pub life : (number_of x ≡ number_of u) ⊎ (clock_of setup u ≤ x.life.start)
 
 itself : (n : ℕ) → n ≤ n
 itself n = omega arith
@@ -131,17 +131,17 @@ module _ (setup : Setup) (first : List LivesStep) where
       (subst (IsOn setup (plain_lives setup first)) (sym (life_more setup before step))
       (on_step setup (plain_lives setup first) (plain_lives setup before) step (lives_kept setup before was) (last_lived setup (lives_opening setup) before step here) is)))
 
-  is_on : (rest : List LivesStep) → lives_are_taken setup (lives_opening setup) (first ++ rest) ≡ true → IsOn setup (plain_lives setup first) (plain_lives setup (first ++ rest))
+  pub is_on : (rest : List LivesStep) → lives_are_taken setup (lives_opening setup) (first ++ rest) ≡ true → IsOn setup (plain_lives setup first) (plain_lives setup (first ++ rest))
   is_on rest taken = fronts_on first rest taken (record { clock = itself (clock_of setup (plain_lives setup first)); life = inl refl })
 
 -- A beginning at which the clock is at a moment, or 1,000 ms before it at most
 
-record Cut (setup : Setup) (steps : List LivesStep) (limit : ℕ) : Type 0 where
-  front : List LivesStep
-  later : List LivesStep
-  order : steps ≡ front ++ later
-  low : clock_of setup (plain_lives setup front) ≤ limit
-  near : limit ≤ clock_of setup (plain_lives setup front) + 1000
+pub record Cut (setup : Setup) (steps : List LivesStep) (limit : ℕ) : Type 0 where
+  pub front : List LivesStep
+  pub later : List LivesStep
+  pub order : steps ≡ front ++ later
+  pub low : clock_of setup (plain_lives setup front) ≤ limit
+  pub near : limit ≤ clock_of setup (plain_lives setup front) + 1000
 
 at_end : (limit now : ℕ) → limit ≤ now → limit ≤ now + 1000
 at_end limit now high = omega (arith, high)
@@ -252,7 +252,7 @@ short_high within now front deep low = omega (arith, deep, low)
 short_low : (within now front : ℕ) → within ≤ now → now - within + 11400 ≤ front + 1000 → 10400 ≤ (front + within) - now
 short_low within now front deep near = omega (arith, deep, near)
 
-quick_so : (short : ℕ) → short ≤ 11400 → IsQuick short
+pub quick_so : (short : ℕ) → short ≤ 11400 → IsQuick short
 quick_so short high = omega (arith, high)
 
 then_late : (moment short within now front : ℕ) → short + now ≡ front + within → moment + short ≤ front → moment + within ≤ now
@@ -271,44 +271,39 @@ front_late since restart short within now front long high is late = omega (arith
 not_started : (start restart within now front limit : ℕ) → front ≤ start → now - within + 11400 ≤ front + 1000 → start + answer_wait + restart + 2 * within ≤ now + 1 → ⊥
 not_started start restart within now front limit past near late = absurd (omega (arith, past, near, late))
 
-module _ (setup : Setup) (steps : List LivesStep) (since within : ℕ) (set_up : IsSetUp setup) (taken : lives_are_taken setup (lives_opening setup) steps ≡ true)
-    (fair : LivesAreFairFrom setup steps since within) (roomy : AgentHasRoomThen setup steps since) (long : 11500 ≤ within)
-    (late : since + answer_wait + setup.restart_wait + 2 * within ≤ clock_of setup (plain_lives setup steps) + 1)
-    (late_too : (plain_lives setup steps).life.start + answer_wait + setup.restart_wait + 2 * within ≤ clock_of setup (plain_lives setup steps) + 1) where
-  abbrev w : LivesWorld
+module _ (setup : Setup) (steps : List LivesStep) (since within : ℕ) (taken : lives_are_taken setup (lives_opening setup) steps ≡ true)
+    (fair : LivesAreFairFrom setup steps since within) (roomy : AgentHasRoomThen setup steps since) (long : 11500 ≤ within) (far : within ≤ clock_of setup (plain_lives setup steps)) where
+  abbrev pub w : LivesWorld
   w = plain_lives setup steps
 
-  abbrev now : ℕ
+  abbrev pub now : ℕ
   now = clock_of setup w
 
-  far : within ≤ now
-  far = deep since setup.restart_wait within now late
-
-  cut : Cut setup steps (now - within + 11400)
+  pub cut : Cut setup steps (now - within + 11400)
   cut = cut_from setup (now - within + 11400) [] steps taken (opening_clock setup (now - within + 11400)) (limit_low within now long far)
 
-  abbrev u : LivesWorld
+  abbrev pub u : LivesWorld
   u = plain_lives setup cut.front
 
-  abbrev front_now : ℕ
+  abbrev pub front_now : ℕ
   front_now = clock_of setup u
 
-  abbrev short : ℕ
+  abbrev pub short : ℕ
   short = (front_now + within) - now
 
-  is : short + now ≡ front_now + within
+  pub is : short + now ≡ front_now + within
   is = short_is within now front_now far cut.near
 
-  low : 10400 ≤ short
+  pub low : 10400 ≤ short
   low = short_low within now front_now far cut.near
 
-  high : short ≤ 11400
+  pub high : short ≤ 11400
   high = short_high within now front_now far cut.low
 
-  taken_all : lives_are_taken setup (lives_opening setup) (cut.front ++ cut.later) ≡ true
+  pub taken_all : lives_are_taken setup (lives_opening setup) (cut.front ++ cut.later) ≡ true
   taken_all = subst (λ (s : List LivesStep). lives_are_taken setup (lives_opening setup) s ≡ true) cut.order taken
 
-  front_taken : lives_are_taken setup (lives_opening setup) cut.front ≡ true
+  pub front_taken : lives_are_taken setup (lives_opening setup) cut.front ≡ true
   front_taken = lives_front setup (lives_opening setup) cut.front cut.later taken_all
 
   -- there each packet that is so old was handed over
@@ -350,37 +345,59 @@ module _ (setup : Setup) (steps : List LivesStep) (since within : ℕ) (set_up :
     handed_there : IsHandedOn setup cut.front short number letter
     handed_there = by_front (one_first handing cut.front t.later cut.later (sym t.order ∙ cut.order))
 
-  fair_there : LivesAreFairFrom setup cut.front since short
+  pub fair_there : LivesAreFairFrom setup cut.front since short
   fair_there = handed_there
 
-  roomy_there : AgentHasRoomThen setup cut.front since
+  pub roomy_there : AgentHasRoomThen setup cut.front since
   roomy_there before later order past = roomy before (later ++ cut.later) (cut.order ∙ ap (λ (s : List LivesStep). s ++ cut.later) order ∙ append_assoc before later cut.later) past
 
-  abbrev Whole : LivesWorld
+  abbrev pub Whole : LivesWorld
   Whole = plain_lives setup (cut.front ++ cut.later)
 
-  same_all : Whole ≡ w
+  pub same_all : Whole ≡ w
   same_all = ap (plain_lives setup) (sym cut.order)
 
-  -- it is the life that goes on yet, and serves; so it does to the end
-  by_life : ((number_of Whole ≡ number_of u) × SameLife u.life Whole.life) ⊎ (number_of u < number_of Whole) → (number_of Whole ≡ number_of u) ⊎ (front_now ≤ Whole.life.start)
-      → serves (gateway_of w.life).endpoints ≡ true
+-- It is the life that goes on yet, and serves; so it does to the end.
+module _ (setup : Setup) (steps : List LivesStep) (since within : ℕ) (set_up : IsSetUp setup) (taken : lives_are_taken setup (lives_opening setup) steps ≡ true)
+    (fair : LivesAreFairFrom setup steps since within) (roomy : AgentHasRoomThen setup steps since) (long : 11500 ≤ within)
+    (late : since + answer_wait + setup.restart_wait + 2 * within ≤ clock_of setup (plain_lives setup steps) + 1)
+    (late_too : (plain_lives setup steps).life.start + answer_wait + setup.restart_wait + 2 * within ≤ clock_of setup (plain_lives setup steps) + 1) where
+  far_so : within ≤ clock_of setup (plain_lives setup steps)
+  far_so = deep since setup.restart_wait within (clock_of setup (plain_lives setup steps)) late
+
+  abbrev all_of_it : LivesWorld
+  all_of_it = Whole setup steps since within taken fair roomy long far_so
+
+  abbrev then_world : LivesWorld
+  then_world = u setup steps since within taken fair roomy long far_so
+
+  abbrev then_now : ℕ
+  then_now = front_now setup steps since within taken fair roomy long far_so
+
+  abbrev takes : ℕ
+  takes = short setup steps since within taken fair roomy long far_so
+
+  quick_then : IsQuick takes
+  quick_then = quick_so takes (high setup steps since within taken fair roomy long far_so)
+
+  by_life : ((number_of all_of_it ≡ number_of then_world) × SameLife then_world.life all_of_it.life) ⊎ (number_of then_world < number_of all_of_it) → (number_of all_of_it ≡ number_of then_world) ⊎ (then_now ≤ all_of_it.life.start)
+      → serves (gateway_of (plain_lives setup steps).life).endpoints ≡ true
   by_life (inl same) started =
-      subst (λ (x : LivesWorld). serves (gateway_of x.life).endpoints ≡ true) same_all
-      (subst (λ (s : Setup). serves (plain s Whole.life.took).endpoints ≡ true) (sym same.1.setup)
-      (subst (λ (took : List GatewayEvent). serves (plain u.life.setup took).endpoints ≡ true) (sym same.1.took)
-      (serving_lasts u.life.setup u.life.took same.1.events
-      (serves_by_chance setup cut.front since short 500 set_up front_taken fair_there roomy_there (quick_so short high) (second_is short (quick_so short high))
-      (front_late since setup.restart_wait short within now front_now long high is late)
-      (front_late u.life.start setup.restart_wait short within now front_now long high is
-      (subst (λ (start : ℕ). start + answer_wait + setup.restart_wait + 2 * within ≤ now + 1) (ap (λ (x : LivesWorld). x.life.start) (sym same_all) ∙ same.1.start) late_too))))))
+      subst (λ (x : LivesWorld). serves (gateway_of x.life).endpoints ≡ true) (same_all setup steps since within taken fair roomy long far_so)
+      (subst (λ (s : Setup). serves (plain s all_of_it.life.took).endpoints ≡ true) (sym same.1.setup)
+      (subst (λ (took : List GatewayEvent). serves (plain then_world.life.setup took).endpoints ≡ true) (sym same.1.took)
+      (serving_lasts then_world.life.setup then_world.life.took same.1.events
+      (serves_by_chance setup (cut setup steps since within taken fair roomy long far_so).front since takes 500 set_up (front_taken setup steps since within taken fair roomy long far_so) (fair_there setup steps since within taken fair roomy long far_so) (roomy_there setup steps since within taken fair roomy long far_so) quick_then (second_is takes quick_then)
+      (front_late since setup.restart_wait takes within (clock_of setup (plain_lives setup steps)) then_now long (high setup steps since within taken fair roomy long far_so) (is setup steps since within taken fair roomy long far_so) late)
+      (front_late then_world.life.start setup.restart_wait takes within (clock_of setup (plain_lives setup steps)) then_now long (high setup steps since within taken fair roomy long far_so) (is setup steps since within taken fair roomy long far_so)
+      (subst (λ (start : ℕ). start + answer_wait + setup.restart_wait + 2 * within ≤ clock_of setup (plain_lives setup steps) + 1) (ap (λ (x : LivesWorld). x.life.start) (sym (same_all setup steps since within taken fair roomy long far_so)) ∙ same.1.start) late_too))))))
   by_life (inr more) (inl same) = absurd (omega (arith, more, same))
   by_life (inr more) (inr past) =
-      absurd (not_started Whole.life.start setup.restart_wait within now front_now now past cut.near
-      (subst (λ (start : ℕ). start + answer_wait + setup.restart_wait + 2 * within ≤ now + 1) (ap (λ (x : LivesWorld). x.life.start) (sym same_all)) late_too))
+      absurd (not_started all_of_it.life.start setup.restart_wait within (clock_of setup (plain_lives setup steps)) then_now (clock_of setup (plain_lives setup steps)) past (cut setup steps since within taken fair roomy long far_so).near
+      (subst (λ (start : ℕ). start + answer_wait + setup.restart_wait + 2 * within ≤ clock_of setup (plain_lives setup steps) + 1) (ap (λ (x : LivesWorld). x.life.start) (sym (same_all setup steps since within taken fair roomy long far_so))) late_too))
 
-  pub long_serves : serves (gateway_of w.life).endpoints ≡ true
-  long_serves = by_life (front_follows setup cut.front cut.later).life (is_on setup cut.front cut.later taken_all).life
+  pub long_serves : serves (gateway_of (plain_lives setup steps).life).endpoints ≡ true
+  long_serves = by_life (front_follows setup (cut setup steps since within taken fair roomy long far_so).front (cut setup steps since within taken fair roomy long far_so).later).life (is_on setup (cut setup steps since within taken fair roomy long far_so).front (cut setup steps since within taken fair roomy long far_so).later (taken_all setup steps since within taken fair roomy long far_so)).life
 
 -- However long a packet takes
 
@@ -394,7 +411,7 @@ last_long within many = by_test (nat_lt (0 + 2 * within) answer_wait) where
   by_test true = inner
   by_test false = refl
 
-long_for : (within : ℕ) → answer_wait ≤ 500 + 2 * within → 11500 ≤ within
+pub long_for : (within : ℕ) → answer_wait ≤ 500 + 2 * within → 11500 ≤ within
 long_for within many = omega (arith, many)
 
 whole_gap : (since last restart within now : ℕ) → last ≡ 0 → since + (answer_wait - last) + restart + 2 * within ≤ now + 1 → since + answer_wait + restart + 2 * within ≤ now + 1

@@ -9,7 +9,6 @@ use Rattle.plain_machine.specs.Event.{GatewayEvent}
 use Rattle.plain_machine.specs.Lists.{plain}
 use Rattle.plain_machine.specs.Machine.{endpoint_at, serves}
 use Rattle.plain_machine.specs.Setup.{IsSetUp}
-use Rattle.agent_core.specs.World.{oldest_packet}
 use Rattle.delivery_laws.specs.Chances.{chances}
 use Rattle.delivery_laws.specs.Copies.{answer_wait}
 use Rattle.delivery_laws.specs.Course.{course_from}
@@ -20,7 +19,7 @@ use Rattle.life_laws.specs.Lives.{LivesStep, LivesWorld, clock_of, gateway_of, l
 use Rattle.restart_laws.specs.AfterRestart.{AgentHasRoomThen, LineReachesTheAgentSince, LivesAreFairFrom}
 use Rattle.restart_laws.proofs.GatewayServes.{IsQuick, last_is}
 use Rattle.restart_laws.proofs.LineWindow.{answered_then, out_then, rests_then}
-use Rattle.restart_laws.proofs.LivesLines.{Told, chased, goes_later, keeps, life, none_moved, past_start, young_quick}
+use Rattle.restart_laws.proofs.LivesLines.{Told, chased, goes_later, keeps, life, none_moved, past_start}
 
 gap_moved : (since start within pause same now last : ℕ) → start ≤ since → same ≡ pause → last + 2 * within < answer_wait → since + (answer_wait - last) + pause + 2 * within ≤ start + now
     → (since - start) + answer_wait + same + 2 * within ≤ now + last
@@ -80,7 +79,7 @@ module _ (setup : Setup) (steps : List LivesStep) (since within line : ℕ) (bef
 
 -- and where the life started later than the network came back
 module _ (setup : Setup) (steps : List LivesStep) (since within line : ℕ) (before after : List GatewayEvent) (endpoint : Endpoint) (set_up : IsSetUp setup)
-    (taken : lives_are_taken setup (lives_opening setup) steps ≡ true) (young : within ≤ oldest_packet) (fair : LivesAreFairFrom setup steps since within)
+    (taken : lives_are_taken setup (lives_opening setup) steps ≡ true) (quick : IsQuick within) (fair : LivesAreFairFrom setup steps since within)
     (roomy : AgentHasRoomThen setup steps since)
     (goes : LineReachesTheAgentSince setup (plain_lives setup steps) line since)
     (took : (plain_lives setup steps).life.took ≡ before ++ after) (serving : serves (plain (plain_lives setup steps).life.setup before).endpoints ≡ true)
@@ -99,10 +98,10 @@ module _ (setup : Setup) (steps : List LivesStep) (since within line : ℕ) (bef
   answered_after = by_test (nat_le x.life.start since) refl where
     by_test : (b : Bool) → nat_le x.life.start since ≡ b → IsAnsweredWithin x.life.setup line before after (2 * within)
     by_test true on =
-        answered_since setup steps since within line before after endpoint set_up taken (young_quick within young) fair roomy goes took serving there (inr (leb-true x.life.start since on, late))
+        answered_since setup steps since within line before after endpoint set_up taken quick fair roomy goes took serving there (inr (leb-true x.life.start since on, late))
     by_test false earlier =
         let less : since < x.life.start = leb-false x.life.start since earlier in
-        answered_since setup steps x.life.start within line before after endpoint set_up taken (young_quick within young) (fair_later less) (roomy_later less)
+        answered_since setup steps x.life.start within line before after endpoint set_up taken quick (fair_later less) (roomy_later less)
         (goes_later setup x line since goes less) took serving there (inl refl)
 
   module _ (was : Endpoint) (asking : ℕ) (at : endpoint_at (plain x.life.setup before).endpoints line ≡ Some was) (asked : IsAskedWithin x.life.setup line before after asking)
@@ -111,18 +110,18 @@ module _ (setup : Setup) (steps : List LivesStep) (since within line : ℕ) (bef
     out_after = by_test (nat_le x.life.start since) refl where
       by_test : (b : Bool) → nat_le x.life.start since ≡ b → length (of_telephone endpoint.line.quarantined.events) ≤ length (done_in (course_from x.life.setup (plain x.life.setup before) line after))
       by_test true on =
-          out_since setup steps since within line before after endpoint set_up taken (young_quick within young) fair roomy goes took serving there (inr (leb-true x.life.start since on, late)) was asking at asked last
+          out_since setup steps since within line before after endpoint set_up taken quick fair roomy goes took serving there (inr (leb-true x.life.start since on, late)) was asking at asked last
       by_test false earlier =
           let less : since < x.life.start = leb-false x.life.start since earlier in
-          out_since setup steps x.life.start within line before after endpoint set_up taken (young_quick within young) (fair_later less) (roomy_later less)
+          out_since setup steps x.life.start within line before after endpoint set_up taken quick (fair_later less) (roomy_later less)
           (goes_later setup x line since goes less) took serving there (inl refl) was asking at asked last
 
     pub rests_after : done_in (course_from x.life.setup (plain x.life.setup before) line after) ≡ [] → of_telephone endpoint.line.quarantined.events ≡ []
     rests_after rests = by_test (nat_le x.life.start since) refl where
       by_test : (b : Bool) → nat_le x.life.start since ≡ b → of_telephone endpoint.line.quarantined.events ≡ []
       by_test true on =
-          rests_since setup steps since within line before after endpoint set_up taken (young_quick within young) fair roomy goes took serving there (inr (leb-true x.life.start since on, late)) was asking at asked last rests
+          rests_since setup steps since within line before after endpoint set_up taken quick fair roomy goes took serving there (inr (leb-true x.life.start since on, late)) was asking at asked last rests
       by_test false earlier =
           let less : since < x.life.start = leb-false x.life.start since earlier in
-          rests_since setup steps x.life.start within line before after endpoint set_up taken (young_quick within young) (fair_later less) (roomy_later less)
+          rests_since setup steps x.life.start within line before after endpoint set_up taken quick (fair_later less) (roomy_later less)
           (goes_later setup x line since goes less) took serving there (inl refl) was asking at asked last rests

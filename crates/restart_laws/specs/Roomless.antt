@@ -1,5 +1,5 @@
--- A gateway that starts again where its agent has no room: in its first life line 1 tells each key at once, 4,096 commands are taken at 1, and
--- the announcement of the life that follows isn't.
+-- A gateway that starts again where its agent has no room: in its first life line 1 tells each key at once, 4,096 commands are taken at 1,
+-- and the announcement of the life that follows isn't.
 use Rattle.std.specs.Prelude.{codes, List, [], ◌∷◌, ◌++◌}
 use Rattle.plain_machine.specs.declared.setup.Setup.{Setup}
 use Rattle.plain_machine.specs.Example.{two_lines}

@@ -86,9 +86,10 @@ pub fn a_line_of_a_new_life_has_its_agent_again_after_an_outage()
         since + gap_of within + setup.disconnected_wait + 2 * within ≤ clock_of setup w + 1 → endpoint.post.restart ≡ Serving }
 {}
 
-/// From then on such a line of the life that goes on waits for no answer for longer than twice the network's time; and where it is asked
-/// again within so many ms, after as many rounds of both as there were events in its quarantine no more of them is quarantined than its
-/// telephone did since, and nothing that it did where it rests (RFC 3435, 3.5 and 4.4.1).
+/// From then on such a line of the life that goes on waits for no answer for longer than twice the network's time, where that time isn't
+/// longer than a packet lasts. And however long the network takes: where it is asked again within so many ms, after as many rounds of both
+/// as there were events in its quarantine no more of them is quarantined than its telephone did since, and nothing that it did where it
+/// rests (RFC 3435, 3.5 and 4.4.1).
 pub fn a_quarantine_of_a_new_life_is_out_after_an_outage()
     ensures answered { (setup : Setup) (steps : List LivesStep) (since within line : ℕ) (before after : List GatewayEvent)
         (endpoint : Endpoint) → IsRunOfLives setup steps → within ≤ oldest_packet →
@@ -98,8 +99,8 @@ pub fn a_quarantine_of_a_new_life_is_out_after_an_outage()
         since + gap_of within + setup.disconnected_wait + 2 * within ≤ w.life.start + (plain w.life.setup before).now →
         IsAnsweredWithin w.life.setup line before after (2 * within) }
     ensures out { (setup : Setup) (steps : List LivesStep) (since within line asking : ℕ) (before after : List GatewayEvent)
-        (was endpoint : Endpoint) → IsRunOfLives setup steps → within ≤ oldest_packet →
-        LivesAreFairFrom setup steps since within → AgentHasRoomThen setup steps since → let w = plain_lives setup steps in
+        (was endpoint : Endpoint) → IsRunOfLives setup steps → LivesAreFairFrom setup steps since within → AgentHasRoomThen setup steps since →
+        let w = plain_lives setup steps in
         LineReachesTheAgentSince setup w line since → w.life.took ≡ before ++ after →
         serves (plain w.life.setup before).endpoints ≡ true →
         endpoint_at (plain w.life.setup before).endpoints line ≡ Some was → endpoint_at (gateway_of w.life).endpoints line ≡ Some endpoint →
@@ -110,8 +111,8 @@ pub fn a_quarantine_of_a_new_life_is_out_after_an_outage()
         length (of_telephone endpoint.line.quarantined.events)
         ≤ length (done_in (course_from w.life.setup (plain w.life.setup before) line after)) }
     ensures rests { (setup : Setup) (steps : List LivesStep) (since within line asking : ℕ) (before after : List GatewayEvent)
-        (was endpoint : Endpoint) → IsRunOfLives setup steps → within ≤ oldest_packet →
-        LivesAreFairFrom setup steps since within → AgentHasRoomThen setup steps since → let w = plain_lives setup steps in
+        (was endpoint : Endpoint) → IsRunOfLives setup steps → LivesAreFairFrom setup steps since within → AgentHasRoomThen setup steps since →
+        let w = plain_lives setup steps in
         LineReachesTheAgentSince setup w line since → w.life.took ≡ before ++ after →
         serves (plain w.life.setup before).endpoints ≡ true →
         endpoint_at (plain w.life.setup before).endpoints line ≡ Some was → endpoint_at (gateway_of w.life).endpoints line ≡ Some endpoint →
