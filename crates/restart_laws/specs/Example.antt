@@ -139,6 +139,9 @@ answered_slowly =
 abbrev pub restart_after : List LivesStep → Option Restart
 restart_after steps = option_map (λ endpoint. endpoint.post.restart) (endpoint_at (gateway_of (lives steps).life).endpoints 1)
 
+abbrev pub restart_with : Setup → List LivesStep → Option Restart
+restart_with setup steps = option_map (λ endpoint. endpoint.post.restart) (endpoint_at (gateway_of (plain_lives setup steps).life).endpoints 1)
+
 -- A quarantine
 
 -- all that a world of one life did, 1 ms later and behind a start, with one packet before it

@@ -3,6 +3,7 @@
 #![tactic(auto, unfolding(crate::proofs::Computing::on_examples))]
 
 ghost use Rattle.std.specs.Prelude.{◌≡◌, ◌≤◌, ◌<◌, ◌+◌, ◌*◌, ◌++◌, [], Some, length, true, false};
+ghost use Rattle.restart.specs.declared.restart.Restart.TheVariants.{Announced};
 ghost use Rattle.plain_machine.specs.Example.{two_lines};
 ghost use Rattle.plain_machine.specs.Machine.{serves};
 ghost use Rattle.plain_machine.specs.Setup.{IsSetUp};
@@ -15,12 +16,12 @@ ghost use Rattle.outage_laws.specs.AfterOutage.{gap_of};
 ghost use Rattle.outage_laws.specs.Alone.{HasBegun};
 ghost use Rattle.outage_laws.specs.Example.{sluggish};
 ghost use Rattle.outage_laws.specs.LinePremises.{long_winded};
-ghost use Rattle.life_laws.specs.Lives.{gateway_of, lives_are_taken, lives_opening, plain_lives};
+ghost use Rattle.life_laws.specs.Lives.{clock_of, gateway_of, lives_are_taken, lives_opening, plain_lives};
 ghost use Rattle.life_laws.specs.Example.{lives};
 ghost use Rattle.restart_laws.specs.AfterRestart.{AgentHasRoomThen, IsRunOfLives, LifeGoesToAgent, LineReachesTheAgentSince};
 ghost use Rattle.restart_laws.specs.AfterRestart.{LivesAreFairFrom};
 ghost use Rattle.restart_laws.specs.Example.{answered_slowly, astray, astray_yet, back_anew, gateway_by, gateway_by_with, held_in};
-ghost use Rattle.restart_laws.specs.Example.{in_step_anew, life_took, life_with, pressed_anew, put_back, put_back_yet, took_by};
+ghost use Rattle.restart_laws.specs.Example.{in_step_anew, life_took, life_with, pressed_anew, put_back, put_back_yet, restart_after, restart_with, took_by};
 ghost use Rattle.restart_laws.specs.Example.{took_by_with, took_since, took_since_with, unanswered_anew, unheard, unheard_yet};
 ghost use Rattle.restart_laws.specs.Example.{not_served, not_served_yet, waits_on, waits_on_yet};
 
@@ -61,7 +62,7 @@ pub fn else_a_line_of_a_new_life_waits_for_another()
 {}
 
 /// So it is where the gateway isn't set up well, and the answer that it has to its announcement is longer than a datagram; or where a step
-/// is refused, by which the clock is put back.
+/// is refused, by which the clock is put back. Nor has the line its agent there.
 pub fn else_a_line_of_a_new_life_waits_longer()
     ensures not_set_up { ¬ IsSetUp long_winded }
     ensures steps { lives_are_taken long_winded (lives_opening long_winded) unheard_yet ≡ true }
@@ -81,6 +82,9 @@ pub fn else_a_line_of_a_new_life_waits_longer()
     ensures rests { done_in (course_from (life_with long_winded unheard_yet).setup (gateway_by_with long_winded unheard unheard_yet) 1
         (took_since_with long_winded unheard unheard_yet)) ≡ [] }
     ensures held { held_in (gateway_of (life_with long_winded unheard_yet)) ≡ Some 1 }
+    ensures late_agent { 19503 + gap_of 0 + long_winded.disconnected_wait + 2 * 0
+        ≤ clock_of long_winded (plain_lives long_winded unheard_yet) + 1 }
+    ensures no_agent { restart_with long_winded unheard_yet ≡ Some Announced }
     ensures refused { lives_are_taken two_lines (lives_opening two_lines) put_back_yet ≡ false }
     ensures fair_then { LivesAreFairFrom two_lines put_back_yet 19503 0 }
     ensures room_then { AgentHasRoomThen two_lines put_back_yet 19503 }
@@ -97,6 +101,8 @@ pub fn else_a_line_of_a_new_life_waits_longer()
     ensures rests_then { done_in (course_from (lives put_back_yet).life.setup (gateway_by put_back put_back_yet) 1
         (took_since put_back put_back_yet)) ≡ [] }
     ensures held_then { held_in (gateway_of (lives put_back_yet).life) ≡ Some 1 }
+    ensures late_agent_then { 19503 + gap_of 0 + two_lines.disconnected_wait + 2 * 0 ≤ clock_of two_lines (lives put_back_yet) + 1 }
+    ensures no_agent_then { restart_after put_back_yet ≡ Some Announced }
 {}
 
 /// So it is before that time; and where a packet may take longer than it is handed over at all a line waits for longer.

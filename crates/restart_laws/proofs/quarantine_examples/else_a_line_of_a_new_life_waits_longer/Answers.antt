@@ -1,5 +1,5 @@
 use Rattle.std.proofs.Common.{[], refl}
-use Rattle.std.proofs.lemmas.Bool.{ltb-true}
+use Rattle.std.proofs.lemmas.Bool.{leb-true, ltb-true}
 use Rattle.plain_machine.specs.Example.{two_lines}
 use Rattle.delivery_laws.proofs.ExampleLemmas.{no_domain}
 use Rattle.delivery_laws.proofs.FrontLemmas.{asked_within, not_answered}
@@ -28,6 +28,8 @@ returns c = record {
   over = ltb-true _ _ refl;
   rests = refl;
   held = refl;
+  late_agent = leb-true _ _ refl;
+  no_agent = refl;
   refused = refl;
   fair_then = lives_fair two_lines put_back_yet 19503 0 refl;
   room_then = lives_roomy two_lines put_back_yet 19503 refl;
@@ -39,4 +41,6 @@ returns c = record {
   over_then = ltb-true _ _ refl;
   rests_then = refl;
   held_then = refl;
+  late_agent_then = leb-true _ _ refl;
+  no_agent_then = refl;
 }
