@@ -21,7 +21,8 @@ ghost use Rattle.life_laws.specs.Example.{lives};
 ghost use Rattle.restart_laws.specs.AfterRestart.{AgentHasRoomThen, IsRunOfLives, LifeGoesToAgent, LineReachesTheAgentSince};
 ghost use Rattle.restart_laws.specs.AfterRestart.{LivesAreFairFrom};
 ghost use Rattle.restart_laws.specs.Example.{answered_slowly, astray, astray_yet, back_anew, gateway_by, gateway_by_with, held_in};
-ghost use Rattle.restart_laws.specs.Example.{in_step_anew, life_took, life_with, pressed_anew, put_back, put_back_yet, restart_after, restart_with, took_by};
+ghost use Rattle.restart_laws.specs.Example.{in_step_anew, life_took, life_with, pressed_anew, put_back, put_back_yet, restart_after};
+ghost use Rattle.restart_laws.specs.Example.{restart_with, took_by};
 ghost use Rattle.restart_laws.specs.Example.{took_by_with, took_since, took_since_with, unanswered_anew, unheard, unheard_yet};
 ghost use Rattle.restart_laws.specs.Example.{not_served, not_served_yet, waits_on, waits_on_yet};
 
