@@ -80,3 +80,4 @@ mod RoomlessOwn
 mod RoomlessRest
 mod RoomlessTold
 mod RoomlessEver
+mod RoomlessCopies

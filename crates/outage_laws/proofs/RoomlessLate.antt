@@ -36,7 +36,7 @@ use Rattle.outage_laws.proofs.RoomlessAnew.{anew, agent_at, posts_8, begun_8, l_
 -- it is taken, and answered
 
 -- the answer to the command with this id
-abbrev done : ℕ → List ℕ
+abbrev pub done : ℕ → List ℕ
 done id = written (response_of id (plain_code 200))
 
 abbrev agent_8 : AgentMachine
@@ -78,7 +78,7 @@ is_10 = to_gateway_on l_9 9 23502 (done 2) anew served agent_8 posts_9 [] begun_
 
 -- Line 1 is lifted, and tells that
 
-abbrev lifted_text : List ℕ
+abbrev pub lifted_text : List ℕ
 lifted_text = codes "NTFY 10000000 aaln/1@rgw.example.net MGCP 1.0\r\nX: 0\r\nO: L/hd\r\n"
 
 abbrev lifted_begun : Begun
@@ -164,7 +164,7 @@ name = codes "aaln/1@rgw.example.net"
 abbrev rest : List ℕ
 rest = codes "X: C2\r\nR: L/hd(N),L/hu(N),L/hf(N),D/[0-9*#ABCD](N)\r\nQ: loop\r\n"
 
-abbrev request_text : List ℕ
+abbrev pub request_text : List ℕ
 request_text = codes "RQNT 1 aaln/1@rgw.example.net MGCP 1.0\r\nX: C2\r\nR: L/hd(N),L/hu(N),L/hf(N),D/[0-9*#ABCD](N)\r\nQ: loop\r\n"
 
 abbrev agent_12 : AgentMachine
@@ -205,7 +205,7 @@ there_12 = refl
 abbrev l_15 : List WorldStep
 l_15 = l_14 ++ delivering 12 ∷ []
 
-abbrev posts_13 : List Posted
+abbrev pub posts_13 : List Posted
 posts_13 = posts_12 ++ gateway_post 23502 (done 1) ∷ []
 
 is_15 : Is l_15 (numbered at_late 1) agent_12 posts_13 begun_10
@@ -222,10 +222,10 @@ there_13 : slice_get posts_13 13 ≡ Some (gateway_post 23502 (done 1))
 unfolding on_examples
 there_13 = refl
 
-abbrev l_16 : List WorldStep
+abbrev pub l_16 : List WorldStep
 l_16 = l_15 ++ delivering 13 ∷ []
 
-is_16 : Is l_16 (numbered at_late 1) agent_13 posts_13 begun_10
+pub is_16 : Is l_16 (numbered at_late 1) agent_13 posts_13 begun_10
 is_16 = to_agent_on l_15 13 23502 (done 1) (numbered at_late 1) agent_12 agent_13 posts_13 [] begun_10 there_13 refl is_15 hears_13
 
 -- So it stands
@@ -372,7 +372,7 @@ ready_16 = record {
   began = ap length is_16.own;
 }
 
-late_is : l_16 ≡ asked_late
+pub late_is : l_16 ≡ asked_late
 unfolding on_examples
 late_is = refl
 

@@ -54,10 +54,10 @@ use Rattle.outage_laws.proofs.RoomlessRounds.{IsGone, IsLow, IsOther, Ready, del
 filled_late : Ready at_late 23502 2 from_late 2 (keyed asked_late 14 4094) 4095 8202
 filled_late = ready asked_late at_late 23502 2 from_late 2 14 (omega arith) (tells 23502 3) late_ready 4094 (omega arith)
 
-abbrev front : List WorldStep
+abbrev pub front : List WorldStep
 front = keyed asked_late 14 4094
 
-abbrev w_0 : World
+abbrev pub w_0 : World
 w_0 = plain_world two_lines front
 
 abbrev a_0 : AgentMachine
@@ -68,20 +68,20 @@ r = filled_late
 
 -- The copy
 
-abbrev copy : Posted
+abbrev pub copy : Posted
 copy = copy_at 19501
 
-found : slice_get w_0.posted 7 ≡ Some copy
+pub found : slice_get w_0.posted 7 ≡ Some copy
 found = stays_found two_lines 0 asked_late (keys 14 4094) 7 copy copy_sent
 
-one_text : texts_of announcement.text ≡ announcement.text ∷ []
+pub one_text : texts_of announcement.text ≡ announcement.text ∷ []
 unfolding on_examples
 one_text = refl
 
-abbrev own_message : Message
+abbrev pub own_message : Message
 own_message = messages.Command Rsip 1 (codes "*@rgw.example.net") ((record { code = codes "RM"; value = codes "restart" }) ∷ []) []
 
-reads : read_text announcement.text ≡ message own_message
+pub reads : read_text announcement.text ≡ message own_message
 unfolding on_examples
 reads = refl
 
@@ -103,14 +103,14 @@ looks = ap (look_of most_firsts a_0.history 1) r.now ∙ looks_full 2 (id_on 1 4
 abbrev at_23502 : Machine
 at_23502 = numbered at_late 4095
 
-record Rests (steps : List WorldStep) (g : Machine) (t : ℕ) : Type 0 where
+pub record Rests (steps : List WorldStep) (g : Machine) (t : ℕ) : Type 0 where
   taken : steps_are_taken two_lines world_opening steps ≡ true
   gateway : gateway_in two_lines (plain_world two_lines steps) ≡ g
   clock : g.now ≡ t
   agent_now : (agent_in two_lines (plain_world two_lines steps)).now ≡ t
   flights : (agent_in two_lines (plain_world two_lines steps)).flights ≡ []
   kept : (agent_in two_lines (plain_world two_lines steps)).history ≡ a_0.history
-  posts : (plain_world two_lines steps).posted ≡ w_0.posted
+  pub posts : (plain_world two_lines steps).posted ≡ w_0.posted
 
 late_clock : at_23502.now ≡ 23502
 unfolding on_examples
@@ -198,7 +198,7 @@ quiet_30502 : IsQuiet at_29502 30502
 unfolding on_examples
 quiet_30502 = record { posted = refl; clock = refl }
 
-abbrev at_31502 : Machine
+abbrev pub at_31502 : Machine
 at_31502 = (effect two_lines at_30502 (tick 31502)).value
 
 quiet_31502 : IsQuiet at_30502 31502
@@ -282,7 +282,7 @@ rests_31502 = tick_on l_30502 at_30502 30502 31502 rests_30502 refl quiet_31502
 abbrev ticks : List WorldStep
 ticks = ticking 24502 ∷ ticking 25502 ∷ ticking 26502 ∷ ticking 27502 ∷ ticking 28502 ∷ ticking 29502 ∷ ticking 30502 ∷ ticking 31502 ∷ []
 
-ends : Rests own_roomless at_31502 31502
+pub ends : Rests own_roomless at_31502 31502
 ends = subst (λ (s : List WorldStep). Rests s at_31502 31502) (snoc_is own_roomless_then ticks) rests_31502
 
 -- What is so of it
@@ -339,13 +339,13 @@ firsts_high [] low = tt
 firsts_high (First first ∷ entries) low = (low.0.0, firsts_high entries low.1)
 firsts_high (Confirmation spans ∷ entries) low = firsts_high entries low.1
 
-pub not_taken : Any (λ (one : Reached). one.asked.id ≡ 1) (taken_in (plain_world two_lines own_roomless)) → ⊥
-not_taken any =
+not_taken_at : (steps : List WorldStep) (g : Machine) (t : ℕ) → Rests steps g t → Any (λ (one : Reached). one.asked.id ≡ 1) (taken_in (plain_world two_lines steps)) → ⊥
+not_taken_at steps g t s any =
     one_to (λ (one : Reached). (2 ≤ one.asked.id) × (one.asked.id ≡ 1)) ⊥ (λ one both. clash one.asked.id both.0 both.1) (taken_in w)
     (one_of_each (λ (one : Reached). 2 ≤ one.asked.id) (λ (one : Reached). one.asked.id ≡ 1) (taken_in w) high
     (one_from_any (λ (one : Reached). one.asked.id ≡ 1) (taken_in w) any)) where
       w : World
-      w = plain_world two_lines own_roomless
+      w = plain_world two_lines steps
 
       clash : (a : ℕ) → 2 ≤ a → a ≡ 1 → ⊥
       clash a more same = absurd (omega (arith, more, same))
@@ -353,12 +353,18 @@ not_taken any =
       keys_high : Each (λ (k : ℕ × ℕ). 2 ≤ k.0) (map key_kept (firsts_in (agent_in two_lines w).history))
       keys_high =
           each_mapped (λ (k : ℕ × ℕ). 2 ≤ k.0) key_kept (firsts_in (agent_in two_lines w).history)
-          (subst (λ (h : List Entry). Each (λ (first : KeptFirst). 2 ≤ first.id) (firsts_in h)) (sym ends.kept) (firsts_high a_0.history r.low))
+          (subst (λ (h : List Entry). Each (λ (first : KeptFirst). 2 ≤ first.id) (firsts_in h)) (sym s.kept) (firsts_high a_0.history r.low))
 
       high : Each (λ (one : Reached). 2 ≤ one.asked.id) (taken_in w)
       high =
           each_unmapped (λ (k : ℕ × ℕ). 2 ≤ k.0) key_reached (taken_in w)
-          (subst (Each (λ (k : ℕ × ℕ). 2 ≤ k.0)) (agent_keys two_lines own_roomless two_lines_set_up ends.taken) keys_high)
+          (subst (Each (λ (k : ℕ × ℕ). 2 ≤ k.0)) (agent_keys two_lines steps two_lines_set_up s.taken) keys_high)
+
+pub not_taken : Any (λ (one : Reached). one.asked.id ≡ 1) (taken_in (plain_world two_lines own_roomless)) → ⊥
+not_taken = not_taken_at own_roomless at_31502 31502 ends
+
+pub not_taken_then : Any (λ (one : Reached). one.asked.id ≡ 1) (taken_in (plain_world two_lines own_roomless_then)) → ⊥
+not_taken_then = not_taken_at own_roomless_then at_23502 23502 rests_then
 
 pub not_answered : HasCome (plain_world two_lines own_roomless) 1 → ⊥
 not_answered come = not_taken (come_taken two_lines two_lines_set_up own_roomless 1 ends.taken come)

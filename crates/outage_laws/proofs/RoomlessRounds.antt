@@ -446,7 +446,7 @@ module _ (machine : Machine) (moment least : ℕ) (from : ℕ → ℕ) (more : �
   linked = world_linked two_lines steps two_lines_set_up r.taken
 
   -- its text
-  writable : is_writable (key_message n) ≡ true
+  pub writable : is_writable (key_message n) ≡ true
   writable = here.0.writable where
     all : Each (IsWell two_lines) (sent_of two_lines (w.gateway_took ++ key ∷ []))
     all = each_from_all (IsWell two_lines) (sent_of two_lines (w.gateway_took ++ key ∷ [])) (sent_well two_lines two_lines_set_up (w.gateway_took ++ key ∷ []))
@@ -457,7 +457,7 @@ module _ (machine : Machine) (moment least : ℕ) (from : ℕ → ℕ) (more : �
         (each_back (IsWell two_lines) (sent_of two_lines w.gateway_took) (effect two_lines g key).sent
         (subst (Each (IsWell two_lines)) (sent_more two_lines (opening two_lines) w.gateway_took key) all))
 
-  goes_out : is_joinable largest_datagram (written (key_message n)) ≡ true
+  pub goes_out : is_joinable largest_datagram (written (key_message n)) ≡ true
   goes_out =
       (subst (Each IsOut) sent_one
       (each_from_all IsOut (effect two_lines g key).sent (event_goes two_lines g key linked.links.gateway.fits linked.links.gateway.kept).sent)).0
@@ -557,6 +557,14 @@ module _ (machine : Machine) (moment least : ℕ) (from : ℕ → ℕ) (more : �
       (alone (answer_to (key_command n)) answer_goes) reads
       ∙ ap (λ (e : Effect Machine). (record { value = e.value; sent = e.sent ++ [] })) (answered_as machine moment t n (at two_lines.agent.route 0) (omega (arith, few)))
 
+  pub posted_three : (plain_world two_lines three).posted ≡ (w.posted ++ post_of moment n ∷ []) ++ answer_post moment n ∷ []
+  posted_three =
+      ap (λ (x : World). x.posted) three_is
+      ∙ ap (λ (m : Machine). (plain_world two_lines two).posted ++ map (posted_as gateway_end (gateway_address two_lines))
+      (put_out (effect two_lines m (datagram (at two_lines.agent.route 0) (answer_to (key_command n)))).sent)) gateway_two
+      ∙ ap (λ (e : Effect Machine). (plain_world two_lines two).posted ++ map (posted_as gateway_end (gateway_address two_lines)) (put_out e.sent)) effect_three
+      ∙ append-nil (plain_world two_lines two).posted ∙ posted_two
+
   pub next_key : Ready machine moment least from more three (n + 1) (place + 2)
   next_key = record {
     taken = three_taken;
@@ -599,14 +607,6 @@ module _ (machine : Machine) (moment least : ℕ) (from : ℕ → ℕ) (more : �
         (firsts_in-append a.history (Confirmation (key_command n).confirms ∷ []) ∙ append-nil (firsts_in a.history)))
         ∙ length-append (firsts_in a.history) (firsts_in (first_entry (id_on 1 n) a.now (answer_to (key_command n)) ∷ []))
         ∙ ap (λ (x : ℕ). x + 1) r.count
-
-    posted_three : (plain_world two_lines three).posted ≡ (w.posted ++ post_of moment n ∷ []) ++ answer_post moment n ∷ []
-    posted_three =
-        ap (λ (x : World). x.posted) three_is
-        ∙ ap (λ (m : Machine). (plain_world two_lines two).posted ++ map (posted_as gateway_end (gateway_address two_lines))
-        (put_out (effect two_lines m (datagram (at two_lines.agent.route 0) (answer_to (key_command n)))).sent)) gateway_two
-        ∙ ap (λ (e : Effect Machine). (plain_world two_lines two).posted ++ map (posted_as gateway_end (gateway_address two_lines)) (put_out e.sent)) effect_three
-        ∙ append-nil (plain_world two_lines two).posted ∙ posted_two
 
     two_more : (x : ℕ) → x + 1 + 1 ≡ x + 2
     two_more x = omega arith
@@ -732,15 +732,15 @@ place_on place k = omega arith
 place_first : (place : ℕ) → place ≡ place + 2 * 0
 place_first place = omega arith
 
-few_on : (k : ℕ) → suc k ≤ 4094 → k + 1 + 1 < most_firsts
+pub few_on : (k : ℕ) → suc k ≤ 4094 → k + 1 + 1 < most_firsts
 few_on k low = omega (arith, low)
 
-low_before : (k : ℕ) → suc k ≤ 4094 → k ≤ 4094
+pub low_before : (k : ℕ) → suc k ≤ 4094 → k ≤ 4094
 low_before k low = omega (arith, low)
 
 module _ (front : List WorldStep) (machine : Machine) (moment least : ℕ) (from : ℕ → ℕ) (more place : ℕ) (low_least : least ≤ 10000000) (t : Tells machine moment)
     (opens : Ready machine moment least from more front 1 place) where
-  keyed_more : (k : ℕ) → (((front ++ keys place k) ++ dialling 1 (Key Five) ∷ []) ++ delivering (place + 2 * k) ∷ []) ++ delivering (place + 2 * k + 1) ∷ [] ≡ keyed front place (suc k)
+  pub keyed_more : (k : ℕ) → (((front ++ keys place k) ++ dialling 1 (Key Five) ∷ []) ++ delivering (place + 2 * k) ∷ []) ++ delivering (place + 2 * k + 1) ∷ [] ≡ keyed front place (suc k)
   unfolding keys
   keyed_more k =
       let a : WorldStep = dialling 1 (Key Five) in
@@ -750,7 +750,7 @@ module _ (front : List WorldStep) (machine : Machine) (moment least : ℕ) (from
       ap (λ (x : List WorldStep). x ++ c ∷ []) (append_assoc s (a ∷ []) (b ∷ [])) ∙ append_assoc s (a ∷ b ∷ []) (c ∷ [])
       ∙ append_assoc front (keys place k) (a ∷ b ∷ c ∷ [])
 
-  keyed_none : front ≡ keyed front place 0
+  pub keyed_none : front ≡ keyed front place 0
   unfolding keys
   keyed_none = sym (append-nil front)
 

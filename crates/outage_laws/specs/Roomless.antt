@@ -95,16 +95,21 @@ asked_late =
     seconds 24 ++ ticking 23501 ∷ ticking 23502 ∷ delivering 8 ∷ delivering 9 ∷ dialling 1 OffHook ∷ delivering 10 ∷ delivering 11
     ∷ asks_in_loop ∷ delivering 12 ∷ delivering 13 ∷ []
 
--- 4,094 keys are told, so that the agent has taken 4,096 commands; then the last copy of the first announcement comes, 4,001 ms behind its
--- send, and isn't taken
+-- 4,094 keys are told, so that the agent has taken 4,096 commands
+abbrev pub own_filled : List WorldStep
+own_filled = keyed asked_late 14 4094
+
+-- the last copy of the first announcement comes, 4,001 ms behind its send, and isn't taken
 abbrev pub own_roomless_then : List WorldStep
-own_roomless_then = keyed asked_late 14 4094 ++ delivering 7 ∷ []
+own_roomless_then = own_filled ++ delivering 7 ∷ []
 
 -- and 8 s pass
+abbrev pub own_ticks : List WorldStep
+own_ticks =
+    ticking 24502 ∷ ticking 25502 ∷ ticking 26502 ∷ ticking 27502 ∷ ticking 28502 ∷ ticking 29502 ∷ ticking 30502 ∷ ticking 31502 ∷ []
+
 abbrev pub own_roomless : List WorldStep
-own_roomless =
-    own_roomless_then ++ ticking 24502 ∷ ticking 25502 ∷ ticking 26502 ∷ ticking 27502 ∷ ticking 28502 ∷ ticking 29502 ∷ ticking 30502
-    ∷ ticking 31502 ∷ []
+own_roomless = own_roomless_then ++ own_ticks
 
 -- Of what is told: the agent has taken 4,096 commands at 1; the line rests for 21 s, in which it gives nothing up; then the next key is
 -- pressed, and its notification, packet 8,194, is handed over at once, and isn't taken; and a ms passes

@@ -1,8 +1,9 @@
 //! Worked examples of an agent that has no room: in worlds where all else is as the laws ask, and 4,096 commands are young at the agent, a
 //! command isn't taken nor answered, and what follows of that isn't so.
 
-ghost use Rattle.std.specs.Prelude.{◌≡◌, ◌≤◌, ◌<◌, ◌+◌, ◌*◌, ◌++◌, [], ℕ, List, Any, true, false};
+ghost use Rattle.std.specs.Prelude.{◌≡◌, ◌≤◌, ◌<◌, ◌+◌, ◌*◌, ◌++◌, ◌∷◌, [], ℕ, List, Any, length, true, false};
 ghost use Rattle.event_values.specs.declared.observed.Observed.{Observed};
+ghost use Rattle.outbound.specs.Sends.{most_repeats};
 ghost use Rattle.restart.specs.declared.restart.Restart.TheVariants.{Serving, Waiting};
 ghost use Rattle.plain_machine.specs.Example.{two_lines};
 ghost use Rattle.plain_machine.specs.Lists.{plain, sent_from, sent_of};
@@ -10,11 +11,12 @@ ghost use Rattle.plain_machine.specs.Machine.{serves};
 ghost use Rattle.machine_laws.specs.Belonging.{of_line};
 ghost use Rattle.machine_laws.specs.Saying.{Begun};
 ghost use Rattle.call_agent.specs.Agent.{observed_on};
-ghost use Rattle.agent_core.specs.World.{agent_in, gateway_in, now_in};
+ghost use Rattle.agent_core.specs.declared.packet.End.TheVariants.{GatewayEnd};
+ghost use Rattle.agent_core.specs.World.{agent_in, delivering, gateway_in, now_in};
 ghost use Rattle.world_laws.specs.Example.{world};
 ghost use Rattle.world_laws.specs.Reached.{Reached, taken_in};
 ghost use Rattle.delivery_laws.specs.Chances.{chances, last_chance};
-ghost use Rattle.delivery_laws.specs.Copies.{IsRun, answer_wait};
+ghost use Rattle.delivery_laws.specs.Copies.{IsCopy, IsRun, answer_wait};
 ghost use Rattle.delivery_laws.specs.Course.{course_from, course_of};
 ghost use Rattle.delivery_laws.specs.Dialled.{IsAskedForAll, done_in, told_along};
 ghost use Rattle.delivery_laws.specs.Example.{line_with, took_between, took_first};
@@ -23,19 +25,23 @@ ghost use Rattle.delivery_laws.specs.GivenUp.{has_given_up};
 ghost use Rattle.delivery_laws.specs.Keeping.{happened_in};
 ghost use Rattle.delivery_laws.specs.OwnChances.{HasCome, IsOfLine};
 ghost use Rattle.delivery_laws.specs.Rounds.{IsAnsweredWithin, IsAskedWithin, rounds_take};
+ghost use Rattle.delivery_laws.specs.Taking.{IsTaken};
 ghost use Rattle.told_laws.specs.Stretch.{AnnouncesNothing, outliving, taken_meanwhile};
 ghost use Rattle.outage_laws.specs.AfterOutage.{IsFairFrom, IsWell, gap_of, longest_pause, well_by};
+ghost use Rattle.outage_laws.specs.Carrying.{IsHandedBack};
 ghost use Rattle.outage_laws.specs.Example.{announcement};
 ghost use Rattle.outage_laws.specs.HadTime.{FlightGoesToAgent};
 ghost use Rattle.outage_laws.specs.LinePremises.{held_with, restart_with};
-ghost use Rattle.outage_laws.specs.Roomless.{asked_first, key_begun, key_only, own_roomless, rested, rested_soon, roomless};
+ghost use Rattle.outage_laws.specs.Roomless.{asked_first, key_begun, key_only, own_filled, own_roomless, own_roomless_then, own_ticks};
+ghost use Rattle.outage_laws.specs.Roomless.{rested, rested_soon, roomless};
 ghost use Rattle.outage_laws.specs.Roomless.{roomless_given_up, roomless_soon, tick_only, ticks_on, ticks_then, untold};
 ghost use Rattle.outage_laws.specs.ToldSince.{FlightBeganSince, FlightsBeganSince, IsAskedForAllSince, IsToldFrom, IsToldSince};
 
 /// Where the agent has no room: 4,096 commands are young there, taken one behind the other, and the next notification isn't taken, though
 /// each of its copies is handed over at once; nor is it answered. It is given up, and the line has no agent then. Nor is the last copy of a
 /// gateway's first announcement taken, which is handed over as long behind its send as the network takes, 4,001 ms: as the second one is
-/// answered, and a line tells 4,095 events. And where a line rested for 20 s and gave nothing up, the key that is pressed then isn't told.
+/// answered, and a line tells 4,095 events; of its eight copies seven are lost, and that one is carried but for the room. And where a line
+/// rested for 20 s and gave nothing up, the key that is pressed then isn't told.
 pub fn else_an_agent_has_no_room()
     ensures run { IsRun two_lines roomless }
     ensures fair { IsFairFrom two_lines roomless 0 0 }
@@ -65,6 +71,11 @@ pub fn else_an_agent_has_no_room()
     ensures own_serving { serves (gateway_in two_lines (world own_roomless)).endpoints ≡ true }
     ensures own_not_taken { ¬ Any (λ (one : Reached). one.asked.id ≡ announcement.id) (taken_in (world own_roomless)) }
     ensures own_none_came { ¬ HasCome (world own_roomless) announcement.id }
+    ensures own_copies { (number : ℕ) → IsCopy two_lines (world own_roomless) GatewayEnd announcement.text number → number ≤ 7 }
+    ensures own_lost { (length {A = ℕ} (0 ∷ 1 ∷ 2 ∷ 3 ∷ 4 ∷ 5 ∷ 6 ∷ []) ≡ most_repeats) × (announcement.moment + last_chance ≤ 31502) }
+    ensures own_carried { (own_roomless ≡ (own_filled ++ delivering 7 ∷ []) ++ own_ticks) ×
+        IsCopy two_lines (world own_filled) GatewayEnd announcement.text 7 ×
+        ((taken : IsTaken two_lines (world own_filled) (world own_roomless_then) announcement.id) → IsHandedBack own_ticks taken.number) }
     ensures asked_first { took_first untold ≡ took_first asked_first ++ took_between asked_first untold }
     ensures asked { IsAskedForAll (course_of two_lines 1 (took_first asked_first))
         (course_from two_lines (plain two_lines (took_first asked_first)) 1 (took_between asked_first untold))

@@ -8,6 +8,7 @@ use Rattle.machine_laws.proofs.EachLemmas.{any_from_one}
 use Rattle.delivery_laws.specs.Chances.{chances}
 use Rattle.plain_machine.specs.Event.{tick}
 use Rattle.outage_laws.proofs.RoomlessHeld.{late_given_up, late_too, line_waits, now_given_up}
+use Rattle.outage_laws.proofs.RoomlessCopies as copied
 use Rattle.outage_laws.proofs.RoomlessOwn as own
 use Rattle.outage_laws.proofs.RoomlessTold as telling
 use Rattle.outage_laws.proofs.roomless_examples.else_an_agent_has_no_room.Goals as goal
@@ -101,3 +102,12 @@ returns-clause-asked c = telling.asked
 
 pub returns-clause-not_told : goal.returns-clause-not_told
 returns-clause-not_told c = telling.not_told_along
+
+pub returns-clause-own_copies : goal.returns-clause-own_copies
+returns-clause-own_copies c = copied.copies
+
+pub returns-clause-own_lost : goal.returns-clause-own_lost
+returns-clause-own_lost c = (refl, omega arith)
+
+pub returns-clause-own_carried : goal.returns-clause-own_carried
+returns-clause-own_carried c = (copied.carried, copied.last_copy, copied.back)
