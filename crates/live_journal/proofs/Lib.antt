@@ -3,3 +3,4 @@ pub mod CountLemmas
 pub mod SentCountLemmas
 pub mod RecordLemmas
 mod PuttingLemmas
+mod ShowingLemmas

@@ -1,22 +1,24 @@
 //! What is kept of what goes between a gateway and others: its counts and its records.
-ghost use Rattle.std.specs.Prelude.{◌≡◌};
+ghost use Rattle.std.specs.Prelude.{◌≡◌, map};
 ghost use Rattle.small_rules.specs.Counting.{counted};
+ghost use Rattle.page_answers.specs.declared.ring.Kind.TheVariants.{Received, Sent, Act, Told};
+ghost use Rattle.live_journal.specs.Labelling.{sent_label};
 ghost use Rattle.live_journal.specs.Recording.{Records, unsent_text};
+ghost use Rattle.live_journal.specs.Showing.{nobody as of_nobody, GoesOn, Happened, HappenedWith, Turned};
 ghost use Rattle.live_journal.specs.Strangers.{quiet_after, stranger_text};
 
 use crate::capture::Capture;
-use crate::labelling::{given_up_labels, sent_labels, text_labels};
 use crate::log::Log;
 use crate::message_tally::MessageTally;
+use crate::showing::{nobody, show, show_sent, show_turned};
 use crate::spoiling::note_of;
 use crate::taken::Taken;
 use bad_network::Fate;
 use exchange_log::{Note, Way};
 use gateway_core::SentMessage;
 use live_ends::{Now, Written};
-use mg_bytes::OutOfMemory;
-use page_answers::{Board, Kind, MessageLabel};
-use std::net::{Ipv4Addr, SocketAddrV4};
+use page_answers::{Board, Kind};
+use std::net::SocketAddrV4;
 
 /// The journal of a gateway. What is large stands in boxes.
 pub struct Journal {
@@ -47,64 +49,37 @@ impl Drop for Journal {
 }
 
 impl Journal {
-    // Shows the page what happened, and with whom on the network, if with anybody there.
-    fn show(&mut self, moment: u64, kind: Kind, peer: Option<SocketAddrV4>, text: &[u8]) {
+    // Shows the page what happened, with whom on the network, or with nobody there.
+    fn show(&mut self, moment: u64, kind: Kind, peer: SocketAddrV4, text: &[u8])
+        ensures { GoesOn (Happened moment kind peer text.now) self.old.board self.new.board }
+    {
         if let Some(board) = &mut self.board {
-            let peer = peer.unwrap_or(SocketAddrV4::new(Ipv4Addr::UNSPECIFIED, 0));
-            let _ = board.note(moment, kind, peer, text);
+            show(board, moment, kind, peer, text);
         }
-    }
-
-    // Tells the page what the messages are of what it was shown last, where memory was there to tell that.
-    fn label(&mut self, said: Result<Vec<MessageLabel>, OutOfMemory>) {
-        if let Some(board) = &mut self.board {
-            if let Ok(said) = said {
-                let _ = board.label(said.as_slice());
-            }
-        }
-    }
-
-    // Shows the page what the texts of the datagram that came were, and what was given up.
-    fn show_turned(&mut self, moment: u64, taken: &Taken<'_>) {
-        if self.board.is_none() {
-            return;
-        }
-        let alloc = self.log.alloc;
-        if !taken.outcomes.is_empty() {
-            self.label(text_labels(alloc, taken.outcomes));
-        }
-        if !taken.given_up.is_empty() {
-            self.show(moment, Kind::GivenUp, None, b"");
-            self.label(given_up_labels(alloc, taken.given_up));
-        }
-    }
-
-    // Shows the page what is sent.
-    fn show_sent(&mut self, moment: u64, to: SocketAddrV4, bytes: &[u8], messages: &[SentMessage]) {
-        if self.board.is_none() {
-            return;
-        }
-        let alloc = self.log.alloc;
-        self.show(moment, Kind::Sent, Some(to), bytes);
-        self.label(sent_labels(alloc, messages));
     }
 
     /// A line of the telephones is given to the gateway.
-    pub fn act(&mut self, now: Now, line: &[u8]) {
-        self.show(now.clock, Kind::Act, None, line);
+    pub fn act(&mut self, now: Now, line: &[u8])
+        ensures { GoesOn (Happened now.clock Act of_nobody line.now) self.old.board self.new.board }
+    {
+        self.show(now.clock, Kind::Act, nobody(), line);
     }
 
     /// The line of the telephones that was given is answered.
-    pub fn answered(&mut self, moment: u64, text: &[u8]) {
-        self.show(moment, Kind::Told, None, text);
+    pub fn answered(&mut self, moment: u64, text: &[u8])
+        ensures { GoesOn (Happened moment Told of_nobody text.now) self.old.board self.new.board }
+    {
+        self.show(moment, Kind::Told, nobody(), text);
     }
 
     /// A datagram comes for the gateway, so late, in ms.
-    pub fn came(&mut self, now: Now, source: SocketAddrV4, bytes: &[u8], late: u64) {
+    pub fn came(&mut self, now: Now, source: SocketAddrV4, bytes: &[u8], late: u64)
+        ensures shown { GoesOn (Happened now.clock Received source bytes.now) self.old.board self.new.board }
+    {
         self.tally.received();
         self.log.receive(now, source, bytes, late);
         self.capture.pass(now.time, Way::Came, source, bytes);
-        self.show(now.clock, Kind::Received, Some(source), bytes);
+        self.show(now.clock, Kind::Received, source, bytes);
     }
 
     /// A datagram came from who may not speak: it is counted, and noted at most once a second.
@@ -120,10 +95,15 @@ impl Journal {
     }
 
     /// The gateway took an event, of which it tells this: all that is counted. What it sends is handed out next.
-    pub fn turned(&mut self, now: Now, taken: &Taken<'_>) {
+    pub fn turned(&mut self, now: Now, taken: &Taken<'_>)
+        ensures shown { GoesOn (Turned now.clock taken.now.outcomes.now taken.now.given_up.now) self.old.board self.new.board }
+    {
         self.tally.turned(taken);
         self.log.turned(now, taken);
-        self.show_turned(now.clock, taken);
+        let alloc = self.log.alloc;
+        if let Some(board) = &mut self.board {
+            show_turned(alloc, board, now.clock, taken);
+        }
     }
 
     /// A datagram that was sent to the gateway isn't taken, for this reason: a bad network lost it, or memory was refused.
@@ -132,11 +112,16 @@ impl Journal {
     }
 
     /// A datagram is sent that has these messages.
-    pub fn sent(&mut self, now: Now, to: SocketAddrV4, bytes: &[u8], messages: &[SentMessage]) {
+    pub fn sent(&mut self, now: Now, to: SocketAddrV4, bytes: &[u8], messages: &[SentMessage])
+        ensures shown { GoesOn (HappenedWith now.clock Sent to bytes.now (map sent_label messages.now)) self.old.board self.new.board }
+    {
         self.tally.handed_out();
         self.log.send(now, to, bytes, messages);
         self.capture.pass(now.time, Way::Sent, to, bytes);
-        self.show_sent(now.clock, to, bytes, messages);
+        let alloc = self.log.alloc;
+        if let Some(board) = &mut self.board {
+            show_sent(alloc, board, now.clock, to, bytes, messages);
+        }
     }
 
     /// The datagram that was sent last has this fate.

@@ -17,6 +17,7 @@ mod reporting;
 mod sent_counts;
 pub mod sent_examples;
 pub mod sent_laws;
+mod showing;
 mod spoiling;
 mod strangers;
 mod taken;

@@ -1,0 +1,12 @@
+use Rattle.std.proofs.Common.{map}
+use Rattle.page_answers.specs.declared.ring.Kind.TheVariants.{Sent}
+use Rattle.live_journal.specs.Labelling.{sent_label}
+use Rattle.live_journal.specs.Showing.{HappenedWith}
+use Rattle.live_journal.proofs.ShowingLemmas.{goes_on}
+use Rattle.live_journal.proofs.journal.Journal.sent.Goals as goal
+
+pub returns-in-Some : goal.returns-in-Some
+returns-in-Some c = record {
+  shown = goes_on (HappenedWith c.args.now.clock Sent c.args.to c.args.bytes.now (map sent_label c.args.messages.now)) c.args.self.now.board
+      c.in-Some.board c.show_sent.new.board c.in-Some.is (rw (c.deref_mut-in-Some.ensures.value) at c.show_sent.ensures);
+}
