@@ -18,6 +18,7 @@ mod sent_counts;
 pub mod sent_examples;
 pub mod sent_laws;
 mod showing;
+pub mod showing_examples;
 mod spoiling;
 mod strangers;
 mod taken;
