@@ -1,9 +1,13 @@
 // ---- The ladder
 
-// What is sent again under an id within this time is a repeat, in ms (RFC 3435, 3.5.1).
-const REPEAT_TIME = 30000;
-// What the gateway tells of a message that was said before; of responses that come it doesn't tell that.
+// What a message is stands in its label: the gateway's (`said` of /events), or where a file is drawn that of `FileLabels`. Its text says
+// what it is called, its return code, and which call it is of; nothing else is read off it here.
+const COMMANDS = ["new", "repeat", "confirmed", "lost", "command", "resent"];
+const RESPONSES = ["response", "answer", "again", "acknowledgement"];
+// Of a response that comes the gateway doesn't know whether it came before.
 const SAID_BEFORE = ["repeat", "confirmed", "again", "resent"];
+// Nothing is told of a message without a label: its datagram is too long, 64 stand before it there, or memory was refused for that.
+const UNTOLD = { what: "", line: null, id: null, code: null, send: null };
 // So many rows are kept in the ladder.
 const MOST_ROWS = 3000;
 // A list this close to its end, in pixels, is at its end: two rows, since those that come may be higher once they are drawn.
@@ -26,9 +30,7 @@ class Ladder {
     this.rows = [];
     this.count = 0;
     this.calls = new Calls();
-    // By direction, peer and head: when it was first said.
-    this.said = new Map();
-    // Commands that nobody has answered yet, by direction and id: their endpoint and rows.
+    // Commands that nobody has answered yet, by direction and id: their rows.
     this.open = new Map();
     // Those that were answered, with their first rows.
     this.answered = new Map();
@@ -182,67 +184,35 @@ class Ladder {
 
   // ---- What belongs together
 
-  // Whether a message was said before: as the gateway tells, else by what was said less than half a minute ago.
-  isRepeat(label, key, at) {
-    return label === null || label.what === "response" ? this.isAgain(key, at) : SAID_BEFORE.includes(label.what);
-  }
-
-  // Whether this was said before, less than half a minute ago.
-  isAgain(key, at) {
-    const first = this.said.get(key);
-    if (first !== undefined && (at === null || at - first < REPEAT_TIME)) {
-      return true;
-    }
-    this.said.set(key, at ?? 0);
-    forget(this.said, 5000);
-    return false;
-  }
-
-  // The gateway or its peer gives up what it asked of this endpoint, since it asks for something new.
-  giveUp(direction, endpoint, id) {
-    for (const [key, asked] of this.open) {
-      if (asked.direction === direction && asked.endpoint === endpoint && asked.id !== id) {
-        asked.rows.forEach((row) => this.mark(row, "given-up", "given up"));
-        this.open.delete(key);
-      }
-    }
-  }
-
-  // Commands were given up, as the gateway tells.
+  // Commands were given up.
   addGivenUp(happened) {
     for (const label of happened.said ?? []) {
       const key = `out ${label.id}`;
-      this.open.get(key)?.rows.forEach((row) => this.mark(row, "given-up", "given up"));
+      this.open.get(key)?.forEach((row) => this.mark(row, "given-up", "given up"));
       this.open.delete(key);
     }
   }
 
   addCommand(row, message, direction, label) {
     row.isNotification = message.verb === "NTFY";
-    this.settle(row, label?.line ?? message.line, this.calls.callOf(message));
-    if (label?.what === "lost") {
+    this.settle(row, label.line ?? message.line, this.calls.callOf(message));
+    if (label.what === "lost") {
       this.mark(row, "given-up", "lost");
     }
-    const key = `${direction} ${message.id}`;
-    // The gateway may send a repeat to another address of its agent.
-    const peer = direction === "in" ? row.peer : "";
-    if (this.isRepeat(label, `${direction} ${peer} ${message.verb} ${message.id}`, row.at)) {
-      this.mark(row, "again", label?.send ? `send ${label.send}` : "repeat");
+    const key = `${direction} ${label.id}`;
+    if (SAID_BEFORE.includes(label.what)) {
+      this.mark(row, "again", label.send ? `send ${label.send}` : "repeat");
       const open = this.open.get(key);
-      open?.rows.push(row);
+      open?.push(row);
       // A page that came later hears the repeat first.
       if (open || this.answered.has(key)) {
         return;
       }
     }
-    // A line that has lost its agent, or a gateway that announces itself anew, has given up what it asked before.
-    if (label === null && direction === "out" && message.verb === "RSIP") {
-      this.giveUp(direction, message.endpoint, message.id);
-    }
     if (direction === "in") {
       this.calls.ask(message);
     }
-    this.open.set(key, { direction, id: message.id, endpoint: message.endpoint, rows: [row] });
+    this.open.set(key, [row]);
     forget(this.open, 1000);
   }
 
@@ -250,13 +220,13 @@ class Ladder {
     if (direction === "out") {
       this.calls.answer(message);
     }
-    const key = `${direction === "out" ? "in" : "out"} ${message.id}`;
-    if (this.isRepeat(label, `${direction} ${row.peer} ${message.code} ${message.id}`, row.at)) {
+    const key = `${direction === "out" ? "in" : "out"} ${label.id}`;
+    if (SAID_BEFORE.includes(label.what)) {
       this.mark(row, "again", "repeat");
     }
-    const asked = this.open.get(key)?.rows[0] ?? this.answered.get(key);
+    const asked = this.open.get(key)?.[0] ?? this.answered.get(key);
     if (!asked) {
-      this.settle(row, label?.line ?? row.line, null);
+      this.settle(row, label.line ?? row.line, null);
       return;
     }
     if (message.code >= 200 && this.open.delete(key)) {
@@ -277,22 +247,24 @@ class Ladder {
     const texts = messagesOf(happened.text);
     const way = direction === "in" ? `from ${happened.peer}` : `to ${happened.peer}`;
     texts.forEach((text, place) => {
-      const message = readMessage(text);
-      const label = happened.said?.[place] ?? null;
-      const isFault = message.is === "none" || (message.is === "response" && message.code >= 400);
+      const label = happened.said?.[place] ?? UNTOLD;
+      const kind = kindOf(label);
+      const message = kind === "fault" ? readLine(text, "not MGCP: ") : readMessage(text);
       const part = texts.length > 1 ? `, ${place + 1} of ${texts.length} in its datagram` : "";
       const row = this.addRow({
         happened, at: happened.at, wall: happened.wall, peer: happened.peer, text,
-        kind: isFault ? "fault" : message.is,
+        kind: kind === "response" && message.code >= 400 ? "fault" : kind,
         from: direction === "in" ? lane : 2,
         to: direction === "in" ? 2 : lane,
         line: message.line, head: message.head, reason: message.reason, more: message.more,
         title: `${way}${whenText(happened)}${part}${message.reason ? `: ${message.reason}` : ""}`,
       });
-      if (message.is === "command") {
+      if (kind === "command") {
         this.addCommand(row, message, direction, label);
-      } else if (message.is === "response") {
+      } else if (kind === "response") {
         this.addResponse(row, message, direction, label);
+      } else {
+        this.settle(row, message.line, this.calls.callOf(message));
       }
     });
   }
@@ -351,6 +323,17 @@ class Ladder {
     listCalls(this.calls);
     this.toEnd();
   }
+}
+
+// What a message is, by its label.
+function kindOf(label) {
+  if (COMMANDS.includes(label.what)) {
+    return "command";
+  }
+  if (RESPONSES.includes(label.what)) {
+    return "response";
+  }
+  return label.what === "unreadable" ? "fault" : "untold";
 }
 
 // When something happened, by the gateway's clock and by the time of day.

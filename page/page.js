@@ -151,7 +151,8 @@ async function openFile(file) {
   heard.show();
   ladder.isLeft = true;
   ladder.list.scrollTop = 0;
-  stand("file", `${file.name}: ${happened.length} events`);
+  const told = happened.filter((it) => it.kind !== "given up");
+  stand("file", `${file.name}: ${told.length} events`);
 }
 
 function backToGateway() {

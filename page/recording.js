@@ -4,6 +4,7 @@
 class Recording {
   constructor(text) {
     this.happened = [];
+    this.labels = new FileLabels();
     this.at = null;
     this.inside = null;
     const lines = text.split(/\r\n|\n/);
@@ -17,7 +18,13 @@ class Recording {
   }
 
   put(kind, peer, text, at = this.at, hex = null) {
-    this.happened.push({ kind, peer, text, at, hex, wall: null });
+    const isDatagram = kind === "in" || kind === "out";
+    const said = isDatagram ? this.labels.ofDatagram(kind, peer, text, at) : [];
+    this.happened.push({ kind, peer, text, at, hex, said, wall: null });
+    const givenUp = this.labels.takeGivenUp();
+    if (givenUp.length > 0) {
+      this.happened.push({ kind: "given up", peer: "", text: "", at, hex: null, said: givenUp, wall: null });
+    }
   }
 
   // A line, of a script or of what was printed.

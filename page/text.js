@@ -156,7 +156,14 @@ function readResponse(head) {
   return { is: "response", code, id: Number(id), line: 0, head: [digits, id, said], reason };
 }
 
-// What the page has to know of a message.
+// A text of which the first line alone is shown, behind these words.
+function readLine(text, words) {
+  const [head] = text.split("\n");
+  const label = text.trim() === "" ? "(empty)" : `${words}${head.trim().slice(0, 40)}`;
+  return { is: "none", line: 0, head: [label, "", ""], reason: "", more: "", call: "", connection: "", named: 0, description: null };
+}
+
+// What a message is called, and what it names.
 function readMessage(text) {
   const [head, ...rest] = text.split("\n");
   const body = rest.findIndex((line) => line.trim() === "");
@@ -176,6 +183,5 @@ function readMessage(text) {
   if (response) {
     return { ...told, ...readResponse(response) };
   }
-  const label = text.trim() === "" ? "(empty)" : `not MGCP: ${head.trim().slice(0, 40)}`;
-  return { is: "none", line: 0, head: [label, "", ""], reason: "", more: "", call: "", connection: "", named: 0, description: null };
+  return readLine(text, "");
 }

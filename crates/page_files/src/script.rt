@@ -1,4 +1,4 @@
-//! What it does: page/text.js and 9 files behind it, written by `tools/page_files`.
+//! What it does: page/text.js and 10 files behind it, written by `tools/page_files`.
 
 /// What it does.
 pub const SCRIPT: &str = r##"// What the page of rgwd does.
@@ -159,7 +159,14 @@ function readResponse(head) {
   return { is: "response", code, id: Number(id), line: 0, head: [digits, id, said], reason };
 }
 
-// What the page has to know of a message.
+// A text of which the first line alone is shown, behind these words.
+function readLine(text, words) {
+  const [head] = text.split("\n");
+  const label = text.trim() === "" ? "(empty)" : `${words}${head.trim().slice(0, 40)}`;
+  return { is: "none", line: 0, head: [label, "", ""], reason: "", more: "", call: "", connection: "", named: 0, description: null };
+}
+
+// What a message is called, and what it names.
 function readMessage(text) {
   const [head, ...rest] = text.split("\n");
   const body = rest.findIndex((line) => line.trim() === "");
@@ -179,8 +186,7 @@ function readMessage(text) {
   if (response) {
     return { ...told, ...readResponse(response) };
   }
-  const label = text.trim() === "" ? "(empty)" : `not MGCP: ${head.trim().slice(0, 40)}`;
-  return { is: "none", line: 0, head: [label, "", ""], reason: "", more: "", call: "", connection: "", named: 0, description: null };
+  return readLine(text, "");
 }
 
 // ---- Return codes
@@ -528,10 +534,14 @@ async function openReport(file) {
 
 // ---- The ladder
 
-// What is sent again under an id within this time is a repeat, in ms (RFC 3435, 3.5.1).
-const REPEAT_TIME = 30000;
-// What the gateway tells of a message that was said before; of responses that come it doesn't tell that.
+// What a message is stands in its label: the gateway's (`said` of /events), or where a file is drawn that of `FileLabels`. Its text says
+// what it is called, its return code, and which call it is of; nothing else is read off it here.
+const COMMANDS = ["new", "repeat", "confirmed", "lost", "command", "resent"];
+const RESPONSES = ["response", "answer", "again", "acknowledgement"];
+// Of a response that comes the gateway doesn't know whether it came before.
 const SAID_BEFORE = ["repeat", "confirmed", "again", "resent"];
+// Nothing is told of a message without a label: its datagram is too long, 64 stand before it there, or memory was refused for that.
+const UNTOLD = { what: "", line: null, id: null, code: null, send: null };
 // So many rows are kept in the ladder.
 const MOST_ROWS = 3000;
 // A list this close to its end, in pixels, is at its end: two rows, since those that come may be higher once they are drawn.
@@ -554,9 +564,7 @@ class Ladder {
     this.rows = [];
     this.count = 0;
     this.calls = new Calls();
-    // By direction, peer and head: when it was first said.
-    this.said = new Map();
-    // Commands that nobody has answered yet, by direction and id: their endpoint and rows.
+    // Commands that nobody has answered yet, by direction and id: their rows.
     this.open = new Map();
     // Those that were answered, with their first rows.
     this.answered = new Map();
@@ -710,67 +718,35 @@ class Ladder {
 
   // ---- What belongs together
 
-  // Whether a message was said before: as the gateway tells, else by what was said less than half a minute ago.
-  isRepeat(label, key, at) {
-    return label === null || label.what === "response" ? this.isAgain(key, at) : SAID_BEFORE.includes(label.what);
-  }
-
-  // Whether this was said before, less than half a minute ago.
-  isAgain(key, at) {
-    const first = this.said.get(key);
-    if (first !== undefined && (at === null || at - first < REPEAT_TIME)) {
-      return true;
-    }
-    this.said.set(key, at ?? 0);
-    forget(this.said, 5000);
-    return false;
-  }
-
-  // The gateway or its peer gives up what it asked of this endpoint, since it asks for something new.
-  giveUp(direction, endpoint, id) {
-    for (const [key, asked] of this.open) {
-      if (asked.direction === direction && asked.endpoint === endpoint && asked.id !== id) {
-        asked.rows.forEach((row) => this.mark(row, "given-up", "given up"));
-        this.open.delete(key);
-      }
-    }
-  }
-
-  // Commands were given up, as the gateway tells.
+  // Commands were given up.
   addGivenUp(happened) {
     for (const label of happened.said ?? []) {
       const key = `out ${label.id}`;
-      this.open.get(key)?.rows.forEach((row) => this.mark(row, "given-up", "given up"));
+      this.open.get(key)?.forEach((row) => this.mark(row, "given-up", "given up"));
       this.open.delete(key);
     }
   }
 
   addCommand(row, message, direction, label) {
     row.isNotification = message.verb === "NTFY";
-    this.settle(row, label?.line ?? message.line, this.calls.callOf(message));
-    if (label?.what === "lost") {
+    this.settle(row, label.line ?? message.line, this.calls.callOf(message));
+    if (label.what === "lost") {
       this.mark(row, "given-up", "lost");
     }
-    const key = `${direction} ${message.id}`;
-    // The gateway may send a repeat to another address of its agent.
-    const peer = direction === "in" ? row.peer : "";
-    if (this.isRepeat(label, `${direction} ${peer} ${message.verb} ${message.id}`, row.at)) {
-      this.mark(row, "again", label?.send ? `send ${label.send}` : "repeat");
+    const key = `${direction} ${label.id}`;
+    if (SAID_BEFORE.includes(label.what)) {
+      this.mark(row, "again", label.send ? `send ${label.send}` : "repeat");
       const open = this.open.get(key);
-      open?.rows.push(row);
+      open?.push(row);
       // A page that came later hears the repeat first.
       if (open || this.answered.has(key)) {
         return;
       }
     }
-    // A line that has lost its agent, or a gateway that announces itself anew, has given up what it asked before.
-    if (label === null && direction === "out" && message.verb === "RSIP") {
-      this.giveUp(direction, message.endpoint, message.id);
-    }
     if (direction === "in") {
       this.calls.ask(message);
     }
-    this.open.set(key, { direction, id: message.id, endpoint: message.endpoint, rows: [row] });
+    this.open.set(key, [row]);
     forget(this.open, 1000);
   }
 
@@ -778,13 +754,13 @@ class Ladder {
     if (direction === "out") {
       this.calls.answer(message);
     }
-    const key = `${direction === "out" ? "in" : "out"} ${message.id}`;
-    if (this.isRepeat(label, `${direction} ${row.peer} ${message.code} ${message.id}`, row.at)) {
+    const key = `${direction === "out" ? "in" : "out"} ${label.id}`;
+    if (SAID_BEFORE.includes(label.what)) {
       this.mark(row, "again", "repeat");
     }
-    const asked = this.open.get(key)?.rows[0] ?? this.answered.get(key);
+    const asked = this.open.get(key)?.[0] ?? this.answered.get(key);
     if (!asked) {
-      this.settle(row, label?.line ?? row.line, null);
+      this.settle(row, label.line ?? row.line, null);
       return;
     }
     if (message.code >= 200 && this.open.delete(key)) {
@@ -805,22 +781,24 @@ class Ladder {
     const texts = messagesOf(happened.text);
     const way = direction === "in" ? `from ${happened.peer}` : `to ${happened.peer}`;
     texts.forEach((text, place) => {
-      const message = readMessage(text);
-      const label = happened.said?.[place] ?? null;
-      const isFault = message.is === "none" || (message.is === "response" && message.code >= 400);
+      const label = happened.said?.[place] ?? UNTOLD;
+      const kind = kindOf(label);
+      const message = kind === "fault" ? readLine(text, "not MGCP: ") : readMessage(text);
       const part = texts.length > 1 ? `, ${place + 1} of ${texts.length} in its datagram` : "";
       const row = this.addRow({
         happened, at: happened.at, wall: happened.wall, peer: happened.peer, text,
-        kind: isFault ? "fault" : message.is,
+        kind: kind === "response" && message.code >= 400 ? "fault" : kind,
         from: direction === "in" ? lane : 2,
         to: direction === "in" ? 2 : lane,
         line: message.line, head: message.head, reason: message.reason, more: message.more,
         title: `${way}${whenText(happened)}${part}${message.reason ? `: ${message.reason}` : ""}`,
       });
-      if (message.is === "command") {
+      if (kind === "command") {
         this.addCommand(row, message, direction, label);
-      } else if (message.is === "response") {
+      } else if (kind === "response") {
         this.addResponse(row, message, direction, label);
+      } else {
+        this.settle(row, message.line, this.calls.callOf(message));
       }
     });
   }
@@ -881,10 +859,117 @@ class Ladder {
   }
 }
 
+// What a message is, by its label.
+function kindOf(label) {
+  if (COMMANDS.includes(label.what)) {
+    return "command";
+  }
+  if (RESPONSES.includes(label.what)) {
+    return "response";
+  }
+  return label.what === "unreadable" ? "fault" : "untold";
+}
+
 // When something happened, by the gateway's clock and by the time of day.
 function whenText(happened) {
   const wall = happened.wall === null ? "" : `, ${wallText(happened.wall)}`;
   return happened.at === null ? "" : ` at ${clockText(happened.at)}${wall}`;
+}
+
+// ---- What a file's messages are
+
+// What is said again under an id within this time is a repeat, in ms (RFC 3435, 3.5.1).
+const REPEAT_TIME = 30000;
+
+// A trace, a script, and what `rgw simulate` printed don't tell what their messages are, as a gateway does. Of files alone that is read off
+// the messages, in the gateway's words, and also whether a response comes again.
+class FileLabels {
+  constructor() {
+    // By direction, peer and head: when it was first said.
+    this.first = new Map();
+    // The gateway's own commands that nobody has answered yet: the endpoint of each, by its id.
+    this.open = new Map();
+    // Those of them that it has given up since that was taken.
+    this.givenUp = [];
+  }
+
+  // Whether this was said before, less than half a minute ago.
+  isAgain(key, at) {
+    const first = this.first.get(key);
+    if (first !== undefined && (at === null || at - first < REPEAT_TIME)) {
+      return true;
+    }
+    this.first.set(key, at ?? 0);
+    forget(this.first, 5000);
+    return false;
+  }
+
+  // A line that has lost its agent, or a gateway that announces itself anew, has given up what it asked before.
+  giveUp(announcement) {
+    for (const [id, endpoint] of this.open) {
+      if (endpoint === announcement.endpoint && id !== announcement.id) {
+        this.givenUp.push(labelOf("given up", id));
+        this.open.delete(id);
+      }
+    }
+  }
+
+  // A command of the gateway's own.
+  ofOwn(message, at) {
+    // It may send a repeat to another address of its agent.
+    if (this.isAgain(`out ${message.verb} ${message.id}`, at)) {
+      return labelOf("resent", message.id);
+    }
+    if (message.verb === "RSIP") {
+      this.giveUp(message);
+    }
+    this.open.set(message.id, message.endpoint);
+    forget(this.open, 1000);
+    return labelOf("command", message.id);
+  }
+
+  ofCommand(direction, peer, message, at) {
+    if (direction === "out") {
+      return this.ofOwn(message, at);
+    }
+    return labelOf(this.isAgain(`in ${peer} ${message.verb} ${message.id}`, at) ? "repeat" : "new", message.id);
+  }
+
+  ofResponse(direction, peer, message, at) {
+    if (this.isAgain(`${direction} ${peer} ${message.code} ${message.id}`, at)) {
+      return labelOf("again", message.id);
+    }
+    if (direction === "out") {
+      return labelOf(message.code === 0 ? "acknowledgement" : "answer", message.id);
+    }
+    if (message.code >= 200) {
+      this.open.delete(message.id);
+    }
+    return labelOf("response", message.id);
+  }
+
+  ofText(direction, peer, text, at) {
+    const message = readMessage(text);
+    if (message.is === "command") {
+      return this.ofCommand(direction, peer, message, at);
+    }
+    return message.is === "response" ? this.ofResponse(direction, peer, message, at) : labelOf("unreadable", null);
+  }
+
+  // What the messages of a datagram are that came or was sent.
+  ofDatagram(direction, peer, text, at) {
+    return messagesOf(text).map((message) => this.ofText(direction, peer, message, at));
+  }
+
+  // What was given up since this was called last.
+  takeGivenUp() {
+    return this.givenUp.splice(0);
+  }
+}
+
+// A label in the gateway's form: a file tells no more of a message.
+function labelOf(what, id) {
+  return { what, line: null, id, code: null, send: null };
 }
 
 // ---- Traces and outputs of scripts
@@ -893,6 +978,7 @@ function whenText(happened) {
 class Recording {
   constructor(text) {
     this.happened = [];
+    this.labels = new FileLabels();
     this.at = null;
     this.inside = null;
     const lines = text.split(/\r\n|\n/);
@@ -906,7 +992,13 @@ class Recording {
   }
 
   put(kind, peer, text, at = this.at, hex = null) {
-    this.happened.push({ kind, peer, text, at, hex, wall: null });
+    const isDatagram = kind === "in" || kind === "out";
+    const said = isDatagram ? this.labels.ofDatagram(kind, peer, text, at) : [];
+    this.happened.push({ kind, peer, text, at, hex, said, wall: null });
+    const givenUp = this.labels.takeGivenUp();
+    if (givenUp.length > 0) {
+      this.happened.push({ kind: "given up", peer: "", text: "", at, hex: null, said: givenUp, wall: null });
+    }
   }
 
   // A line, of a script or of what was printed.
@@ -1481,7 +1573,8 @@ async function openFile(file) {
   heard.show();
   ladder.isLeft = true;
   ladder.list.scrollTop = 0;
-  stand("file", `${file.name}: ${happened.length} events`);
+  const told = happened.filter((it) => it.kind !== "given up");
+  stand("file", `${file.name}: ${told.length} events`);
 }
 
 function backToGateway() {

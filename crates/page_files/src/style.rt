@@ -202,7 +202,7 @@ section { display: flex; flex-direction: column; min-width: 0; min-height: 0; pa
 .said .label { display: flex; justify-content: center; column-gap: .35em; overflow: visible; font-weight: 600; }
 .label .word, .label .name, .label .badge { flex: none; }
 .label .id { flex: 0 1 auto; min-width: 1ch; overflow: hidden; text-overflow: ellipsis; }
-.track:is(.response, .fault, .act) .label .word:only-child, .track:is(.response, .fault) .label .name {
+.track:is(.response, .fault, .act, .untold) .label .word:only-child, .track:is(.response, .fault) .label .name {
   flex: 0 1 auto;
   overflow: hidden;
   text-overflow: ellipsis;
@@ -222,6 +222,7 @@ section { display: flex; flex-direction: column; min-width: 0; min-height: 0; pa
 .response { color: var(--response); }
 .fault { color: var(--fault); }
 .act { color: var(--act); }
+.untold { color: var(--soft); }
 .track.again .arrow { border-bottom-style: dashed; }
 .badge {
   display: inline-block;
