@@ -1,6 +1,8 @@
 -- The definitions opened, so that worked examples compute.
 use Rattle.std.specs.Prelude.{⊤}
 use Rattle.mg_bytes.proofs.Computing.{on_examples as byte_examples}
+use Rattle.call_routing.specs.ReturnCodes.{row_in}
+use Rattle.call_routing.specs.Fates.{may_pass}
 use Rattle.call_routing.specs.Calls.{cut_off, picked_up, put_through, reached, dialled, timed_out, heard, failed, found}
 use Rattle.call_routing.specs.Line.{sent, landed, cleared}
 use Rattle.call_routing.specs.Next.{next_of}
@@ -8,5 +10,5 @@ use Rattle.call_routing.specs.Exchange.{changed, told, answered, cleared_at, due
 use Rattle.call_laws.specs.Turns.{after, count_turns, commands_in}
 
 unfoldable pub on_examples : ⊤
-unfolding byte_examples cut_off picked_up put_through reached dialled timed_out heard failed found sent landed cleared next_of changed told answered cleared_at due sent_to after count_turns commands_in
+unfolding byte_examples row_in may_pass cut_off picked_up put_through reached dialled timed_out heard failed found sent landed cleared next_of changed told answered cleared_at due sent_to after count_turns commands_in
 on_examples = tt

@@ -11,3 +11,4 @@ pub mod DescriptionLaws
 pub mod Computing
 pub mod ExampleLemmas
 pub mod ConcernLaws
+pub mod CodeLaws

@@ -1,5 +1,5 @@
 -- What the worked examples speak of.
-use Rattle.std.specs.Prelude.{ℕ, List, [], ◌∷◌, ◌++◌, codes, Option, Some}
+use Rattle.std.specs.Prelude.{ℕ, zero, suc, ◌+◌, List, [], ◌∷◌, ◌++◌, codes, Option, Some}
 use Rattle.std.specs.List.{flat_map}
 use Rattle.mg_packages.specs.declared.event.LineEvent.TheVariants as events
 use Rattle.mg_bytes.specs.declared.letter.Letter.{Letter}
@@ -80,3 +80,8 @@ sent_at turns turn = commands_in (then_is turns) (driven (turn ∷ []))
 -- keys
 abbrev pub key : Letter → Observed
 key letter = Happened (events.Letter letter)
+
+-- so many numbers, from this one on
+abbrev pub numbers_from : ℕ → ℕ → List ℕ
+numbers_from first zero = []
+numbers_from first (suc count) = first ∷ numbers_from (first + 1) count

@@ -1,1 +1,2 @@
 pub mod ElementLemmas
+pub mod CodeLemmas

@@ -1,5 +1,5 @@
 -- What an answer makes of a command (RFC 3435, 2.4). How often a command is asked again is this exchange's profile.
-use Rattle.std.specs.Prelude.{ℕ, ◌+◌, ◌==◌, ◌&&◌, ◌||◌, nat_le, nat_lt, not, if◌then◌else◌, Bool, true, false, Option, Some, None}
+use Rattle.std.specs.Prelude.{ℕ, ◌+◌, ◌==◌, ◌&&◌, ◌||◌, nat_le, nat_lt, if◌then◌else◌, Bool, true, false, Option, Some, None}
 use Rattle.mg_packages.specs.declared.hook.Hook.{Hook}
 use Rattle.mg_packages.specs.declared.hook.Hook.TheVariants.{OnHook, OffHook}
 use Rattle.call_routing.specs.declared.phase.Phase.{Phase}
@@ -15,6 +15,7 @@ use Rattle.call_routing.specs.declared.fate.Fate.{Fate}
 use Rattle.call_routing.specs.declared.fate.Fate.TheVariants.{Done, Again, Refused, Open}
 use Rattle.call_routing.specs.Phases.{is_in}
 use Rattle.call_routing.specs.Asking.{wanted_in, is_asked}
+use Rattle.call_routing.specs.ReturnCodes.{code_rows, passes_by, row_in}
 
 -- Return codes
 
@@ -38,10 +39,9 @@ tells_hook code = code == 401 || code == 402
 abbrev pub hook_told : ℕ → Option Hook
 hook_told code = if code == 401 then Some OffHook else (if code == 402 then Some OnHook else None)
 
--- The cause may pass: 400 to 499 are transient errors, whether they are known or not, but for the two that tell the hook. Of the permanent
--- ones (500 to 599) these may pass: the endpoint isn't ready (501), or it restarts (520, which stands for 405).
-abbrev pub may_pass : ℕ → Bool
-may_pass code = ((nat_le 400 code && nat_lt code 500) && not (tells_hook code)) || (code == 501 || code == 520)
+-- the cause may pass, as its code's row in the table says, or the class of a code that has none
+unfoldable pub may_pass : ℕ → Bool
+may_pass code = passes_by code (row_in code_rows code)
 
 -- Commands that are put off
 

@@ -1,6 +1,7 @@
 pub mod Phases
 pub mod Calls
 pub mod Asking
+pub mod ReturnCodes
 pub mod Fates
 pub mod Line
 pub mod Next

@@ -1,5 +1,6 @@
 //! What an answer makes of a command (RFC 3435, 2.4).
 ghost use Rattle.std.specs.Prelude.{◌≡◌};
+ghost use Rattle.call_routing.specs.ReturnCodes.{is_transient};
 ghost use Rattle.call_routing.specs.Fates.{is_success, may_pass, passes, says_gone, is_deleted, tells_hook, hook_told, times_of, refusal_fate, request_cause, is_wanted, request_fate, refused_in_call, creation_fate, change_fate, deletion_fate, code_fate, fate_of, put_off_by, put_off_then, refused_by, fails, is_of_connection};
 
 use crate::asked::{Asked, is_asked, wanted_in};
@@ -50,12 +51,27 @@ pub(crate) fn is_success(code: u16) -> bool
     code >= 200 && code < 300
 }
 
+// Whether a return code is a transient error by its class.
+fn is_transient(code: u16) -> bool
+    ensures { result ≡ is_transient code }
+{
+    code >= 400 && code < 500
+}
+
 /// Whether the cause of a refusal may pass, by its return code (RFC 3435, 2.4): a transient error, an endpoint that isn't ready, or
 /// one that restarts. The codes that tell a hook say nothing of that.
+#[tactic(auto, using(crate::proofs::CodeLemmas::passes_so))]
 pub fn may_pass(code: u16) -> bool
     ensures { result ≡ may_pass code }
 {
-    ((code >= 400 && code < 500) && !tells_hook(code)) || (code == 501 || code == 520)
+    match code {
+        // The phone is off hook already, or on hook already.
+        401 | 402 => false,
+        // The endpoint isn't ready, or it restarts.
+        501 | 520 => true,
+        // All others pass or last with their class, known or not.
+        _ => is_transient(code),
+    }
 }
 
 // Whether what a command was refused for may pass, by its cause and its code.

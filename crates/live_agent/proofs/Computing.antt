@@ -2,6 +2,8 @@
 use Rattle.std.specs.Prelude.{⊤}
 use Rattle.mgcp_text.proofs.Computing.{on_examples as text_examples}
 use Rattle.outbound.proofs.Computing.{on_examples as send_examples}
+use Rattle.call_routing.specs.ReturnCodes.{row_in}
+use Rattle.call_routing.specs.Fates.{may_pass}
 use Rattle.call_routing.specs.Calls.{found}
 use Rattle.call_routing.specs.Line.{sent}
 use Rattle.call_routing.specs.Next.{next_of}
@@ -11,5 +13,5 @@ use Rattle.live_agent.specs.Hooks.{hook_among}
 use Rattle.live_agent.specs.Typed.{typed_from}
 
 unfoldable pub on_examples : ⊤
-unfolding text_examples send_examples found sent next_of changed due sent_to falls hook_among typed_from
+unfolding text_examples send_examples row_in may_pass found sent next_of changed due sent_to falls hook_among typed_from
 on_examples = tt
