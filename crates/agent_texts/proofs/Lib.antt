@@ -1,3 +1,4 @@
 pub mod Computing
 pub mod TellingLemmas
 mod PuttingLemmas
+mod NotingLemmas

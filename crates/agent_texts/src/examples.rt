@@ -6,6 +6,7 @@ ghost use Rattle.toml.specs.Data.{string, integer};
 ghost use Rattle.call_routing.specs.declared.phase.Tone.TheVariants as tones;
 ghost use Rattle.call_routing.specs.declared.phase.Phase.TheVariants as phases;
 ghost use Rattle.call_routing.specs.declared.line.Leg.TheVariants as legs;
+ghost use Rattle.exchange_log.specs.declared.note.Note.TheVariants.{Unreadable, SentAgain};
 ghost use Rattle.agent_texts.specs.declared.config_fault.ValueFault.TheVariants as faults;
 ghost use Rattle.agent_texts.specs.declared.standing.Progress.TheVariants.{Ringing, Answered, Connected};
 ghost use Rattle.agent_texts.specs.declared.standing.Standing.TheVariants.{Rest, Dialling, Busy, Reorder, Caller, Called};
@@ -14,6 +15,7 @@ ghost use Rattle.agent_texts.specs.ConfigFaults.{place_by, value_text, fault_tex
 ghost use Rattle.agent_texts.specs.Standings.{stands_for, standing_of, with_change};
 ghost use Rattle.agent_texts.specs.Stations.{number_at};
 ghost use Rattle.agent_texts.specs.Telling.{plain, change_told};
+ghost use Rattle.agent_texts.specs.Noting.{header_in, text_note};
 ghost use Rattle.agent_texts.specs.Refusals.{no_refusals, refusals_of, refusals_told};
 ghost use Rattle.agent_texts.specs.Example.{leg_in, rings_other, calls, exchange_with, answered_with, refused_with, each_counted, station, two_stations};
 
@@ -131,4 +133,20 @@ pub fn refusals_are_told_once()
     ensures other_code { refusals_told two_stations 1 (record { request = Some 512; deletion = None })
         (record { request = Some 513; deletion = None }) ≡ codes "line 202: takes no request: 513\n" }
     ensures taken_again { refusals_told two_stations 1 (record { request = Some 512; deletion = Some 510 }) no_refusals ≡ [] }
+{}
+
+/// Of a text the log notes in its place that it is no message, or that it is a command that is sent again; its header says that.
+pub fn texts_are_noted_by_their_headers()
+    ensures header { header_in (codes "\n \nAUEP 7 a@b MGCP 1.0\nF: A\n") ≡ codes "AUEP 7 a@b MGCP 1.0\n" }
+    ensures no_header { header_in (codes "\n\n") ≡ [] }
+    ensures no_message { text_note false (codes "noise\n") ≡ Some Unreadable }
+    ensures no_message_again { text_note true (codes "noise\n") ≡ Some Unreadable }
+    ensures command { text_note false (codes "AUEP 7 a@b MGCP 1.0\n") ≡ None }
+    ensures command_again { text_note true (codes "AUEP 7 a@b MGCP 1.0\n") ≡ Some (SentAgain 7) }
+    ensures other_version { text_note false (codes "AUEP 7 a@b MGCP 2.0\n") ≡ None }
+    ensures other_version_again { text_note true (codes "AUEP 7 a@b MGCP 2.0\n") ≡ Some (SentAgain 7) }
+    ensures bad_body { text_note false (codes "AUEP 7 a@b MGCP 1.0\nnoise\n") ≡ None }
+    ensures bad_body_again { text_note true (codes "AUEP 7 a@b MGCP 1.0\nnoise\n") ≡ Some (SentAgain 7) }
+    ensures response { text_note false (codes "200 7 OK\n") ≡ None }
+    ensures response_again { text_note true (codes "200 7 OK\n") ≡ None }
 {}

@@ -7,6 +7,7 @@ ghost use Rattle.live_ends.specs.Written.{faults_in, written_line};
 ghost use Rattle.agent_texts.specs.Counts.{counts_text, nothing_counted};
 ghost use Rattle.agent_texts.specs.Telling.{plain, line_of_pieces, Tells};
 
+use crate::noting::text_note;
 use crate::tally::{Tally, count};
 use crate::text::header_word;
 use event_values::{Observed, write_observed};
@@ -15,7 +16,6 @@ use exchange_log::{
 };
 use live_ends::{Outlets, Record, Written};
 use mg_bytes::{Draft, OutOfMemory, lines};
-use mgcp_text::{Message, TextFault, read_message};
 use piggyback::parts;
 use std::alloc::Global;
 use std::io::Write;
@@ -99,27 +99,6 @@ fn joined(alloc: Global, text: &[u8]) -> Result<Vec<u8>, OutOfMemory> {
         }
     }
     all.end()
-}
-
-// What is noted of a text in its place, if anything is.
-fn note_for(read: &Result<Message<'_>, TextFault>, is_repeat: bool) -> Option<Note> {
-    match read {
-        Err(TextFault::NoHeader) => Some(Note::Unreadable),
-        Ok(Message::Command { id, .. }) => {
-            if is_repeat {
-                Some(Note::SentAgain(*id))
-            } else {
-                None
-            }
-        }
-        Ok(Message::Response { .. }) | Err(_) => None,
-    }
-}
-
-// The same of a text that wasn't read yet.
-fn note_of(alloc: Global, text: &[u8], is_repeat: bool) -> Option<Note> {
-    let read = read_message(alloc, text);
-    note_for(&read, is_repeat)
 }
 
 impl Journal {
@@ -283,7 +262,14 @@ impl Journal {
 
     // Puts a text that came or is sent into the log.
     fn log_text(&mut self, stamp: Stamp, way: Way, is_repeat: bool, text: &[u8]) {
-        if let Some(note) = note_of(self.alloc, text, is_repeat) {
+        let note = match text_note(self.alloc, is_repeat, text) {
+            Ok(note) => note,
+            Err(_) => {
+                self.log.refuse();
+                return;
+            }
+        };
+        if let Some(note) = note {
             self.note(stamp, note);
             return;
         }

@@ -8,6 +8,7 @@ mod config;
 mod config_fault;
 pub mod examples;
 mod journal;
+mod noting;
 mod refusals;
 mod standing;
 mod station;
