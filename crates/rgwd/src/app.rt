@@ -1,16 +1,14 @@
 //! The program: reads its words and its configuration, opens its sockets, and serves.
 ghost use Rattle.std.specs.Prelude.{◌≡◌, ℕ, List, ◌++◌, codes, IfOk, IfSome};
-ghost use Rattle.rgwd.specs.Names.{name_of, Says};
+ghost use Rattle.rgwd_words.specs.Names.{name_of, Says};
 
 use crate::behind::put_behind;
-use crate::ending::{Ending, Said};
 use crate::opening::{admission_of, desk_settings, open_site, open_sockets};
 use crate::reception::PageReception;
 use crate::recording::Recording;
 use crate::replaying::{REPLAY, replay_trace};
-use crate::starting::{Begun, Start};
 use crate::telling::{TELL, tell_line};
-use crate::words::{Settings, read_words};
+use crate::words::read_words;
 use exchange_log::put_peer;
 use gateway_core::Gateway;
 use live_ends::{
@@ -23,6 +21,7 @@ use live_page::{PageProgram, Reception, run_with_site};
 use mg_bytes::Draft;
 use rgw_scenes::{flaw_of, read_config, told, told_setup};
 use rgw_scripts::LIMIT;
+use rgwd_words::{Begun, Ending, Said, Settings, Start};
 use std::alloc::{AllocError, Global};
 use std::io::{ErrorKind, Write};
 use std::net::{Net, SocketAddrV4};

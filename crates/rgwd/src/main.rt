@@ -1,18 +1,12 @@
-//! The program `rgwd`: its words, its exit statuses and its texts, what it opens and serves, what it tells a gateway that runs,
-//! and how it replays a trace.
+//! The program `rgwd`: what it opens and serves as its words ask, what it tells a gateway that runs, and how it replays a trace.
 #![tactic(auto)]
 
 mod app;
 mod behind;
-mod ending;
-mod examples;
-mod help;
 mod opening;
-mod parted;
 mod reception;
 mod recording;
 mod replaying;
-mod starting;
 mod telling;
 mod words;
 

@@ -3,13 +3,12 @@ ghost use Rattle.std.specs.Prelude.{◌≡◌};
 ghost use Rattle.std.specs.Net.Addr.{IsUnspecifiedV4};
 ghost use Rattle.std.specs.Net.Socket.{v4_ip, v4_port};
 
-use crate::ending::Ending;
 use crate::reception::PageReception;
-use crate::words::{ListFault, Settings, hosts_in, speakers_in};
 use gateway_core::Gateway;
 use live_ends::{AddressWord, CommonEnding, Live, Readiness, SocketWanted};
 use live_gateway::{Admission, DeskSettings, boxed, speakers_of};
 use live_page::{HostNames, Reception};
+use rgwd_words::{Ending, ListFault, Settings, hosts_in, speakers_in};
 use std::alloc::Global;
 use std::net::{Ipv4Addr, Net, SocketAddrV4};
 use std::rt::Clock;

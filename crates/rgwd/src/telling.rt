@@ -1,8 +1,7 @@
 //! Sends a line to a gateway's telephones, and prints what they answer.
-use crate::ending::Ending;
 use crate::recording::Recording;
-use crate::words::unless_help;
 use live_ends::{AddressWord, AskFault, CommonEnding, address_in, ask};
+use rgwd_words::{Ending, unless_help};
 use std::alloc::Global;
 use std::net::{Net, SocketAddrV4};
 use std::rt::{Clock, Files};

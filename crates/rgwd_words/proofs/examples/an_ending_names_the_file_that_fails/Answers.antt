@@ -1,8 +1,8 @@
 use Rattle.std.proofs.Common.{◌≡◌, ℕ, List, ◌++◌, codes, subst}
 use Rattle.live_ends.specs.Ending.{ending_text as common_text}
 use Rattle.live_ends.specs.Reasons.{reason_of}
-use Rattle.rgwd.specs.Texts.{ending_text}
-use Rattle.rgwd.proofs.examples.an_ending_names_the_file_that_fails.Goals as goal
+use Rattle.rgwd_words.specs.Texts.{ending_text}
+use Rattle.rgwd_words.proofs.examples.an_ending_names_the_file_that_fails.Goals as goal
 
 -- it is what is said of an ending with these names
 

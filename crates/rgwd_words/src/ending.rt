@@ -1,8 +1,8 @@
 //! How the program ends: its status, and what it says then.
 ghost use Rattle.std.specs.Prelude.{◌≡◌, ◌≢◌, ℕ, List, [], ◌++◌, OnOk, IfOk};
-ghost use Rattle.rgwd.specs.Statuses.{status_of, is_asked};
-ghost use Rattle.rgwd.specs.Texts.{unanswered_text, ending_text};
-ghost use Rattle.rgwd.specs.Names.{HasNames, Says};
+ghost use Rattle.rgwd_words.specs.Statuses.{status_of, is_asked};
+ghost use Rattle.rgwd_words.specs.Texts.{unanswered_text, ending_text};
+ghost use Rattle.rgwd_words.specs.Names.{HasNames, Says};
 
 use crate::help::of_program;
 use crate::parted::{MOST_FILES, MOST_MEGABYTES};
@@ -194,7 +194,7 @@ impl Ending {
     }
 
     /// The program ends so, and says what is said where its files have these names.
-    pub(crate) fn said(self, alloc: Global, files: FileNames<'_>) -> Said
+    pub fn said(self, alloc: Global, files: FileNames<'_>) -> Said
         ensures ending { result.ending ≡ self }
         ensures text { (read written : List ℕ) → HasNames read written files.entry
             → IfOk result.text (λ text. Says read written result.ending text.items) }
@@ -206,7 +206,7 @@ impl Ending {
     }
 
     /// The program ends so before it has a file to read or to write.
-    pub(crate) fn said_of_no_file(self, alloc: Global) -> Said
+    pub fn said_of_no_file(self, alloc: Global) -> Said
         ensures ending { result.ending ≡ self }
         ensures text { IfOk result.text (λ text. Says [] [] result.ending text.items) }
     {

@@ -1,8 +1,8 @@
 -- The exit statuses, and what is said because words ask for it.
 use Rattle.std.specs.Prelude.{ℕ, Bool, false}
 use Rattle.live_ends.specs.Ending.{status_of as common_status, is_asked as is_commonly_asked}
-use Rattle.rgwd.specs.declared.ending.Ending.{Ending}
-use Rattle.rgwd.specs.declared.ending.Ending.TheVariants.{Common, Checked, BadAgents, BadHosts, BadSize, BadFiles, AnyAddress, BadFirst, BadSpread, NoTimeOfDay, Replayed, Differs, NoTrace, Answered, NoAnswer}
+use Rattle.rgwd_words.specs.declared.ending.Ending.{Ending}
+use Rattle.rgwd_words.specs.declared.ending.Ending.TheVariants.{Common, Checked, BadAgents, BadHosts, BadSize, BadFiles, AnyAddress, BadFirst, BadSpread, NoTimeOfDay, Replayed, Differs, NoTrace, Answered, NoAnswer}
 
 -- 0: it did what was asked; 1: nobody answered, or a line isn't as its trace tells it; 2: words, a configuration or a trace are refused;
 -- 3: memory, a file, a socket, a stream or the clock failed

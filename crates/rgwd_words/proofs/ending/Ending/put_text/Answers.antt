@@ -1,5 +1,5 @@
-use Rattle.rgwd.specs.Texts.{ending_text}
-use Rattle.rgwd.proofs.ending.Ending.put_text.Goals as goal
+use Rattle.rgwd_words.specs.Texts.{ending_text}
+use Rattle.rgwd_words.proofs.ending.Ending.put_text.Goals as goal
 
 pub returns-in-Common : goal.returns-in-Common
 unfolding ending_text

@@ -73,7 +73,7 @@ impl Start {
 
 impl Begun {
     /// Puts it behind the addresses of its sockets, as ` first 4711 waits 250 ms`.
-    pub(crate) fn put(self, out: &mut Draft) {
+    pub fn put(self, out: &mut Draft) {
         out.put(b" first ");
         out.put_decimal(u64::from(self.first));
         if let Some(waits) = self.waits {

@@ -3,8 +3,8 @@ use Rattle.std.specs.Prelude.{ℕ, ◌*◌, Bool, ◌&&◌, nat_le, if◌then◌
 use Rattle.mg_bytes.specs.Steps.{◌>>=◌}
 use Rattle.mg_bytes.specs.Numbers.{decimal_of}
 use Rattle.live_ends.specs.declared.parting.Parting.{Parting}
-use Rattle.rgwd.specs.declared.ending.Ending.{Ending}
-use Rattle.rgwd.specs.declared.ending.Ending.TheVariants.{BadSize, BadFiles}
+use Rattle.rgwd_words.specs.declared.ending.Ending.{Ending}
+use Rattle.rgwd_words.specs.declared.ending.Ending.TheVariants.{BadSize, BadFiles}
 
 -- so many bytes are a MB
 abbrev pub megabyte : ℕ

@@ -7,10 +7,10 @@ use Rattle.live_ends.specs.Wording.{joined}
 use Rattle.live_ends.specs.declared.ending.About.{About}
 use Rattle.live_ends.specs.declared.ending.FileNames.{FileNames}
 use Rattle.live_ends.specs.Ending.{ending_text as common_text}
-use Rattle.rgwd.specs.declared.ending.TheConstants.{LAST_FIRST}
-use Rattle.rgwd.specs.declared.ending.Ending.{Ending}
-use Rattle.rgwd.specs.declared.ending.Ending.TheVariants.{Common, Checked, BadAgents, BadHosts, BadSize, BadFiles, AnyAddress, BadFirst, BadSpread, NoTimeOfDay, Replayed, Differs, NoTrace, Answered, NoAnswer}
-use Rattle.rgwd.specs.Parting.{most_megabytes, most_files}
+use Rattle.rgwd_words.specs.declared.ending.TheConstants.{LAST_FIRST}
+use Rattle.rgwd_words.specs.declared.ending.Ending.{Ending}
+use Rattle.rgwd_words.specs.declared.ending.Ending.TheVariants.{Common, Checked, BadAgents, BadHosts, BadSize, BadFiles, AnyAddress, BadFirst, BadSpread, NoTimeOfDay, Replayed, Differs, NoTrace, Answered, NoAnswer}
+use Rattle.rgwd_words.specs.Parting.{most_megabytes, most_files}
 
 abbrev pub unanswered_text : SocketAddrV4 → List ℕ
 unanswered_text address =

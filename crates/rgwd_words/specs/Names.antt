@@ -3,8 +3,8 @@ use Rattle.std.specs.Prelude.{◌≡◌, ℕ, List, [], Option, None, Some}
 use Rattle.std.specs.Borrow.{Bor}
 use Rattle.live_ends.specs.declared.ending.About.{About}
 use Rattle.live_ends.specs.declared.ending.FileNames.{FileNames}
-use Rattle.rgwd.specs.declared.ending.Ending.{Ending}
-use Rattle.rgwd.specs.Texts.{ending_text}
+use Rattle.rgwd_words.specs.declared.ending.Ending.{Ending}
+use Rattle.rgwd_words.specs.Texts.{ending_text}
 
 -- a file that isn't asked for has no name
 abbrev pub name_of : Option (Bor (List ℕ)) → List ℕ

@@ -1,6 +1,6 @@
 //! What words say of the files of a capture.
 ghost use Rattle.std.specs.Prelude.{◌≡◌, option_copied};
-ghost use Rattle.rgwd.specs.Parting.{number_within, files_of, parted_of, sizeless, parting_of};
+ghost use Rattle.rgwd_words.specs.Parting.{number_within, files_of, parted_of, sizeless, parting_of};
 
 use crate::ending::Ending;
 use live_ends::Parting;

@@ -12,11 +12,11 @@ ghost use Rattle.live_ends.specs.declared.ending.CommonEnding.{CommonEnding};
 ghost use Rattle.live_ends.specs.declared.ending.CommonEnding.TheVariants.{Unreadable, Unwritable};
 ghost use Rattle.live_ends.specs.Ending.{status_of as common_status, is_asked as is_commonly_asked, ending_text as common_text};
 ghost use Rattle.live_ends.specs.Reasons.{reason_of};
-ghost use Rattle.rgwd.specs.declared.ending.Ending.TheVariants.{Common, Checked, BadAgents, BadHosts, BadSize, BadFiles, AnyAddress, BadFirst, BadSpread, NoTimeOfDay, Replayed, Differs, NoTrace, Answered, NoAnswer};
-ghost use Rattle.rgwd.specs.Names.{name_of, Says};
-ghost use Rattle.rgwd.specs.Parting.{parting_of};
-ghost use Rattle.rgwd.specs.Statuses.{status_of, is_asked};
-ghost use Rattle.rgwd.specs.Texts.{ending_text};
+ghost use Rattle.rgwd_words.specs.declared.ending.Ending.TheVariants.{Common, Checked, BadAgents, BadHosts, BadSize, BadFiles, AnyAddress, BadFirst, BadSpread, NoTimeOfDay, Replayed, Differs, NoTrace, Answered, NoAnswer};
+ghost use Rattle.rgwd_words.specs.Names.{name_of, Says};
+ghost use Rattle.rgwd_words.specs.Parting.{parting_of};
+ghost use Rattle.rgwd_words.specs.Statuses.{status_of, is_asked};
+ghost use Rattle.rgwd_words.specs.Texts.{ending_text};
 
 /// Each sentence at an example.
 pub fn each_sentence_has_an_example()
