@@ -24,8 +24,8 @@ use crate::stories::{
     LateLog, Place, Program, Records, Story, Transcript, Words, put_given, told, words_in,
 };
 use gateway_core::{ConfigFault, Gateway};
-use live_gateway::{Admission, Desk, DeskSettings, Recorder, boxed, open_desk, speakers_of};
-use live_journal::{Journal, Trace};
+use live_gateway::{Admission, Desk, DeskSettings, boxed, open_desk, speakers_of};
+use live_journal::{Journal, Recorder, Trace};
 use live_page::HostNames;
 use mg_bytes::OutOfMemory;
 use rgw_scenes::read_config;

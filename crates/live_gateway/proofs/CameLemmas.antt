@@ -5,8 +5,8 @@ use Rattle.std.specs.declared.net.socket_addr.SocketAddrV4.{SocketAddrV4}
 use Rattle.std.proofs.lemmas.Grind.{flat_map-append}
 use Rattle.surroundings.specs.Sending.{Received}
 use Rattle.traces.specs.Writing.{Entry, Input, arrived, typed, passed, showed, became}
-use Rattle.live_gateway.specs.Coming.{arrived_at, arrived_in, AreAllBut}
-use Rattle.live_gateway.specs.Running.{AreOf, AreMarks}
+use Rattle.live_play.specs.Coming.{arrived_at, arrived_in, AreAllBut}
+use Rattle.live_play.specs.Running.{AreOf, AreMarks}
 
 pub arrived_both : (a b : List Entry) → arrived_in (a ++ b) ≡ arrived_in a ++ arrived_in b
 arrived_both a b = flat_map-append arrived_at a b

@@ -14,15 +14,15 @@ use Rattle.plain_machine.specs.Lists.{plain}
 use Rattle.rgw_scripts.specs.Moves.{give, sends}
 use Rattle.mg_bytes.specs.Lines.{is_line_feed}
 use Rattle.traces.specs.Writing.{Entry, Input, arrived, typed, passed, showed, taken_after}
-use Rattle.live_gateway.specs.Coming.{Came, arrived_in, AreAllBut}
-use Rattle.live_gateway.specs.Readable.{first_unread, Never, IsAddress, IsReadable, AreLater}
-use Rattle.live_gateway.specs.Running.{Live, live, Ran, Takes, RanOf}
+use Rattle.live_play.specs.Coming.{Came, arrived_in, AreAllBut}
+use Rattle.live_play.specs.Readable.{first_unread, Never, IsAddress, IsReadable, AreLater}
+use Rattle.live_play.specs.Running.{Live, live, Ran, Takes, RanOf}
 use Rattle.live_gateway.proofs.CameLemmas.{arrived_both, marks_bring_nothing, IsQuiet, nobody_came, all_of, all_but_both}
-use Rattle.live_gateway.proofs.RunLemmas.{ran_on, ran_stays, ran_written_off, marks_are_of, are_of_more, are_so, IsStill, marks_are_later, later_more, later_of}
+use Rattle.live_play.proofs.RunLemmas.{ran_on, ran_stays, ran_written_off, marks_are_of, are_of_more, are_so, IsStill, marks_are_later, later_more, later_of}
 use Rattle.live_gateway.specs.declared.admission.Admission.{Admission}
 use Rattle.live_gateway.specs.declared.desk.Desk.{Desk}
 use Rattle.live_gateway.specs.declared.exchange.Exchange.{Exchange}
-use Rattle.live_gateway.specs.declared.play.LivePlay.{LivePlay}
+use Rattle.live_play.specs.declared.play.LivePlay.{LivePlay}
 use Rattle.live_gateway.specs.Admitting.{heard_of, HeardSince}
 use Rattle.live_gateway.specs.Desk.{Standing, at_desk, with_input, GoesOnBy, GoesOn}
 use Rattle.live_gateway.specs.Exchanging.{handed_by, came_by, refusals}

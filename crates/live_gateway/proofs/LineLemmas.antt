@@ -6,7 +6,7 @@ use Rattle.std.specs.Str.Lines.{strip_carriage_return}
 use Rattle.mg_bytes.specs.Blanks.{is_blank, trimmed_start, trimmed_end, trimmed}
 use Rattle.mg_bytes.specs.Lines.{is_line_feed, cut, without_end, line_of}
 use Rattle.mg_bytes.proofs.CutLemmas.{IsEnded}
-use Rattle.live_gateway.specs.Readable.{Never}
+use Rattle.live_play.specs.Readable.{Never}
 
 -- ---- pieces
 

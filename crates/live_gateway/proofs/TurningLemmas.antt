@@ -12,9 +12,9 @@ use Rattle.turns.specs.declared.turn.Turn.{Turn}
 use Rattle.turns.specs.declared.turn.Turn.TheVariants.{Tick}
 use Rattle.turns.specs.Schedule.{next_of}
 use Rattle.turns.proofs.ScheduleLaws.{ticks_within}
-use Rattle.live_gateway.specs.Running.{Live, Ran, RanOf, Takes, Refuses, Asked}
+use Rattle.live_play.specs.Running.{Live, Ran, RanOf, Takes, Refuses, Asked}
 use Rattle.live_gateway.specs.Desk.{Standing, with_input}
-use Rattle.live_gateway.specs.Readable.{first_unread}
+use Rattle.live_play.specs.Readable.{first_unread}
 use Rattle.live_gateway.specs.Turning.{Tries, TriesAct, DoesLine}
 
 -- it was taken, or refused, and that is counted

@@ -1,5 +1,5 @@
--- Who may speak to a gateway where no word says it, whom it hears, and who types.
-use Rattle.std.specs.Prelude.{◌≡◌, ℕ, Bool, ◌&&◌, ◌||◌, ◌==◌, not, if◌then◌else◌, List, [], ◌∷◌, filter, nat_eq, nat_lt, bytes_eq, Option}
+-- Who may speak to a gateway where no word says it, and whom it hears.
+use Rattle.std.specs.Prelude.{◌≡◌, ℕ, Bool, ◌&&◌, ◌||◌, ◌==◌, not, List, [], ◌∷◌, filter, nat_eq, nat_lt, bytes_eq, Option}
 use Rattle.std.specs.List.{fold, list_any, starts_with}
 use Rattle.std.specs.Net.Addr.{ipv4_octets}
 use Rattle.std.specs.declared.net.ipv4_addr.Ipv4Addr.{Ipv4Addr}
@@ -12,8 +12,6 @@ use Rattle.surroundings.specs.Requests.{is_anywhere}
 use Rattle.surroundings.specs.Sending.{Received, Grows}
 use Rattle.surroundings.specs.Speaking.{Admitted, nobody, with_host, admitted_by, may_speak}
 use Rattle.live_gateway.specs.declared.admission.Admission.{Admission}
-use Rattle.live_gateway.specs.declared.telephones.Typist.{Typist}
-use Rattle.live_gateway.specs.declared.telephones.Typist.TheVariants.{Here, Elsewhere, Stranger}
 
 -- Who may speak
 
@@ -64,10 +62,3 @@ heard_of admission came = filter (λ one. is_heard admission one.source) came
 -- since then some came, of which these are heard
 abbrev pub HeardSince : Admission → Option (List Received) → List Received → Option (List Received) → Type 0
 HeardSince admission was heard is = (came : List Received) × Grows was came is × (heard_of admission came ≡ heard)
-
--- Who types
-
--- somebody at this machine; somebody at another one, where the telephones are open, or nobody, as the page; or a stranger
-abbrev pub typist_of : Bool → Bool → Bool → Typist
-typist_of is_here is_afar are_open =
-    if is_here then Here else if is_afar && not are_open then Stranger else Elsewhere

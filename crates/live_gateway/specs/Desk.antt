@@ -6,9 +6,9 @@ use Rattle.gateway_core.specs.Wire.{counted}
 use Rattle.plain_machine.specs.Event.{GatewayEvent}
 use Rattle.surroundings.specs.Sending.{Received, Traffic, Grows}
 use Rattle.traces.specs.Writing.{Entry}
-use Rattle.live_gateway.specs.Coming.{Came, arrived_in, AreAllBut}
-use Rattle.live_gateway.specs.Readable.{IsReadable, AreLater}
-use Rattle.live_gateway.specs.Running.{Live, live, Ran, AreOf}
+use Rattle.live_play.specs.Coming.{Came, arrived_in, AreAllBut}
+use Rattle.live_play.specs.Readable.{IsReadable, AreLater}
+use Rattle.live_play.specs.Running.{Live, live, Ran, AreOf}
 use Rattle.live_gateway.specs.declared.admission.Admission.{Admission}
 use Rattle.live_gateway.specs.declared.desk.Desk.{Desk}
 use Rattle.live_gateway.specs.Admitting.{is_heard, heard_of}

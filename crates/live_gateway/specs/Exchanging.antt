@@ -3,8 +3,8 @@ use Rattle.std.specs.Prelude.{◌≡◌, ◌⊎◌, ℕ, Bool, true, false, List
 use Rattle.std.specs.Global.{Box}
 use Rattle.bad_network.specs.Waiting.{first_due}
 use Rattle.gateway_core.specs.Wire.{counted}
-use Rattle.live_journal.specs.declared.reporting.Faults.{Faults}
-use Rattle.live_gateway.specs.Coming.{Came}
+use Rattle.message_counts.specs.declared.reporting.Faults.{Faults}
+use Rattle.live_play.specs.Coming.{Came}
 use Rattle.std.specs.declared.net.socket_addr.SocketAddrV4.{SocketAddrV4}
 use Rattle.surroundings.specs.Sending.{Sent, Received, Traffic}
 use Rattle.surroundings.specs.declared.surroundings.Fault.{Fault}

@@ -3,8 +3,8 @@ use Rattle.std.specs.Prelude.{◌≡◌, ⊤, ℕ, true, false, nat_lt, Result, 
 use Rattle.std.specs.declared.net.socket_addr.SocketAddrV4.{SocketAddrV4}
 use Rattle.gateway_core.specs.Wire.{counted}
 use Rattle.surroundings.specs.declared.surroundings.Fault.{Fault}
-use Rattle.live_journal.specs.Recording.{Records, unsent_text}
-use Rattle.live_journal.specs.Strangers.{quiet_after, stranger_text}
+use Rattle.told_messages.specs.Recording.{Records, unsent_text}
+use Rattle.told_messages.specs.Strangers.{quiet_after, stranger_text}
 use Rattle.live_journal.specs.declared.journal.Journal.{Journal}
 
 -- a stranger's datagram is counted, and told of at most once a second

@@ -16,7 +16,7 @@ use Rattle.turns.specs.declared.schedule.Schedule.{Schedule}
 use Rattle.turns.specs.declared.turn.Turn.{Turn}
 use Rattle.turns.specs.declared.turn.Turn.TheVariants.{End, Look, Wait, Tick, Command, Datagram, Visit, Note}
 use Rattle.turns.specs.Schedule.{next_of}
-use Rattle.live_gateway.specs.Running.{Ran, RanOf, Takes, Refuses, Asked}
+use Rattle.live_play.specs.Running.{Ran, RanOf, Takes, Refuses, Asked}
 use Rattle.live_gateway.specs.declared.admission.Admission.{Admission}
 use Rattle.live_gateway.specs.declared.exchange.Exchange.{Exchange}
 use Rattle.live_gateway.specs.Desk.{Standing, IsHeard}

@@ -1,7 +1,7 @@
 //! What came is of its types: bytes, octets and a port. Contracts know of a number that it is of its type once it is read.
 ghost use Rattle.std.specs.Prelude.{◌≡◌, ◌<◌, ◌≤◌, length};
 ghost use Rattle.std.specs.List.{AllByRecursion};
-ghost use Rattle.live_gateway.specs.Readable.{IsAddress};
+ghost use Rattle.live_play.specs.Readable.{IsAddress};
 
 use std::net::{Ipv4Addr, SocketAddrV4};
 

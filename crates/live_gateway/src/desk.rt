@@ -6,31 +6,28 @@ ghost use Rattle.turns.specs.Runs.{is_end};
 ghost use Rattle.plain_machine.specs.Event.{GatewayEvent, tick};
 ghost use Rattle.plain_machine.specs.Lists.{plain};
 ghost use Rattle.gateway_core.specs.Stands.{Stands};
-ghost use Rattle.live_gateway.specs.Losses.{counts_text};
-ghost use Rattle.live_gateway.specs.Asking.{AsksFor};
+ghost use Rattle.live_telephones.specs.Losses.{counts_text};
+ghost use Rattle.live_telephones.specs.Asking.{AsksFor};
 ghost use Rattle.rgw_scripts.specs.declared.step.ScriptLine.{ScriptLine};
 ghost use Rattle.surroundings.specs.Hearing.{AnswersTo};
 ghost use Rattle.live_gateway.specs.Desk.{at_desk, GoesOn};
 ghost use Rattle.live_gateway.specs.Ending.{EndsAt, WroteTimes, AsksForEnd};
-ghost use Rattle.live_gateway.specs.Readable.{first_unread};
+ghost use Rattle.live_play.specs.Readable.{first_unread};
 ghost use Rattle.live_gateway.specs.Turning.{Tries, TriesHeard, LooksForOne, DoesLine, Does, DoesNext};
 ghost use Rattle.traces.specs.Writing.{passed};
 
 use crate::admission::Admission;
-use crate::answering::{
-    DONE, PHONES_FROM_AFAR, all_shown, answer_put, question_answer, short_answer, show,
-};
 use crate::arriving::{read_address, read_bytes};
 use crate::exchange::Exchange;
-use crate::losses::lost_of;
-use crate::play::LivePlay;
-use crate::recorder::Recorder;
-use crate::telephones::{TelephoneRequest, request_in};
 use crate::turn_parts::{answer_act, note_datagram, note_taken, situation, take_from_page, typist};
 use crate::visitors::Visitors;
-use crate::watch::Watch;
 use gateway_core::DATAGRAM_ROOM;
-use live_journal::report_with;
+use live_journal::{Recorder, report_with};
+use live_play::LivePlay;
+use live_telephones::{
+    DONE, PHONES_FROM_AFAR, TelephoneRequest, Watch, all_shown, answer_put, lost_of,
+    question_answer, request_in, short_answer, show,
+};
 use std::alloc::{AllocError, Global};
 use surroundings::{Lines, Surroundings, Teller};
 use turns::{Schedule, Turn};

@@ -6,41 +6,20 @@
 #![tactic(auto)]
 
 mod admission;
-mod answering;
 mod arriving;
 mod desk;
-mod ends;
-pub mod examples;
 mod exchange;
-mod handing;
-pub mod laws;
-mod losses;
 mod naming;
 mod opening;
-mod picture;
-mod placed;
-mod play;
-pub mod play_laws;
-mod recorder;
-mod seeing;
 mod spoilt_way;
-mod telephones;
-mod telling;
-mod trace_text;
 mod turn_parts;
 mod visitors;
-mod watch;
 
 pub use crate::admission::{Admission, speakers_of};
 pub use crate::desk::Desk;
-pub use crate::ends::Outlet;
 pub use crate::exchange::Exchange;
 pub use crate::naming::agents_line;
 pub use crate::opening::{DeskSettings, open_desk};
-pub use crate::play::LivePlay;
-pub use crate::recorder::Recorder;
 pub use crate::spoilt_way::SpoiltWay;
-pub use crate::trace_text::TraceText;
 pub use crate::visitors::Visitors;
-pub use crate::watch::Watch;
 pub use live_ends::boxed;

@@ -7,16 +7,18 @@ ghost use Rattle.live_journal.specs.Recording.{trace_head, Begins};
 use crate::admission::Admission;
 use crate::desk::Desk;
 use crate::exchange::Exchange;
-use crate::play::LivePlay;
 use crate::spoilt_way::SpoiltWay;
 use bad_network::{BadNetwork, Spoiling};
 use gateway_core::Gateway;
 use live_ends::{Now, Written, boxed};
-use live_journal::{Capture, Journal, Log, MessageTally, Trace};
+use live_journal::{Capture, Journal, Trace};
+use live_play::LivePlay;
+use message_counts::MessageTally;
 use page_answers::Board;
 use std::alloc::{AllocError, Global};
 use std::net::SocketAddrV4;
 use surroundings::{Lines, Surroundings};
+use told_messages::Log;
 
 /// What is asked of a gateway that runs, beside its configuration.
 #[derive(Clone, Copy)]

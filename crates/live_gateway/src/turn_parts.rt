@@ -1,16 +1,15 @@
 //! What a turn does that needs no gateway, but what that tells: who has one pays for the layout of all that it holds.
 ghost use Rattle.std.specs.Prelude.{◌≡◌, ◌<◌, ◌⊎◌, ℕ, Bool, true, Option, not};
 ghost use Rattle.turns.specs.Clock.{earlier};
-ghost use Rattle.live_gateway.specs.Admitting.{typist_of};
+ghost use Rattle.live_telephones.specs.Admitting.{typist_of};
 ghost use Rattle.live_gateway.specs.Exchanging.{refusals, next_due};
-ghost use Rattle.live_gateway.specs.Readable.{first_unread};
+ghost use Rattle.live_play.specs.Readable.{first_unread};
 
-use crate::answering::{act_answer, take_act};
 use crate::exchange::Exchange;
-use crate::telephones::{Typist, typist_of};
 use crate::visitors::{Visitors, are_ready, next_deadline};
 use exchange_log::Note;
 use gateway_core::{Refusal, SentMessage, TextOutcome};
+use live_telephones::{Typist, act_answer, take_act, typist_of};
 use std::alloc::Global;
 use std::net::SocketAddrV4;
 use surroundings::{Lines, Speakers, Surroundings};

@@ -1,33 +1,17 @@
--- What is put into a record, what a trace begins with, and what it is told.
+-- What a trace begins with, and what it is told.
 use Rattle.std.specs.Prelude.{◌≡◌, ◌⊎◌, ℕ, ◌+◌, Bool, ◌==◌, ◌&&◌, ◌||◌, not, length, nat_eq, codes, if◌then◌else◌, List, [], ◌∷◌, ◌++◌}
 use Rattle.std.specs.List.{ends_with}
-use Rattle.std.specs.declared.net.socket_addr.SocketAddrV4.{SocketAddrV4}
 use Rattle.mg_bytes.specs.Lists.{is_empty}
-use Rattle.exchange_log.specs.declared.note.Note.TheVariants as notes
-use Rattle.exchange_log.specs.Lines.{note_line}
 use Rattle.live_ends.specs.declared.record.Record.{Record}
-use Rattle.live_ends.specs.declared.record.RecordState.{RecordState}
-use Rattle.live_ends.specs.declared.record.RecordState.TheVariants.{Off, On, OutOfMemory}
+use Rattle.live_ends.specs.declared.record.RecordState.TheVariants.{OutOfMemory}
 use Rattle.live_ends.specs.Recording.{state_when, is_told}
+use Rattle.told_messages.specs.Recording.{Puts}
 use Rattle.live_journal.specs.declared.trace.Trace.{Trace}
 use Rattle.traces.specs.Telling.{told_first}
-
--- a record that is told all has this text behind what it had, or nothing from then on, where memory was refused; any other has what it had
-abbrev pub Puts : RecordState → List ℕ → List ℕ → RecordState → List ℕ → Type 0
-Puts Off were text state are = (state ≡ Off) × (are ≡ were)
-Puts On were text state are = ((state ≡ On) × (are ≡ were ++ text)) ⊎ ((state ≡ OutOfMemory) × (are ≡ []))
-Puts OutOfMemory were text state are = (state ≡ OutOfMemory) × (are ≡ were)
-
-abbrev pub Records : Record → List ℕ → Record → Type 0
-Records was text is = Puts was.state was.out.items text is.state is.out.items
 
 -- a record begins with this text, if it is told anything
 abbrev pub Begins : Bool → List ℕ → Record → Type 0
 Begins is_on text is = Puts (state_when is_on) [] text is.state is.out.items
-
--- what the log says of a datagram that couldn't be sent at this time
-abbrev pub unsent_text : ℕ → SocketAddrV4 → List ℕ
-unsent_text time to = note_line (record { moment = time; peer = to }) notes.Unsent
 
 -- a configuration whose last line has its end
 abbrev pub whole_lines : List ℕ → List ℕ

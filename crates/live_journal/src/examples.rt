@@ -1,7 +1,7 @@
 //! Worked examples of the definitions, as theorems: each sentence of a definition has one that a slip in it breaks.
 #![tactic(auto, unfolding(crate::proofs::Computing::on_examples))]
 
-ghost use Rattle.std.specs.Prelude.{◌≡◌, codes, replicate, true, false, [], ◌∷◌, ◌++◌, Some, None};
+ghost use Rattle.std.specs.Prelude.{◌≡◌, codes, replicate, [], ◌∷◌, ◌++◌, Some, None};
 ghost use Rattle.mgcp_text.specs.declared.message.Verb.TheVariants.{Rqnt, Ntfy};
 ghost use Rattle.command_forms.specs.declared.refused.FaultyPart.TheVariants.{Value};
 ghost use Rattle.command_forms.specs.Explaining.{explanation_of};
@@ -12,20 +12,17 @@ ghost use Rattle.exchange_log.specs.Lines.{note_line, refused_line};
 ghost use Rattle.gateway_texts.specs.declared.outcome.Reply.TheVariants.{First, Again, Silence, NoRoom};
 ghost use Rattle.gateway_texts.specs.declared.outcome.TextOutcome.TheVariants.{NoMessage, Command, Response};
 ghost use Rattle.endpoint_names.specs.declared.route.Route.TheVariants.{One, Two};
-ghost use Rattle.page_answers.specs.declared.label.MessageKind.TheVariants as kinds;
 ghost use Rattle.plain_machine.specs.declared.label.What.TheVariants as whats;
-ghost use Rattle.plain_machine.specs.declared.label.Whose.TheVariants.{AnswerOf, OwnOf, Nobody};
 ghost use Rattle.surroundings.specs.Speaking.{nobody, with_host};
-ghost use Rattle.live_journal.specs.Example.{host, said, said_of, shown, quiet_until};
-ghost use Rattle.live_journal.specs.Labelling.{text_label, sent_label, given_up_label};
-ghost use Rattle.live_journal.specs.SentExample.{lost as lost_command};
-ghost use Rattle.live_journal.specs.Places.{place_among, with_send, with_sends};
-ghost use Rattle.live_journal.specs.Strangers.{told_at, quiet_after, unheard_text};
-ghost use Rattle.live_journal.specs.Waiting.{unanswered_after};
-ghost use Rattle.live_journal.specs.Explaining.{reason_text};
-ghost use Rattle.live_journal.specs.Recording.{trace_head, unsent_text};
-ghost use Rattle.live_journal.specs.Reporting.{told_all, commands_text, datagrams_text, texts_text, others_text, answer_text, answers_from};
-ghost use Rattle.live_journal.specs.declared.message_tally.MessageTally.{MessageTally};
+ghost use Rattle.message_counts.specs.Example.{host, said};
+ghost use Rattle.told_messages.specs.Example.{quiet_until};
+ghost use Rattle.message_counts.specs.Places.{place_among, with_send, with_sends};
+ghost use Rattle.told_messages.specs.Strangers.{told_at, quiet_after, unheard_text};
+ghost use Rattle.told_messages.specs.Explaining.{reason_text};
+ghost use Rattle.told_messages.specs.Recording.{unsent_text};
+ghost use Rattle.live_journal.specs.Recording.{trace_head};
+ghost use Rattle.message_counts.specs.Reporting.{told_all, commands_text, datagrams_text, texts_text, others_text, answer_text, answers_from};
+ghost use Rattle.message_counts.specs.declared.message_tally.MessageTally.{MessageTally};
 
 /// Each sentence at an example.
 pub fn each_sentence_has_an_example()
@@ -106,37 +103,4 @@ pub fn each_sentence_has_an_example()
     ensures two { with_sends (One (host 7)) (replicate 5 0) (said (host 7) (whats.Command Ntfy) ∷ said (host 7) (whats.Resent Ntfy 2) ∷ [])
         ≡ 2 ∷ 0 ∷ 0 ∷ 0 ∷ 0 ∷ [] }
     ensures other_port { place_among (One (host 7)) (record (host 7) { port = 2728 }) ≡ 4 }
-{}
-
-/// An agent owes an answer from the first command of the gateway's own on, sent or sent again, that came behind its last response.
-pub fn an_agent_owes_an_answer_until_it_gives_one()
-    ensures nothing { unanswered_after None [] [] ≡ None }
-    ensures asked { unanswered_after None [] (said (host 7) (whats.Command Ntfy) ∷ []) ≡ Some 1000 }
-    ensures asked_again { unanswered_after None [] (said (host 7) (whats.Resent Ntfy 2) ∷ []) ≡ Some 1000 }
-    ensures first { unanswered_after None [] (said (host 7) (whats.Answer 200) ∷ said (host 7) (whats.Command Ntfy)
-        ∷ record (said (host 7) (whats.Command Ntfy)) { moment = 1001 } ∷ []) ≡ Some 1000 }
-    ensures no_command { unanswered_after None [] (said (host 7) (whats.Answer 200) ∷ []) ≡ None }
-    ensures still_owed { unanswered_after (Some 500) [] (said (host 7) (whats.Resent Ntfy 2) ∷ []) ≡ Some 500 }
-    ensures answered { unanswered_after (Some 500) (NoMessage ∷ Response 9 false ∷ []) [] ≡ None }
-    ensures command_came { unanswered_after (Some 500) (NoMessage ∷ Command (Some Rqnt) 1207 Silence ∷ []) [] ≡ Some 500 }
-    ensures asked_behind { unanswered_after (Some 500) (Response 9 true ∷ []) (said (host 7) (whats.Command Ntfy) ∷ []) ≡ Some 1000 }
-{}
-
-/// Of a text that came the page is told what it was, under which id, and which code answers it; of what is sent also whose it is, and which
-/// send of it that is; and of a command that is given up whose it was.
-pub fn the_page_is_told_what_messages_are()
-    ensures noise { text_label NoMessage ≡ shown kinds.Unreadable None None None None }
-    ensures first { text_label (Command (Some Rqnt) 1207 (First 518 (Some (Value 82)))) ≡ shown kinds.New None (Some 1207) (Some 518) None }
-    ensures repeat { text_label (Command (Some Rqnt) 1207 (Again 200)) ≡ shown kinds.Repeat None (Some 1207) (Some 200) None }
-    ensures silence { text_label (Command (Some Rqnt) 1207 Silence) ≡ shown kinds.Confirmed None (Some 1207) None None }
-    ensures lost { text_label (Command (Some Rqnt) 1207 NoRoom) ≡ shown kinds.Lost None (Some 1207) None None }
-    ensures response { text_label (Response 9 true) ≡ shown kinds.Response None (Some 9) None None }
-    ensures answer { sent_label (said_of (AnswerOf (Some 3)) (whats.Answer 200))
-        ≡ shown kinds.Answer (Some 3) (Some 7) (Some 200) (Some 1) }
-    ensures of_none { sent_label (said_of (AnswerOf None) (whats.Answer 500)) ≡ shown kinds.Answer None (Some 7) (Some 500) (Some 1) }
-    ensures again { sent_label (said_of (AnswerOf (Some 3)) (whats.Again 401)) ≡ shown kinds.Again (Some 3) (Some 7) (Some 401) (Some 1) }
-    ensures command { sent_label (said_of (OwnOf 3) (whats.Command Ntfy)) ≡ shown kinds.Command (Some 3) (Some 7) None (Some 1) }
-    ensures resent { sent_label (said_of (OwnOf 0) (whats.Resent Ntfy 3)) ≡ shown kinds.Resent (Some 0) (Some 7) None (Some 3) }
-    ensures acknowledgement { sent_label (said_of Nobody whats.Acknowledgement) ≡ shown kinds.Acknowledgement None (Some 7) None (Some 1) }
-    ensures given_up { given_up_label lost_command ≡ shown kinds.GivenUp (Some 1) (Some 10000000) None None }
 {}

@@ -2,23 +2,21 @@
 ghost use Rattle.std.specs.Prelude.{◌≡◌, map};
 ghost use Rattle.small_rules.specs.Counting.{counted};
 ghost use Rattle.page_answers.specs.declared.ring.Kind.TheVariants.{Received, Sent, Act, Told};
-ghost use Rattle.live_journal.specs.Labelling.{sent_label};
-ghost use Rattle.live_journal.specs.Recording.{Records, unsent_text};
-ghost use Rattle.live_journal.specs.Showing.{nobody as of_nobody, GoesOn, Happened, HappenedWith, Turned};
-ghost use Rattle.live_journal.specs.Strangers.{quiet_after, stranger_text};
+ghost use Rattle.told_messages.specs.Labelling.{sent_label};
+ghost use Rattle.told_messages.specs.Recording.{Records, unsent_text};
+ghost use Rattle.told_messages.specs.Showing.{nobody as of_nobody, GoesOn, Happened, HappenedWith, Turned};
+ghost use Rattle.told_messages.specs.Strangers.{quiet_after, stranger_text};
 
 use crate::capture::Capture;
-use crate::log::Log;
-use crate::message_tally::MessageTally;
-use crate::showing::{nobody, show, show_sent, show_turned};
 use crate::spoiling::note_of;
-use crate::taken::Taken;
 use bad_network::Fate;
 use exchange_log::{Note, Way};
 use gateway_core::SentMessage;
 use live_ends::{Now, Written};
+use message_counts::{MessageTally, Taken};
 use page_answers::{Board, Kind};
 use std::net::SocketAddrV4;
+use told_messages::{Log, nobody, show, show_sent, show_turned};
 
 /// The journal of a gateway. What is large stands in boxes.
 pub struct Journal {

@@ -80,7 +80,7 @@ fn with_room(told: Record) -> Trace
 
 impl Trace {
     /// A trace that has its head, where one is asked for: the text of the configuration, and the number with which ids begin.
-    #[tactic(auto, using(crate::proofs::RecordLemmas::putting))]
+    #[tactic(auto, using(told_messages::proofs::RecordLemmas::putting))]
     pub fn new(alloc: Global, is_on: bool, config: &[u8], first: u32) -> Trace
         ensures { Begins is_on (trace_head config.now first) result.record }
     {

@@ -1,7 +1,6 @@
 //! What a gateway's records go to: its outlets, and the files of its capture, of which the next is made where one is full.
 use live_ends::{CaptureFiles, Outlets};
-use live_gateway::Recorder;
-use live_journal::{Journal, Trace};
+use live_journal::{Journal, Recorder, Trace};
 use std::io::Write;
 use std::rt::Files;
 

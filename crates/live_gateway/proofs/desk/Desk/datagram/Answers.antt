@@ -1,5 +1,5 @@
 use Rattle.std.proofs.Common.{inl, inr, refl, ◌∙◌, ap}
-use Rattle.live_gateway.specs.Coming.{Came}
+use Rattle.live_play.specs.Coming.{Came}
 use Rattle.live_gateway.specs.Desk.{at_desk}
 use Rattle.live_gateway.proofs.DeskLemmas.{standing_of, counted_so, hears_nobody, hears}
 use Rattle.live_gateway.proofs.HearingLemmas.{heard_still}

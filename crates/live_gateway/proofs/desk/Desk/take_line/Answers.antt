@@ -1,7 +1,7 @@
 use Rattle.std.proofs.Common.{◌≡◌, inl, inr, refl, ◌∙◌, ap}
 use Rattle.traces.specs.Writing.{Input, typed}
-use Rattle.live_journal.specs.declared.reporting.Faults.{Faults}
-use Rattle.live_gateway.specs.Coming.{Came}
+use Rattle.message_counts.specs.declared.reporting.Faults.{Faults}
+use Rattle.live_play.specs.Coming.{Came}
 use Rattle.live_gateway.specs.Desk.{at_desk}
 use Rattle.live_gateway.specs.Exchanging.{handed_by}
 use Rattle.live_gateway.proofs.DeskLemmas.{standing_of, counted_so, acts, asks, line_is_quiet, line_is_still, line_is_line}

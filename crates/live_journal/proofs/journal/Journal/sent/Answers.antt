@@ -1,8 +1,8 @@
 use Rattle.std.proofs.Common.{map}
 use Rattle.page_answers.specs.declared.ring.Kind.TheVariants.{Sent}
-use Rattle.live_journal.specs.Labelling.{sent_label}
-use Rattle.live_journal.specs.Showing.{HappenedWith}
-use Rattle.live_journal.proofs.ShowingLemmas.{goes_on}
+use Rattle.told_messages.specs.Labelling.{sent_label}
+use Rattle.told_messages.specs.Showing.{HappenedWith}
+use Rattle.told_messages.proofs.ShowingLemmas.{goes_on}
 use Rattle.live_journal.proofs.journal.Journal.sent.Goals as goal
 
 pub returns-in-Some : goal.returns-in-Some

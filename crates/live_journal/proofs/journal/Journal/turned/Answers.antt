@@ -1,5 +1,5 @@
-use Rattle.live_journal.specs.Showing.{Turned}
-use Rattle.live_journal.proofs.ShowingLemmas.{goes_on}
+use Rattle.told_messages.specs.Showing.{Turned}
+use Rattle.told_messages.proofs.ShowingLemmas.{goes_on}
 use Rattle.live_journal.proofs.journal.Journal.turned.Goals as goal
 
 pub returns-in-Some : goal.returns-in-Some

@@ -1,5 +1,0 @@
-use Rattle.live_gateway.proofs.RunLemmas.{told_so}
-use Rattle.live_gateway.proofs.play.LivePlay.end.Goals as goal
-
-pub returns-then-is_telling-clause-told : goal.returns-then-is_telling-clause-told
-returns-then-is_telling-clause-told g c = told_so _ _ _ _ (rw (c.new-text.ensures) at c.put_clock.ensures.text) c.tell_trace.ensures

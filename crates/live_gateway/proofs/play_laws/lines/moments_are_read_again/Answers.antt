@@ -1,5 +1,0 @@
-use Rattle.live_gateway.proofs.ReadingLaws.{at_again}
-use Rattle.live_gateway.proofs.play_laws.lines.moments_are_read_again.Goals as goal
-
-pub returns : goal.returns
-returns c = at_again

@@ -1,5 +1,0 @@
-use Rattle.live_gateway.proofs.ReplayLaws.{reads_back}
-use Rattle.live_gateway.proofs.play_laws.replays.a_written_trace_replays.Goals as goal
-
-pub returns : goal.returns
-returns c = reads_back

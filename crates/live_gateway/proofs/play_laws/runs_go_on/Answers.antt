@@ -1,5 +1,0 @@
-use Rattle.live_gateway.proofs.RunLemmas.{ran_on}
-use Rattle.live_gateway.proofs.play_laws.runs_go_on.Goals as goal
-
-pub returns : goal.returns
-returns c = λ was mid is first second a b. ran_on was mid is first second a b

@@ -1,5 +1,0 @@
-use Rattle.live_gateway.proofs.PieceLaws.{reads_shown}
-use Rattle.live_gateway.proofs.play_laws.shown.what_is_shown_is_read.Goals as goal
-
-pub returns : goal.returns
-returns c = reads_shown

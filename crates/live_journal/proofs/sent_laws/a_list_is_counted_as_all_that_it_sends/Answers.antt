@@ -1,5 +1,0 @@
-use Rattle.live_journal.proofs.SentCountLemmas.{list_counts}
-use Rattle.live_journal.proofs.sent_laws.a_list_is_counted_as_all_that_it_sends.Goals as goal
-
-pub returns : goal.returns
-returns c = list_counts

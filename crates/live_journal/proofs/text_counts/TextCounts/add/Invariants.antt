@@ -1,6 +1,0 @@
-use Rattle.std.proofs.Common.{◌≡◌, take}
-use Rattle.live_journal.specs.Counting.{counts_in, with_texts}
-use Rattle.live_journal.proofs.text_counts.TextCounts.add.Given as goal
-
-abbrev pub invariant-loop-outcome : goal.invariant-loop-outcome
-invariant-loop-outcome l = counts_in l.self ≡ with_texts (counts_in l.fn.self) (take l.outcome-index l.outcomes)

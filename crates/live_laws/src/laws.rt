@@ -1,0 +1,36 @@
+//! What a stranger sends changes nothing, nor does what a gateway sends itself, and what comes from others is an event: laws, whose
+//! functions do nothing.
+ghost use Rattle.std.specs.Prelude.{◌≡◌, ◌++◌, ◌<◌, ◌-◌, ◌^◌, ℕ, List, map, Some};
+ghost use Rattle.surroundings.specs.Sending.{Sent, Received};
+ghost use Rattle.gateway_core.specs.Stands.{Stands};
+ghost use Rattle.plain_machine.specs.Event.{GatewayEvent};
+ghost use Rattle.traces.specs.Writing.{Entry, IsPlay, taken_after, sent_in};
+ghost use Rattle.live_play.specs.Coming.{arrived_in};
+ghost use Rattle.live_play.specs.Running.{AreFrom, sent_of};
+ghost use Rattle.live_gateway.specs.declared.admission.Admission.{Admission};
+ghost use Rattle.live_gateway.specs.Admitting.{heard_of};
+ghost use Rattle.live_gateway.specs.Desk.{IsHeard, Standing, GoesOnBy};
+
+/// However a desk went on, there are entries of a play at which each datagram came from who is heard; what the gateway took is theirs,
+/// and what was handed out is what it sends for them. So nothing that a stranger sends is an event, nor anything that came from the
+/// gateway's own sockets, and nothing answers it.
+pub fn what_a_stranger_sends_changes_nothing()
+    ensures { (admission : Admission) (was is : Standing) (entries : List Entry) (came : List Received) (missing : ℕ)
+        (before : List GatewayEvent) (were are : List Sent)
+        → GoesOnBy admission was is entries came missing → Stands was.live.gateway before
+        → was.live.handed ≡ Some were → is.live.handed ≡ Some are
+        → AreFrom (IsHeard admission) entries × IsPlay was.live.gateway.setup before entries
+        × Stands is.live.gateway (taken_after was.live.gateway.setup before entries)
+        × (are ≡ were ++ map sent_of (sent_in entries)) }
+{}
+
+/// However a desk went on, the datagrams that came in at its entries are all those that came but what isn't heard, each with its bytes, in
+/// their order, where no input was refused, as for want of memory; a count that has come to its end, 2^64 - 1, tells nothing of that.
+pub fn each_datagram_that_is_heard_is_an_event()
+    ensures { (admission : Admission) (was is : Standing) (entries : List Entry) (came : List Received) (missing : ℕ)
+        (were are : List Received)
+        → GoesOnBy admission was is entries came missing
+        → was.came.received ≡ Some were → is.came.received ≡ Some are
+        → is.came.refused ≡ was.came.refused → was.came.refused < 2 ^ 64 - 1
+        → (are ≡ were ++ came) × (arrived_in entries ≡ heard_of admission came) }
+{}

@@ -1,0 +1,7 @@
+//! Laws of a gateway that runs live, and worked examples of what they speak of: its run is a play, the trace of that replays, and what
+//! strangers send changes nothing. Their functions do nothing.
+#![tactic(auto)]
+
+pub mod examples;
+pub mod laws;
+pub mod play_laws;

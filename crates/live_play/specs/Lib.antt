@@ -1,0 +1,4 @@
+pub mod Coming
+pub mod Running
+pub mod Keeping
+pub mod Readable

@@ -1,0 +1,138 @@
+-- How a gateway runs live.
+use Rattle.std.specs.Prelude.{◌≡◌, ⊤, ◌⊎◌, ℕ, zero, suc, ◌+◌, ◌<◌, ◌≤◌, List, [], ◌∷◌, ◌++◌, length, map, Option, IfSome}
+use Rattle.std.specs.declared.net.socket_addr.SocketAddrV4.{SocketAddrV4}
+use Rattle.surroundings.specs.Sending.{Sent, Grows}
+use Rattle.transmission.specs.declared.output.OutDatagram.{OutDatagram}
+use Rattle.plain_machine.specs.declared.setup.Setup.{Setup}
+use Rattle.plain_machine.specs.Event.{GatewayEvent}
+use Rattle.gateway_core.specs.GatewayState.{GatewayState}
+use Rattle.gateway_core.specs.Stands.{Stands, Took}
+use Rattle.gateway_rules.specs.declared.refusal.Refusal.{Refusal}
+use Rattle.gateway_rules.specs.declared.refusal.Refusal.TheVariants.{OutOfMemory}
+use Rattle.rgw_scripts.specs.Moves.{give, ask, sends, refuses, line_shown, printed, told as answer_of}
+use Rattle.rgw_scripts.specs.Printing.{printed_line, refusal_line}
+use Rattle.rgw_scripts.specs.Status.{LineStatus}
+use Rattle.traces.specs.declared.script.Script.{Script}
+use Rattle.traces.specs.Telling.{told_text}
+use Rattle.traces.specs.Writing.{Entry, Input, arrived, typed, passed, showed, became, datagrams_in, IsPlay, taken_after, sent_in, written, script_after, clock_text, at_clock}
+use Rattle.live_play.specs.Readable.{first_unread, AreByTicks}
+
+-- the gateway, the moments that its trace has come to, all that this was told, and all that was handed out
+pub record Live : Type 0 where
+  pub gateway : GatewayState
+  pub script : Script
+  pub told : Option (List ℕ)
+  pub handed : Option (List Sent)
+
+abbrev pub live : GatewayState → Script → Option (List ℕ) → Option (List Sent) → Live
+live gateway script told handed = record { gateway = gateway; script = script; told = told; handed = handed }
+
+-- a datagram as it is handed over: of its moment nothing is told
+abbrev pub sent_of : OutDatagram → Sent
+sent_of datagram = record { to = datagram.to; bytes = datagram.bytes }
+
+-- a place up to the last one, that is read again
+abbrev pub IsPlace : ℕ → ℕ → Type 0
+IsPlace last place = (place ≤ last) × (place < first_unread)
+
+-- Behind what was shown it is said what became of its datagrams: of each at most once, in their order; and of no other ones. Said was it
+-- of those up to the first place, and the last place is that of the last datagram.
+abbrev pub AreInPlace : ℕ → ℕ → List Entry → Type 0
+AreInPlace after last [] = ⊤
+AreInPlace after last (showed input move shown ∷ entries) = AreInPlace 0 (length (datagrams_in shown)) entries
+AreInPlace after last (became mark place ∷ entries) = (after < place) × IsPlace last place × AreInPlace place last entries
+
+-- It went on by these entries: they are a play of its gateway, what was handed out is what they sent, and its trace was told their
+-- text. Its clock went on by ticks alone.
+pub record Ran (was : Live) (entries : List Entry) (is : Live) : Type 0 where
+  pub setup : is.gateway.setup ≡ was.gateway.setup
+  pub stands : (before : List GatewayEvent) → Stands was.gateway before →
+      Stands is.gateway (taken_after was.gateway.setup before entries)
+  pub play : (before : List GatewayEvent) → Stands was.gateway before → IsPlay was.gateway.setup before entries
+  pub handed : Grows was.handed (map sent_of (sent_in entries)) is.handed
+  pub told : Grows was.told (written was.script entries) is.told
+  pub script : IfSome is.told (λ text. is.script ≡ script_after was.script entries)
+  pub marks : AreInPlace 0 0 entries
+  pub ticks : AreByTicks entries
+
+-- what came in is no datagram, or one whose source is so
+abbrev pub IsFrom : (SocketAddrV4 → Type 0) → Input → Type 0
+IsFrom speaks (arrived source bytes) = speaks source
+IsFrom speaks (typed line) = ⊤
+IsFrom speaks (passed moment) = ⊤
+
+-- each datagram that came at these entries has such a source
+abbrev pub AreFrom : (SocketAddrV4 → Type 0) → List Entry → Type 0
+AreFrom speaks [] = ⊤
+AreFrom speaks (showed input move shown ∷ entries) = IsFrom speaks input × AreFrom speaks entries
+AreFrom speaks (became mark place ∷ entries) = AreFrom speaks entries
+
+-- what came in at each of these entries is so
+abbrev pub AreOf : (Input → Type 0) → List Entry → Type 0
+AreOf says [] = ⊤
+AreOf says (showed input move shown ∷ entries) = says input × AreOf says entries
+AreOf says (became mark place ∷ entries) = AreOf says entries
+
+-- it went on by entries, and all that came in is so
+pub record RanOf (says : Input → Type 0) (was is : Live) : Type 0 where
+  pub entries : List Entry
+  pub ran : Ran was entries is
+  pub inputs : AreOf says entries
+
+-- these entries say what became of datagrams, and nothing else: of each at most once, in their order
+abbrev pub AreMarks : ℕ → ℕ → List Entry → Type 0
+AreMarks after last [] = ⊤
+AreMarks after last (showed input move shown ∷ entries) = ⊥
+AreMarks after last (became mark place ∷ entries) = (after < place) × IsPlace last place × AreMarks place last entries
+
+-- behind so many others, datagrams were handed out, and this became of them
+pub record HandsOut (was : Live) (before : ℕ) (datagrams : List OutDatagram) (marks : List Entry) (is : Live) : Type 0 where
+  pub are : AreMarks before (before + length datagrams) marks
+  pub gateway : is.gateway ≡ was.gateway
+  pub handed : Grows was.handed (map sent_of datagrams) is.handed
+  pub told : Grows was.told (written was.script marks) is.told
+  pub script : is.script ≡ was.script
+
+-- this is printed of what a line is, whatever events the gateway stands for, or of that there is none
+pub record IsAnswer (g : GatewayState) (line : ℕ) (answered : List ℕ) : Type 0 where
+  pub status : Option LineStatus
+  pub shows : (before : List GatewayEvent) → Stands g before → line_shown g.setup before line ≡ answer_of status
+  pub text : answered ≡ printed (answer_of status)
+
+-- what is printed of so many lines, one behind the other from the first, where the gateway has taken these events
+unfoldable pub lines_shown : Setup → List GatewayEvent → ℕ → List ℕ
+lines_shown setup events zero = []
+lines_shown setup events (suc lines) = lines_shown setup events lines ++ printed (line_shown setup events (suc lines))
+
+-- It took an event that came in so: its entry was told, all that was sent at it was handed out, and behind the entry stands what became
+-- of that, and nothing else.
+pub record Takes (was : Live) (input : Input) (event : GatewayEvent) (is : Live) : Type 0 where
+  pub outputs : List OutDatagram
+  pub marks : List Entry
+  pub took : Took was.gateway (event ∷ []) is.gateway [] outputs
+  pub are : AreMarks 0 (length outputs) marks
+  pub ran : Ran was (showed input (give event) (sends outputs) ∷ marks) is
+
+-- An act that a line said was refused: that is an entry, and why is printed; or nothing was told, where memory was refused, for the act
+-- or for saying why it can't be done.
+abbrev pub Refuses : Live → List ℕ → GatewayEvent → Refusal → List ℕ → Live → Type 0
+Refuses was line event refusal text is =
+    ((refusal ≡ OutOfMemory) × Ran was [] is)
+    ⊎ ((refusal ≡ OutOfMemory → ⊥)
+    × Ran was (showed (typed line) (give event) (refuses refusal) ∷ []) is
+    × (text ≡ printed_line (refusal_line refusal)))
+
+-- What a line is was asked, as a line said: what is printed is an entry.
+pub record Asked (was : Live) (line : List ℕ) (number : ℕ) (text : List ℕ) (is : Live) : Type 0 where
+  pub answer : IsAnswer was.gateway number text
+  pub gateway : is.gateway ≡ was.gateway
+  pub ran : Ran was (showed (typed line) (ask number) (answer_of answer.status) ∷ []) is
+
+-- the answer to an act that was refused: why, told and printed; or want of memory, and a trace was told of nothing
+abbrev pub TellsRefusal : List ℕ → Refusal → Refusal → List ℕ → Option (List ℕ) → Script → Option (List ℕ) → Script → Type 0
+TellsRefusal line refusal answer text were was are is =
+    ((answer ≡ OutOfMemory) × (are ≡ were) × (is ≡ was))
+    ⊎ ((answer ≡ refusal) × (refusal ≡ OutOfMemory → ⊥)
+    × Grows were (clock_text was ++ printed_line line ++ told_text (printed_line (refusal_line refusal))) are
+    × IfSome are (λ text. is ≡ at_clock was)
+    × (text ≡ printed_line (refusal_line refusal)))

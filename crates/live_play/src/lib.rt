@@ -1,0 +1,17 @@
+//! A gateway that runs live is played: what it is given, asked and sends is told to a trace, and then handed out, in order.
+//! What datagrams are handed to, and who keeps the trace, are traits.
+#![tactic(auto)]
+
+mod ends;
+mod handing;
+mod line_status;
+mod placed;
+mod play;
+mod telling;
+mod trace_text;
+
+pub use crate::ends::Outlet;
+pub use crate::handing::FIRST_UNREAD;
+pub use crate::line_status::put_shown;
+pub use crate::play::LivePlay;
+pub use crate::trace_text::TraceText;

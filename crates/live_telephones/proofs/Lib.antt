@@ -1,0 +1,5 @@
+pub mod AskingLemmas
+pub mod LostLemmas
+pub mod SeeingLemmas
+pub mod ShowingLemmas
+pub mod WatchingLemmas

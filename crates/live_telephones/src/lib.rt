@@ -1,0 +1,18 @@
+//! What is asked beside the protocol of a gateway that runs, and what is answered and shown: lines for its telephones, what who watches is
+//! told, and what its page is shown of it.
+#![tactic(auto)]
+
+mod answering;
+mod losses;
+mod picture;
+mod seeing;
+mod telephones;
+mod watch;
+
+pub use crate::answering::{
+    DONE, PHONES_FROM_AFAR, act_answer, all_shown, answer_put, question_answer, short_answer, show,
+    take_act,
+};
+pub use crate::losses::lost_of;
+pub use crate::telephones::{TelephoneRequest, Typist, request_in, typist_of};
+pub use crate::watch::Watch;

@@ -1,0 +1,3 @@
+pub mod Computing
+pub mod CountLemmas
+pub mod SentCountLemmas

@@ -1,0 +1,7 @@
+pub mod SentCounting
+pub mod Counting
+pub mod Waiting
+pub mod Places
+pub mod Reporting
+pub mod Example
+pub mod SentExample

@@ -1,0 +1,34 @@
+-- Which of its agent's addresses a gateway sends its own commands to.
+use Rattle.std.specs.Prelude.{ℕ, Bool, ◌==◌, ◌&&◌, bytes_eq, if◌then◌else◌, List}
+use Rattle.std.specs.List.{fold, position}
+use Rattle.std.specs.Option.{unwrap_or}
+use Rattle.std.specs.Net.Addr.{ipv4_octets}
+use Rattle.std.specs.declared.net.socket_addr.SocketAddrV4.{SocketAddrV4}
+use Rattle.endpoint_names.specs.declared.route.Route.{Route}
+use Rattle.endpoint_names.specs.Route.{addresses, most_addresses}
+use Rattle.plain_machine.specs.declared.label.SentMessage.{SentMessage}
+use Rattle.message_counts.specs.SentCounting.{one_more_at}
+use Rattle.message_counts.specs.Waiting.{is_own}
+
+abbrev pub is_same : SocketAddrV4 → SocketAddrV4 → Bool
+is_same one other = one.port == other.port && bytes_eq (ipv4_octets one.ip) (ipv4_octets other.ip)
+
+-- the place of all addresses that aren't the agent's: behind the last that one may have
+abbrev pub others : ℕ
+others = most_addresses
+
+-- the first place of an address among these
+abbrev pub place_in : List SocketAddrV4 → SocketAddrV4 → ℕ
+place_in list to = unwrap_or (position (is_same to) list) others
+
+abbrev pub place_among : Route SocketAddrV4 → SocketAddrV4 → ℕ
+place_among route to = place_in (addresses route) to
+
+-- a message was sent: a command of its own counts at the place of its receiver
+abbrev pub with_send : Route SocketAddrV4 → List ℕ → SentMessage → List ℕ
+with_send route sends message =
+    if is_own message.label.what then one_more_at sends (place_among route message.to) else sends
+
+-- these were sent
+abbrev pub with_sends : Route SocketAddrV4 → List ℕ → List SentMessage → List ℕ
+with_sends route sends messages = fold (with_send route) sends messages

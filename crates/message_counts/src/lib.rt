@@ -1,0 +1,23 @@
+//! What a gateway is told to have got, sent and given up, in numbers: datagrams, texts by what they were, messages by their labels, sends by
+//! place; since when an answer is owed; and how counts are told. Each count is the sum of what it is the count of, which laws say.
+#![tactic(auto)]
+
+pub mod examples;
+pub mod laws;
+mod message_tally;
+mod place_counts;
+mod reporting;
+mod sent_counts;
+pub mod sent_examples;
+pub mod sent_laws;
+mod taken;
+mod text_counts;
+mod waiting;
+
+pub use crate::message_tally::MessageTally;
+pub use crate::place_counts::PlaceCounts;
+pub use crate::reporting::{Faults, report_text};
+pub use crate::sent_counts::{SentCounts, place_of};
+pub use crate::taken::Taken;
+pub use crate::text_counts::TextCounts;
+pub use crate::waiting::is_own;

@@ -1,0 +1,4 @@
+pub mod Computing
+pub mod RecordLemmas
+mod PuttingLemmas
+pub mod ShowingLemmas

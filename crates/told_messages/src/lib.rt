@@ -1,0 +1,16 @@
+//! Messages of a gateway that runs, as people are told them: in the log, a line each, with notes beside; and on its page, each with its label.
+//! It opens nothing: what it puts stands in a record, or on a board.
+#![tactic(auto)]
+
+pub mod examples;
+mod explaining;
+mod labelling;
+mod log;
+mod showing;
+pub mod showing_examples;
+mod spoiling;
+mod strangers;
+
+pub use crate::log::Log;
+pub use crate::showing::{nobody, show, show_sent, show_turned};
+pub use crate::strangers::Quiet;
