@@ -1,5 +1,5 @@
-//! What a gateway is told to have got, sent and given up, in numbers: datagrams, texts by what they were, messages by their labels, sends by
-//! place; since when an answer is owed; and how counts are told. Each count is the sum of what it is the count of, which laws say.
+//! What a gateway tells that it got, sent and gave up, in numbers: datagrams, texts by what they were, messages by their labels, sends by
+//! place, since when an answer is owed; and how counts are told. Laws say that each is the sum of what it counts.
 #![tactic(auto)]
 
 pub mod examples;

@@ -1,4 +1,4 @@
-//! Messages of a gateway that runs, as people are told them: in the log, a line each, with notes beside; and on its page, each with its label.
+//! Messages of a gateway that runs, as people are told them: in the log, a line each, with notes beside; and on its page, with labels.
 //! It opens nothing: what it puts stands in a record, or on a board.
 #![tactic(auto)]
 
