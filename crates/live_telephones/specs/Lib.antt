@@ -4,4 +4,5 @@ pub mod Asking
 pub mod Admitting
 pub mod Watching
 pub mod Picturing
+pub mod Viewing
 pub mod Paging

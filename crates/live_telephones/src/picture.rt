@@ -1,11 +1,14 @@
 //! What the page is shown of the gateway.
 ghost use Rattle.std.specs.Prelude.{◌≡◌, ◌≤◌, ◌++◌, false, List, [], ◌∷◌, Ok, IfOk, OnOk};
+ghost use Rattle.std.specs.Net.Text.{socket_v4_text};
 ghost use Rattle.plain_machine.specs.Event.{GatewayEvent};
 ghost use Rattle.plain_machine.specs.Lists.{plain};
 ghost use Rattle.plain_machine.specs.Machine.{serves};
 ghost use Rattle.gateway_core.specs.Remembering.{remembered};
 ghost use Rattle.gateway_core.specs.Stands.{Stands};
+ghost use Rattle.page_answers.specs.Showing.{connection_shown, line_shown};
 ghost use Rattle.live_telephones.specs.Picturing.{with_traffic, with_own, with_faults, with_numbers, by_name, capture_written, files_written, verbs_from, codes_at, codes_from};
+ghost use Rattle.live_telephones.specs.Viewing.{is_off, signal_viewed, signals_viewed, remote_text, call_of, connection_viewed, connections_viewed, viewed, line_viewed, lines_viewed, signals_in, connections_in, lines_in};
 
 use crate::seeing::seen_line;
 use connections::{Connection, mode_text};
@@ -72,7 +75,9 @@ impl Gathering {
         }
     }
 
-    fn text(&mut self, text: Draft) -> Vec<u8> {
+    fn text(&mut self, text: Draft) -> Vec<u8>
+        ensures { self.new.is_refused ≡ false → (self.old.is_refused ≡ false) × (result.items ≡ text) }
+    {
         match text.end() {
             Ok(text) => text,
             Err(_) => {
@@ -83,27 +88,44 @@ impl Gathering {
     }
 }
 
-fn signals_of(gathering: &mut Gathering, signals: &[ActiveSignal]) -> Vec<SignalView> {
+// A signal that is heard.
+fn put_signal(gathering: &mut Gathering, views: &mut Vec<SignalView>, active: &ActiveSignal)
+    ensures { gathering.new.is_refused ≡ false → (gathering.old.is_refused ≡ false)
+        × (signals_in views.new.items ≡ signals_in views.old.items ++ (signal_viewed active.now ∷ [])) }
+{
+    let view = SignalView {
+        name: signal_name(active.signal),
+        end: active.end,
+    };
+    gathering.push(views, view);
+}
+
+// What is heard.
+#[tactic(auto, unfolding(crate::specs::Viewing::signals_viewed))]
+fn signals_of(gathering: &mut Gathering, signals: &[ActiveSignal]) -> Vec<SignalView>
+    ensures { gathering.new.is_refused ≡ false → (gathering.old.is_refused ≡ false)
+        × (signals_in result.items ≡ signals_viewed signals.now) }
+{
     let mut views = Vec::new(gathering.alloc);
     for active in signals {
-        let view = SignalView {
-            name: signal_name(active.signal),
-            end: active.end,
-        };
-        gathering.push(&mut views, view);
+        put_signal(gathering, &mut views, active);
     }
     views
 }
 
 // An address as text.
-fn address_text(gathering: &mut Gathering, address: SocketAddrV4) -> Vec<u8> {
+fn address_text(gathering: &mut Gathering, address: SocketAddrV4) -> Vec<u8>
+    ensures { gathering.new.is_refused ≡ false → (gathering.old.is_refused ≡ false) × (result.items ≡ socket_v4_text address) }
+{
     let mut text = Draft::new(gathering.alloc);
     put_peer(&mut text, address);
     gathering.text(text)
 }
 
 // Where media go, as text; nothing where that isn't known.
-fn remote_text(gathering: &mut Gathering, remote: Option<SocketAddrV4>) -> Vec<u8> {
+fn remote_text(gathering: &mut Gathering, remote: Option<SocketAddrV4>) -> Vec<u8>
+    ensures { gathering.new.is_refused ≡ false → (gathering.old.is_refused ≡ false) × (result.items ≡ remote_text remote) }
+{
     match remote {
         Some(address) => address_text(gathering, address),
         None => Vec::new(gathering.alloc),
@@ -111,7 +133,10 @@ fn remote_text(gathering: &mut Gathering, remote: Option<SocketAddrV4>) -> Vec<u
 }
 
 // The call of the connection with this number among the places of its line, as that was spelled when the connection was created.
-fn call_of(places: &[Option<Connection>], number: u32) -> &[u8] {
+#[tactic(auto, unfolding(crate::specs::Viewing::call_of))]
+fn call_of(places: &[Option<Connection>], number: u32) -> &[u8]
+    ensures { result.now ≡ call_of number places.now }
+{
     for held in places {
         if let Some(connection) = held {
             if connection.number == number {
@@ -122,11 +147,15 @@ fn call_of(places: &[Option<Connection>], number: u32) -> &[u8] {
     b""
 }
 
+// A connection among the places of its line.
 fn connection_of(
     gathering: &mut Gathering,
-    connection: SeenConnection,
+    connection: &SeenConnection,
     places: &[Option<Connection>],
-) -> ConnectionView {
+) -> ConnectionView
+    ensures { gathering.new.is_refused ≡ false → (gathering.old.is_refused ≡ false)
+        × (connection_shown result ≡ connection_viewed places.now connection.now) }
+{
     ConnectionView {
         number: connection.number,
         mode: mode_text(connection.mode),
@@ -138,17 +167,41 @@ fn connection_of(
     }
 }
 
+fn put_connection(
+    gathering: &mut Gathering,
+    views: &mut Vec<ConnectionView>,
+    connection: &SeenConnection,
+    places: &[Option<Connection>],
+)
+    ensures { gathering.new.is_refused ≡ false → (gathering.old.is_refused ≡ false)
+        × (connections_in views.new.items ≡ connections_in views.old.items ++ (connection_viewed places.now connection.now ∷ [])) }
+{
+    let view = connection_of(gathering, connection, places);
+    gathering.push(views, view);
+}
+
+// Its connections.
+#[tactic(auto, unfolding(crate::specs::Viewing::connections_viewed))]
 fn connections_of(
     gathering: &mut Gathering,
     connections: &[SeenConnection],
     places: &[Option<Connection>],
-) -> Vec<ConnectionView> {
+) -> Vec<ConnectionView>
+    ensures { gathering.new.is_refused ≡ false → (gathering.old.is_refused ≡ false)
+        × (connections_in result.items ≡ connections_viewed places.now connections.now) }
+{
     let mut views = Vec::new(gathering.alloc);
     for connection in connections {
-        let view = connection_of(gathering, *connection, places);
-        gathering.push(&mut views, view);
+        put_connection(gathering, &mut views, connection, places);
     }
     views
+}
+
+// The handset is lifted.
+fn is_off(hook: Hook) -> bool
+    ensures { result ≡ is_off hook }
+{
+    matches!(hook, Hook::OffHook)
 }
 
 // A line as it is shown, by what is seen of it, by its places, and by how many of its events were lost.
@@ -157,18 +210,25 @@ fn view_of(
     seen: &SeenLine,
     places: &[Option<Connection>],
     lost: u64,
-) -> LineView {
+) -> LineView
+    ensures { gathering.new.is_refused ≡ false → (gathering.old.is_refused ≡ false)
+        × (line_shown result ≡ viewed seen.now places.now lost) }
+{
     LineView {
-        is_off_hook: seen.hook == Hook::OffHook,
+        is_off_hook: is_off(seen.hook),
         signals: signals_of(gathering, seen.signals.as_slice()),
         connections: connections_of(gathering, seen.connections.as_slice(), places),
         lost,
     }
 }
 
+// A line, from 1 to the number of lines.
 fn put_line(gathering: &mut Gathering, views: &mut Vec<LineView>, gateway: &Gateway, line: u16)
     requires low { 1 ≤ line }
     requires high { line ≤ gateway.now.setup.names.lines }
+    ensures { gathering.new.is_refused ≡ false → (gathering.old.is_refused ≡ false) × ((events : List GatewayEvent) → Stands gateway.now events
+        → lines_in views.new.items
+        ≡ lines_in views.old.items ++ (line_viewed gateway.now.setup (plain gateway.now.setup events) line ∷ [])) }
 {
     match seen_line(gathering.alloc, gateway, line) {
         Ok(seen) => {
@@ -298,7 +358,13 @@ fn put_numbers(counts: &mut Counts, journal: &Journal, faults: Faults)
     put_faults(counts, faults, journal);
 }
 
-fn put_lines(gathering: &mut Gathering, views: &mut Vec<LineView>, gateway: &Gateway) {
+// All lines.
+#[tactic(auto, unfolding(crate::specs::Viewing::lines_viewed))]
+fn put_lines(gathering: &mut Gathering, views: &mut Vec<LineView>, gateway: &Gateway)
+    ensures { gathering.new.is_refused ≡ false → (gathering.old.is_refused ≡ false) × ((events : List GatewayEvent) → Stands gateway.now events
+        → lines_in views.new.items
+        ≡ lines_in views.old.items ++ lines_viewed gateway.now.setup (plain gateway.now.setup events) gateway.now.setup.names.lines) }
+{
     for before in 0..gateway.lines() {
         put_line(gathering, views, gateway, before + 1);
     }
@@ -312,6 +378,9 @@ fn put_lists(gathering: &mut Gathering, picture: &mut Picture, gateway: &Gateway
         → picture.new.counts.commands.items ≡ verbs_from 0 journal.now.tally.value.texts.commands }
     ensures answers { gathering.new.is_refused ≡ false
         → picture.new.counts.answers.items ≡ codes_from 0 journal.now.tally.value.sent.answers.items }
+    ensures lines { (events : List GatewayEvent) → Stands gateway.now events → gathering.new.is_refused ≡ false
+        → lines_in picture.new.lines.items ≡ lines_in picture.old.lines.items
+        ++ lines_viewed gateway.now.setup (plain gateway.now.setup events) gateway.now.setup.names.lines }
 {
     put_lines(gathering, &mut picture.lines, gateway);
     put_written(gathering, &mut picture.counts.write_faults, journal);
@@ -344,6 +413,8 @@ pub fn picture_of(
         picture.counts.answers.items ≡ codes_from 0 journal.now.tally.value.sent.answers.items) }
     ensures held { (events : List GatewayEvent) → Stands gateway.now events
         → IfOk result (λ picture. picture.counts.transactions ≡ remembered (plain gateway.now.setup events)) }
+    ensures lines { (events : List GatewayEvent) → Stands gateway.now events → IfOk result (λ picture. lines_in picture.lines.items
+        ≡ lines_viewed gateway.now.setup (plain gateway.now.setup events) gateway.now.setup.names.lines) }
 {
     let mut picture = Picture::new(alloc);
     let mut gathering = Gathering {
