@@ -1,3 +1,4 @@
+pub mod Computing
 pub mod AskingLemmas
 pub mod LostLemmas
 pub mod SeeingLemmas

@@ -5,4 +5,5 @@ pub mod Admitting
 pub mod Watching
 pub mod Picturing
 pub mod Viewing
+pub mod ViewExample
 pub mod Paging

@@ -42,7 +42,7 @@ remote_text (Some address) = socket_v4_text address
 unfoldable pub call_of : ℕ → List (Option Connection) → List ℕ
 call_of number [] = []
 call_of number (None ∷ more) = call_of number more
-call_of number (Some connection ∷ more) = if connection.number == number then connection.call.value else call_of number more
+call_of number (Some connection ∷ more) = if connection.number == number then connection.call else call_of number more
 
 -- a connection by its number, mode, codec and packet time, both ends of its media, and its call
 abbrev pub connection_viewed : List (Option Connection) → SeenConnection → ConnectionShown

@@ -7,6 +7,7 @@ mod losses;
 mod picture;
 mod seeing;
 mod telephones;
+pub mod view_examples;
 mod watch;
 
 pub use crate::answering::{
