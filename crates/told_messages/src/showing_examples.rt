@@ -1,7 +1,7 @@
 //! Worked examples of what the page is shown, as theorems.
 #![tactic(auto, unfolding(crate::proofs::Computing::on_examples))]
 
-ghost use Rattle.std.specs.Prelude.{◌≡◌, ⊥, codes, Option, None, Some, [], ◌∷◌};
+ghost use Rattle.std.specs.Prelude.{◌≡◌, codes, Option, None, Some, [], ◌∷◌};
 ghost use Rattle.std.specs.Global.{Box};
 ghost use Rattle.gateway_texts.specs.declared.outcome.TextOutcome.TheVariants.{NoMessage};
 ghost use Rattle.page_answers.specs.declared.ring.Kind.TheVariants.{Sent};
