@@ -8,6 +8,8 @@ use Rattle.live_play.specs.Coming.{Came}
 use Rattle.std.specs.declared.net.socket_addr.SocketAddrV4.{SocketAddrV4}
 use Rattle.surroundings.specs.Sending.{Sent, Received, Traffic}
 use Rattle.surroundings.specs.declared.surroundings.Fault.{Fault}
+use Rattle.traces.specs.declared.telling.Mark.{Mark}
+use Rattle.traces.specs.declared.telling.Mark.TheVariants.{Unsent, Lost}
 use Rattle.live_gateway.specs.declared.exchange.Exchange.{Exchange}
 use Rattle.live_gateway.specs.declared.spoilt_way.SpoiltWay.{SpoiltWay}
 use Rattle.live_gateway.specs.Offering.{offered_by, came_over}
@@ -51,6 +53,12 @@ faultless = record { refused = 0; receive = 0; send = 0 }
 -- nothing could be received, or the clock not be read
 abbrev pub with_unreceived : Faults → Faults
 with_unreceived faults = record faults { receive = counted faults.receive 1 }
+
+-- a datagram was handed out, of which this is to be noted: that it wasn't sent counts
+abbrev pub with_mark : Option Mark → Faults → Faults
+with_mark None faults = faults
+with_mark (Some Lost) faults = faults
+with_mark (Some Unsent) faults = record faults { send = counted faults.send 1 }
 
 -- a datagram was read, or none was
 abbrev pub with_read : Bool → ℕ → ℕ

@@ -1,12 +1,17 @@
 //! What goes between the gateway and others: over sockets, behind a bad network where one is asked for; and its journal.
-ghost use Rattle.std.specs.Prelude.{◌≡◌, ◌<◌, ◌≤◌, ◌∷◌, ◌⊎◌, ⊤, [], true, false, length, Bool, List, Option, Result, IfSome, is_some};
+ghost use Rattle.std.specs.Prelude.{◌≡◌, ◌<◌, ◌≤◌, ◌∷◌, ◌⊎◌, ⊤, [], true, false, length, Bool, List, Option, Result, IfSome, is_some, map};
 ghost use Rattle.small_rules.specs.Counting.{counted};
+ghost use Rattle.message_counts.specs.Counting.{counts_in, with_texts};
+ghost use Rattle.message_counts.specs.SentCounting.{tally_in, with_sent, with_given_up};
+ghost use Rattle.page_answers.specs.declared.ring.Kind.TheVariants.{Sent as OfSent};
+ghost use Rattle.told_messages.specs.Labelling.{sent_label};
+ghost use Rattle.told_messages.specs.Showing.{GoesOn, HappenedWith, Turned};
 ghost use Rattle.surroundings.specs.declared.surroundings.Fault.{Fault};
 ghost use Rattle.surroundings.specs.Hearing.{Hears};
 ghost use Rattle.surroundings.specs.Sending.{Sent, Grows, found_by};
 ghost use Rattle.live_gateway.specs.Admitting.{is_heard, HeardSince};
 ghost use Rattle.live_gateway.specs.Offering.{brought};
-ghost use Rattle.live_gateway.specs.Exchanging.{handed_by, received_by, next_due, faultless, refusals, with_refused, with_unreceived, with_read, IsSameTurn, LooksOnce, CountsReceived};
+ghost use Rattle.live_gateway.specs.Exchanging.{handed_by, received_by, came_by, next_due, faultless, refusals, with_refused, with_mark, with_unreceived, with_read, IsSameTurn, LooksOnce, CountsReceived};
 ghost use Rattle.live_gateway.specs.Noting.{TurnsAway, NotesLate};
 ghost use Rattle.live_play.specs.Readable.{first_unread};
 
@@ -501,6 +506,7 @@ impl<S: Surroundings + Drop> Exchange<S> {
         ensures received { received_by self.new.network (S.traffic self.new.around).received
             ≡ received_by self.old.network (S.traffic self.old.around).received }
         ensures faults { self.new.faults ≡ self.old.faults }
+        ensures journal { self.new.journal ≡ self.old.journal }
     {
         if let Some(network) = &mut self.network {
             return match network.offer_out(to, bytes, self.now.clock) {
@@ -520,11 +526,31 @@ impl<S: Surroundings + Drop> Outlet for Exchange<S> {
 
     ghost came = { λ e. came_by S.traffic e };
 
-    fn turned(&mut self, gateway: &Gateway) {
+    fn turned(&mut self, gateway: &Gateway)
+        ensures handed { handed_by self.new.network (S.traffic self.new.around).sent
+            ≡ handed_by self.old.network (S.traffic self.old.around).sent }
+        ensures came { came_by S.traffic self.new ≡ came_by S.traffic self.old }
+        ensures shown { GoesOn (Turned self.old.now.clock gateway.now.outcomes gateway.now.account.given_up)
+            self.old.journal.board self.new.journal.board }
+        ensures texts { counts_in self.new.journal.tally.value.texts
+            ≡ with_texts (counts_in self.old.journal.tally.value.texts) gateway.now.outcomes }
+        ensures counted { tally_in self.new.journal.tally.value.sent
+            ≡ with_given_up (with_sent (tally_in self.old.journal.tally.value.sent) gateway.now.account.sent) gateway.now.account.given_up }
+        ensures rest { self.new ≡ record self.old { journal = self.new.journal } }
+    {
         self.journal.turned(self.now, &taken_of(gateway));
     }
 
-    fn hand(&mut self, to: SocketAddrV4, bytes: &[u8], messages: &[SentMessage]) -> Option<Mark> {
+    fn hand(&mut self, to: SocketAddrV4, bytes: &[u8], messages: &[SentMessage]) -> Option<Mark>
+        ensures handed { Grows (handed_by self.old.network (S.traffic self.old.around).sent)
+            (record { to = to; bytes = bytes.now } ∷ []) (handed_by self.new.network (S.traffic self.new.around).sent) }
+        ensures came { came_by S.traffic self.new ≡ came_by S.traffic self.old }
+        ensures shown { GoesOn (HappenedWith self.old.now.clock OfSent to bytes.now (map sent_label messages.now))
+            self.old.journal.board self.new.journal.board }
+        ensures counted { self.new.journal.tally.value
+            ≡ record self.old.journal.tally.value { datagrams_out = counted self.old.journal.tally.value.datagrams_out 1 } }
+        ensures faults { self.new.faults ≡ with_mark result self.old.faults }
+    {
         self.journal.sent(self.now, to, bytes, messages);
         match self.send(to, bytes) {
             Ok(fate) => {

@@ -9,9 +9,11 @@ ghost use Rattle.exchange_log.specs.declared.note.Note.TheVariants.{Refused, Una
 ghost use Rattle.exchange_log.specs.declared.note.Note.TheVariants as notes;
 ghost use Rattle.exchange_log.specs.declared.stamp.Stamp.{Stamp};
 ghost use Rattle.exchange_log.specs.Lines.{note_line, refused_line};
+ghost use Rattle.bad_network.specs.declared.fate.Fate.TheVariants.{Lost, Once, Twice};
 ghost use Rattle.gateway_texts.specs.declared.outcome.Reply.TheVariants.{First, Again, Silence, NoRoom};
 ghost use Rattle.gateway_texts.specs.declared.outcome.TextOutcome.TheVariants.{NoMessage, Command, Response};
 ghost use Rattle.endpoint_names.specs.declared.route.Route.TheVariants.{One, Two};
+ghost use Rattle.live_ends.specs.declared.record.Record.{Record};
 ghost use Rattle.plain_machine.specs.declared.label.What.TheVariants as whats;
 ghost use Rattle.surroundings.specs.Speaking.{nobody, with_host};
 ghost use Rattle.message_counts.specs.Example.{host, said};
@@ -19,8 +21,9 @@ ghost use Rattle.told_messages.specs.Example.{quiet_until};
 ghost use Rattle.message_counts.specs.Places.{place_among, with_send, with_sends};
 ghost use Rattle.told_messages.specs.Strangers.{told_at, quiet_after, unheard_text};
 ghost use Rattle.told_messages.specs.Explaining.{reason_text};
-ghost use Rattle.told_messages.specs.Recording.{unsent_text};
+ghost use Rattle.told_messages.specs.Recording.{Records, unsent_text};
 ghost use Rattle.live_journal.specs.Recording.{trace_head};
+ghost use Rattle.live_journal.specs.Spoiling.{fate_note, Notes};
 ghost use Rattle.message_counts.specs.Reporting.{told_all, commands_text, datagrams_text, texts_text, others_text, answer_text, answers_from};
 ghost use Rattle.message_counts.specs.declared.message_tally.MessageTally.{MessageTally};
 
@@ -103,4 +106,15 @@ pub fn each_sentence_has_an_example()
     ensures two { with_sends (One (host 7)) (replicate 5 0) (said (host 7) (whats.Command Ntfy) ∷ said (host 7) (whats.Resent Ntfy 2) ∷ [])
         ≡ 2 ∷ 0 ∷ 0 ∷ 0 ∷ 0 ∷ [] }
     ensures other_port { place_among (One (host 7)) (record (host 7) { port = 2728 }) ≡ 4 }
+{}
+
+/// What a bad network makes of a datagram is noted, unless that comes at once.
+pub fn a_fate_is_noted()
+    ensures lost { fate_note Lost ≡ Some notes.Lost }
+    ensures at_once { fate_note (Once 0) ≡ None }
+    ensures late { fate_note (Once 1) ≡ Some (notes.Late 1) }
+    ensures copied { fate_note (Twice 0 200) ≡ Some (notes.Copied 0 200) }
+    ensures noted { (was is : Record) → Notes was 5 (host 9) (Some notes.Lost) is
+        → Records was (note_line (record { moment = 5; peer = host 9 }) notes.Lost) is }
+    ensures nothing { (was is : Record) → Notes was 5 (host 9) None is → is ≡ was }
 {}

@@ -1,11 +1,16 @@
 //! What is kept of what goes between a gateway and others: its counts and its records.
 ghost use Rattle.std.specs.Prelude.{◌≡◌, map};
 ghost use Rattle.small_rules.specs.Counting.{counted};
+ghost use Rattle.message_counts.specs.Counting.{counts_in, with_texts};
+ghost use Rattle.message_counts.specs.Places.{with_sends};
+ghost use Rattle.message_counts.specs.SentCounting.{tally_in, with_sent, with_given_up};
+ghost use Rattle.message_counts.specs.Waiting.{unanswered_after};
 ghost use Rattle.page_answers.specs.declared.ring.Kind.TheVariants.{Received, Sent, Act, Told};
 ghost use Rattle.told_messages.specs.Labelling.{sent_label};
 ghost use Rattle.told_messages.specs.Recording.{Records, unsent_text};
 ghost use Rattle.told_messages.specs.Showing.{nobody as of_nobody, GoesOn, Happened, HappenedWith, Turned};
 ghost use Rattle.told_messages.specs.Strangers.{quiet_after, stranger_text};
+ghost use Rattle.live_journal.specs.Spoiling.{fate_note, Notes};
 
 use crate::capture::Capture;
 use crate::spoiling::note_of;
@@ -73,6 +78,7 @@ impl Journal {
     /// A datagram comes for the gateway, so late, in ms.
     pub fn came(&mut self, now: Now, source: SocketAddrV4, bytes: &[u8], late: u64)
         ensures shown { GoesOn (Happened now.clock Received source bytes.now) self.old.board self.new.board }
+        ensures counted { self.new.tally.value ≡ record self.old.tally.value { datagrams_in = counted self.old.tally.value.datagrams_in 1 } }
     {
         self.tally.received();
         self.log.receive(now, source, bytes, late);
@@ -95,6 +101,13 @@ impl Journal {
     /// The gateway took an event, of which it tells this: all that is counted. What it sends is handed out next.
     pub fn turned(&mut self, now: Now, taken: &Taken<'_>)
         ensures shown { GoesOn (Turned now.clock taken.now.outcomes.now taken.now.given_up.now) self.old.board self.new.board }
+        ensures texts { counts_in self.new.tally.value.texts ≡ with_texts (counts_in self.old.tally.value.texts) taken.now.outcomes.now }
+        ensures sent { tally_in self.new.tally.value.sent
+            ≡ with_given_up (with_sent (tally_in self.old.tally.value.sent) taken.now.sent.now) taken.now.given_up.now }
+        ensures places { self.new.tally.value.places.sends
+            ≡ with_sends taken.now.route.now self.old.tally.value.places.sends taken.now.sent.now }
+        ensures unanswered { self.new.tally.value.unanswered_since
+            ≡ unanswered_after self.old.tally.value.unanswered_since taken.now.outcomes.now taken.now.sent.now }
     {
         self.tally.turned(taken);
         self.log.turned(now, taken);
@@ -112,6 +125,8 @@ impl Journal {
     /// A datagram is sent that has these messages.
     pub fn sent(&mut self, now: Now, to: SocketAddrV4, bytes: &[u8], messages: &[SentMessage])
         ensures shown { GoesOn (HappenedWith now.clock Sent to bytes.now (map sent_label messages.now)) self.old.board self.new.board }
+        ensures counted { self.new.tally.value
+            ≡ record self.old.tally.value { datagrams_out = counted self.old.tally.value.datagrams_out 1 } }
     {
         self.tally.handed_out();
         self.log.send(now, to, bytes, messages);
@@ -123,9 +138,15 @@ impl Journal {
     }
 
     /// The datagram that was sent last has this fate.
-    pub fn spoilt(&mut self, now: Now, to: SocketAddrV4, fate: Fate) {
-        if let Some(note) = note_of(fate) {
-            self.log.note(now, to, note);
+    pub fn spoilt(&mut self, now: Now, to: SocketAddrV4, fate: Fate)
+        ensures told { Notes self.old.log.value.record now.time to (fate_note fate) self.new.log.value.record }
+        ensures quiet { self.new.log.value.quiet ≡ self.old.log.value.quiet }
+        ensures tally { self.new.tally ≡ self.old.tally }
+        ensures rest { (self.new.capture ≡ self.old.capture) × (self.new.board ≡ self.old.board) × (self.new.written ≡ self.old.written) }
+    {
+        match note_of(fate) {
+            Some(note) => self.log.note(now, to, note),
+            None => {}
         }
     }
 

@@ -3,9 +3,6 @@ ghost use Rattle.std.specs.Prelude.{◌≡◌, []};
 ghost use Rattle.surroundings.specs.Sending.{Grows};
 
 use crate::journal::Journal;
-use crate::trace::Trace;
-use live_ends::Outlets;
-use std::io::Write;
 use surroundings::Teller;
 
 /// Where what was recorded is written. What it does where it is told to write is its own; that it was told is said.
@@ -20,18 +17,4 @@ pub trait Recorder<T: Teller> {
 
     /// Whether something waits to be taken: so it is offered again soon, whether anything comes or not.
     fn is_offering(&self) -> bool;
-}
-
-impl<F: Write + Drop> Recorder<Trace> for Outlets<F> {
-    ghost use Rattle.std.specs.Prelude.{⊤};
-
-    ghost writes = { λ was is. ⊤ };
-
-    fn write(&mut self, journal: &mut Journal, trace: &mut Trace, time: u64) {
-        journal.write(trace, self, time);
-    }
-
-    fn is_offering(&self) -> bool {
-        !self.are_taken()
-    }
 }

@@ -1,6 +1,6 @@
 //! The trace, as a record keeps it until it is written.
-ghost use Rattle.std.specs.Prelude.{◌≡◌, ◌≤◌, ◌<◌, ◌-◌, ◌++◌, length, true, false, OnOk, None};
-ghost use Rattle.live_ends.specs.declared.record.RecordState.TheVariants.{Off};
+ghost use Rattle.std.specs.Prelude.{◌≡◌, ◌≤◌, ◌<◌, ◌-◌, ◌++◌, length, true, false, [], OnOk, None};
+ghost use Rattle.live_ends.specs.declared.record.RecordState.TheVariants.{Off, OutOfMemory};
 ghost use Rattle.live_journal.specs.Recording.{whole_lines, first_line, trace_head, Begins, is_telling, has_ended, HasPlace};
 
 use live_ends::{Outlet, Record, TEXT_ROOM};
@@ -159,15 +159,25 @@ impl Teller for Trace {
 
     ghost told = { λ trace. None };
 
-    fn is_telling(&self) -> bool {
+    fn is_telling(&self) -> bool
+        ensures { result ≡ is_telling self.now }
+    {
         self.takes_more()
     }
 
-    fn tell(&mut self, text: &[u8]) {
+    fn tell(&mut self, text: &[u8])
+        ensures quiet { is_telling self.old ≡ false → self.new ≡ self.old }
+        ensures placed { is_telling self.old ≡ true → length text.now ≤ self.old.room → HasPlace self.old text.now self.new }
+        ensures no_room { is_telling self.old ≡ true → self.old.room < length text.now
+            → self.new ≡ record self.old { is_broken_off = true } }
+    {
         self.put(text);
     }
 
-    fn break_off(&mut self) {
+    fn break_off(&mut self)
+        ensures state { self.new.record.state ≡ OutOfMemory }
+        ensures out { self.new.record.out.items ≡ [] }
+    {
         self.record.refuse();
     }
 }

@@ -16,6 +16,7 @@ ghost use Rattle.message_counts.specs.declared.reporting.Faults.{Faults};
 ghost use Rattle.page_answers.specs.declared.counts.Counts.{Counts as Counted};
 ghost use Rattle.rgw_scripts.specs.Moves.{Move, Shown};
 ghost use Rattle.traces.specs.declared.telling.Mark.{Mark};
+ghost use Rattle.traces.specs.declared.telling.Mark.TheVariants.{Unsent, Lost};
 ghost use Rattle.traces.specs.Writing.{arrived, typed, passed, showed, became};
 ghost use Rattle.live_play.specs.Coming.{arrived_in};
 ghost use Rattle.surroundings.specs.Sending.{Received};
@@ -37,7 +38,7 @@ ghost use Rattle.live_laws.specs.Example.{host, at_port, looped, anywhere, socke
 ghost use Rattle.live_gateway.specs.declared.exchange.Exchange.{Exchange};
 ghost use Rattle.live_gateway.specs.declared.spoilt_way.SpoiltWay.{SpoiltWay};
 ghost use Rattle.live_gateway.specs.Offering.{came_from, came_over, brought};
-ghost use Rattle.live_gateway.specs.Exchanging.{faultless, received_by, refusals, with_refused, with_unreceived, IsSameTurn};
+ghost use Rattle.live_gateway.specs.Exchanging.{faultless, received_by, refusals, with_refused, with_mark, with_unreceived, IsSameTurn};
 ghost use Rattle.live_gateway.specs.Noting.{TurnsAway, NotesLate};
 
 /// Each sentence at an example.
@@ -102,6 +103,10 @@ pub fn what_isnt_heard_or_sent_is_noted()
     ensures late { (was is : Journal) (fault : Fault) → NotesLate was 5 (at_port 9 2727) (Err fault) is
         → Records was.log.value.record (unsent_text 5 (at_port 9 2727)) is.log.value.record }
     ensures not_late { (was is : Journal) → NotesLate was 5 (at_port 9 2727) (Ok tt) is → is ≡ was }
+    // Of what is handed out that alone counts as a fault which isn't sent.
+    ensures unsent { (faults : Faults) → with_mark (Some Unsent) (record faults { send = 4 }) ≡ record faults { send = 5 } }
+    ensures lost { (faults : Faults) → with_mark (Some Lost) faults ≡ faults }
+    ensures sent { (faults : Faults) → with_mark None faults ≡ faults }
 {}
 
 /// Each sentence at an example.

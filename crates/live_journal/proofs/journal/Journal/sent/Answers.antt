@@ -5,8 +5,7 @@ use Rattle.told_messages.specs.Showing.{HappenedWith}
 use Rattle.told_messages.proofs.ShowingLemmas.{goes_on}
 use Rattle.live_journal.proofs.journal.Journal.sent.Goals as goal
 
-pub returns-in-Some : goal.returns-in-Some
-returns-in-Some c = record {
-  shown = goes_on (HappenedWith c.args.now.clock Sent c.args.to c.args.bytes.now (map sent_label c.args.messages.now)) c.args.self.now.board
-      c.in-Some.board c.show_sent.new.board c.in-Some.is (rw (c.deref_mut-in-Some.ensures.value) at c.show_sent.ensures);
-}
+pub returns-in-Some-clause-shown : goal.returns-in-Some-clause-shown
+returns-in-Some-clause-shown c =
+    goes_on (HappenedWith c.args.now.clock Sent c.args.to c.args.bytes.now (map sent_label c.args.messages.now)) c.args.self.now.board
+    c.in-Some.board c.show_sent.new.board c.in-Some.is (rw (c.deref_mut-in-Some.ensures.value) at c.show_sent.ensures)
