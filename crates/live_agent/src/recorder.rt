@@ -1,4 +1,7 @@
 //! Where what was recorded is written.
+ghost use Rattle.std.specs.Prelude.{◌≡◌, ◌&&◌, not};
+ghost use Rattle.mg_bytes.specs.Lists.{is_empty};
+
 use agent_texts::Journal;
 use live_ends::Outlets;
 use std::io::Write;
@@ -18,7 +21,9 @@ impl<F: Write + Drop> Recorder for Outlets<F> {
         journal.write(self, time);
     }
 
-    fn is_offering(&self) -> bool {
+    fn is_offering(&self) -> bool
+        ensures { result ≡ not (is_empty self.now.output.value.backlog.waiting && is_empty self.now.error.value.backlog.waiting) }
+    {
         !self.are_taken()
     }
 }

@@ -1,4 +1,7 @@
 //! What a gateway's records go to: its outlets, and the files of its capture, of which the next is made where one is full.
+ghost use Rattle.std.specs.Prelude.{◌≡◌, ◌&&◌, not};
+ghost use Rattle.mg_bytes.specs.Lists.{is_empty};
+
 use live_ends::{CaptureFiles, Outlets};
 use live_journal::{Journal, Recorder, Trace};
 use std::io::Write;
@@ -81,7 +84,10 @@ impl<R: Files> Recorder<Trace> for Recording<R> {
         journal.write(trace, &mut self.outlets, time);
     }
 
-    fn is_offering(&self) -> bool {
+    fn is_offering(&self) -> bool
+        ensures { result ≡ not (is_empty self.now.outlets.output.value.backlog.waiting
+            && is_empty self.now.outlets.error.value.backlog.waiting) }
+    {
         !self.outlets.are_taken()
     }
 }
