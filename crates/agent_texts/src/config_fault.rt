@@ -29,6 +29,10 @@ pub enum ConfigRefusal {
 }
 
 impl From<AllocError> for ConfigRefusal {
+    ghost use Rattle.agent_texts.specs.declared.config_fault.ConfigRefusal.TheVariants as refusals;
+
+    ghost from_gives = { λ _ refusal. refusal ≡ refusals.OutOfMemory };
+
     fn from(_refused: AllocError) -> ConfigRefusal {
         ConfigRefusal::OutOfMemory
     }

@@ -48,6 +48,10 @@ pub enum ListFault {
 }
 
 impl From<AllocError> for ListFault {
+    ghost use Rattle.rgwd_words.specs.declared.words.ListFault.TheVariants as faults;
+
+    ghost from_gives = { λ _ fault. fault ≡ faults.OutOfMemory };
+
     fn from(_refused: AllocError) -> ListFault {
         ListFault::OutOfMemory
     }
