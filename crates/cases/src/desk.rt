@@ -8,17 +8,17 @@
 //! - `print ..` a line of standard output.
 use crate::loads::{asked_in, play_load};
 use crate::stories::{
-    Place, Program, Records, Story, Transcript, Words, put_given, told, words_in,
+    Clocks, Machine, Place, Program, Records, Story, Transcript, Words, told, words_in,
 };
 use agent_texts::{AgentConfig, ConfigRefusal, Journal, read_config};
 use live_agent::{Recorder, Wire, WireSettings, serve_config, wire_over};
 use live_ends::{AddressWord, CommonEnding, SocketWanted, Written};
-use live_gateway::boxed;
 use mg_bytes::OutOfMemory;
 use scenario_files::{Report, Titled};
 use std::alloc::{AllocError, Global};
 use std::net::{Ipv4Addr, Net, SocketAddrV4};
-use surroundings::{Scripted, Surroundings};
+use std::rc::Rc;
+use surroundings::Surroundings;
 
 // The configuration where a story says no other.
 const USUAL: &str = "own = \"127.0.0.1:2727\"
@@ -36,10 +36,10 @@ numbers = [\"203\", \"204\"]
 pub struct CallAgent;
 
 impl Recorder for Records {
-    fn write(&mut self, journal: &mut Journal, time: u64) {
-        self.keep(time, b"print ", &mut journal.told);
-        self.keep(time, b"log ", &mut journal.log);
-        self.keep_capture(time, &mut journal.capture);
+    fn write(&mut self, journal: &mut Journal, _time: u64) {
+        self.keep(b"print ", &mut journal.told);
+        self.keep(b"log ", &mut journal.log);
+        self.keep_capture(&mut journal.capture);
     }
 
     fn is_offering(&self) -> bool {
@@ -76,13 +76,14 @@ fn settings_of(words: &Words, story: &Story) -> WireSettings {
 }
 
 /// What a call agent stands on, over what a story has of sockets and a clock.
-pub(crate) fn wire_of(
+pub(crate) fn wire_of<'c>(
     alloc: Global,
     words: &Words,
     story: &mut Story,
-) -> Result<Box<Wire<Scripted>>, OutOfMemory> {
+    clocks: &'c Rc<Clocks>,
+) -> Result<Box<Wire<Machine<'c>>>, OutOfMemory> {
     let settings = settings_of(words, story);
-    let around = boxed(alloc, story.take_around(words.own))?;
+    let around = story.take_machine(words.own, clocks)?;
     let mut wire = wire_over(alloc, around, words.own[0], settings)?;
     if let Some(file) = &words.capture {
         wire.journal.name_capture(file.as_str())?;
@@ -95,26 +96,25 @@ fn run(
     alloc: Global,
     config: &AgentConfig,
     is_routed: bool,
-    wire: &mut Wire<Scripted>,
-    is_counted: bool,
+    wire: &mut Wire<Machine<'_>>,
+    story: &Story,
     given: &mut Transcript,
 ) -> Result<bool, OutOfMemory> {
-    let mut records = Records::new(alloc, wire.around.time(), Written::ALL);
+    let mut records = Records::new(alloc, story.clocks.clone()?, Written::ALL);
     let served = serve_config(alloc, config, is_routed, wire, &mut records);
     if matches!(served, CommonEnding::OutOfMemory) {
         return Err(AllocError);
     }
     let time = wire.around.time();
     records.write(&mut wire.journal, time);
-    if is_counted {
-        let moment = records.moment_of(time);
+    if story.is_counted {
         match wire.journal.counts() {
-            Ok(counts) => records.given.tell(moment, b"count ", counts.as_slice()),
+            Ok(counts) => records.tell(b"count ", counts.as_slice()),
             Err(_) => given.refuse(),
         }
     }
-    put_given(alloc, given, &wire.around);
-    given.append(&mut records.given);
+    given.append(&mut wire.around.given);
+    records.put_given(given);
     Ok(true)
 }
 
@@ -126,9 +126,9 @@ fn play_with(
     story: &mut Story,
     given: &mut Transcript,
 ) -> Result<bool, OutOfMemory> {
-    let mut wire = wire_of(alloc, words, story)?;
-    let is_counted = story.is_counted;
-    run(alloc, config, words.is_routed, &mut wire, is_counted, given)
+    let clocks = story.clocks.clone()?;
+    let mut wire = wire_of(alloc, words, story, &clocks)?;
+    run(alloc, config, words.is_routed, &mut wire, story, given)
 }
 
 // Plays a story where the program is called with these words.
@@ -155,7 +155,12 @@ impl Program for CallAgent {
         }
     }
 
-    fn play(alloc: Global, story: &mut Story, given: &mut Transcript) -> Result<bool, OutOfMemory> {
+    fn play<R: AllocGlobal + Net>(
+        rt: &R,
+        story: &mut Story,
+        given: &mut Transcript,
+    ) -> Result<bool, OutOfMemory> {
+        let alloc = rt.alloc();
         if let Some(settings) = asked_in(story.words.as_slice()) {
             return play_load(alloc, settings, story, given);
         }
@@ -174,6 +179,6 @@ impl Titled for CallAgent {
         lines: &str,
         report: &mut Report,
     ) {
-        told::<CallAgent>(rt.alloc(), title, lines, report);
+        told::<CallAgent, R>(rt, title, lines, report);
     }
 }

@@ -3,25 +3,33 @@
 //! - `words --log` it is called with this; each word stands in a line of its own, with its value. Who may speak is who the configuration
 //!   names, unless `words --agents` says another.
 //! - `set ..` changes the configuration, as in a script.
-//! - `at 2000` what stands below comes, and goes out, at this moment by the machine's clock, in ms.
+//! - `at 2000` what stands below comes, and goes out, at this moment, in ms from the start.
 //! - `<`, `>` and the lines of a datagram, up to `--`: it comes from the agent, or goes there; behind them may stand an address.
 //! - `raw 10.0.0.7:2727 AUEP 1 ..` a datagram comes, in short forms.
 //! - `type phone 1 off` this is typed at the telephones' socket, from 127.0.0.1:40000, or from the address before it.
 //! - `ask GET /state HTTP/1.1¶..` a visitor of the page asks that.
 //! - `pause 31000` the program is stopped, for so many ms.
+//! - `work 2` from here on each datagram that is read, and each that is sent to an agent, takes so many ms first.
+//! - `clock -2000` the machine's clock is set back, by so many ms; `day +3600000`, `day -3600000` its time of day is set on, or back.
 //! - `fault send` the next datagram can't be sent; `fault receive` none can be received.
 //! - `dropped 12` so many lines of the log are said not to be kept; `failed calls.pcap` a record is said not to be written.
 //! - `room 300` so many bytes of the trace find room, and no more, since nobody takes any.
 //! - `read 1048385` the log is read from here on; before, nobody does, and so many bytes wait for that from the start, which aren't told.
-//! - `answer done` a line of an answer to who usually types, `answer 10.0.0.9:5000 done` to somebody else; `page ..` one of what a
-//!   visitor gets; `log ..`, `trace ..`, `capture ..` what is recorded; `count ..` what is counted at the end, and `replay ..` what a
-//!   replay of the trace finds.
+//!   `read trace` the trace is; where the log is read late, nobody reads the trace without that.
+//! - `answer done` an answer to who usually types, `answer 10.0.0.9:5000 done` to somebody else, in a datagram of its own, of which
+//!   `and ..` is each further line; `page ..` a line of what a visitor gets; `log ..`, `trace ..`, `capture ..` what is recorded;
+//!   `count ..` what is counted at the end, and `replay ..` what a replay of the trace finds.
+//! - `order` of what is given at one moment lines of all kinds stand in the order in which they come; else those of each kind do.
+//! - `words --tell 127.0.0.1:2428 phone 1 off` this line is sent to these telephones, which answer by `raw ..`; `print ..` is printed of
+//!   that.
 mod browsers;
+mod telling;
 
 use crate::live::browsers::Browsers;
+use crate::live::telling::play_telling;
 use crate::played::settings_with;
 use crate::stories::{
-    LateLog, Place, Program, Records, Story, Transcript, Words, put_given, told, words_in,
+    Clocks, LateLog, Machine, Place, Program, Records, Story, Transcript, Words, told, words_in,
 };
 use gateway_core::{ConfigFault, Gateway};
 use live_gateway::{Admission, Desk, DeskSettings, boxed, open_desk, speakers_of};
@@ -34,7 +42,7 @@ use std::alloc::{AllocError, Global};
 use std::collections::VecDeque;
 use std::mem;
 use std::net::{Ipv4Addr, Net, SocketAddrV4};
-use surroundings::{Scripted, Surroundings};
+use std::rc::Rc;
 use traces::{put_verdict, replay};
 
 /// The program `rgwd`.
@@ -50,9 +58,9 @@ impl Recorder<Trace> for Records {
         if self.keep_late(journal, trace, time) {
             return;
         }
-        self.keep_trace(time, trace);
-        self.keep(time, b"log ", &mut journal.log.record);
-        self.keep_capture(time, &mut journal.capture.record);
+        self.keep_trace(trace);
+        self.keep(b"log ", &mut journal.log.record);
+        self.keep_capture(&mut journal.capture.record);
         journal.written = self.written;
     }
 
@@ -98,13 +106,14 @@ fn settings_of<'w>(words: &'w Words, story: &Story) -> DeskSettings<'w> {
 }
 
 // A gateway that runs, over what a story has of sockets and a clock.
-fn desk_of(
+fn desk_of<'c>(
     alloc: Global,
     words: &mut Words,
     config: &str,
     gateway: Box<Gateway>,
     story: &mut Story,
-) -> Result<Box<Desk<Scripted, Trace>>, AllocError> {
+    clocks: &'c Rc<Clocks>,
+) -> Result<Box<Desk<Machine<'c>, Trace>>, AllocError> {
     let speakers = match words.agents.take() {
         Some(speakers) => speakers,
         None => speakers_of(alloc, gateway.setup())?,
@@ -114,7 +123,7 @@ fn desk_of(
         own: words.own,
         are_phones_open: words.are_phones_open,
     };
-    let around = boxed(alloc, story.take_around(words.own))?;
+    let around = story.take_machine(words.own, clocks)?;
     let settings = settings_of(words, story);
     open_desk(
         alloc,
@@ -137,12 +146,13 @@ fn visitors_of(
     };
     let visits = mem::replace(&mut story.visits, VecDeque::new(alloc));
     let names = words.http_hosts.take().unwrap_or(HostNames::none(alloc));
-    let browsers = Browsers::new(alloc, site, names, visits);
+    let clocks = story.clocks.clone()?;
+    let browsers = Browsers::new(alloc, clocks, site, names, visits);
     Ok(Some(boxed(alloc, browsers)?))
 }
 
 // Puts what a replay finds of a trace, if there is one.
-fn tell_replay(alloc: Global, records: &mut Records, moment: u64) {
+fn tell_replay(alloc: Global, records: &mut Records) {
     if records.trace.is_empty() {
         return;
     }
@@ -153,51 +163,68 @@ fn tell_replay(alloc: Global, records: &mut Records, moment: u64) {
     if put_verdict(alloc, &mut text, &verdict).is_err() {
         records.given.refuse();
     }
-    records.given.tell(moment, b"replay ", text.as_slice());
+    records.tell(b"replay ", text.as_slice());
 }
 
 // The outlets of a program whose log is read late, where a story says so.
 fn late_log_of(alloc: Global, story: &Story) -> Result<Option<Box<LateLog>>, AllocError> {
     match story.reading {
-        Some(reading) => Ok(Some(boxed(alloc, LateLog::new(alloc, reading)?)?)),
+        Some(reading) => {
+            let late_log = LateLog::new(alloc, reading, &story.clocks)?;
+            Ok(Some(boxed(alloc, late_log)?))
+        }
         None => Ok(None),
     }
 }
 
-// Runs a gateway by a story, and puts what it gives. Where its end is told it tells what the program tells then, what a replay of its trace
-// finds, and what was counted, where that is asked for.
+// What becomes of what is recorded, as a story says it.
+fn records_of(alloc: Global, story: &Story) -> Result<Records, AllocError> {
+    let mut records = Records::new(alloc, story.clocks.clone()?, story.written);
+    records.room = story.room;
+    records.late_log = late_log_of(alloc, story)?;
+    Ok(records)
+}
+
+// It has ended: what is recorded of that, what a replay of its trace finds, and what was counted, where that is asked for, or is read.
+fn end(
+    alloc: Global,
+    desk: &mut Desk<Machine<'_>, Trace>,
+    records: &mut Records,
+    is_counted: bool,
+) {
+    desk.play.end();
+    desk.write(records);
+    tell_replay(alloc, records);
+    if !is_counted && records.late_log.is_none() {
+        return;
+    }
+    match desk.counts() {
+        Ok(counts) => records.finish(counts.as_slice(), desk.exchange.now.time),
+        Err(_) => records.given.refuse(),
+    }
+}
+
+// Runs a gateway by a story, and puts what it gives. Where its end is told it tells what the program tells then. Who asked for the end is
+// answered behind that.
 fn run(
     alloc: Global,
-    desk: &mut Desk<Scripted, Trace>,
+    desk: &mut Desk<Machine<'_>, Trace>,
     visitors: &mut Option<Box<Browsers>>,
     story: &Story,
     is_ended: bool,
     given: &mut Transcript,
 ) -> Result<bool, OutOfMemory> {
-    let late_log = late_log_of(alloc, story)?;
-    let opened = desk.exchange.around.time();
-    let mut records = Records::new(alloc, opened, story.written);
-    records.room = story.room;
-    records.late_log = late_log;
+    let mut records = records_of(alloc, story)?;
     desk.run(visitors, &mut records);
     if is_ended || story.is_counted {
-        desk.play.end();
-        desk.write(&mut records);
-        let moment = records.moment_of(desk.exchange.now.time);
-        tell_replay(alloc, &mut records, moment);
-        if story.is_counted {
-            match desk.counts() {
-                Ok(counts) => records.given.tell(moment, b"count ", counts.as_slice()),
-                Err(_) => given.refuse(),
-            }
-        }
+        end(alloc, desk, &mut records, story.is_counted);
     }
     desk.answer_stop();
-    put_given(alloc, given, &desk.exchange.around);
+    given.append(&mut desk.exchange.around.given);
     if let Some(browsers) = visitors {
         given.append(&mut browsers.given);
     }
-    given.append(&mut records.given);
+    records.put_given(given);
     Ok(true)
 }
 
@@ -210,7 +237,8 @@ fn play_with(
     story: &mut Story,
     given: &mut Transcript,
 ) -> Result<bool, OutOfMemory> {
-    let mut desk = desk_of(alloc, words, config, gateway, story)?;
+    let clocks = story.clocks.clone()?;
+    let mut desk = desk_of(alloc, words, config, gateway, story, &clocks)?;
     let mut visitors = visitors_of(alloc, words, story)?;
     let is_ended = words.stop_after.is_some();
     run(alloc, &mut desk, &mut visitors, story, is_ended, given)
@@ -241,7 +269,15 @@ impl Program for Live {
         }
     }
 
-    fn play(alloc: Global, story: &mut Story, given: &mut Transcript) -> Result<bool, OutOfMemory> {
+    fn play<R: AllocGlobal + Net>(
+        rt: &R,
+        story: &mut Story,
+        given: &mut Transcript,
+    ) -> Result<bool, OutOfMemory> {
+        if let Some(is_sent) = play_telling(rt, story, given)? {
+            return Ok(is_sent);
+        }
+        let alloc = rt.alloc();
         match words_in(alloc, story.words.as_slice(), Live::place().own)? {
             Some(mut words) => play_asked(alloc, &mut words, story, given),
             None => Ok(false),
@@ -257,6 +293,6 @@ impl Titled for Live {
         lines: &str,
         report: &mut Report,
     ) {
-        told::<Live>(rt.alloc(), title, lines, report);
+        told::<Live, R>(rt, title, lines, report);
     }
 }

@@ -7,7 +7,7 @@
 //! - `answer 127.0.0.1:2428 watch 60` this goes there.
 //! - `log ..` a line of standard error, `print ..` one of the report, and `print status 0` the exit status.
 use crate::desk::{CallAgent, config_in, wire_of};
-use crate::stories::{Program, Records, Story, Transcript, put_given, words_in};
+use crate::stories::{Machine, Program, Records, Story, Transcript, words_in};
 use agent_texts::AgentConfig;
 use live_agent::{LoadEnding, Wire, load_over};
 use live_ends::{CommonEnding, Written};
@@ -15,7 +15,6 @@ use load_bench::{LoadFault, LoadSettings};
 use mg_bytes::OutOfMemory;
 use scenario_files::parted;
 use std::alloc::{AllocError, Global};
-use surroundings::{Scripted, Surroundings};
 
 // Whether a word is this one. Asked by a call: two texts that are compared in place are some twenty steps of each function that does.
 fn is_word(word: &str, name: &str) -> bool {
@@ -67,19 +66,19 @@ fn run(
     alloc: Global,
     settings: LoadSettings,
     config: &AgentConfig,
-    wire: &mut Wire<Scripted>,
+    wire: &mut Wire<Machine<'_>>,
+    story: &Story,
     given: &mut Transcript,
 ) -> Result<bool, OutOfMemory> {
-    let mut records = Records::new(alloc, wire.around.time(), Written::ALL);
+    let mut records = Records::new(alloc, story.clocks.clone()?, Written::ALL);
     let ending = load_over(alloc, config, "agent.toml", settings, wire, &mut records);
     // Played again by who refused memory.
     if is_refused(ending) {
         return Err(AllocError);
     }
-    put_given(alloc, given, &wire.around);
-    given.append(&mut records.given);
-    let moment = wire.around.moment().unwrap_or(0);
-    given.tell(moment, b"print ", ending_text(ending));
+    records.tell(b"print ", ending_text(ending));
+    given.append(&mut wire.around.given);
+    records.put_given(given);
     Ok(true)
 }
 
@@ -94,8 +93,9 @@ fn play_by(
     let Some(words) = words_in(alloc, &[], CallAgent::place().own)? else {
         return Ok(false);
     };
-    let mut wire = wire_of(alloc, &words, story)?;
-    run(alloc, settings, config, &mut wire, given)
+    let clocks = story.clocks.clone()?;
+    let mut wire = wire_of(alloc, &words, story, &clocks)?;
+    run(alloc, settings, config, &mut wire, story, given)
 }
 
 /// Puts what a load gives to what comes in a story: whether it runs.

@@ -6,7 +6,7 @@
 //! - `<`, `>` lines come from the telephones of gateway gw1, 127.0.0.1:2428, or go there, or from and to the address behind them: those of
 //!   gw2 are at 127.0.0.2:2428.
 //! - `print ..` a line that it says at its end; `print status 1` its exit status.
-use crate::stories::{Place, Program, Story, Transcript, put_given, told};
+use crate::stories::{Clocks, Machine, Place, Program, Story, Transcript, told};
 use live_agent::{Played, play_phones};
 use mg_bytes::{OutOfMemory, Text};
 use phone_scripts::{
@@ -15,7 +15,6 @@ use phone_scripts::{
 use scenario_files::{Report, Titled};
 use std::alloc::{AllocError, Global};
 use std::net::{Ipv4Addr, Net, SocketAddrV4};
-use surroundings::Surroundings;
 
 /// The play of a script by the program `rgca`.
 #[derive(Clone, Copy)]
@@ -52,16 +51,16 @@ fn read(alloc: Global, reader: &mut Reader<'_>, script: &str) -> Result<Wanted, 
 }
 
 // Says how it ends: lines, and the exit status.
-fn say(given: &mut Transcript, moment: u64, text: &[u8], status: &[u8]) {
-    given.tell(moment, b"print ", text);
-    given.tell(moment, b"print ", status);
+fn say(given: &mut Transcript, clocks: &Clocks, text: &[u8], status: &[u8]) {
+    given.tell(clocks.stamp(), b"print ", text);
+    given.tell(clocks.stamp(), b"print ", status);
 }
 
 // Says why a script wasn't played to its end.
 fn say_failure(
     alloc: Global,
     given: &mut Transcript,
-    moment: u64,
+    clocks: &Clocks,
     player: &Player,
     failure: &Failure,
 ) -> Result<(), OutOfMemory> {
@@ -71,7 +70,7 @@ fn say_failure(
         Failure::Unmet(_) => b"status 1",
         _ => b"status 3",
     };
-    say(given, moment, text.as_bytes(), status);
+    say(given, clocks, text.as_bytes(), status);
     Ok(())
 }
 
@@ -79,16 +78,16 @@ fn say_failure(
 fn play_on(
     alloc: Global,
     player: &mut Player,
-    story: &mut Story,
+    machine: &mut Machine<'_>,
+    clocks: &Clocks,
     given: &mut Transcript,
 ) -> Result<(), OutOfMemory> {
-    let played = play_phones(alloc, &mut story.around, player, &gateways())?;
-    put_given(alloc, given, &story.around);
-    let moment = story.around.moment().unwrap_or(0);
+    let played = play_phones(alloc, machine, player, &gateways())?;
+    given.append(&mut machine.given);
     match &played {
-        Played::Done => say(given, moment, b"", b"status 0"),
-        Played::Failed { failure } => return say_failure(alloc, given, moment, player, failure),
-        Played::Clock => say(given, moment, b"", b"status 3"),
+        Played::Done => say(given, clocks, b"", b"status 0"),
+        Played::Failed { failure } => return say_failure(alloc, given, clocks, player, failure),
+        Played::Clock => say(given, clocks, b"", b"status 3"),
     }
     Ok(())
 }
@@ -101,7 +100,9 @@ fn play_script(
     given: &mut Transcript,
 ) -> Result<(), OutOfMemory> {
     let mut player = Player::new(alloc, script, 2, 0)?;
-    play_on(alloc, &mut player, story, given)
+    let clocks = story.clocks.clone()?;
+    let mut machine = story.take_machine(Phones::place().own, &clocks)?;
+    play_on(alloc, &mut player, &mut machine, clocks.as_ref(), given)
 }
 
 impl Program for Phones {
@@ -116,7 +117,12 @@ impl Program for Phones {
         }
     }
 
-    fn play(alloc: Global, story: &mut Story, given: &mut Transcript) -> Result<bool, OutOfMemory> {
+    fn play<R: AllocGlobal + Net>(
+        rt: &R,
+        story: &mut Story,
+        given: &mut Transcript,
+    ) -> Result<bool, OutOfMemory> {
+        let alloc = rt.alloc();
         let names = names_of(alloc)?;
         let mut reader = Reader::new(alloc, names.as_slice());
         match read(alloc, &mut reader, story.settings.as_str()) {
@@ -125,7 +131,7 @@ impl Program for Phones {
             Err(ScriptFault::OutOfMemory) => return Err(AllocError),
             Err(ScriptFault::Line { place, fault }) => {
                 let text = fault_line(alloc, reader.files(), place, fault)?;
-                say(given, 0, text.as_bytes(), b"status 2");
+                say(given, story.clocks.as_ref(), text.as_bytes(), b"status 2");
             }
         }
         Ok(true)
@@ -140,6 +146,6 @@ impl Titled for Phones {
         lines: &str,
         report: &mut Report,
     ) {
-        told::<Phones>(rt.alloc(), title, lines, report);
+        told::<Phones, R>(rt, title, lines, report);
     }
 }

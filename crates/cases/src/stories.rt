@@ -1,15 +1,20 @@
 //! Stories: what comes to a program that runs in memory, and what it gives at it. `docs/SCENARIOS.md` says how they are written.
 //!
-//! Its loop is the program's own. Its sockets and its clock are those of `surroundings`, by a script, so it runs just so each time.
+//! Its loop is the program's own. Its sockets are those of `surroundings`, by a script, and its clock is the program's own over a machine's
+//! that a story sets; so it runs just so each time.
+mod clocks;
 mod given;
 mod late_log;
+mod machine;
 mod records;
 mod story;
 mod transcript;
 mod words;
 
-pub use crate::stories::given::put_given;
-pub use crate::stories::late_log::{LateLog, Reading};
+pub use crate::stories::clocks::Clocks;
+pub use crate::stories::given::put_sent;
+pub use crate::stories::late_log::LateLog;
+pub use crate::stories::machine::{Machine, Plan};
 pub use crate::stories::records::Records;
 use crate::stories::story::read_story;
 pub use crate::stories::story::{Place, Story, Visit};
@@ -18,7 +23,7 @@ pub use crate::stories::words::{Words, words_in};
 use crate::unlike::tell_unlike;
 use mg_bytes::OutOfMemory;
 use scenario_files::Report;
-use std::alloc::Global;
+use std::net::Net;
 
 /// A program that stories are about.
 pub trait Program {
@@ -26,16 +31,25 @@ pub trait Program {
     fn place() -> Place;
 
     /// Puts what it gives to what comes in a story: whether it runs.
-    fn play(alloc: Global, story: &mut Story, given: &mut Transcript) -> Result<bool, OutOfMemory>;
+    fn play<R: AllocGlobal + Net>(
+        rt: &R,
+        story: &mut Story,
+        given: &mut Transcript,
+    ) -> Result<bool, OutOfMemory>;
 }
 
 // Tells whether this is given that is wanted.
 fn tell_given(
     title: &str,
     given: &mut Transcript,
-    wanted: &mut Transcript,
+    story: &mut Story,
     report: &mut Report,
 ) -> Result<(), OutOfMemory> {
+    let wanted = &mut story.wanted;
+    if story.is_ordered {
+        given.keep_order();
+        wanted.keep_order();
+    }
     let given = given.text()?;
     let wanted = wanted.text()?;
     let is_right = tell_unlike(report, title, "the program", "gives", &given, &wanted);
@@ -44,16 +58,17 @@ fn tell_given(
 }
 
 // Tells a story of a program, or that it doesn't run.
-fn tell_story<P: Program>(
-    alloc: Global,
+fn tell_story<P: Program, R: AllocGlobal + Net>(
+    rt: &R,
     title: &str,
     lines: &str,
     report: &mut Report,
 ) -> Result<(), OutOfMemory> {
+    let alloc = rt.alloc();
     let mut story = read_story(alloc, lines, P::place())?;
     let mut given = Transcript::new(alloc);
-    if P::play(alloc, &mut story, &mut given)? {
-        return tell_given(title, &mut given, &mut story.wanted, report);
+    if P::play(rt, &mut story, &mut given)? {
+        return tell_given(title, &mut given, &mut story, report);
     }
     report.put(b"= ");
     report.wrong(title, "\n  it can't be played\n");
@@ -61,8 +76,13 @@ fn tell_story<P: Program>(
 }
 
 /// Tells a story of a program.
-pub fn told<P: Program>(alloc: Global, title: &str, lines: &str, report: &mut Report) {
-    if tell_story::<P>(alloc, title, lines, report).is_err() {
+pub fn told<P: Program, R: AllocGlobal + Net>(
+    rt: &R,
+    title: &str,
+    lines: &str,
+    report: &mut Report,
+) {
+    if tell_story::<P, R>(rt, title, lines, report).is_err() {
         report.refuse();
     }
 }

@@ -1,5 +1,5 @@
 //! Visitors of a page in memory: each asks once, and gets an answer.
-use crate::stories::{Transcript, Visit};
+use crate::stories::{Clocks, Machine, Transcript, Visit};
 use live_gateway::Visitors;
 use live_page::{HostNames, answer_to};
 use page_answers::Board;
@@ -10,7 +10,7 @@ use std::hash::RandomState;
 use std::io;
 use std::net::SocketAddrV4;
 use std::random::RandomSource;
-use surroundings::Scripted;
+use std::rc::Rc;
 
 // Keys that aren't secret: nobody visits whom a script doesn't have.
 struct KnownKeys;
@@ -25,6 +25,7 @@ impl RandomSource for KnownKeys {
 #[derive(Drop)]
 pub struct Browsers {
     alloc: Global,
+    clocks: Rc<Clocks>,
     site: SocketAddrV4,
     names: HostNames,
     visits: VecDeque<Visit>,
@@ -45,12 +46,14 @@ impl Browsers {
     /// None has been there.
     pub fn new(
         alloc: Global,
+        clocks: Rc<Clocks>,
         site: SocketAddrV4,
         names: HostNames,
         visits: VecDeque<Visit>,
     ) -> Browsers {
         Browsers {
             alloc,
+            clocks,
             site,
             names,
             visits,
@@ -67,7 +70,7 @@ impl Browsers {
     }
 
     // Who comes next is answered.
-    fn serve(&mut self, board: &mut Board, moment: u64) -> io::Result<()> {
+    fn serve(&mut self, board: &mut Board) -> io::Result<()> {
         let Some(visit) = self.visits.pop_front() else {
             return Ok(());
         };
@@ -85,13 +88,14 @@ impl Browsers {
         } else {
             answer.as_slice()
         };
-        self.given.tell(moment, b"page ", told);
+        let at = self.clocks.stamp();
+        self.given.tell(at, b"page ", told);
         Ok(())
     }
 }
 
-impl Visitors<Scripted> for Browsers {
-    fn is_ready(&self, _around: &Scripted, moment: u64) -> bool {
+impl Visitors<Machine<'_>> for Browsers {
+    fn is_ready(&self, _around: &Machine<'_>, moment: u64) -> bool {
         match self.next() {
             Some(next) => next <= moment,
             None => false,
@@ -102,8 +106,8 @@ impl Visitors<Scripted> for Browsers {
         self.next()
     }
 
-    fn turn(&mut self, _around: &mut Scripted, board: &mut Board, moment: u64) {
-        if self.serve(board, moment).is_err() {
+    fn turn(&mut self, _around: &mut Machine<'_>, board: &mut Board, _moment: u64) {
+        if self.serve(board).is_err() {
             self.given.refuse();
         }
     }

@@ -1,10 +1,13 @@
-//! What a program sent and answered, over surroundings by a script.
+//! What a program sends and answers, as a story tells it.
+use crate::stories::clocks::Stamp;
 use crate::stories::transcript::Transcript;
 use exchange_log::put_peer;
 use mg_bytes::{Draft, lines};
 use std::alloc::Global;
 use std::net::{Ipv4Addr, SocketAddr, SocketAddrV4};
-use surroundings::{Answer, Scripted, SentDatagram};
+
+// What stands before each further line of a datagram of answers.
+const FURTHER: &[u8] = b"and ";
 
 /// Who types where nobody else is said.
 pub fn typist() -> SocketAddrV4 {
@@ -19,50 +22,25 @@ fn put_lines(text: &mut Draft, bytes: &[u8]) {
     }
 }
 
-// Puts a datagram, as a story tells it.
-fn put_datagram(text: &mut Draft, datagram: &SentDatagram) {
+/// Puts a datagram that is sent now.
+pub fn put_sent(alloc: Global, given: &mut Transcript, at: Stamp, to: SocketAddrV4, bytes: &[u8]) {
+    let mut text = Draft::new(alloc);
     text.put(b"> ");
-    put_peer(text, datagram.to);
+    put_peer(&mut text, to);
     text.put(b"\n");
-    put_lines(text, datagram.bytes.as_slice());
+    put_lines(&mut text, bytes);
     text.put(b"--\n");
+    given.put(at, text);
 }
 
-// Puts those from this place on and before the other, but what couldn't be sent.
-fn put_sent(alloc: Global, given: &mut Transcript, around: &Scripted, from: usize, to: usize) {
-    for place in from..to {
-        if around.unsent.as_slice().contains(&place) {
-            continue;
-        }
-        if let Some(datagram) = around.sent.get(place) {
-            let mut text = Draft::new(alloc);
-            put_datagram(&mut text, datagram);
-            given.put(datagram.moment, text);
-        }
-    }
-}
-
-// Puts what was answered: to whom is told where it wasn't who usually types.
-fn put_answer(alloc: Global, given: &mut Transcript, answer: &Answer) {
-    let to = answer.to;
-    let text = answer.text.as_slice();
+/// Puts a datagram of answers: to whom is told where it isn't who usually types.
+pub fn put_answer(alloc: Global, given: &mut Transcript, at: Stamp, to: SocketAddr, text: &[u8]) {
     if to == SocketAddr::V4(typist()) {
-        given.tell(answer.moment, b"answer ", text);
+        given.tell_datagram(at, b"answer ", FURTHER, text);
         return;
     }
     match format!(in alloc; "answer {to} ") {
-        Ok(before) => given.tell(answer.moment, before.as_bytes(), text),
+        Ok(before) => given.tell_datagram(at, before.as_bytes(), FURTHER, text),
         Err(_) => given.refuse(),
     }
-}
-
-/// Puts what was sent and answered, in its order.
-pub fn put_given(alloc: Global, given: &mut Transcript, around: &Scripted) {
-    let mut place = 0;
-    for answer in around.answers.iter() {
-        put_sent(alloc, given, around, place, answer.sent);
-        place = answer.sent;
-        put_answer(alloc, given, answer);
-    }
-    put_sent(alloc, given, around, place, around.sent.len());
 }

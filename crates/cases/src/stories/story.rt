@@ -1,6 +1,8 @@
 //! A story as it is written: what a program is called with, what comes, and what it gives.
+use crate::stories::clocks::{Clocks, Stamp};
 use crate::stories::given::typist;
 use crate::stories::late_log::Reading;
+use crate::stories::machine::{Change, Changing, Machine, Plan};
 use crate::stories::transcript::Transcript;
 use exchange_log::put_peer;
 use live_ends::{TEXT_ROOM, Written};
@@ -11,7 +13,8 @@ use std::alloc::Global;
 use std::collections::VecDeque;
 use std::mem;
 use std::net::{SocketAddr, SocketAddrV4};
-use surroundings::{Coming, Happening, Scripted};
+use std::rc::Rc;
+use surroundings::{Coming, Happening};
 
 /// Where a program is, where a story says nothing else.
 #[derive(Clone, Copy)]
@@ -39,17 +42,23 @@ pub struct Story {
     pub words: Vec<String>,
     /// Lines of its configuration.
     pub settings: String,
-    /// Its sockets and its clock.
-    pub around: Scripted,
+    /// What is to come, and what is to change on its machine.
+    pub plan: Plan,
+    /// The clocks of its machine.
+    pub clocks: Rc<Clocks>,
     /// Who visits its page.
     pub visits: VecDeque<Visit>,
     /// What becomes of what it records.
     pub written: Written,
     /// So many bytes of a trace find room.
     pub room: usize,
-    /// When its log is read first, where that is said.
+    /// When its log and its trace are read first, where that is said.
     pub reading: Option<Reading>,
     pub wanted: Transcript,
+    /// Whether what is given at one moment is told as it comes, whatever its kind.
+    pub is_ordered: bool,
+    // So much is to be given so far.
+    places: u64,
     /// Whether it is said what was counted at the end.
     pub is_counted: bool,
     /// The moment of which was told last, in ms.
@@ -83,17 +92,21 @@ enum Says {
     Asks,
     Looks,
     Pause,
+    Work,
+    Clock,
+    Day,
     Fault,
     Dropped,
     Failed,
     Room,
     Read,
+    Order,
     Nothing,
     // This is to be given.
     Given,
 }
 
-const FIRST_WORDS: [(&str, Says); 17] = [
+const FIRST_WORDS: [(&str, Says); 21] = [
     ("<", Says::Heard),
     (">", Says::Sent),
     ("at", Says::At),
@@ -104,11 +117,15 @@ const FIRST_WORDS: [(&str, Says); 17] = [
     ("ask", Says::Asks),
     ("look", Says::Looks),
     ("pause", Says::Pause),
+    ("work", Says::Work),
+    ("clock", Says::Clock),
+    ("day", Says::Day),
     ("fault", Says::Fault),
     ("dropped", Says::Dropped),
     ("failed", Says::Failed),
     ("room", Says::Room),
     ("read", Says::Read),
+    ("order", Says::Order),
     ("#", Says::Nothing),
     ("", Says::Nothing),
 ];
@@ -141,18 +158,52 @@ fn put_heard(bytes: &mut Draft, text: &str) {
     }
 }
 
+// `31000`: the program is stopped for so many ms.
+fn pause_in(words: &str) -> Happening {
+    Happening::Pause {
+        ms: number_in(words),
+    }
+}
+
+// `2`: so many ms a datagram takes.
+fn work_in(words: &str) -> Change {
+    Change::Work {
+        ms: number_in(words),
+    }
+}
+
+// `-2000`: the clock is set back by so many ms.
+fn clock_in(words: &str) -> Change {
+    Change::ClockBack {
+        ms: number_in(words.strip_prefix("-").unwrap_or(words)),
+    }
+}
+
+// A change of the time of day: `+3600000` sets it on, and `-3600000` back, by so many ms.
+fn day_in(words: &str) -> Change {
+    match words.strip_prefix("-") {
+        Some(ms) => Change::DayBack { ms: number_in(ms) },
+        None => Change::DayOn {
+            ms: number_in(words.strip_prefix("+").unwrap_or(words)),
+        },
+    }
+}
+
 impl Story {
-    fn new(alloc: Global, at: Place) -> Story {
+    fn new(alloc: Global, at: Place, clocks: Rc<Clocks>) -> Story {
         Story {
             alloc,
             words: Vec::new(alloc),
             settings: String::new(alloc),
-            around: Scripted::new(alloc, at.own),
+            plan: Plan::none(alloc),
+            clocks,
             visits: VecDeque::new(alloc),
             written: Written::ALL,
             room: TEXT_ROOM,
             reading: None,
             wanted: Transcript::new(alloc),
+            is_ordered: false,
+            places: 0,
             is_counted: false,
             moment: 0,
             place: LinePlace::Between,
@@ -162,11 +213,25 @@ impl Story {
         }
     }
 
-    /// Its sockets, which are there, and its clock; others stand in their place.
-    pub fn take_around(&mut self, own: [SocketAddrV4; 2]) -> Scripted {
-        let mut around = mem::replace(&mut self.around, Scripted::new(self.alloc, own));
-        around.own = own;
-        around
+    /// Its machine, with its sockets there, by its clocks; to another one nothing is to come.
+    pub fn take_machine<'c>(
+        &mut self,
+        own: [SocketAddrV4; 2],
+        clocks: &'c Rc<Clocks>,
+    ) -> Result<Box<Machine<'c>>, OutOfMemory> {
+        let plan = mem::replace(&mut self.plan, Plan::none(self.alloc));
+        let machine = Machine::new(self.alloc, own, plan, clocks)?;
+        boxed(self.alloc, machine)
+    }
+
+    // Something is to be given at the moment of which was told last, behind all that was said so far.
+    fn stamp(&mut self) -> Stamp {
+        let place = self.places;
+        self.places = place.saturating_add(1);
+        Stamp {
+            moment: self.moment,
+            place,
+        }
     }
 
     // The address that is said, or the usual one.
@@ -177,7 +242,15 @@ impl Story {
     // This happens now.
     fn add(&mut self, what: Happening) -> Result<(), OutOfMemory> {
         let moment = self.moment;
-        self.around.add(Coming { moment, what })
+        self.plan.coming.push_back(Coming { moment, what })?;
+        Ok(())
+    }
+
+    // This changes now.
+    fn change(&mut self, what: Change) -> Result<(), OutOfMemory> {
+        let moment = self.moment;
+        self.plan.changing.push_back(Changing { moment, what })?;
+        Ok(())
     }
 
     // `10.0.0.7:2727 VALUE`: a datagram of these bytes comes.
@@ -235,12 +308,16 @@ impl Story {
         }
     }
 
-    // The log is read from now on, and so many bytes waited for that.
-    fn read_from_now(&mut self, waiting: usize) {
-        self.reading = Some(Reading {
-            moment: self.moment,
-            waiting,
-        });
+    // `1048385`: the log is read from now on, and so many bytes waited for that; `trace`: the trace is.
+    fn read_from_now(&mut self, rest: &str) {
+        let mut reading = self.reading.unwrap_or(Reading::NEVER);
+        if is_word(rest, "trace") {
+            reading.trace = Some(self.moment);
+        } else {
+            reading.log = Some(self.moment);
+            reading.waiting = number_in(rest) as usize;
+        }
+        self.reading = Some(reading);
     }
 
     // A datagram's lines follow, of that address or of the usual one.
@@ -261,18 +338,18 @@ impl Story {
             Says::Asks => return self.put_visit(rest, false),
             Says::Looks => return self.put_visit(rest, true),
             Says::Fault => return self.put_fault(rest),
-            Says::Pause => {
-                return self.add(Happening::Pause {
-                    ms: number_in(rest),
-                });
-            }
+            Says::Pause => return self.add(pause_in(rest)),
+            Says::Work => return self.change(work_in(rest)),
+            Says::Clock => return self.change(clock_in(rest)),
+            Says::Day => return self.change(day_in(rest)),
             Says::Heard => self.begin(LinePlace::InHeard, rest),
             Says::Sent => self.begin(LinePlace::InSent, rest),
             Says::At => self.moment = number_in(rest),
             Says::Dropped => self.written.dropped = number_in(rest),
             Says::Failed => self.put_failed(rest),
             Says::Room => self.room = number_in(rest) as usize,
-            Says::Read => self.read_from_now(number_in(rest) as usize),
+            Says::Read => self.read_from_now(rest),
+            Says::Order => self.is_ordered = true,
             Says::Nothing => {}
             Says::Given => self.want(word, line),
         }
@@ -282,7 +359,8 @@ impl Story {
     // This is to be given.
     fn want(&mut self, word: &str, line: &str) {
         self.is_counted = self.is_counted || is_word(word, "count");
-        self.wanted.tell(self.moment, b"", line.as_bytes());
+        let at = self.stamp();
+        self.wanted.tell(at, b"", line.as_bytes());
     }
 
     // The lines of a datagram that comes are whole.
@@ -304,7 +382,8 @@ impl Story {
         text.put(b"\n");
         text.put(full.as_bytes());
         text.put(b"--\n");
-        self.wanted.put(self.moment, text);
+        let at = self.stamp();
+        self.wanted.put(at, text);
         Ok(())
     }
 
@@ -326,7 +405,8 @@ impl Story {
 
 /// Reads a story of a program that is there.
 pub fn read_story(alloc: Global, text: &str, at: Place) -> Result<Box<Story>, OutOfMemory> {
-    let mut story = boxed(alloc, Story::new(alloc, at))?;
+    let clocks = Rc::new(alloc, Clocks::new())?;
+    let mut story = boxed(alloc, Story::new(alloc, at, clocks))?;
     for line in text.lines() {
         story.put(line)?;
     }

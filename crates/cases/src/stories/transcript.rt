@@ -1,4 +1,5 @@
 //! What a program gives, by moments.
+use crate::stories::clocks::Stamp;
 use mg_bytes::{Draft, OutOfMemory};
 use std::alloc::{AllocError, Global};
 
@@ -7,15 +8,16 @@ const KINDS: [&str; 7] = [
     "page ", "trace ", "print ", "log ", "capture ", "replay ", "count ",
 ];
 
-// What is given at a moment, in ms: whole lines of one kind, which has this place among the kinds.
+// What is given at a moment, in ms, behind so much that was given before: whole lines of one kind, which has this place among the kinds.
 #[derive(Drop)]
 struct Entry {
     moment: u64,
     rank: usize,
+    place: u64,
     text: Vec<u8>,
 }
 
-/// What is given, in the order in which it was put. That memory was refused for something is kept, and told at the end.
+/// What is given. That memory was refused for something is kept, and told at the end.
 #[derive(Drop)]
 pub struct Transcript {
     alloc: Global,
@@ -40,12 +42,14 @@ fn put_line(out: &mut Draft, before: &[u8], line: &[u8]) {
     out.put(b"\n");
 }
 
-// Puts the lines of a text but empty ones, each behind this.
-fn put_lines(out: &mut Draft, before: &[u8], text: &[u8]) {
+// Puts the lines of a text but empty ones, the first behind this, and each other one behind that.
+fn put_lines(out: &mut Draft, first: &[u8], others: &[u8], text: &[u8]) {
+    let mut before = first;
     for line in text.split(|byte| *byte == b'\n') {
         let line = line.strip_suffix(b"\r".as_slice()).unwrap_or(line);
         if !line.is_empty() {
             put_line(out, before, line);
+            before = others;
         }
     }
 }
@@ -73,34 +77,46 @@ impl Transcript {
     }
 
     /// This text was given then, where memory was there to put it.
-    pub fn put(&mut self, moment: u64, text: Draft) {
+    pub fn put(&mut self, at: Stamp, text: Draft) {
         match text.end() {
-            Ok(text) => self.add(moment, text),
+            Ok(text) => self.add(at, text),
             Err(_) => self.refuse(),
         }
     }
 
     // This text was given then.
-    fn add(&mut self, moment: u64, text: Vec<u8>) {
+    fn add(&mut self, at: Stamp, text: Vec<u8>) {
         if text.is_empty() {
             return;
         }
         let rank = rank_of(text.as_slice());
-        if self.entries.push(Entry { moment, rank, text }).is_err() {
+        let Stamp { moment, place } = at;
+        let entry = Entry {
+            moment,
+            rank,
+            place,
+            text,
+        };
+        if self.entries.push(entry).is_err() {
             self.refuse();
         }
     }
 
     /// The lines of this text were given then, each behind this.
-    pub fn tell(&mut self, moment: u64, before: &[u8], text: &[u8]) {
+    pub fn tell(&mut self, at: Stamp, before: &[u8], text: &[u8]) {
+        self.tell_datagram(at, before, before, text);
+    }
+
+    /// The same where they were given in one datagram: the first stands behind this, and each other one behind that.
+    pub fn tell_datagram(&mut self, at: Stamp, first: &[u8], others: &[u8], text: &[u8]) {
         if !text.is_empty() {
             let mut lines = Draft::new(self.alloc);
-            put_lines(&mut lines, before, text);
-            self.put(moment, lines);
+            put_lines(&mut lines, first, others, text);
+            self.put(at, lines);
         }
     }
 
-    /// All of another one, behind all of this.
+    /// All of another one, beside all of this.
     pub fn append(&mut self, other: &mut Transcript) {
         self.is_refused = self.is_refused || other.is_refused;
         if self.entries.append(&mut other.entries).is_err() {
@@ -108,9 +124,18 @@ impl Transcript {
         }
     }
 
-    // From the first moment to the last; what was given at one stands by kinds, and of one kind in the order in which it was put.
+    /// What was given at one moment isn't told by kinds, but as it came, one after the other.
+    pub fn keep_order(&mut self) {
+        for entry in self.entries.iter_mut() {
+            entry.rank = 0;
+        }
+    }
+
+    // From the first moment to the last; what was given at one stands by kinds, and of one kind as it came.
     fn sort(&mut self) {
-        let sorted = self.entries.sort_by_key(|entry| (entry.moment, entry.rank));
+        let sorted = self
+            .entries
+            .sort_by_key(|entry| (entry.moment, entry.rank, entry.place));
         if sorted.is_err() {
             self.refuse();
         }
