@@ -132,7 +132,7 @@ all_told : (course : List CourseStep) (line : LineState) (place : Place) (waitin
 all_told [] line place waiting asks since (next, left, moves, walk) =
     ends (embeds_none (Stays line) place next waiting left (none_by_requests place asks.all.bare) moves walk) where
       ends : Stays line place waiting → waiting ++ [] ≡ of_telephone line.quarantined.events
-      ends (occurred, held, order, told, quiet, kept) =
+      ends (occurred, held, order, told, quiet, kept, own) =
           let none : occurred ≡ [] =
           none_quiet place.requests occurred asks.all (phone_front occurred held (subst AllPhone order asks.phone)) quiet in
           append-nil waiting ∙ order ∙ ap (λ (xs : List Observed). xs ++ held) none ∙ sym kept

@@ -220,7 +220,7 @@ behind_one request act identifier rest end never kept phone walk =
 -- What stays at the end: of what waits, all that R has told is accumulated, or quarantined.
 pub stays_told : (line : LineState) (place : Place) (waiting : List Observed) → place.carried ≡ [] → Stays line place waiting
     → filter (collects place.requests) waiting ≡ of_telephone line.accumulated ++ filter (collects place.requests) (of_telephone line.quarantined.events)
-stays_told line place waiting none (occurred, held, order, told, quiet, kept) =
+stays_told line place waiting none (occurred, held, order, told, quiet, kept, own) =
     ap (filter (collects place.requests)) order
     ∙ filter-append (collects place.requests) occurred held
     ∙ ap (λ (xs : List Observed). xs ++ filter (collects place.requests) held)

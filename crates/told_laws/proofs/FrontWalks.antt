@@ -1,39 +1,86 @@
 -- How the walk through a line's course passes where the line stands, at each front of its events: so what is quarantined at a request, in
 -- step, is what the notification behind it tells of.
-use Rattle.std.proofs.Common.{◌≡◌, ℕ, ◌+◌, ◌≤◌, min, Bool, true, false, List, [], ◌∷◌, ◌++◌, filter, Option, None, Some, refl, sym, ap, subst, ◌∙◌, append_assoc, inl, inr, ◌⊎◌, arith}
-use Rattle.std.proofs.lemmas.Bool.{true≢false}
+use Rattle.std.proofs.Common.{◌≡◌, ℕ, ◌+◌, ◌≤◌, ◌<◌, min, true, false, List, [], ◌∷◌, ◌++◌, filter, length, Option, None, Some, refl, sym, ap, subst, ◌∙◌, append_assoc, append-nil, arith}
 use Rattle.event_values.specs.declared.observed.Observed.{Observed}
 use Rattle.event_requests.specs.Choice.{is_kept}
 use Rattle.event_requests.specs.declared.request.Request.{Request}
 use Rattle.quarantine.specs.Held.{most_lost}
-use Rattle.mg_line.specs.Acting.{observed_at, phoned}
-use Rattle.mg_line.specs.Answering.{answered, is_loop}
-use Rattle.mg_line.specs.Falling.{fired}
-use Rattle.mg_line.specs.Line.{LineState, LineDone}
-use Rattle.mg_line.specs.Opening.{opened}
-use Rattle.mg_line.specs.Requesting.{asked}
-use Rattle.mg_line.specs.declared.phone.Act.{Act}
-use Rattle.mg_line.proofs.LoseLemmas.{lost_only_grows}
+use Rattle.mg_line.specs.Answering.{is_loop}
+use Rattle.mg_line.specs.Line.{LineState}
 use Rattle.plain_machine.specs.declared.setup.Setup.{Setup}
 use Rattle.plain_machine.specs.declared.endpoint.Endpoint.{Endpoint}
-use Rattle.plain_machine.specs.Arriving.{arrivals_from}
 use Rattle.plain_machine.specs.Event.{GatewayEvent}
+use Rattle.plain_machine.specs.Happening.{effect}
 use Rattle.plain_machine.specs.Lists.{machine_after, plain}
 use Rattle.plain_machine.specs.Machine.{Machine, endpoint_at, opening, serves}
-use Rattle.plain_machine.proofs.ListLaws.{machine_on}
+use Rattle.plain_machine.proofs.ListLaws.{lines_after, lines_of_opening, machine_on}
 use Rattle.machine_laws.proofs.LineLemmas.{place_of}
-use Rattle.delivery_laws.specs.Course.{CourseStep, acts, accepts, notifies, course_from, course_of}
+use Rattle.delivery_laws.specs.Course.{CourseStep, accepts, notifies, course_at, course_from, course_of}
 use Rattle.delivery_laws.specs.Dialled.{done_in, latest_from}
 use Rattle.delivery_laws.specs.Rounds.{of_telephone}
-use Rattle.delivery_laws.proofs.CourseLemmas.{AnyResponse, LineGoes, Stands, call_turns, events_stand, hear_all}
-use Rattle.delivery_laws.proofs.EndpointLemmas.{steps_of, Calls}
-use Rattle.delivery_laws.proofs.OnceCountLemmas.{acts_count, fires_count}
-use Rattle.delivery_laws.proofs.OverLists.{always}
-use Rattle.told_laws.specs.Walking.{are_quiet, left_by, AreActs, EmbedsNone, End, Place, Stays, TellsOfHeld, Walks, behind_notification, behind_request, nothing_asked, with_act}
-use Rattle.told_laws.proofs.AmongLemmas.{IsDrained, phoned_moves, asked_moves, answered_moves, opened_moves, fired_moves}
-use Rattle.told_laws.proofs.WalkCourses.{NoneAsked, Walked, calls_walk, none_both, none_lost, none_told, opening_walks, stays}
+use Rattle.told_laws.specs.Fronts.{StandsIn, WalksAlong}
+use Rattle.told_laws.specs.Walking.{are_quiet, left_by, AreActs, EmbedsNone, End, Place, Stays, TellsOfHeld, Walks, behind_notification, behind_request, nothing_asked}
+use Rattle.told_laws.proofs.InTurn.{from_front, opens}
+use Rattle.told_laws.proofs.LineBounds.{line_is_there, who_is_there_stays}
+use Rattle.told_laws.proofs.ToldCourses.{walked_then}
+use Rattle.told_laws.proofs.WalkCourses.{StandsAt, Walked, calls_walk, none_lost, opening_at, starts, stays}
 use Rattle.told_laws.proofs.WalkFrontLemmas.{IsPlaceOf, acts_alone, embeds_none, front_told, none_where_shut, place_then, shut_at, walk_ends, walk_place, walks_split}
-use Rattle.told_laws.proofs.WalkLemmas.{ActWalks, At, Loses, WalksOn, answered_walks, asked_walks, embeds_keeps, fired_walks, here, opened_walks, phoned_walks, walks_both, walks_map}
+use Rattle.told_laws.proofs.WalkLemmas.{At, walks_map}
+
+-- From a front on
+
+-- the line as the gateway has it there
+abbrev pub StandsThen : Setup → List GatewayEvent → LineState → End
+StandsThen setup events line place waiting = StandsAt (serves (plain setup events).endpoints) line place waiting
+
+-- each walk goes on from where the line stands, but for the acts that are lost
+pub walked_on : (setup : Setup) (line : ℕ) (before after : List GatewayEvent) (endpoint last : Endpoint)
+    → endpoint_at (plain setup before).endpoints line ≡ Some endpoint → endpoint_at (plain setup (before ++ after)).endpoints line ≡ Some last
+    → (place : Place) (waiting : List Observed) → StandsThen setup before endpoint.line place waiting
+    → Walked place waiting endpoint.line.quarantined.lost (serves (plain setup (before ++ after)).endpoints) (course_from setup (plain setup before) line after)
+    last.line
+walked_on setup line before after endpoint last at then_at place waiting stands =
+    let some = (place_of (plain setup before).endpoints line endpoint at).0 in
+    let lost = endpoint.line.quarantined.lost in
+    let serving = serves (plain setup before).endpoints in
+    let f = walked_then setup line before endpoint at in
+    let begins : Walked place waiting lost serving [] endpoint.line = starts serving endpoint.line place waiting f.drained f.few f.awaits stands in
+    from_front setup line some (Walked place waiting lost) (calls_walk place waiting lost) before after
+    (λ was there.
+    let same : endpoint ≡ was = one_there (plain setup before) endpoint was at there in
+    subst (λ (s : Endpoint). Walked place waiting lost serving [] s.line) same begins) last then_at where
+      one_there : (m : Machine) (s t : Endpoint) → endpoint_at m.endpoints line ≡ Some s → endpoint_at m.endpoints line ≡ Some t → s ≡ t
+      one_there m s t here there = cc
+
+-- where none is lost since
+none_since : (base n lost : ℕ) → min most_lost (base + n) ≤ lost → lost ≤ base → base < most_lost → n ≡ 0
+none_since base n lost counted few room = omega (arith, counted, few, room)
+
+none_at_all : (base n lost : ℕ) → min most_lost (base + n) ≤ lost → lost ≡ 0 → n ≡ 0
+none_at_all base n lost counted none = omega (arith, counted, none)
+
+none_before : (base n lost : ℕ) → min most_lost (base + n) ≤ lost → lost ≡ 0 → base ≡ 0
+none_before base n lost counted none = omega (arith, counted, none)
+
+pub walks_on : (setup : Setup) (line : ℕ) (before after : List GatewayEvent) (endpoint last : Endpoint)
+    → endpoint_at (plain setup before).endpoints line ≡ Some endpoint → endpoint_at (plain setup (before ++ after)).endpoints line ≡ Some last
+    → last.line.quarantined.lost ≡ 0 → (place : Place) (waiting : List Observed) → StandsThen setup before endpoint.line place waiting
+    → Walks place waiting (course_from setup (plain setup before) line after) (StandsThen setup (before ++ after) last.line)
+walks_on setup line before after endpoint last at then_at none place waiting stands =
+    let w = walked_on setup line before after endpoint last at then_at place waiting stands in
+    subst (λ (c : List CourseStep). Walks place waiting c (StandsThen setup (before ++ after) last.line))
+    (none_lost w.lost w.left (course_from setup (plain setup before) line after) w.others
+    (none_at_all endpoint.line.quarantined.lost w.lost last.line.quarantined.lost w.counted none)) w.walk
+
+-- none was lost before
+pub none_so_far : (setup : Setup) (line : ℕ) (before after : List GatewayEvent) (endpoint last : Endpoint)
+    → endpoint_at (plain setup before).endpoints line ≡ Some endpoint → endpoint_at (plain setup (before ++ after)).endpoints line ≡ Some last
+    → last.line.quarantined.lost ≡ 0 → endpoint.line.quarantined.lost ≡ 0
+none_so_far setup line before after endpoint last at then_at none =
+    let f = walked_then setup line before endpoint at in
+    let e = walk_ends f.left (StandsThen setup before endpoint.line) nothing_asked [] f.walk in
+    let w = walked_on setup line before after endpoint last at then_at e.place e.waiting e.stands in
+    none_before endpoint.line.quarantined.lost w.lost last.line.quarantined.lost w.counted none
 
 -- The walk, at a front, and on from there
 
@@ -41,189 +88,25 @@ abbrev pub Passes : List CourseStep → LineState → List CourseStep → LineSt
 Passes begun first course line =
     Walks nothing_asked [] begun (λ (p : Place) (w : List Observed). At first p w × Walks p w course (At line))
 
-passes_on : (begun course step : List CourseStep) (first line : LineState) (done : LineDone) → Passes begun first course line
-    → ((p : Place) (w : List Observed) → At line p w → Walks p w (step ++ steps_of done.notice) (At done.line))
-    → Passes begun first ((course ++ step) ++ steps_of done.notice) done.line
-passes_on begun course step first line done passes call =
-    walks_map begun (λ (p : Place) (w : List Observed). At first p w × Walks p w course (At line))
-    (λ (p : Place) (w : List Observed). At first p w × Walks p w ((course ++ step) ++ steps_of done.notice) (At done.line)) nothing_asked [] on passes where
-      on : (p : Place) (w : List Observed) → At first p w × Walks p w course (At line)
-          → At first p w × Walks p w ((course ++ step) ++ steps_of done.notice) (At done.line)
-      on p w (at, walk) = (
-        at,
-        subst (λ (c : List CourseStep). Walks p w c (At done.line)) (sym (append_assoc course step (steps_of done.notice)))
-            (walks_both course (step ++ steps_of done.notice) (At done.line) p w
-            (walks_map course (At line) (λ (q : Place) (v : List Observed). Walks q v (step ++ steps_of done.notice) (At done.line)) p w call walk)),
-      )
-
-passes_plain : (begun course : List CourseStep) (first line : LineState) (done : LineDone) (middle : End)
-    → Walks nothing_asked [] begun (λ (p : Place) (w : List Observed). At first p w × Walks p w course middle)
-    → ((p : Place) (w : List Observed) → middle p w → WalksOn p w done)
-    → Passes begun first (course ++ steps_of done.notice) done.line
-passes_plain begun course first line done middle passes call =
-    walks_map begun (λ (p : Place) (w : List Observed). At first p w × Walks p w course middle)
-    (λ (p : Place) (w : List Observed). At first p w × Walks p w (course ++ steps_of done.notice) (At done.line)) nothing_asked [] on passes where
-      on : (p : Place) (w : List Observed) → At first p w × Walks p w course middle
-          → At first p w × Walks p w (course ++ steps_of done.notice) (At done.line)
-      on p w (at, walk) = (
-        at,
-        walks_both course (steps_of done.notice) (At done.line) p w
-            (walks_map course middle (λ (q : Place) (v : List Observed). Walks q v (steps_of done.notice) (At done.line)) p w call walk),
-      )
-
--- so long as no request was accepted, none is waited for
-open_places : (course : List CourseStep) (end : End) (place : Place) (waiting : List Observed) → NoneAsked course → place.in_step ≡ false
-    → place.is_shut ≡ false → Walks place waiting course end
-    → Walks place waiting course (λ (p : Place) (w : List Observed). end p w × ((p.in_step ≡ false) × (p.is_shut ≡ false)))
-open_places [] end place waiting none loops unshut (next, left, moves, walk) =
-    let keeps = embeds_keeps place next waiting left moves in
-    (next, left, moves, (walk, (keeps.0 ∙ loops, keeps.1 ∙ unshut)))
-open_places (acts act ∷ course) end place waiting none loops unshut (next, left, moves, walk) =
-    let keeps = embeds_keeps place next waiting left moves in
-    (next, left, moves, open_places course end next (with_act next.requests left (observed_at act)) none (keeps.0 ∙ loops) (keeps.1 ∙ unshut) walk)
-open_places (accepts request ∷ course) end place waiting none loops unshut walk = absurd none
-open_places (notifies identifier observed ∷ course) end place waiting none loops unshut (next, left, moves, (front, held, order, told, walk)) =
-    let still_loops = (embeds_keeps place next waiting left moves).0 ∙ loops in
-    let then_walks = open_places course end (behind_notification next) held none still_loops still_loops walk in
-    (next, left, moves, (front, held, order, told, then_walks))
-
-open_passes : (begun course : List CourseStep) (first line : LineState) → NoneAsked begun → NoneAsked course → Passes begun first course line
-    → Walks nothing_asked [] begun
-    (λ (p : Place) (w : List Observed). At first p w × Walks p w course (λ (q : Place) (v : List Observed). At line q v × (q.is_shut ≡ false)))
-open_passes begun course first line none nor passes =
-    walks_map begun
-    (λ (p : Place) (w : List Observed). (At first p w × Walks p w course (At line)) × ((p.in_step ≡ false) × (p.is_shut ≡ false)))
-    (λ (p : Place) (w : List Observed). At first p w × Walks p w course (λ (q : Place) (v : List Observed). At line q v × (q.is_shut ≡ false)))
-    nothing_asked [] on
-    (open_places begun (λ (p : Place) (w : List Observed). At first p w × Walks p w course (At line)) nothing_asked [] none refl refl passes) where
-      on : (p : Place) (w : List Observed) → (At first p w × Walks p w course (At line)) × ((p.in_step ≡ false) × (p.is_shut ≡ false))
-          → At first p w × Walks p w course (λ (q : Place) (v : List Observed). At line q v × (q.is_shut ≡ false))
-      on p w ((at, walk), (loops, unshut)) =
-          (at, both (open_places course (At line) p w nor loops unshut walk)) where
-            both : Walks p w course (λ (q : Place) (v : List Observed). At line q v × ((q.in_step ≡ false) × (q.is_shut ≡ false)))
-                → Walks p w course (λ (q : Place) (v : List Observed). At line q v × (q.is_shut ≡ false))
-            both opens =
-                walks_map course (λ (q : Place) (v : List Observed). At line q v × ((q.in_step ≡ false) × (q.is_shut ≡ false)))
-                (λ (q : Place) (v : List Observed). At line q v × (q.is_shut ≡ false)) p w (λ q v x. (x.0, x.1.1)) opens
-
--- Where none is lost, each call goes on with it
-
-record Since (begun : List CourseStep) (first : LineState) (serving : Bool) (course : List CourseStep) (line : LineState) : Type 0 where
-  drained : IsDrained line
-  few : line.quarantined.lost ≤ most_lost
-  unasked : serving ≡ false → NoneAsked begun × NoneAsked course
-  walk : line.quarantined.lost ≡ 0 → Passes begun first course line
-
-none_then : (was is : ℕ) → was ≤ is → is ≡ 0 → was ≡ 0
-none_then was is grows none = omega (arith, grows, none)
-
-one_more : (was is : ℕ) → is ≡ min most_lost (was + 1) → is ≡ 0 → ⊥
-one_more was is counted none = omega (arith, counted, none)
-
-act_passes : (begun course : List CourseStep) (first line : LineState) (act : Act) (moment : ℕ)
-    → line.quarantined.lost ≤ (phoned line act moment).line.quarantined.lost
-    → (line.quarantined.lost ≡ 0 → Passes begun first course line)
-    → ActWalks line (observed_at act) (phoned line act moment) ⊎ Loses line (phoned line act moment)
-    → (phoned line act moment).line.quarantined.lost ≡ 0
-    → Passes begun first ((course ++ acts act ∷ []) ++ steps_of (phoned line act moment).notice) (phoned line act moment).line
-act_passes begun course first line act moment grows walk (inl walks) none =
-    let done : LineDone = phoned line act moment in
-    passes_on begun course (acts act ∷ []) first line done (walk (none_then line.quarantined.lost done.line.quarantined.lost grows none))
-    (λ p w at. here
-    (λ (next : Place) (left : List Observed). Walks next (with_act next.requests left (observed_at act)) (steps_of done.notice) (At done.line))
-    p w (walks p w at))
-act_passes begun course first line act moment grows walk (inr loses) none =
-    absurd (one_more line.quarantined.lost (phoned line act moment).line.quarantined.lost loses.counted none)
-
-calls_pass : (begun : List CourseStep) (first : LineState) → Calls (Since begun first)
-calls_pass begun first = record {
-  act = λ serving course line act moment f.
-      let done : LineDone = phoned line act moment in
-      record {
-        drained = (phoned_moves line act moment f.drained).drained;
-        few = acts_count line act moment f.few;
-        unasked = λ nor.
-            ((f.unasked nor).0, none_both (course ++ acts act ∷ []) (steps_of done.notice) (none_both course (acts act ∷ []) (f.unasked nor).1 tt) (none_told done.notice));
-        walk = act_passes begun course first line act moment ((lost_only_grows.act line act moment).grows f.few) f.walk
-            (phoned_walks line act moment f.drained);
-      };
-  request = λ course line request moment f.
-      let done : LineDone = asked line request moment in
-      record {
-        drained = (asked_moves line request moment).drained;
-        few = subst (λ (n : ℕ). n ≤ most_lost) (sym (lost_only_grows.request line request moment)) f.few;
-        unasked = λ nor. absurd (true≢false nor);
-        walk = λ none. passes_on begun course (accepts request ∷ []) first line done
-            (f.walk (sym (lost_only_grows.request line request moment) ∙ none)) (λ p w at. asked_walks line request moment p w at);
-      };
-  answering = λ serving course line moment f.
-      let done : LineDone = answered line moment in
-      record {
-        drained = (answered_moves line moment).drained;
-        few = subst (λ (n : ℕ). n ≤ most_lost) (sym (lost_only_grows.answering line moment)) f.few;
-        unasked = λ nor. ((f.unasked nor).0, none_both course (steps_of done.notice) (f.unasked nor).1 (none_told done.notice));
-        walk = λ none. passes_plain begun course first line done (At line)
-            (f.walk (sym (lost_only_grows.answering line moment) ∙ none)) (λ p w at. answered_walks line moment p w at);
-      };
-  serving = λ course line moment f.
-      let done : LineDone = opened line moment in
-      record {
-        drained = (opened_moves line moment).drained;
-        few = subst (λ (n : ℕ). n ≤ most_lost) (sym (lost_only_grows.serving line moment)) f.few;
-        unasked = λ nor. absurd (true≢false nor);
-        walk = λ none. passes_plain begun course first line done (λ (q : Place) (v : List Observed). At line q v × (q.is_shut ≡ false))
-            (open_passes begun course first line (f.unasked refl).0 (f.unasked refl).1
-            (f.walk (sym (lost_only_grows.serving line moment) ∙ none))) (λ p w at. opened_walks line moment p w at.0 at.1);
-      };
-  firing = λ serving course line at due moment is f.
-      let done : LineDone = fired line due moment in
-      record {
-        drained = (fired_moves line due moment f.drained).drained;
-        few = fires_count line due moment f.few;
-        unasked = λ nor. ((f.unasked nor).0, none_both course (steps_of done.notice) (f.unasked nor).1 (none_told done.notice));
-        walk = λ none. passes_plain begun course first line done (At line)
-            (f.walk (none_then line.quarantined.lost done.line.quarantined.lost ((lost_only_grows.firing line due moment).grows f.few) none))
-            (λ p w here_it. fired_walks line due moment p w f.drained here_it);
-      };
-}
-
--- For whole courses
-
 pub passes_front : (setup : Setup) (line : ℕ) (before after : List GatewayEvent) (endpoint last : Endpoint)
     → endpoint_at (plain setup before).endpoints line ≡ Some endpoint → endpoint_at (plain setup (before ++ after)).endpoints line ≡ Some last
     → last.line.quarantined.lost ≡ 0
     → Passes (course_of setup line before) endpoint.line (course_from setup (plain setup before) line after) last.line
 passes_front setup line before after endpoint last at then_at none =
-    let some = (place_of (plain setup before).endpoints line endpoint at).0 in
-    let m : Machine = plain setup before in
+    let f = walked_then setup line before endpoint at in
     let begun : List CourseStep = course_of setup line before in
-    let stood = always setup Walked calls_walk line some opening_walks before in
-    let from : Stands setup AnyResponse (LineGoes setup (Since begun endpoint.line)) (call_turns setup (Since begun endpoint.line) (calls_pass begun endpoint.line)) line some [] [] m = record {
-      order = stood.order;
-      holds = λ s there.
-          let same : endpoint ≡ s = cc in
-          let f = (stood.holds s there).holds in
-          record {
-            readable = (stood.holds s there).readable;
-            holds = subst (λ (e : Endpoint). Since begun e.line (serves m.endpoints) [] s.line) (sym same)
-                (record {
-                  drained = f.drained;
-                  few = f.few;
-                  unasked = λ nor. (f.unasked nor, tt);
-                  walk = λ zero_lost.
-                      walks_map begun (At s.line) (λ (p : Place) (w : List Observed). At s.line p w × Walks p w [] (At s.line)) nothing_asked []
-                      (λ p w stands. (stands, here (At s.line) p w stands))
-                      (subst (λ (c : List CourseStep). Walks nothing_asked [] c (At s.line))
-                      (none_lost f.lost f.left begun f.others (none_of f.lost s.line.quarantined.lost f.counted zero_lost)) f.walk);
-                });
-          };
-    } in
-    let to = events_stand setup AnyResponse (LineGoes setup (Since begun endpoint.line)) (call_turns setup (Since begun endpoint.line) (calls_pass begun endpoint.line)) line some m [] [] 0 after (hear_all setup AnyResponse (λ response. tt) (arrivals_from 0 after)) from in
-    let there : endpoint_at (machine_after setup m after).endpoints line ≡ Some last =
-    ap (λ (n : Machine). endpoint_at n.endpoints line) (sym (machine_on setup (opening setup) before after)) ∙ then_at in
-    (to.holds last there).holds.walk none where
-      none_of : (n lost : ℕ) → min most_lost n ≤ lost → lost ≡ 0 → n ≡ 0
-      none_of n lost counted zero_lost = omega (arith, counted, zero_lost)
+    let course : List CourseStep = course_from setup (plain setup before) line after in
+    let whole : f.left ≡ begun =
+    none_lost f.lost f.left begun f.others
+    (none_at_all 0 f.lost endpoint.line.quarantined.lost f.counted (none_so_far setup line before after endpoint last at then_at none)) in
+    walks_map begun (StandsThen setup before endpoint.line) (λ (p : Place) (w : List Observed). At endpoint.line p w × Walks p w course (At last.line))
+    nothing_asked []
+    (λ p w stands. (
+      stands.0,
+      walks_map course (StandsThen setup (before ++ after) last.line) (At last.line) p w (λ q v s. s.0)
+          (walks_on setup line before after endpoint last at then_at none p w stands),
+    ))
+    (subst (λ (c : List CourseStep). Walks nothing_asked [] c (StandsThen setup before endpoint.line)) whole f.walk)
 
 pub stays_at_front : (setup : Setup) (line : ℕ) (before after : List GatewayEvent) (endpoint last : Endpoint)
     → endpoint_at (plain setup before).endpoints line ≡ Some endpoint → endpoint_at (plain setup (before ++ after)).endpoints line ≡ Some last
@@ -236,6 +119,73 @@ stays_at_front setup line before after endpoint last at then_at none =
     (λ (p : Place) (w : List Observed). Stays endpoint.line p w × Walks p w course (Stays last.line)) nothing_asked []
     (λ p w x. (stays endpoint.line p w x.0, walks_map course (At last.line) (Stays last.line) p w (stays last.line) x.1))
     (passes_front setup line before after endpoint last at then_at none)
+
+-- One walk through all events
+
+next_machine : (setup : Setup) (before : List GatewayEvent) (event : GatewayEvent)
+    → plain setup (before ++ event ∷ []) ≡ (effect setup (plain setup before) event).value
+unfolding machine_after
+next_machine setup before event = machine_on setup (opening setup) before (event ∷ [])
+
+one_event : (setup : Setup) (m : Machine) (line : ℕ) (event : GatewayEvent) → course_from setup m line (event ∷ []) ≡ course_at setup m line event
+unfolding course_from
+one_event setup m line event = append-nil (course_at setup m line event)
+
+stands_in : (line : ℕ) (m : Machine) (s : Endpoint) (place : Place) (waiting : List Observed) → endpoint_at m.endpoints line ≡ Some s → At s.line place waiting
+    → StandsIn line m.endpoints place waiting
+stands_in line m s place waiting at stands other there =
+    let same : s ≡ other = cc in subst (λ (e : Endpoint). Stays e.line place waiting) same (stays s.line place waiting stands)
+
+pub walks_along : (setup : Setup) (line : ℕ) (before events : List GatewayEvent) (endpoint last : Endpoint)
+    → endpoint_at (plain setup before).endpoints line ≡ Some endpoint → endpoint_at (plain setup (before ++ events)).endpoints line ≡ Some last
+    → last.line.quarantined.lost ≡ 0 → (place : Place) (waiting : List Observed) → StandsThen setup before endpoint.line place waiting
+    → WalksAlong setup line (plain setup before) events place waiting
+walks_along setup line before [] endpoint last at then_at none place waiting stands = tt
+walks_along setup line before (event ∷ events) endpoint last at then_at none place waiting stands =
+    let one : List GatewayEvent = event ∷ [] in
+    let now : List GatewayEvent = before ++ one in
+    let next = who_is_there_stays setup before one line endpoint at in
+    let last_at : endpoint_at (plain setup (now ++ events)).endpoints line ≡ Some last =
+    ap (λ (es : List GatewayEvent). endpoint_at (plain setup es).endpoints line) (append_assoc before one events) ∙ then_at in
+    let walk : Walks place waiting (course_from setup (plain setup before) line one) (StandsThen setup now next.0.line) =
+    walks_on setup line before one endpoint next.0 at next.1 (none_so_far setup line now events next.0 last next.1 last_at none) place waiting stands in
+    let goes : (p : Place) (w : List Observed) → StandsThen setup now next.0.line p w
+    → StandsIn line (effect setup (plain setup before) event).value.endpoints p w × WalksAlong setup line (effect setup (plain setup before) event).value events p w =
+    λ p w s.
+    subst (λ (m : Machine). StandsIn line m.endpoints p w × WalksAlong setup line m events p w) (next_machine setup before event) (
+      stands_in line (plain setup now) next.0 p w next.1 s.0,
+      walks_along setup line now events next.0 last next.1 last_at none p w s,
+    ) in
+    subst
+    (λ (c : List CourseStep). Walks place waiting c
+    (λ (p : Place) (w : List Observed).
+    StandsIn line (effect setup (plain setup before) event).value.endpoints p w × WalksAlong setup line (effect setup (plain setup before) event).value events p w))
+    (one_event setup (plain setup before) line event)
+    (walks_map (course_from setup (plain setup before) line one) (StandsThen setup now next.0.line)
+    (λ (p : Place) (w : List Observed).
+    StandsIn line (effect setup (plain setup before) event).value.endpoints p w × WalksAlong setup line (effect setup (plain setup before) event).value events p w)
+    place waiting goes walk)
+
+low_first : (line most list : ℕ) → line < 1 + list → list ≡ most → line ≤ most
+low_first line most list less same = omega (arith, less, same)
+
+-- a line that there is was there at first
+there_at_first : (setup : Setup) (line : ℕ) (events : List GatewayEvent) (endpoint : Endpoint) → endpoint_at (plain setup events).endpoints line ≡ Some endpoint
+    → (s : Endpoint) × (endpoint_at (plain setup []).endpoints line ≡ Some s)
+there_at_first setup line events endpoint at =
+    let place = place_of (plain setup events).endpoints line endpoint at in
+    line_is_there setup [] line place.0
+    (low_first line setup.names.lines (length (plain setup events).endpoints.list) place.1
+    (lines_after setup (opening setup) events ∙ lines_of_opening setup))
+
+-- from the opening on
+pub walks_along_all : (setup : Setup) (line : ℕ) (events : List GatewayEvent) (endpoint : Endpoint) → endpoint_at (plain setup events).endpoints line ≡ Some endpoint
+    → endpoint.line.quarantined.lost ≡ 0 → WalksAlong setup line (opening setup) events nothing_asked []
+unfolding machine_after
+walks_along_all setup line events endpoint at none =
+    let first = there_at_first setup line events endpoint at in
+    walks_along setup line [] events first.0 endpoint first.1 at none nothing_asked []
+    (subst (λ (l : LineState). At l nothing_asked []) (sym (opens setup line first.0 first.1).0) opening_at, λ is. refl)
 
 -- In step, behind a notification: what is quarantined there is what the next request leaves, or discards
 

@@ -1,10 +1,15 @@
 pub mod StepLemmas
 pub mod AmongLemmas
 pub mod OccursLemmas
+pub mod StateLemmas
 pub mod WalkLemmas
+pub mod WalkCalls
+pub mod InTurn
 pub mod WalkCourses
 pub mod WalkFrontLemmas
 pub mod FrontWalks
+pub mod RequestTurns
+pub mod AmidWalks
 pub mod AskedLemmas
 pub mod LineBounds
 pub mod ToldCourses

@@ -1,5 +1,5 @@
 -- What lines tell, for whole courses from the opening on.
-use Rattle.std.proofs.Common.{◌≡◌, ℕ, ◌≤◌, min, false, List, [], ◌∷◌, ◌++◌, Some, None, inl, inr, sym, subst, arith}
+use Rattle.std.proofs.Common.{◌≡◌, ℕ, ◌+◌, ◌≤◌, min, false, List, [], ◌∷◌, ◌++◌, Some, None, inl, inr, sym, subst, arith}
 use Rattle.std.specs.Prelude.{◌⊎◌}
 use Rattle.event_values.specs.declared.observed.Observed.{Observed}
 use Rattle.event_requests.specs.declared.request.Request.{Request}
@@ -9,7 +9,7 @@ use Rattle.plain_machine.specs.declared.setup.Setup.{Setup}
 use Rattle.plain_machine.specs.declared.endpoint.Endpoint.{Endpoint}
 use Rattle.plain_machine.specs.Event.{GatewayEvent}
 use Rattle.plain_machine.specs.Lists.{plain}
-use Rattle.plain_machine.specs.Machine.{endpoint_at}
+use Rattle.plain_machine.specs.Machine.{endpoint_at, serves}
 use Rattle.machine_laws.proofs.LineLemmas.{place_of}
 use Rattle.delivery_laws.specs.Course.{CourseStep, accepts, notifies, course_of}
 use Rattle.delivery_laws.specs.Dialled.{done_in, told_along, latest_from}
@@ -18,8 +18,9 @@ use Rattle.told_laws.specs.Among.{AreAmong, IsToldInOrder}
 use Rattle.told_laws.specs.Walking.{nothing_asked, EmbedsNone, Walks, Stays, WalksButLost, AreActs, TellsAFront, TellsWhatWasKept}
 use Rattle.told_laws.proofs.AmongLemmas.{ToldInOrder, among_front, calls_in_order, opening_in_order, told_alone}
 use Rattle.told_laws.proofs.LineBounds.{Exists, there_or_quiet}
-use Rattle.told_laws.proofs.WalkLemmas.{At, walks_map}
-use Rattle.told_laws.proofs.WalkCourses.{Walked, calls_walk, none_lost, opening_walks, stays}
+use Rattle.told_laws.proofs.InTurn.{from_opening}
+use Rattle.told_laws.proofs.WalkLemmas.{walks_map}
+use Rattle.told_laws.proofs.WalkCourses.{StandsAt, Walked, calls_walk, none_lost, opening_walks, stays}
 use Rattle.told_laws.proofs.WalkFrontLemmas.{tells_a_front, tells_what_was_kept}
 use Rattle.delivery_laws.proofs.OverLists.{always}
 
@@ -46,17 +47,25 @@ told_in_order setup line events = by_line (there_or_quiet setup line events) whe
 
 -- How that walks through what was done
 
+pub walked_then : (setup : Setup) (line : ℕ) (events : List GatewayEvent) (endpoint : Endpoint) → endpoint_at (plain setup events).endpoints line ≡ Some endpoint
+    → Walked nothing_asked [] 0 (serves (plain setup events).endpoints) (course_of setup line events) endpoint.line
+walked_then setup line events endpoint at =
+    from_opening setup line (numbered setup line events endpoint at) (Walked nothing_asked [] 0) (calls_walk nothing_asked [] 0) opening_walks events endpoint at
+
+counted_since : (n lost : ℕ) → min most_lost (0 + n) ≤ lost → min most_lost n ≤ lost
+counted_since n lost counted = omega (arith, counted)
+
 pub course_walks_but_lost : (setup : Setup) (line : ℕ) (events : List GatewayEvent) (endpoint : Endpoint) → endpoint_at (plain setup events).endpoints line ≡ Some endpoint
     → WalksButLost (course_of setup line events) endpoint.line
 course_walks_but_lost setup line events endpoint at =
-    let all = always setup Walked calls_walk line (numbered setup line events endpoint at) opening_walks events in
-    let f = (all.holds endpoint at).holds in
+    let f = walked_then setup line events endpoint at in
     record {
       lost = f.lost;
       left = f.left;
       others = f.others;
-      counted = f.counted;
-      walk = walks_map f.left (At endpoint.line) (Stays endpoint.line) nothing_asked [] (stays endpoint.line) f.walk;
+      counted = counted_since f.lost endpoint.line.quarantined.lost f.counted;
+      walk = walks_map f.left (StandsAt (serves (plain setup events).endpoints) endpoint.line) (Stays endpoint.line) nothing_asked []
+          (λ p w stands. stays endpoint.line p w stands.0) f.walk;
     }
 
 pub none_of_them : (n lost : ℕ) → min most_lost n ≤ lost → lost ≡ 0 → n ≡ 0

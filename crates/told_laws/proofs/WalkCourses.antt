@@ -1,5 +1,5 @@
--- How what a line tells walks through its course: but for the acts that are lost.
-use Rattle.std.proofs.Common.{◌≡◌, ℕ, suc, ◌+◌, ◌≤◌, min, Bool, true, false, List, [], ◌∷◌, ◌++◌, Option, Some, None, refl, sym, ap, subst, ◌∙◌, inl, inr, ◌⊎◌, append_assoc, append-nil, arith}
+-- How what a line tells walks through its course, from any place at which it stands: but for the acts that are lost.
+use Rattle.std.proofs.Common.{◌≡◌, ℕ, suc, ◌+◌, ◌≤◌, min, Bool, true, false, List, [], ◌∷◌, ◌++◌, Option, None, refl, sym, ap, subst, ◌∙◌, inl, inr, ◌⊎◌, append_assoc, append-nil, arith}
 use Rattle.std.proofs.lemmas.Bool.{true≢false}
 use Rattle.event_values.specs.declared.observed.Observed.{Observed}
 use Rattle.quarantine.specs.Held.{most_lost}
@@ -11,45 +11,15 @@ use Rattle.mg_line.specs.Answering.{answered}
 use Rattle.mg_line.specs.Opening.{opened}
 use Rattle.mg_line.specs.Falling.{fired}
 use Rattle.mg_line.proofs.LoseLemmas.{lost_only_grows}
-use Rattle.delivery_laws.specs.Course.{CourseStep, acts, accepts, notifies}
-use Rattle.told_laws.specs.Walking.{Place, nothing_asked, behind_notification, End, with_act, Walks, Stays, AllButLost, no_step, a_step, a_lost_act}
-use Rattle.told_laws.proofs.AmongLemmas.{IsDrained, phoned_moves, asked_moves, answered_moves, opened_moves, fired_moves}
+use Rattle.delivery_laws.specs.Course.{CourseStep, acts, accepts}
+use Rattle.delivery_laws.proofs.EndpointLemmas.{steps_of}
 use Rattle.delivery_laws.proofs.OnceCountLemmas.{acts_count, fires_count}
-use Rattle.delivery_laws.proofs.EndpointLemmas.{steps_of, Calls}
-use Rattle.told_laws.proofs.WalkLemmas.{ActWalks, At, Loses, WalksOn, answered_walks, asked_walks, embeds_keeps, fired_walks, here, opened_walks, other_at, phoned_walks, walks_both, walks_map}
-
--- no request was accepted
-
-abbrev pub NoneAsked : List CourseStep → Type 0
-NoneAsked [] = Unit {0}
-NoneAsked (acts act ∷ course) = NoneAsked course
-NoneAsked (accepts request ∷ course) = ⊥
-NoneAsked (notifies identifier observed ∷ course) = NoneAsked course
-
-pub none_both : (some more : List CourseStep) → NoneAsked some → NoneAsked more → NoneAsked (some ++ more)
-none_both [] more none nor = nor
-none_both (acts act ∷ some) more none nor = none_both some more none nor
-none_both (accepts request ∷ some) more none nor = absurd none
-none_both (notifies identifier observed ∷ some) more none nor = none_both some more none nor
-
-pub none_told : (notice : Option Notice) → NoneAsked (steps_of notice)
-none_told None = tt
-none_told (Some notice) = tt
-
--- so long no request is waited for
-open_walks : (course : List CourseStep) (end : End) (place : Place) (waiting : List Observed) → NoneAsked course → place.in_step ≡ false
-    → place.is_shut ≡ false → Walks place waiting course end
-    → Walks place waiting course (λ (p : Place) (w : List Observed). end p w × (p.is_shut ≡ false))
-open_walks [] end place waiting none loops unshut (next, left, moves, walk) =
-    (next, left, moves, (walk, (embeds_keeps place next waiting left moves).1 ∙ unshut))
-open_walks (acts act ∷ course) end place waiting none loops unshut (next, left, moves, walk) =
-    let keeps = embeds_keeps place next waiting left moves in
-    (next, left, moves, open_walks course end next (with_act next.requests left (observed_at act)) none (keeps.0 ∙ loops) (keeps.1 ∙ unshut) walk)
-open_walks (accepts request ∷ course) end place waiting none loops unshut walk = absurd none
-open_walks (notifies identifier observed ∷ course) end place waiting none loops unshut (next, left, moves, (front, held, order, told, walk)) =
-    let still_loops = (embeds_keeps place next waiting left moves).0 ∙ loops in
-    let then_walks = open_walks course end (behind_notification next) held none still_loops still_loops walk in
-    (next, left, moves, (front, held, order, told, then_walks))
+use Rattle.told_laws.specs.Walking.{Place, nothing_asked, End, Then, with_act, Walks, Stays, AllButLost, no_step, a_step, a_lost_act, awaits_request}
+use Rattle.told_laws.proofs.AmongLemmas.{IsDrained, phoned_moves, asked_moves, answered_moves, opened_moves, fired_moves}
+use Rattle.told_laws.proofs.InTurn.{CallsInTurn}
+use Rattle.told_laws.proofs.StateLemmas.{answered_quiet, fired_quiet, phoned_quiet}
+use Rattle.told_laws.proofs.WalkCalls.{answered_walks, asked_walks, fired_walks, opened_walks, phoned_walks}
+use Rattle.told_laws.proofs.WalkLemmas.{ActWalks, At, Loses, WalksOn, embeds_keeps, here, other_at, walks_both, walks_map}
 
 -- but for the lost acts
 
@@ -67,176 +37,215 @@ but_one n left course act no_step = a_lost_act 0 act [] [] no_step
 but_one n left course act (a_step m step some all so) = a_step (suc m) step some (all ++ acts act ∷ []) (but_one m some all act so)
 but_one n left course act (a_lost_act m other some all so) = a_lost_act (suc m) other some (all ++ acts act ∷ []) (but_one m some all act so)
 
-none_step : (step : CourseStep) (left course : List CourseStep) → (NoneAsked course → NoneAsked left) → NoneAsked (step ∷ course)
-    → NoneAsked (step ∷ left)
-none_step (acts act) left course on none = on none
-none_step (accepts request) left course on none = absurd none
-none_step (notifies identifier observed) left course on none = on none
-
-none_left : (n : ℕ) (left course : List CourseStep) → AllButLost n left course → NoneAsked course → NoneAsked left
-none_left n left course no_step none = tt
-none_left n left course (a_step m step some all so) none = none_step step some all (none_left m some all so) none
-none_left n left course (a_lost_act m act some all so) none = none_left m some all so none
-
 -- where none was lost all are left
 pub none_lost : (n : ℕ) (left course : List CourseStep) → AllButLost n left course → n ≡ 0 → left ≡ course
 none_lost n left course no_step none = refl
 none_lost n left course (a_step m step some all so) none = ap (λ (steps : List CourseStep). step ∷ steps) (none_lost m some all so none)
 none_lost n left course (a_lost_act m act some all so) none = absurd (omega arith)
 
+-- Where the line stands
+
+-- before the gateway serves no request is waited for
+abbrev pub StandsAt : Bool → LineState → End
+StandsAt serving line place waiting = At line place waiting × (serving ≡ false → place.is_shut ≡ false)
+
+-- once it serves
+pub serves_at : (line : LineState) (place : Place) (waiting : List Observed) → At line place waiting → StandsAt true line place waiting
+serves_at line place waiting at = (at, λ never. absurd (true≢false never))
+
+-- a call, and what it tells: before the gateway serves nothing
+on_stands : (serving : Bool) (place : Place) (waiting : List Observed) (done : LineDone) → (serving ≡ false → place.is_shut ≡ false)
+    → (serving ≡ false → done.notice ≡ None) → WalksOn place waiting done → Walks place waiting (steps_of done.notice) (StandsAt serving done.line)
+on_stands true place waiting done unshut silent walk =
+    walks_map (steps_of done.notice) (At done.line) (StandsAt true done.line) place waiting (serves_at done.line) walk
+on_stands false place waiting done unshut silent walk =
+    subst (λ (n : Option Notice). Walks place waiting (steps_of n) (StandsAt false done.line)) (sym (silent refl))
+    (still_stands (subst (λ (n : Option Notice). Walks place waiting (steps_of n) (At done.line)) (silent refl) walk)) where
+      still_stands : Then place waiting (At done.line) → Then place waiting (StandsAt false done.line)
+      still_stands (next, left, moves, at) = (next, left, moves, (at, λ is. (embeds_keeps place next waiting left moves).1 ∙ unshut refl))
+
+-- it goes on from where the course stands
+goes_on : (place : Place) (waiting : List Observed) (course step : List CourseStep) (was is : Bool) (line : LineState) (done : LineDone)
+    → Walks place waiting course (StandsAt was line)
+    → ((p : Place) (w : List Observed) → StandsAt was line p w → Walks p w (step ++ steps_of done.notice) (StandsAt is done.line))
+    → Walks place waiting ((course ++ step) ++ steps_of done.notice) (StandsAt is done.line)
+goes_on place waiting course step was is line done walk call =
+    subst (λ (c : List CourseStep). Walks place waiting c (StandsAt is done.line)) (sym (append_assoc course step (steps_of done.notice)))
+    (walks_both course (step ++ steps_of done.notice) (StandsAt is done.line) place waiting
+    (walks_map course (StandsAt was line) (λ (p : Place) (w : List Observed). Walks p w (step ++ steps_of done.notice) (StandsAt is done.line)) place waiting call walk))
+
+goes_plain : (place : Place) (waiting : List Observed) (course : List CourseStep) (was is : Bool) (line : LineState) (done : LineDone)
+    → Walks place waiting course (StandsAt was line)
+    → ((p : Place) (w : List Observed) → StandsAt was line p w → Walks p w (steps_of done.notice) (StandsAt is done.line))
+    → Walks place waiting (course ++ steps_of done.notice) (StandsAt is done.line)
+goes_plain place waiting course was is line done walk call =
+    walks_both course (steps_of done.notice) (StandsAt is done.line) place waiting
+    (walks_map course (StandsAt was line) (λ (p : Place) (w : List Observed). Walks p w (steps_of done.notice) (StandsAt is done.line)) place waiting call walk)
+
 still_counted : (n was is : ℕ) → n ≤ was → was ≤ is → n ≤ is
 still_counted n was is few grows = omega arith
 
-one_counted : (n lost : ℕ) → min most_lost n ≤ lost → min most_lost (suc n) ≤ min most_lost (lost + 1)
-one_counted n lost counted = omega (arith, counted)
+one_counted : (base n lost : ℕ) → min most_lost (base + n) ≤ lost → min most_lost (base + suc n) ≤ min most_lost (lost + 1)
+one_counted base n lost counted = omega (arith, counted)
 
-pub record Walked (serving : Bool) (course : List CourseStep) (line : LineState) : Type 0 where
+-- from that place on, where so many were lost
+pub record Walked (place : Place) (waiting : List Observed) (base : ℕ) (serving : Bool) (course : List CourseStep) (line : LineState) : Type 0 where
   pub drained : IsDrained line
   pub few : line.quarantined.lost ≤ most_lost
-  pub unasked : serving ≡ false → NoneAsked course
+  pub awaits : serving ≡ false → awaits_request line ≡ true
   pub lost : ℕ
   pub left : List CourseStep
   pub others : AllButLost lost left course
-  pub counted : min most_lost lost ≤ line.quarantined.lost
-  pub walk : Walks nothing_asked [] left (At line)
-
--- a call goes on where the course stands
-goes_on : (course step : List CourseStep) (line : LineState) (done : LineDone) → Walks nothing_asked [] course (At line)
-    → ((p : Place) (w : List Observed) → At line p w → Walks p w (step ++ steps_of done.notice) (At done.line))
-    → Walks nothing_asked [] ((course ++ step) ++ steps_of done.notice) (At done.line)
-goes_on course step line done walk call =
-    subst (λ (c : List CourseStep). Walks nothing_asked [] c (At done.line)) (sym (append_assoc course step (steps_of done.notice)))
-    (walks_both course (step ++ steps_of done.notice) (At done.line) nothing_asked []
-    (walks_map course (At line) (λ (p : Place) (w : List Observed). Walks p w (step ++ steps_of done.notice) (At done.line)) nothing_asked [] call walk))
-
-goes_plain : (course : List CourseStep) (line : LineState) (done : LineDone) → Walks nothing_asked [] course (At line)
-    → ((p : Place) (w : List Observed) → At line p w → WalksOn p w done) → Walks nothing_asked [] (course ++ steps_of done.notice) (At done.line)
-goes_plain course line done walk call =
-    walks_both course (steps_of done.notice) (At done.line) nothing_asked []
-    (walks_map course (At line) (λ (p : Place) (w : List Observed). Walks p w (steps_of done.notice) (At done.line)) nothing_asked [] call walk)
+  pub counted : min most_lost (base + lost) ≤ line.quarantined.lost
+  pub walk : Walks place waiting left (StandsAt serving line)
 
 -- an act
-acted_on : (serving : Bool) (course : List CourseStep) (line : LineState) (act : Act) (moment : ℕ) → Walked serving course line
-    → ActWalks line (observed_at act) (phoned line act moment) ⊎ Loses line (phoned line act moment)
-    → Walked serving ((course ++ acts act ∷ []) ++ steps_of (phoned line act moment).notice) (phoned line act moment).line
-acted_on serving course line act moment f (inl walks) =
+acted_on : (place : Place) (waiting : List Observed) (base : ℕ) (serving : Bool) (course : List CourseStep) (line : LineState) (act : Act) (moment : ℕ)
+    → Walked place waiting base serving course line → ActWalks line (observed_at act) (phoned line act moment) ⊎ Loses line (phoned line act moment)
+    → Walked place waiting base serving ((course ++ acts act ∷ []) ++ steps_of (phoned line act moment).notice) (phoned line act moment).line
+acted_on place waiting base serving course line act moment f (inl walks) =
     let done : LineDone = phoned line act moment in
     record {
       drained = (phoned_moves line act moment f.drained).drained;
       few = acts_count line act moment f.few;
-      unasked = λ nor.
-          none_both (course ++ acts act ∷ []) (steps_of done.notice) (none_both course (acts act ∷ []) (f.unasked nor) tt) (none_told done.notice);
+      awaits = λ is. (phoned_quiet line act moment (f.awaits is)).awaits;
       lost = f.lost;
       left = (f.left ++ acts act ∷ []) ++ steps_of done.notice;
       others = but_more f.lost (f.left ++ acts act ∷ []) (course ++ acts act ∷ []) (steps_of done.notice)
           (but_more f.lost f.left course (acts act ∷ []) f.others);
-      counted = still_counted (min most_lost f.lost) line.quarantined.lost done.line.quarantined.lost f.counted
+      counted = still_counted (min most_lost (base + f.lost)) line.quarantined.lost done.line.quarantined.lost f.counted
           ((lost_only_grows.act line act moment).grows f.few);
-      walk = goes_on f.left (acts act ∷ []) line done f.walk
-          (λ p w at. here
-          (λ (next : Place) (left : List Observed). Walks next (with_act next.requests left (observed_at act)) (steps_of done.notice) (At done.line))
-          p w (walks p w at));
+      walk = goes_on place waiting f.left (acts act ∷ []) serving serving line done f.walk
+          (λ p w stands. here
+          (λ (next : Place) (left : List Observed).
+          Walks next (with_act next.requests left (observed_at act)) (steps_of done.notice) (StandsAt serving done.line))
+          p w
+          (on_stands serving p (with_act p.requests w (observed_at act)) done stands.1
+          (λ is. (phoned_quiet line act moment (f.awaits is)).silent) (walks p w stands.0)));
     }
-acted_on serving course line act moment f (inr loses) =
+acted_on place waiting base serving course line act moment f (inr loses) =
     let done : LineDone = phoned line act moment in
     record {
       drained = (phoned_moves line act moment f.drained).drained;
       few = acts_count line act moment f.few;
-      unasked = λ nor.
-          none_both (course ++ acts act ∷ []) (steps_of done.notice) (none_both course (acts act ∷ []) (f.unasked nor) tt) (none_told done.notice);
+      awaits = λ is. (phoned_quiet line act moment (f.awaits is)).awaits;
       lost = suc f.lost;
       left = f.left;
       others = subst (λ (n : Option Notice). AllButLost (suc f.lost) f.left ((course ++ acts act ∷ []) ++ steps_of n)) (sym loses.silent)
           (subst (AllButLost (suc f.lost) f.left) (sym (append-nil (course ++ acts act ∷ []))) (but_one f.lost f.left course act f.others));
-      counted = subst (λ (n : ℕ). min most_lost (suc f.lost) ≤ n) (sym loses.counted)
-          (one_counted f.lost line.quarantined.lost f.counted);
-      walk = walks_map f.left (At line) (At done.line) nothing_asked [] (λ p w at. other_at line done.line p w at loses.keeps) f.walk;
+      counted = subst (λ (n : ℕ). min most_lost (base + suc f.lost) ≤ n) (sym loses.counted)
+          (one_counted base f.lost line.quarantined.lost f.counted);
+      walk = walks_map f.left (StandsAt serving line) (StandsAt serving done.line) place waiting
+          (λ p w stands. (other_at line done.line p w stands.0 loses.keeps, stands.1)) f.walk;
     }
 
-pub calls_walk : Calls Walked
-calls_walk = record {
-  act = λ serving course line act moment f. acted_on serving course line act moment f (phoned_walks line act moment f.drained);
+pub calls_walk : (place : Place) (waiting : List Observed) (base : ℕ) → CallsInTurn (Walked place waiting base)
+calls_walk place waiting base = record {
+  act = λ serving course line act moment f. acted_on place waiting base serving course line act moment f (phoned_walks line act moment f.drained);
   request = λ course line request moment f.
       let done : LineDone = asked line request moment in
       record {
         drained = (asked_moves line request moment).drained;
         few = subst (λ (n : ℕ). n ≤ most_lost) (sym (lost_only_grows.request line request moment)) f.few;
-        unasked = λ nor. absurd (true≢false nor);
+        awaits = λ nor. absurd (true≢false nor);
         lost = f.lost;
         left = (f.left ++ accepts request ∷ []) ++ steps_of done.notice;
         others = but_more f.lost (f.left ++ accepts request ∷ []) (course ++ accepts request ∷ []) (steps_of done.notice)
             (but_more f.lost f.left course (accepts request ∷ []) f.others);
-        counted = subst (λ (n : ℕ). min most_lost f.lost ≤ n) (sym (lost_only_grows.request line request moment)) f.counted;
-        walk = goes_on f.left (accepts request ∷ []) line done f.walk (λ p w at. asked_walks line request moment p w at);
+        counted = subst (λ (n : ℕ). min most_lost (base + f.lost) ≤ n) (sym (lost_only_grows.request line request moment)) f.counted;
+        walk = goes_on place waiting f.left (accepts request ∷ []) true true line done f.walk
+            (λ p w stands. walks_map (accepts request ∷ steps_of done.notice) (At done.line) (StandsAt true done.line) p w (serves_at done.line)
+            (asked_walks line request moment p w stands.0));
       };
-  answering = λ serving course line moment f.
+  answering = λ serving course line moment waits f.
       let done : LineDone = answered line moment in
       record {
         drained = (answered_moves line moment).drained;
         few = subst (λ (n : ℕ). n ≤ most_lost) (sym (lost_only_grows.answering line moment)) f.few;
-        unasked = λ nor. none_both course (steps_of done.notice) (f.unasked nor) (none_told done.notice);
+        awaits = λ is. (answered_quiet line moment (f.awaits is)).awaits;
         lost = f.lost;
         left = f.left ++ steps_of done.notice;
         others = but_more f.lost f.left course (steps_of done.notice) f.others;
-        counted = subst (λ (n : ℕ). min most_lost f.lost ≤ n) (sym (lost_only_grows.answering line moment)) f.counted;
-        walk = goes_plain f.left line done f.walk (λ p w at. answered_walks line moment p w at);
+        counted = subst (λ (n : ℕ). min most_lost (base + f.lost) ≤ n) (sym (lost_only_grows.answering line moment)) f.counted;
+        walk = goes_plain place waiting f.left serving serving line done f.walk
+            (λ p w stands. on_stands serving p w done stands.1 (λ is. (answered_quiet line moment (f.awaits is)).silent)
+            (answered_walks line moment p w waits stands.0));
       };
   serving = λ course line moment f.
       let done : LineDone = opened line moment in
       record {
         drained = (opened_moves line moment).drained;
         few = subst (λ (n : ℕ). n ≤ most_lost) (sym (lost_only_grows.serving line moment)) f.few;
-        unasked = λ nor. absurd (true≢false nor);
+        awaits = λ nor. absurd (true≢false nor);
         lost = f.lost;
         left = f.left ++ steps_of done.notice;
         others = but_more f.lost f.left course (steps_of done.notice) f.others;
-        counted = subst (λ (n : ℕ). min most_lost f.lost ≤ n) (sym (lost_only_grows.serving line moment)) f.counted;
-        walk =
-            let walk = open_walks f.left (At line) nothing_asked [] (none_left f.lost f.left course f.others (f.unasked refl)) refl refl f.walk in
-            walks_both f.left (steps_of done.notice) (At done.line) nothing_asked []
-            (walks_map f.left (λ (p : Place) (w : List Observed). At line p w × (p.is_shut ≡ false))
-            (λ (p : Place) (w : List Observed). Walks p w (steps_of done.notice) (At done.line)) nothing_asked []
-            (λ p w at. opened_walks line moment p w at.0 at.1) walk);
+        counted = subst (λ (n : ℕ). min most_lost (base + f.lost) ≤ n) (sym (lost_only_grows.serving line moment)) f.counted;
+        walk = goes_plain place waiting f.left false true line done f.walk
+            (λ p w stands. walks_map (steps_of done.notice) (At done.line) (StandsAt true done.line) p w (serves_at done.line)
+            (opened_walks line moment p w stands.0 (stands.1 refl)));
       };
-  firing = λ serving course line at due moment is f.
+  firing = λ serving course line due moment f.
       let done : LineDone = fired line due moment in
       record {
         drained = (fired_moves line due moment f.drained).drained;
         few = fires_count line due moment f.few;
-        unasked = λ nor. none_both course (steps_of done.notice) (f.unasked nor) (none_told done.notice);
+        awaits = λ is. (fired_quiet line due moment (f.awaits is)).awaits;
         lost = f.lost;
         left = f.left ++ steps_of done.notice;
         others = but_more f.lost f.left course (steps_of done.notice) f.others;
-        counted = still_counted (min most_lost f.lost) line.quarantined.lost done.line.quarantined.lost f.counted
+        counted = still_counted (min most_lost (base + f.lost)) line.quarantined.lost done.line.quarantined.lost f.counted
             ((lost_only_grows.firing line due moment).grows f.few);
-        walk = goes_plain f.left line done f.walk (λ p w here. fired_walks line due moment p w f.drained here);
+        walk = goes_plain place waiting f.left serving serving line done f.walk
+            (λ p w stands. on_stands serving p w done stands.1 (λ is. (fired_quiet line due moment (f.awaits is)).silent)
+            (fired_walks line due moment p w f.drained stands.0));
       };
 }
 
-pub opening_walks : Walked false [] opening_line
-opening_walks = record {
-  drained = λ normal. absurd cc;
-  few = omega arith;
-  unasked = λ nor. tt;
+-- where it begins
+none_yet : (lost : ℕ) → min most_lost (lost + 0) ≤ lost
+none_yet lost = omega arith
+
+pub starts : (serving : Bool) (line : LineState) (place : Place) (waiting : List Observed) → IsDrained line → line.quarantined.lost ≤ most_lost
+    → (serving ≡ false → awaits_request line ≡ true) → StandsAt serving line place waiting
+    → Walked place waiting line.quarantined.lost serving [] line
+starts serving line place waiting drained few awaits stands = record {
+  drained = drained;
+  few = few;
+  awaits = awaits;
   lost = 0;
   left = [];
   others = no_step;
-  counted = omega arith;
-  walk = here (At opening_line) nothing_asked []
-      (record {
-        past = [];
-        held = [];
-        order = refl;
-        asks = refl;
-        accumulated = refl;
-        quiet = refl;
-        quarantined = refl;
-        steps = λ (is : false ≡ true). absurd (true≢false (sym is));
-        shuts = λ (is : false ≡ true). absurd (true≢false (sym is));
-        shut = λ (is : false ≡ true). absurd (true≢false (sym is));
-      });
+  counted = none_yet line.quarantined.lost;
+  walk = here (StandsAt serving line) place waiting stands;
 }
+
+pub opening_at : At opening_line nothing_asked []
+opening_at = record {
+  past = [];
+  held = [];
+  order = refl;
+  asks = refl;
+  accumulated = refl;
+  quiet = refl;
+  quarantined = refl;
+  steps = refl;
+  shuts = λ (is : false ≡ true). absurd (true≢false (sym is));
+  shut = λ (is : false ≡ true). absurd (true≢false (sym is));
+  own = inr refl;
+}
+
+pub opening_walks : Walked nothing_asked [] 0 false [] opening_line
+opening_walks = starts false opening_line nothing_asked [] (λ normal. absurd cc) (omega arith) (λ is. refl) (opening_at, λ is. refl)
 
 -- where it stands, in the words of the law
 pub stays : (line : LineState) (place : Place) (waiting : List Observed) → At line place waiting → Stays line place waiting
-stays line place waiting at = (at.past, at.held, at.order, at.accumulated, at.quiet, at.quarantined)
+stays line place waiting at = (
+  at.past,
+  at.held,
+  at.order,
+  at.accumulated,
+  at.quiet,
+  at.quarantined,
+  record { requests = sym at.asks; in_step = at.steps; is_shut = at.own },
+)

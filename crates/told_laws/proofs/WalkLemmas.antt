@@ -1,47 +1,30 @@
 -- How what a line tells walks through what was done at its telephone.
 use Rattle.std.proofs.Common.{◌≡◌, ◌≢◌, ℕ, ◌+◌, min, Bool, true, false, List, [], ◌∷◌, ◌++◌, Option, Some, None, refl, sym, ap, subst, ◌∙◌, inl, inr, ◌⊎◌, append_assoc, append-nil}
-use Rattle.std.specs.Prelude.{filter, not, ◌||◌, nat_lt, length, if◌then◌else◌}
-use Rattle.std.proofs.lemmas.Bool.{true≢false, not-true}
-use Rattle.mg_bytes.specs.declared.letter.Letter.TheVariants as letters
-use Rattle.mg_packages.specs.declared.event.LineEvent.TheVariants as events
-use Rattle.mg_packages.specs.declared.signal.Kind.{Kind}
-use Rattle.mg_packages.specs.declared.signal.Kind.TheVariants.{TimeOut, Brief, OnOff}
-use Rattle.mg_packages.specs.declared.signal.Signal.{Signal}
-use Rattle.mg_packages.specs.Looking.{kind_of}
+use Rattle.std.specs.Prelude.{filter, not, ◌&&◌, nat_lt, length, if◌then◌else◌}
+use Rattle.std.proofs.lemmas.Bool.{true≢false}
 use Rattle.event_values.specs.declared.handling.Handling.{Handling}
-use Rattle.event_values.specs.declared.handling.Quarantined.{Quarantined}
-use Rattle.event_values.specs.declared.handling.Quarantined.TheVariants.{Process, Discard}
 use Rattle.event_values.specs.declared.observed.Observed.{Observed}
-use Rattle.event_values.specs.declared.observed.Observed.TheVariants.{Happened, Ended}
 use Rattle.event_syntax.specs.declared.request.EmbeddedRequest.{EmbeddedRequest}
 use Rattle.event_syntax.specs.declared.request.Reaction.{Reaction}
 use Rattle.event_syntax.specs.declared.request.Reaction.TheVariants.{Embed, AccumulateAndEmbed}
 use Rattle.event_requests.specs.Choice.{is_kept}
 use Rattle.event_requests.specs.Requests.{EventRequests, with_embedded}
-use Rattle.event_requests.specs.declared.request.Request.{Request}
 use Rattle.quarantine.specs.Held.{Held, one_lost, one_kept, holding, most_lost}
-use Rattle.signals.specs.Stopping.{without}
-use Rattle.timers.specs.declared.kind.LineDue.{LineDue}
-use Rattle.timers.specs.declared.kind.LineDue.TheVariants.{DigitTimer, SignalEnd}
-use Rattle.mg_line.specs.declared.phone.Act.{Act}
-use Rattle.mg_line.specs.declared.phone.Act.TheVariants.{OffHook, OnHook, Flash, Key}
 use Rattle.mg_line.specs.State.{State}
 use Rattle.mg_line.specs.State.TheVariants.{Normal, Notification, Lockstep}
 use Rattle.mg_line.specs.Line.{LineState, Notice, LineDone, still}
 use Rattle.mg_line.specs.Occurring.{occurred}
 use Rattle.mg_line.specs.Detecting.{quarantining, detected_in, detected, with_quarantined, unless_notified, drained_of, drained, resumed}
-use Rattle.mg_line.specs.Acting.{hooked, observed_at, phoned}
-use Rattle.mg_line.specs.Requesting.{quarantined_after, replaced, resumed_in, asked}
-use Rattle.mg_line.specs.Answering.{is_loop, answered}
-use Rattle.mg_line.specs.Opening.{opened}
-use Rattle.mg_line.specs.Falling.{ended_by, fired}
+use Rattle.mg_line.specs.Acting.{observed_at}
+use Rattle.mg_line.specs.Answering.{is_loop}
 use Rattle.mg_line.proofs.DrainLemmas.{occurred_keeps}
 use Rattle.mg_line.proofs.LoseLemmas.{unasked_events_do_nothing}
 use Rattle.delivery_laws.specs.Rounds.{is_of_telephone, of_telephone}
 use Rattle.delivery_laws.specs.Course.{CourseStep, acts, accepts, notifies}
-use Rattle.told_laws.specs.Walking.{is_collected, is_quiet, reaction_to, collects, are_quiet, left_by, Place, behind_request, behind_notification, End, with_act, told_of_front, Brings, behind_embedded, Embeds, no_more, by_event, Then, Walks, TellsOf}
-use Rattle.told_laws.proofs.AmongLemmas.{IsDrained, act_of_phone}
+use Rattle.told_laws.specs.Walking.{is_collected, is_quiet, reaction_to, collects, are_quiet, left_by, Place, nothing_asked, behind_request, behind_notification, End, with_act, told_of_front, Brings, behind_embedded, Embeds, no_more, by_event, Then, Walks, TellsOf, is_waiting, awaits_request}
+use Rattle.told_laws.proofs.AmongLemmas.{IsDrained}
 use Rattle.told_laws.proofs.OccursLemmas.{GathersAll, TellsAll, Collects, Same, Ignores, Turns, OccursBy, occurred_occurs, with_one, one_if, phone_more, collected_by, ignored_by, quiet_by, next_in, one_more, split_one, but_last_by}
+use Rattle.told_laws.proofs.StateLemmas.{occurred_state}
 use Rattle.delivery_laws.proofs.EndpointLemmas.{steps_of}
 
 -- Embedded requests
@@ -101,17 +84,58 @@ walks_both (notifies identifier observed ∷ course) more end place waiting (nex
 
 -- Where a line stands in the walk
 
--- in step the line waits for a request behind each notification
-abbrev StepsIn : LineState → Place → Type 0
-StepsIn line place = place.in_step ≡ true → is_loop line.handling.notifying ≡ false
+-- it is in step where the line is
+abbrev pub StepsIn : LineState → Place → Type 0
+StepsIn line place = place.in_step ≡ not (is_loop line.handling.notifying)
+
+-- and a request is waited for where the line waits for one
+abbrev pub ShutAs : LineState → Place → Type 0
+ShutAs line place = (place.is_shut ≡ awaits_request line) ⊎ (place ≡ nothing_asked)
+
+-- where events occur none is
+pub open_in_normal : (line : LineState) → line.state ≡ Normal → awaits_request line ≡ false
+open_in_normal line normal = ap (λ (s : State). is_waiting s && (not (is_loop line.handling.notifying) && not line.renewed)) normal
+
+-- nor where one came
+none_of_both : (one other : Bool) → (one && (other && false)) ≡ false
+none_of_both true true = refl
+none_of_both true false = refl
+none_of_both false other = refl
+
+pub renewed_open : (line : LineState) → line.renewed ≡ true → awaits_request line ≡ false
+renewed_open line renewed =
+    ap (λ (b : Bool). is_waiting line.state && (not (is_loop line.handling.notifying) && not b)) renewed
+    ∙ none_of_both (is_waiting line.state) (not (is_loop line.handling.notifying))
+
+and_true : (b : Bool) → (b && true) ≡ b
+and_true true = refl
+and_true false = refl
+
+-- behind a notification one is, in step
+waits_behind : (line : LineState) → line.state ≡ Notification → line.renewed ≡ false → awaits_request line ≡ not (is_loop line.handling.notifying)
+waits_behind line waits fresh =
+    ap (λ (s : State). is_waiting s && (not (is_loop line.handling.notifying) && not line.renewed)) waits
+    ∙ ap (λ (b : Bool). not (is_loop line.handling.notifying) && not b) fresh
+    ∙ and_true (not (is_loop line.handling.notifying))
+
+waits_same : (line other : LineState) → other.handling ≡ line.handling → other.state ≡ line.state → other.renewed ≡ line.renewed
+    → awaits_request other ≡ awaits_request line
+waits_same line other handling state renewed =
+    ap (λ (s : State). is_waiting s && (not (is_loop other.handling.notifying) && not other.renewed)) state
+    ∙ ap (λ (h : Handling). is_waiting line.state && (not (is_loop h.notifying) && not other.renewed)) handling
+    ∙ ap (λ (b : Bool). is_waiting line.state && (not (is_loop line.handling.notifying) && not b)) renewed
+
+shut_on : (line other : LineState) (place : Place) → awaits_request other ≡ awaits_request line → ShutAs line place → ShutAs other place
+shut_on line other place same (inl is) = inl (is ∙ sym same)
+shut_on line other place same (inr is) = inr is
 
 -- what has occurred since the last notification, where events occur
-record Has (line : LineState) (place : Place) (past : List Observed) : Type 0 where
-  asks : line.requests ≡ place.requests
-  accumulated : of_telephone line.accumulated ≡ told_of_front place past
-  quiet : are_quiet place.requests past ≡ true
-  steps : StepsIn line place
-  unshut : place.is_shut ≡ false
+pub record Has (line : LineState) (place : Place) (past : List Observed) : Type 0 where
+  pub asks : line.requests ≡ place.requests
+  pub accumulated : of_telephone line.accumulated ≡ told_of_front place past
+  pub quiet : are_quiet place.requests past ≡ true
+  pub steps : StepsIn line place
+  pub unshut : place.is_shut ≡ false
 
 -- a line that notified, in step, and was sent no request since: nothing has occurred
 pub record IsShut (line : LineState) (past : List Observed) : Type 0 where
@@ -131,10 +155,11 @@ pub record At (line : LineState) (place : Place) (waiting : List Observed) : Typ
   pub steps : StepsIn line place
   pub shuts : place.is_shut ≡ true → place.in_step ≡ true
   pub shut : place.is_shut ≡ true → IsShut line past
+  pub own : ShutAs line place
 
-has_at : (line : LineState) (place : Place) (past : List Observed) → Has line place past
+pub has_at : (line : LineState) (place : Place) (past : List Observed) → awaits_request line ≡ false → Has line place past
     → At line place (past ++ of_telephone line.quarantined.events)
-has_at line place past has = record {
+has_at line place past opens has = record {
   past = past;
   held = of_telephone line.quarantined.events;
   order = refl;
@@ -145,6 +170,7 @@ has_at line place past has = record {
   steps = has.steps;
   shuts = λ (is : place.is_shut ≡ true). absurd (true≢false (sym is ∙ has.unshut));
   shut = λ (is : place.is_shut ≡ true). absurd (true≢false (sym is ∙ has.unshut));
+  own = inl (has.unshut ∙ sym opens);
 }
 
 -- a call, and what it tells
@@ -167,7 +193,7 @@ telling_walks place front held done notice tells told at =
 -- An event occurs
 
 steps_on : (line other : LineState) (place : Place) → Same other line → StepsIn line place → StepsIn other place
-steps_on line other place same steps is = ap (λ (handling : Handling). is_loop handling.notifying) same.1 ∙ steps is
+steps_on line other place same steps = steps ∙ ap (λ (handling : Handling). not (is_loop handling.notifying)) (sym same.1)
 
 ignored_has : (line : LineState) (place : Place) (past : List Observed) (event : Observed) (done : LineDone) → Has line place past
     → Ignores (reaction_to place.requests event) line done → Has done.line place (with_one past event)
@@ -218,6 +244,7 @@ told_at place all done asks steps tells = record {
     awaits = λ normal. (let clash : Notification ≡ Normal = sym tells.awaits ∙ normal in cc);
     fresh = tells.fresh;
   };
+  own = inl (steps ∙ sym (waits_behind done.line tells.awaits tells.fresh));
 }
 
 -- all that R has told, with that event
@@ -241,7 +268,7 @@ turned line place past event done has turns = by_how turns.how where
   asks = turns.asks ∙ ap (λ (r : EventRequests). with_embedded r turns.request) has.asks
 
   steps : StepsIn done.line place
-  steps = λ (is : place.in_step ≡ true). ap (λ (handling : Handling). is_loop handling.notifying) turns.handled ∙ has.steps is
+  steps = has.steps ∙ ap (λ (handling : Handling). not (is_loop handling.notifying)) (sym turns.handled)
 
   all_is : reaction_to place.requests event ≡ AccumulateAndEmbed turns.request → of_telephone (line.accumulated ++ event ∷ []) ≡ gathered_at place past event ++ []
   all_is is =
@@ -307,7 +334,7 @@ turned_tells line place past event done waiting all has t order is tells =
 -- a quarantined event occurs, and those behind it where it isn't told
 drain_turned : (line : LineState) (place : Place) (past : List Observed) (event : Observed) (rest : List Observed) (done : LineDone)
     (next : LineState → LineDone) → Has line place past → done.line.quarantined.events ≡ rest → Turned line place past event done
-    → ((p : Place) (now : List Observed) → Has done.line p now → WalksOn p (now ++ of_telephone rest) (next done.line))
+    → (done.notice ≡ None → (p : Place) (now : List Observed) → Has done.line p now → WalksOn p (now ++ of_telephone rest) (next done.line))
     → WalksOn place (past ++ of_telephone (event ∷ rest)) (unless_notified done.notice done next)
 drain_turned line place past event rest done next has left t more = by_how t.how where
   by_how : ((done.notice ≡ None) × (of_telephone done.line.accumulated ≡ t.carried ++ []))
@@ -319,7 +346,7 @@ drain_turned line place past event rest done next has left t more = by_how t.how
       subst (λ (n : Option Notice). WalksOn place waiting (unless_notified n done next)) (sym silent)
       (walks_from (steps_of (next done.line).notice) (At (next done.line).line) place to waiting (of_telephone rest)
       (turned_embeds line place past event done waiting (of_telephone rest) has t (ap (λ (xs : List Observed). past ++ xs) (split_one event rest)))
-      (more to [] (turned_has line place past event done has t gathered)))
+      (more silent to [] (turned_has line place past event done has t gathered)))
   by_how (inr (all, is, tells)) =
       let waiting : List Observed = past ++ of_telephone (event ∷ rest) in
       subst (λ (n : Option Notice). WalksOn place waiting (unless_notified n done next)) (sym tells.tells)
@@ -331,12 +358,12 @@ drain_turned line place past event rest done next has left t more = by_how t.how
 drain_more : (line : LineState) (place : Place) (past : List Observed) (event : Observed) (rest : List Observed) (done : LineDone)
     (next : LineState → LineDone) → Has line place past → done.line.quarantined.events ≡ rest
     → OccursBy (reaction_to place.requests event) line event done
-    → ((p : Place) (now : List Observed) → Has done.line p now → WalksOn p (now ++ of_telephone rest) (next done.line))
+    → (done.notice ≡ None → (p : Place) (now : List Observed) → Has done.line p now → WalksOn p (now ++ of_telephone rest) (next done.line))
     → WalksOn place (past ++ of_telephone (event ∷ rest)) (unless_notified done.notice done next)
 drain_more line place past event rest done next has left (inl ignores) more =
     subst (λ (n : Option Notice). WalksOn place (past ++ of_telephone (event ∷ rest)) (unless_notified n done next)) (sym ignores.gathers.silent)
     (subst (λ (w : List Observed). WalksOn place w (next done.line)) (sym (next_in past event rest))
-    (more place (with_one past event) (ignored_has line place past event done has ignores)))
+    (more ignores.gathers.silent place (with_one past event) (ignored_has line place past event done has ignores)))
 drain_more line place past event rest done next has left (inr (inl takes)) more = by_how takes.how where
   by_how : (((is_quiet (reaction_to place.requests event) ≡ true) × GathersAll (line.accumulated ++ event ∷ []) done)
       ⊎ TellsAll (line.accumulated ++ event ∷ []) done)
@@ -344,7 +371,7 @@ drain_more line place past event rest done next has left (inr (inl takes)) more 
   by_how (inl later) =
       subst (λ (n : Option Notice). WalksOn place (past ++ of_telephone (event ∷ rest)) (unless_notified n done next)) (sym later.1.silent)
       (subst (λ (w : List Observed). WalksOn place w (next done.line)) (sym (next_in past event rest))
-      (more place (with_one past event) (gathered_has line place past event done has takes.same takes.collected later.0 later.1)))
+      (more later.1.silent place (with_one past event) (gathered_has line place past event done has takes.same takes.collected later.0 later.1)))
   by_how (inr tells) =
       subst (λ (n : Option Notice). WalksOn place (past ++ of_telephone (event ∷ rest)) (unless_notified n done next)) (sym tells.tells)
       (subst (λ (w : List Observed). WalksOn place w done) (sym (next_in past event rest))
@@ -358,12 +385,12 @@ drain_more line place past event rest done next has left (inr (inr turns)) more 
     drain_turned line place past event rest done next has left (turned line place past event done has turns) more
 
 drains : (was : List Observed) (line : LineState) (moment : ℕ) (place : Place) (past : List Observed) → line.quarantined.events ≡ was
-    → Has line place past → WalksOn place (past ++ of_telephone was) (drained_of was line moment)
+    → line.state ≡ Normal → Has line place past → WalksOn place (past ++ of_telephone was) (drained_of was line moment)
 unfolding drained_of
-drains [] line moment place past same has =
+drains [] line moment place past same normal has =
     here (At line) place (past ++ of_telephone [])
-    (subst (λ (held : List Observed). At line place (past ++ of_telephone held)) same (has_at line place past has))
-drains (event ∷ events) line moment place past same has =
+    (subst (λ (held : List Observed). At line place (past ++ of_telephone held)) same (has_at line place past (open_in_normal line normal) has))
+drains (event ∷ events) line moment place past same normal has =
     let from : LineState = with_quarantined line events in
     let done : LineDone = occurred from event moment in
     let left : done.line.quarantined.events ≡ events = ap (λ (held : Held). held.events) (occurred_keeps from event moment) in
@@ -371,13 +398,14 @@ drains (event ∷ events) line moment place past same has =
     record { asks = has.asks; accumulated = has.accumulated; quiet = has.quiet; steps = has.steps; unshut = has.unshut } in
     drain_more from place past event events done (λ next. drained_of events next moment) from_has left
     (subst (λ (r : EventRequests). OccursBy (reaction_to r event) from event done) has.asks (occurred_occurs from event moment))
-    (λ (p : Place) (now : List Observed) (then_has : Has done.line p now). drains events done.line moment p now left then_has)
+    (λ (silent : done.notice ≡ None) (p : Place) (now : List Observed) (then_has : Has done.line p now).
+    drains events done.line moment p now left (occurred_state from event moment silent ∙ normal) then_has)
 
-resumes : (line : LineState) (moment : ℕ) (place : Place) (past : List Observed) → Has line place past
+pub resumes : (line : LineState) (moment : ℕ) (place : Place) (past : List Observed) → Has line place past
     → WalksOn place (past ++ of_telephone line.quarantined.events) (resumed line moment)
 unfolding resumed drained
 resumes line moment place past has =
-    drains line.quarantined.events (record line { state = Normal }) moment place past refl
+    drains line.quarantined.events (record line { state = Normal }) moment place past refl refl
     (record { asks = has.asks; accumulated = has.accumulated; quiet = has.quiet; steps = has.steps; unshut = has.unshut })
 
 at_has : (line : LineState) (place : Place) (waiting : List Observed) → (at : At line place waiting) → place.is_shut ≡ false → Has line place at.past
@@ -385,7 +413,7 @@ at_has line place waiting at unshut =
     record { asks = at.asks; accumulated = at.accumulated; quiet = at.quiet; steps = at.steps; unshut = unshut }
 
 -- where it isn't so that a line waits for a request
-open_by : (place : Place) (b : Bool) → place.is_shut ≡ b → (place.is_shut ≡ true → ⊥) → place.is_shut ≡ false
+pub open_by : (place : Place) (b : Bool) → place.is_shut ≡ b → (place.is_shut ≡ true → ⊥) → place.is_shut ≡ false
 open_by place true e never = absurd (never e)
 open_by place false e never = e
 
@@ -396,7 +424,7 @@ at_order : (line : LineState) (place : Place) (waiting : List Observed) → (at 
     → waiting ≡ at.past ++ of_telephone line.quarantined.events
 at_order line place waiting at = at.order ∙ ap (λ (held : List Observed). at.past ++ held) (sym at.quarantined)
 
-at_resumes : (line : LineState) (moment : ℕ) (place : Place) (waiting : List Observed) → At line place waiting → place.is_shut ≡ false
+pub at_resumes : (line : LineState) (moment : ℕ) (place : Place) (waiting : List Observed) → At line place waiting → place.is_shut ≡ false
     → WalksOn place waiting (resumed line moment)
 at_resumes line moment place waiting at unshut =
     subst (λ (w : List Observed). WalksOn place w (resumed line moment)) (sym (at_order line place waiting at))
@@ -411,10 +439,11 @@ empty_held line place waiting at empty =
     at_order line place waiting at ∙ ap (λ (held : List Observed). at.past ++ of_telephone held) empty ∙ append-nil at.past
 
 -- behind what occurred nothing is held
-alone_at : (done : LineDone) (place : Place) (now : List Observed) → Has done.line place now → done.line.quarantined.events ≡ []
-    → At done.line place now
-alone_at done place now has left =
-    subst (At done.line place) (ap (λ (held : List Observed). now ++ of_telephone held) left ∙ append-nil now) (has_at done.line place now has)
+alone_at : (done : LineDone) (place : Place) (now : List Observed) → done.line.state ≡ Normal → Has done.line place now
+    → done.line.quarantined.events ≡ [] → At done.line place now
+alone_at done place now normal has left =
+    subst (At done.line place) (ap (λ (held : List Observed). now ++ of_telephone held) left ∙ append-nil now)
+    (has_at done.line place now (open_in_normal done.line normal) has)
 
 told_alone : (place : Place) (front : List Observed) (done : LineDone) (notice : Notice) → done.notice ≡ Some notice
     → TellsOf place front notice.observed → At done.line (behind_notification place) [] → WalksOn place front done
@@ -430,8 +459,9 @@ turned_order past event rest none =
     ∙ one_more past event)
 
 turned_alone : (line : LineState) (event : Observed) (place : Place) (past : List Observed) (done : LineDone) → Has line place past
-    → done.line.quarantined.events ≡ [] → Turned line place past event done → WalksOn place (with_one past event) done
-turned_alone line event place past done has left t = by_how t.how where
+    → (done.notice ≡ None → done.line.state ≡ Normal) → done.line.quarantined.events ≡ [] → Turned line place past event done
+    → WalksOn place (with_one past event) done
+turned_alone line event place past done has normal left t = by_how t.how where
   by_how : ((done.notice ≡ None) × (of_telephone done.line.accumulated ≡ t.carried ++ []))
       ⊎ ((all : List Observed) × (of_telephone all ≡ t.carried ++ []) × TellsAll all done)
       → WalksOn place (with_one past event) done
@@ -439,21 +469,23 @@ turned_alone line event place past done has left t = by_how t.how where
       let to : Place = behind_embedded place t.request t.carried in
       walks_from (steps_of done.notice) (At done.line) place to (with_one past event) []
       (turned_embeds line place past event done (with_one past event) [] has t (turned_order past event [] refl))
-      (silent_walks to [] done silent (alone_at done to [] (turned_has line place past event done has t gathered) left))
+      (silent_walks to [] done silent (alone_at done to [] (normal silent) (turned_has line place past event done has t gathered) left))
   by_how (inr (all, is, tells)) =
       turned_tells line place past event done (with_one past event) all has t (turned_order past event done.line.quarantined.events left) is tells
 
 alone : (line : LineState) (event : Observed) (place : Place) (past : List Observed) (done : LineDone) → Has line place past
-    → done.line.quarantined.events ≡ [] → OccursBy (reaction_to place.requests event) line event done → WalksOn place (with_one past event) done
-alone line event place past done has left (inl ignores) =
+    → (done.notice ≡ None → done.line.state ≡ Normal) → done.line.quarantined.events ≡ []
+    → OccursBy (reaction_to place.requests event) line event done → WalksOn place (with_one past event) done
+alone line event place past done has normal left (inl ignores) =
     silent_walks place (with_one past event) done ignores.gathers.silent
-    (alone_at done place (with_one past event) (ignored_has line place past event done has ignores) left)
-alone line event place past done has left (inr (inl takes)) = by_how takes.how where
+    (alone_at done place (with_one past event) (normal ignores.gathers.silent) (ignored_has line place past event done has ignores) left)
+alone line event place past done has normal left (inr (inl takes)) = by_how takes.how where
   by_how : (((is_quiet (reaction_to place.requests event) ≡ true) × GathersAll (line.accumulated ++ event ∷ []) done)
       ⊎ TellsAll (line.accumulated ++ event ∷ []) done) → WalksOn place (with_one past event) done
   by_how (inl later) =
       silent_walks place (with_one past event) done later.1.silent
-      (alone_at done place (with_one past event) (gathered_has line place past event done has takes.same takes.collected later.0 later.1) left)
+      (alone_at done place (with_one past event) (normal later.1.silent)
+      (gathered_has line place past event done has takes.same takes.collected later.0 later.1) left)
   by_how (inr tells) =
       told_alone place (with_one past event) done tells.notice tells.tells (
         ap of_telephone tells.told ∙ collected_all line place past event has takes.collected,
@@ -461,8 +493,8 @@ alone line event place past done has left (inr (inl takes)) = by_how takes.how w
       )
       (subst (At done.line (behind_notification place)) (ap of_telephone left)
       (told_at place (line.accumulated ++ event ∷ []) done (takes.same.0 ∙ has.asks) (steps_on line done.line place takes.same has.steps) tells))
-alone line event place past done has left (inr (inr turns)) =
-    turned_alone line event place past done has left (turned line place past event done has turns)
+alone line event place past done has normal left (inr (inr turns)) =
+    turned_alone line event place past done has normal left (turned line place past event done has turns)
 
 -- as where it were the last one that is quarantined
 occurs_alone : (line : LineState) (event : Observed) (moment : ℕ) (place : Place) (waiting : List Observed) → At line place waiting
@@ -474,7 +506,8 @@ occurs_alone line event moment place waiting at normal empty =
     let occurs : OccursBy (reaction_to place.requests event) line event done =
     subst (λ (r : EventRequests). OccursBy (reaction_to r event) line event done) at.asks (occurred_occurs line event moment) in
     subst (λ (w : List Observed). WalksOn place (with_one w event) done) (sym same)
-    (alone line event place at.past done (at_has line place waiting at (at_normal line place waiting at normal)) left occurs)
+    (alone line event place at.past done (at_has line place waiting at (at_normal line place waiting at normal))
+    (λ (silent : done.notice ≡ None). occurred_state line event moment silent ∙ normal) left occurs)
 
 -- while no event occurs it is quarantined, where it is kept and there is room, and else lost
 held_or_lost : (held : Held) (event : Observed)
@@ -520,10 +553,11 @@ waits_at line event place waiting at phone grew = record {
   shuts = at.shuts;
   shut = λ (is : place.is_shut ≡ true).
       (let shut = at.shut is in record { none_past = shut.none_past; awaits = shut.awaits; fresh = shut.fresh });
+  own = at.own;
 }
 
 -- what is no telephone's changes nothing of that
-other_held : (line : LineState) (event : Observed) → is_of_telephone event ≡ false
+pub other_held : (line : LineState) (event : Observed) → is_of_telephone event ≡ false
     → of_telephone (quarantining line event).quarantined.events ≡ of_telephone line.quarantined.events
 unfolding quarantining holding
 other_held line event other = by_kept (is_kept line.requests event) where
@@ -543,11 +577,12 @@ other_held line event other = by_kept (is_kept line.requests event) where
 
 -- what a line keeps for the walk
 pub record Keeps (line other : LineState) : Type 0 where
-  asks : Same other line
-  accumulated : other.accumulated ≡ line.accumulated
-  quarantined : of_telephone other.quarantined.events ≡ of_telephone line.quarantined.events
-  awaits : line.state ≢ Normal → other.state ≢ Normal
-  renewed : other.renewed ≡ line.renewed
+  pub asks : Same other line
+  pub accumulated : other.accumulated ≡ line.accumulated
+  pub quarantined : of_telephone other.quarantined.events ≡ of_telephone line.quarantined.events
+  pub awaits : line.state ≢ Normal → other.state ≢ Normal
+  pub renewed : other.renewed ≡ line.renewed
+  pub waits : awaits_request other ≡ awaits_request line
 
 pub other_at : (line other : LineState) (place : Place) (waiting : List Observed) → At line place waiting → Keeps line other → At other place waiting
 other_at line other place waiting at keeps = record {
@@ -563,9 +598,10 @@ other_at line other place waiting at keeps = record {
   shut = λ (is : place.is_shut ≡ true).
       (let shut = at.shut is in
       record { none_past = shut.none_past; awaits = keeps.awaits shut.awaits; fresh = keeps.renewed ∙ shut.fresh });
+  own = shut_on line other place keeps.waits at.own;
 }
 
-keeps_same : (line other : LineState) → Same other line → other.accumulated ≡ line.accumulated → other.quarantined ≡ line.quarantined
+pub keeps_same : (line other : LineState) → Same other line → other.accumulated ≡ line.accumulated → other.quarantined ≡ line.quarantined
     → other.state ≡ line.state → other.renewed ≡ line.renewed → Keeps line other
 keeps_same line other asks acc held state renewed = record {
   asks = asks;
@@ -573,6 +609,7 @@ keeps_same line other asks acc held state renewed = record {
   quarantined = ap (λ (h : Held). of_telephone h.events) held;
   awaits = λ (awaits : line.state ≢ Normal) (normal : other.state ≡ Normal). awaits (sym state ∙ normal);
   renewed = renewed;
+  waits = waits_same line other asks.1 state renewed;
 }
 
 quarantining_keeps : (line : LineState) (event : Observed) → is_of_telephone event ≡ false → Keeps line (quarantining line event)
@@ -583,6 +620,7 @@ quarantining_keeps line event other = record {
   quarantined = other_held line event other;
   awaits = λ (awaits : line.state ≢ Normal). awaits;
   renewed = refl;
+  waits = refl;
 }
 
 -- an act: kept, dropped or lost
@@ -613,6 +651,7 @@ lost_loses line event lost = record {
     quarantined = ap (λ (held : Held). of_telephone held.events) lost;
     awaits = λ (awaits : line.state ≢ Normal). awaits;
     renewed = refl;
+    waits = refl;
   };
   counted = ap (λ (held : Held). held.lost) lost;
 }
@@ -652,12 +691,12 @@ act_by line event moment false kept drained phone =
     subst (λ (w : List Observed). WalksOn place w (detected line event moment)) (act_is line event place waiting false at kept)
     (subst (WalksOn place waiting) (sym (unasked_events_do_nothing.detecting line event moment kept)) (here (At line) place waiting at)))
 
-act_walks : (line : LineState) (event : Observed) (moment : ℕ) → IsDrained line → is_of_telephone event ≡ true
+pub act_walks : (line : LineState) (event : Observed) (moment : ℕ) → IsDrained line → is_of_telephone event ≡ true
     → ActWalks line event (detected line event moment) ⊎ Loses line (detected line event moment)
 act_walks line event moment drained phone = act_by line event moment (is_kept line.requests event) refl drained phone
 
 -- the hook state is none of the walk's
-from_hooked : (line other : LineState) (event : Observed) (done : LineDone) → Keeps line other → other.quarantined.lost ≡ line.quarantined.lost
+pub from_hooked : (line other : LineState) (event : Observed) (done : LineDone) → Keeps line other → other.quarantined.lost ≡ line.quarantined.lost
     → ActWalks other event done ⊎ Loses other done → ActWalks line event done ⊎ Loses line done
 from_hooked line other event done keeps same (inl walks) =
     inl
@@ -673,6 +712,7 @@ from_hooked line other event done keeps same (inr loses) =
         quarantined = loses.keeps.quarantined ∙ keeps.quarantined;
         awaits = λ (awaits : line.state ≢ Normal). loses.keeps.awaits (keeps.awaits awaits);
         renewed = loses.keeps.renewed ∙ keeps.renewed;
+        waits = loses.keeps.waits ∙ keeps.waits;
       };
       counted = loses.counted ∙ ap (λ (n : ℕ). min most_lost (n + 1)) same;
     })
@@ -690,111 +730,7 @@ end_in Notification line event moment place waiting is drained other at =
 end_in Lockstep line event moment place waiting is drained other at =
     here (At (quarantining line event)) place waiting (other_at line (quarantining line event) place waiting at (quarantining_keeps line event other))
 
-end_walks : (line : LineState) (event : Observed) (moment : ℕ) (place : Place) (waiting : List Observed) → IsDrained line
+pub end_walks : (line : LineState) (event : Observed) (moment : ℕ) (place : Place) (waiting : List Observed) → IsDrained line
     → is_of_telephone event ≡ false → At line place waiting → WalksOn place waiting (detected line event moment)
 unfolding detected
 end_walks line event moment place waiting drained other at = end_in line.state line event moment place waiting refl drained other at
-
--- Each call
-
-pub phoned_walks : (line : LineState) (act : Act) (moment : ℕ) → IsDrained line
-    → ActWalks line (observed_at act) (phoned line act moment) ⊎ Loses line (phoned line act moment)
-unfolding phoned
-phoned_walks line OffHook moment drained =
-    let to : LineState = hooked line OffHook in
-    from_hooked line to (observed_at OffHook) (detected to (observed_at OffHook) moment) (keeps_same line to (refl, refl) refl refl refl refl) refl
-    (act_walks to (observed_at OffHook) moment drained (act_of_phone OffHook))
-phoned_walks line OnHook moment drained =
-    let to : LineState = hooked line OnHook in
-    from_hooked line to (observed_at OnHook) (detected to (observed_at OnHook) moment) (keeps_same line to (refl, refl) refl refl refl refl) refl
-    (act_walks to (observed_at OnHook) moment drained (act_of_phone OnHook))
-phoned_walks line Flash moment drained = act_walks line (observed_at Flash) moment drained (act_of_phone Flash)
-phoned_walks line (Key key) moment drained = act_walks line (observed_at (Key key)) moment drained (act_of_phone (Key key))
-
--- a request
-left_held : (handling : Quarantined) (line : LineState) (held : List Observed) → of_telephone line.quarantined.events ≡ held
-    → of_telephone (quarantined_after handling line.quarantined).events ≡ left_by handling held
-left_held Process line held same = same
-left_held Discard line held same = refl
-
-replaced_has : (line : LineState) (request : Request) (moment : ℕ) → Has (replaced line request moment) (behind_request request) []
-unfolding replaced
-replaced_has line request moment = record {
-  asks = refl;
-  accumulated = refl;
-  quiet = refl;
-  steps = λ (is : not (is_loop request.handling.notifying) ≡ true). not-true (is_loop request.handling.notifying) is;
-  unshut = refl;
-}
-
-request_by : (state : State) (line : LineState) (moment : ℕ) (place : Place) → Has line place []
-    → WalksOn place (of_telephone line.quarantined.events) (resumed_in state line moment)
-request_by Normal line moment place has = resumes line moment place [] has
-request_by Lockstep line moment place has = resumes line moment place [] has
-request_by Notification line moment place has =
-    let to : LineState = record line { renewed = true } in
-    here (At to) place (of_telephone line.quarantined.events)
-    (has_at to place []
-    (record { asks = has.asks; accumulated = has.accumulated; quiet = has.quiet; steps = has.steps; unshut = has.unshut }))
-
-pub asked_walks : (line : LineState) (request : Request) (moment : ℕ) (place : Place) (waiting : List Observed) → At line place waiting
-    → Walks place waiting (accepts request ∷ steps_of (asked line request moment).notice) (At (asked line request moment).line)
-unfolding asked replaced
-asked_walks line request moment place waiting at =
-    let to : LineState = replaced line request moment in
-    let goes : WalksOn (behind_request request) (of_telephone to.quarantined.events) (asked line request moment) =
-    request_by line.state to moment (behind_request request) (replaced_has line request moment) in
-    let walk : WalksOn (behind_request request) (left_by request.handling.quarantined at.held) (asked line request moment) =
-    subst (λ (w : List Observed). WalksOn (behind_request request) w (asked line request moment))
-    (left_held request.handling.quarantined line at.held at.quarantined) goes in
-    let shut : place.is_shut ≡ true → at.past ≡ [] = λ (is : place.is_shut ≡ true). (at.shut is).none_past in
-    (place, waiting, no_more place waiting, (at.past, at.held, at.order, at.quiet, shut, walk))
-
--- a line that waits for a request isn't answered so that events occur
-neither : (one other : Bool) → one ≡ false → other ≡ false → (one || other) ≡ false
-neither one other none nor = ap (λ (b : Bool). b || other) none ∙ nor
-
-answered_by : (line : LineState) (moment : ℕ) (place : Place) (waiting : List Observed) (b : Bool) → At line place waiting
-    → (place.is_shut ≡ true → b ≡ false) → WalksOn place waiting (if b then resumed line moment else still (record line { state = Lockstep }))
-answered_by line moment place waiting true at shut =
-    at_resumes line moment place waiting at (open_by place place.is_shut refl (λ (is : place.is_shut ≡ true). true≢false (shut is)))
-answered_by line moment place waiting false at shut =
-    let to : LineState = record line { state = Lockstep } in
-    here (At to) place waiting
-    (other_at line to place waiting at
-    (record {
-      asks = (refl, refl);
-      accumulated = refl;
-      quarantined = refl;
-      awaits = λ (awaits : line.state ≢ Normal) (normal : Lockstep ≡ Normal). cc;
-      renewed = refl;
-    }))
-
-pub answered_walks : (line : LineState) (moment : ℕ) (place : Place) (waiting : List Observed) → At line place waiting
-    → WalksOn place waiting (answered line moment)
-unfolding answered
-answered_walks line moment place waiting at =
-    answered_by line moment place waiting (is_loop line.handling.notifying || line.renewed) at
-    (λ (is : place.is_shut ≡ true). neither (is_loop line.handling.notifying) line.renewed (at.steps (at.shuts is)) (at.shut is).fresh)
-
-pub opened_walks : (line : LineState) (moment : ℕ) (place : Place) (waiting : List Observed) → At line place waiting → place.is_shut ≡ false
-    → WalksOn place waiting (opened line moment)
-unfolding opened
-opened_walks line moment place waiting at unshut = at_resumes line moment place waiting at unshut
-
-ended_walks : (kind : Kind) (signal : Signal) (line : LineState) (moment : ℕ) (place : Place) (waiting : List Observed) → IsDrained line
-    → At line place waiting → WalksOn place waiting (ended_by kind signal line moment)
-ended_walks TimeOut signal line moment place waiting drained at = end_walks line (Ended signal) moment place waiting drained refl at
-ended_walks Brief signal line moment place waiting drained at = here (At line) place waiting at
-ended_walks OnOff signal line moment place waiting drained at = here (At line) place waiting at
-
-pub fired_walks : (line : LineState) (due : LineDue) (moment : ℕ) (place : Place) (waiting : List Observed) → IsDrained line
-    → At line place waiting → WalksOn place waiting (fired line due moment)
-unfolding fired
-fired_walks line DigitTimer moment place waiting drained at =
-    end_walks (record line { timer = None }) (Happened (events.Letter letters.Timer)) moment place waiting drained refl
-    (other_at line (record line { timer = None }) place waiting at (keeps_same line (record line { timer = None }) (refl, refl) refl refl refl refl))
-fired_walks line (SignalEnd signal) moment place waiting drained at =
-    let to : LineState = record line { signals = without signal line.signals } in
-    ended_walks (kind_of signal) signal to moment place waiting drained
-    (other_at line to place waiting at (keeps_same line to (refl, refl) refl refl refl refl))

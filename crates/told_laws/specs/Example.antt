@@ -7,6 +7,7 @@ use Rattle.event_requests.specs.declared.request.Request.{Request}
 use Rattle.mg_line.specs.declared.phone.Act.TheVariants.{OffHook, OnHook, Flash, Key}
 use Rattle.mg_line.specs.declared.phone.Key.TheVariants.{Five, Six}
 use Rattle.mg_line.specs.Line.{LineState, most_quarantined, opening_line}
+use Rattle.mg_line.specs.State.TheVariants.{Normal}
 use Rattle.mg_line.specs.Scenario.{requests, with_handling}
 use Rattle.plain_machine.specs.Event.{GatewayEvent, phone}
 use Rattle.plain_machine.specs.Example.{rqnt, response}
@@ -61,9 +62,13 @@ flashes_and_hangs_up =
     ∷ rqnt 8 (codes "aaln/1") (codes "X: 2\r\nR: L/hd(N),L/hu(N),L/hf(E(R(L/hu(N)))),D/[0-9*#ABCD](N)\r\nQ: loop\r\n") ∷ phone 1 Flash
     ∷ phone 1 (Key Five) ∷ phone 1 OnHook ∷ []
 
--- a line at its opening, but for what it counts as lost
-abbrev pub counts : ℕ → LineState
-counts lost = record opening_line { quarantined = record opening_line.quarantined { lost = lost } }
+-- a line that was sent this request, as far as a walk says where it stands: events occur
+abbrev pub follows : Request → LineState → LineState
+follows request line = record line { requests = request.events; handling = request.handling; state = Normal }
+
+-- but for what it counts as lost, one to which no more came
+abbrev pub counts : Request → ℕ → LineState
+counts request lost = follows request (record opening_line { quarantined = record opening_line.quarantined { lost = lost } })
 
 -- what waits at the end of a walk
 abbrev pub waits : List Observed → End

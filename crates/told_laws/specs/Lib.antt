@@ -1,5 +1,6 @@
 pub mod Among
 pub mod Walking
+pub mod Fronts
 pub mod Stretch
 pub mod Fate
 pub mod Example

@@ -8,13 +8,13 @@ use Rattle.mg_line.specs.Line.{LineState, opening_line}
 use Rattle.mg_line.specs.Scenario.{requests}
 use Rattle.agent_core.specs.World.{WorldStep, delivering, dialling}
 use Rattle.delivery_laws.specs.DialledExample.{asked}
-use Rattle.told_laws.specs.Example.{flash_drops}
+use Rattle.told_laws.specs.Example.{flash_drops, follows}
 use Rattle.told_laws.specs.Walking.{Place, behind_notification, behind_request}
 
--- a line that keeps these, accumulated and quarantined
-abbrev pub keeping : List Observed → List Observed → LineState
-keeping accumulated held =
-    record opening_line { accumulated = accumulated; quarantined = record opening_line.quarantined { events = held } }
+-- a line that follows a request, and keeps these, accumulated and quarantined
+abbrev pub keeping : Request → List Observed → List Observed → LineState
+keeping request accumulated held =
+    record (follows request opening_line) { accumulated = accumulated; quarantined = record opening_line.quarantined { events = held } }
 
 -- behind a notification, in step, by a request for which a flash would bring another into force
 abbrev pub shut_place : Place

@@ -1,7 +1,7 @@
 -- How what a line tells walks through what was done at its telephone (RFC 3435, 2.3.3 and 4.4.1): each act is told, or is kept to be told,
 -- or was lost, and counted, or was dropped where the walk says so: neither R nor T named it, and it isn't persistent; R gave it nothing,
 -- or I; E without A took it, or emptied the list in which it was; or a request emptied that list.
-use Rattle.std.specs.Prelude.{◌≡◌, ℕ, zero, suc, ◌≤◌, min, Bool, true, false, not, ◌&&◌, if◌then◌else◌, List, [], ◌∷◌, ◌++◌, filter}
+use Rattle.std.specs.Prelude.{◌≡◌, ◌⊎◌, ℕ, zero, suc, ◌≤◌, ◌<◌, min, Bool, true, false, not, ◌&&◌, if◌then◌else◌, List, [], ◌∷◌, ◌++◌, filter}
 use Rattle.std.specs.List.{list_all}
 use Rattle.mg_packages.specs.declared.event.LineEvent.{LineEvent}
 use Rattle.event_values.specs.declared.handling.Quarantined.{Quarantined}
@@ -20,6 +20,8 @@ use Rattle.mg_line.specs.declared.phone.Act.{Act}
 use Rattle.mg_line.specs.Acting.{observed_at}
 use Rattle.mg_line.specs.Answering.{is_loop}
 use Rattle.mg_line.specs.Line.{LineState}
+use Rattle.mg_line.specs.State.{State}
+use Rattle.mg_line.specs.State.TheVariants.{Normal, Notification, Lockstep}
 use Rattle.delivery_laws.specs.Course.{CourseStep, acts, accepts, notifies}
 use Rattle.delivery_laws.specs.Keeping.{is_bare}
 use Rattle.delivery_laws.specs.Rounds.{of_telephone}
@@ -84,9 +86,9 @@ pub record Place : Type 0 where
   pub in_step : Bool
   pub is_shut : Bool
 
--- at the opening, where nothing was asked for
+-- at the opening, where nothing was asked for: a line is in step until it is asked for something else
 abbrev pub nothing_asked : Place
-nothing_asked = record { requests = no_requests; carried = []; in_step = false; is_shut = false }
+nothing_asked = record { requests = no_requests; carried = []; in_step = true; is_shut = false }
 
 abbrev pub behind_request : Request → Place
 behind_request request =
@@ -152,12 +154,32 @@ Walks place waiting (notifies identifier observed ∷ course) end =
     Then place waiting (λ next left. (front : List Observed) × (held : List Observed) × (left ≡ front ++ held)
     × TellsOf next front observed × Walks (behind_notification next) held course end)
 
--- a line at its end: what had occurred and R has told is accumulated, and the rest is quarantined
+-- Where a line stands in the walk
+
+-- no event occurs
+abbrev pub is_waiting : State → Bool
+is_waiting Normal = false
+is_waiting Notification = true
+is_waiting Lockstep = true
+
+-- in step, a line waits for a request from its notification on: whatever answers that, events occur behind a request alone
+abbrev pub awaits_request : LineState → Bool
+awaits_request line = is_waiting line.state && (not (is_loop line.handling.notifying) && not line.renewed)
+
+-- The place is the line's own: R and T in force there, also R of an embedded request, are those that the line has; it is in step where the
+-- line is; and a request is waited for where the line waits for one. A line to which nothing was said, and that told nothing, waits for its
+-- gateway to serve.
+pub record IsItsPlace (line : LineState) (place : Place) : Type 0 where
+  pub requests : place.requests ≡ line.requests
+  pub in_step : place.in_step ≡ not (is_loop line.handling.notifying)
+  pub is_shut : (place.is_shut ≡ awaits_request line) ⊎ (place ≡ nothing_asked)
+
+-- a line at its end: what had occurred and R has told is accumulated, and the rest is quarantined; and the place is its own
 abbrev pub Stays : LineState → End
 Stays line place waiting =
     (occurred : List Observed) × (held : List Observed) × (waiting ≡ occurred ++ held)
     × (of_telephone line.accumulated ≡ told_of_front place occurred) × (are_quiet place.requests occurred ≡ true)
-    × (of_telephone line.quarantined.events ≡ held)
+    × (of_telephone line.quarantined.events ≡ held) × IsItsPlace line place
 
 -- Where acts are lost for want of room
 
@@ -175,6 +197,10 @@ pub record WalksButLost (course : List CourseStep) (line : LineState) : Type 0 w
   pub others : AllButLost lost left course
   pub counted : min most_lost lost ≤ line.quarantined.lost
   pub walk : Walks nothing_asked [] left (Stays line)
+
+-- none was lost between these: the count is the same, and below the greatest, at which it stays
+abbrev pub NoneLostSince : LineState → LineState → Type 0
+NoneLostSince was is = (is.quarantined.lost ≤ was.quarantined.lost) × (is.quarantined.lost < most_lost)
 
 -- The first notification behind a request
 

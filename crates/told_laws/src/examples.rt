@@ -110,8 +110,8 @@ pub fn what_is_lost_is_counted()
     ensures order { ¬ AllButLost 0 (does acts.Flash ∷ does acts.OffHook ∷ []) (does acts.OffHook ∷ does acts.Flash ∷ []) }
     ensures request { ¬ AllButLost 1 [] (accepts has_lifting_told ∷ []) }
     ensures notification { ¬ AllButLost 1 [] (notifies (codes "A1") (five ∷ []) ∷ []) }
-    ensures counted { WalksButLost (accepts has_lifting_told ∷ does acts.OffHook ∷ []) (counts 1) }
-    ensures not_counted { ¬ WalksButLost (accepts has_lifting_told ∷ does acts.OffHook ∷ []) (counts 0) }
+    ensures counted { WalksButLost (accepts has_lifting_told ∷ does acts.OffHook ∷ []) (counts has_lifting_told 1) }
+    ensures not_counted { ¬ WalksButLost (accepts has_lifting_told ∷ does acts.OffHook ∷ []) (counts has_lifting_told 0) }
 {}
 
 /// Where more comes than there is room for, the last is lost, and the walk says so of none but what is counted.

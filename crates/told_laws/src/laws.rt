@@ -1,25 +1,30 @@
 //! Laws of what a line tells, whatever is asked of it, over every list of events.
 ghost use Rattle.std.specs.Prelude.{◌≡◌, ◌++◌, ◌∷◌, [], ℕ, ◌+◌, ◌≤◌, true, false, List, Some, None, IfSome};
+ghost use Rattle.std.specs.declared.net.socket_addr.SocketAddrV4.{SocketAddrV4};
 ghost use Rattle.event_values.specs.declared.observed.Observed.{Observed};
 ghost use Rattle.event_requests.specs.declared.request.Request.{Request};
 ghost use Rattle.mg_line.specs.Answering.{is_loop};
+ghost use Rattle.mgcp_text.specs.Reading.{read_text};
+ghost use Rattle.transmission.specs.Texts.{texts_of};
 ghost use Rattle.plain_machine.specs.declared.setup.Setup.{Setup};
 ghost use Rattle.plain_machine.specs.declared.endpoint.Endpoint.{Endpoint};
-ghost use Rattle.plain_machine.specs.Event.{GatewayEvent};
+ghost use Rattle.plain_machine.specs.Event.{GatewayEvent, datagram};
 ghost use Rattle.plain_machine.specs.Lists.{are_taken, plain, sent_of};
-ghost use Rattle.plain_machine.specs.Machine.{endpoint_at};
+ghost use Rattle.plain_machine.specs.Machine.{endpoint_at, opening};
 ghost use Rattle.plain_machine.specs.Setup.{IsSetUp};
 ghost use Rattle.machine_laws.specs.Belonging.{of_line};
 ghost use Rattle.call_agent.specs.Agent.{observed_on};
 ghost use Rattle.agent_core.specs.World.{WorldStep, agent_in, gateway_in, now_in, plain_world, steps_are_taken, world_opening};
 ghost use Rattle.delivery_laws.specs.GivenUp.{has_given_up};
-ghost use Rattle.delivery_laws.specs.Course.{CourseStep, accepts, notifies, course_from, course_of};
+ghost use Rattle.delivery_laws.specs.Course.{CourseStep, accepted_at, accepts, notifies, course_from, course_of};
 ghost use Rattle.delivery_laws.specs.Rounds.{of_telephone};
 ghost use Rattle.told_laws.specs.Among.{AreAmong, IsToldInOrder};
 ghost use Rattle.delivery_laws.specs.Dialled.{done_in, told_along, latest_from, IsAskedForAll, IsToldOnce};
 ghost use Rattle.told_laws.specs.Fate.{IsTakenOf, fates_of, joined, kept_of};
 ghost use Rattle.told_laws.specs.Stretch.{AnnouncesNothing, IsWhole, course_meanwhile, outliving, taken_meanwhile};
-ghost use Rattle.told_laws.specs.Walking.{nothing_asked, EmbedsNone, Walks, Stays, WalksButLost, AreActs, TellsAFront, TellsOfHeld, TellsWhatWasKept};
+ghost use Rattle.told_laws.specs.Fronts.{course_amid, machine_amid, WalksAlong};
+ghost use Rattle.told_laws.specs.Walking.{nothing_asked, EmbedsNone, NoneLostSince, Walks, Stays, WalksButLost, AreActs};
+ghost use Rattle.told_laws.specs.Walking.{TellsAFront, TellsOfHeld, TellsWhatWasKept};
 
 /// Whatever is asked of a line, and by whatever requests: what its notifications told, each at its first send, joined, and then what it
 /// keeps to tell it, was done at its telephone, in that order, and nothing of it twice, but for the ends of signals and of timer T.
@@ -35,13 +40,18 @@ pub fn what_is_told_was_done_in_that_order()
 /// of what waits; or it waits, accumulated or quarantined; or it was lost for want of room, and the line counts each, so none where it
 /// counts none; or it was dropped: neither R nor T named it, and it isn't persistent; R gave it nothing, or I; E without A took it, or
 /// emptied the list in which it was; or a request emptied that list, in which R had none told at once, and which was empty where the line
-/// waited for that request, in step; or it discards what is quarantined.
+/// waited for that request, in step; or it discards what is quarantined. R, T and Q of that moment are the line's own: where none is lost one
+/// walk goes through all events, and behind each of them its place is where the line stands, with the request, or the embedded one, that is
+/// in force on the line.
 pub fn each_act_is_walked_through()
     ensures but_lost { (setup : Setup) (line : ℕ) (events : List GatewayEvent) (endpoint : Endpoint) →
         endpoint_at (plain setup events).endpoints line ≡ Some endpoint → WalksButLost (course_of setup line events) endpoint.line }
     ensures none_lost { (setup : Setup) (line : ℕ) (events : List GatewayEvent) (endpoint : Endpoint) →
         endpoint_at (plain setup events).endpoints line ≡ Some endpoint → endpoint.line.quarantined.lost ≡ 0 →
         Walks nothing_asked [] (course_of setup line events) (Stays endpoint.line) }
+    ensures at_each_event { (setup : Setup) (line : ℕ) (events : List GatewayEvent) (endpoint : Endpoint) →
+        endpoint_at (plain setup events).endpoints line ≡ Some endpoint → endpoint.line.quarantined.lost ≡ 0 →
+        WalksAlong setup line (opening setup) events nothing_asked [] }
 {}
 
 /// So the first notification behind a request that embeds none, with a digit map too, tells in their order each event that R names, up to
@@ -90,6 +100,23 @@ pub fn what_is_quarantined_is_told_behind_the_next_request()
         endpoint_at (plain setup (before ++ after)).endpoints line ≡ Some last → last.line.quarantined.lost ≡ 0 →
         Walks nothing_asked [] (course_of setup line before) (λ place waiting. Stays endpoint.line place waiting
         × Walks place waiting (course_from setup (plain setup before) line after) (Stays last.line)) }
+{}
+
+/// So it is at any request that a line accepts, in step and in loop, whatever was before, amid a datagram too: what the line has quarantined
+/// just then is what the request leaves, or discards; and of that, and of what was done since, the first notification behind it tells, in
+/// their order, each event that its R names, up to it, where it embeds no request, and none is lost since.
+pub fn what_is_quarantined_at_a_request_is_told_behind_it()
+    ensures { (setup : Setup) (line : ℕ) (before after : List GatewayEvent) (source : SocketAddrV4) (bytes text : List ℕ)
+        (first texts : List (List ℕ)) (request : Request) (endpoint last : Endpoint) (between behind : List CourseStep)
+        (identifier : List ℕ) (observed : List Observed) → texts_of bytes ≡ first ++ text ∷ texts →
+        endpoint_at (machine_amid setup before source first).endpoints line ≡ Some endpoint →
+        endpoint_at (plain setup (before ++ datagram source bytes ∷ after)).endpoints line ≡ Some last →
+        accepted_at setup (machine_amid setup before source first) line (read_text text) ≡ accepts request ∷ [] →
+        EmbedsNone request.events → NoneLostSince endpoint.line last.line →
+        course_amid setup (machine_amid setup before source first) line source (text ∷ texts) after
+        ≡ accepts request ∷ (between ++ notifies identifier observed ∷ behind) →
+        AreActs between →
+        TellsOfHeld request (of_telephone endpoint.line.quarantined.events) (done_in between) observed }
 {}
 
 /// And where a line is asked for all that its telephone does before that does anything, and so at each request since, and nothing is lost

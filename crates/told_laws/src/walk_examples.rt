@@ -41,16 +41,16 @@ pub fn one_request_comes_into_force()
 /// What a line keeps stands behind what it told, and what is accumulated before what is quarantined. At the end what had occurred is
 /// accumulated, where R has that told; and of it R has none told at once, nor a request embedded at one.
 pub fn what_is_kept_stands_behind_what_is_told()
-    ensures kept { kept_by (keeping (five ∷ []) (six ∷ [])) ≡ five ∷ six ∷ [] }
+    ensures kept { kept_by (keeping has_keys_collected (five ∷ []) (six ∷ [])) ≡ five ∷ six ∷ [] }
     ensures in_order { IsToldInOrder (does acts.OffHook ∷ notifies (codes "0") (lifted ∷ []) ∷ does (acts.Key keys.Five)
-        ∷ does (acts.Key keys.Six) ∷ []) (keeping (five ∷ []) (six ∷ [])) }
+        ∷ does (acts.Key keys.Six) ∷ []) (keeping has_keys_collected (five ∷ []) (six ∷ [])) }
     ensures out_of_order { ¬ IsToldInOrder (does acts.OffHook ∷ notifies (codes "0") (lifted ∷ []) ∷ does (acts.Key keys.Six)
-        ∷ does (acts.Key keys.Five) ∷ []) (keeping (five ∷ []) (six ∷ [])) }
-    ensures accumulated { Stays (keeping (five ∷ []) []) (behind_request has_keys_collected) (five ∷ []) }
-    ensures not_done { ¬ Stays (keeping (five ∷ []) []) (behind_request has_keys_collected) [] }
-    ensures at_once { ¬ Stays (keeping (lifted ∷ []) []) (behind_request has_lifting_told) (lifted ∷ []) }
-    ensures embedded { ¬ Stays (keeping [] []) (behind_request flash_drops) (flashed ∷ []) }
-    ensures embedded_too { ¬ Stays (keeping (flashed ∷ []) []) (behind_request flash_carries) (flashed ∷ []) }
+        ∷ does (acts.Key keys.Five) ∷ []) (keeping has_keys_collected (five ∷ []) (six ∷ [])) }
+    ensures accumulated { Stays (keeping has_keys_collected (five ∷ []) []) (behind_request has_keys_collected) (five ∷ []) }
+    ensures not_done { ¬ Stays (keeping has_keys_collected (five ∷ []) []) (behind_request has_keys_collected) [] }
+    ensures at_once { ¬ Stays (keeping has_lifting_told (lifted ∷ []) []) (behind_request has_lifting_told) (lifted ∷ []) }
+    ensures embedded { ¬ Stays (keeping flash_drops [] []) (behind_request flash_drops) (flashed ∷ []) }
+    ensures embedded_too { ¬ Stays (keeping flash_carries (flashed ∷ []) []) (behind_request flash_carries) (flashed ∷ []) }
 {}
 
 /// A request that discards has nothing told of what was done before it; one that doesn't has.

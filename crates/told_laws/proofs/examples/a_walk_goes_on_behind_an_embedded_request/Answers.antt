@@ -1,4 +1,4 @@
-use Rattle.std.proofs.Common.{[], ◌∷◌, refl}
+use Rattle.std.proofs.Common.{[], ◌∷◌, inl, refl}
 use Rattle.delivery_laws.specs.OnceExample.{hung_up, lifted}
 use Rattle.told_laws.specs.Example.{flashed}
 use Rattle.told_laws.specs.Walking.{by_event, no_more}
@@ -30,4 +30,4 @@ returns-clause-no_request c = λ request brings. brings
 pub returns-clause-on_a_line : goal.returns-clause-on_a_line
 unfolding on_examples
 returns-clause-on_a_line c =
-    (_, _, no_more _ _, ([], [], refl, refl, λ is. refl, (_, _, no_more _ _, (_, _, no_more _ _, (lifted ∷ [], [], refl, (refl, refl), (_, _, no_more _ _, (_, _, by_event _ _ _ [] [] _ [] flashed _ refl refl refl (refl, refl) (no_more _ _), (_, _, no_more _ _, ([], [], refl, refl, refl, refl)))))))))
+    (_, _, no_more _ _, ([], [], refl, refl, λ is. refl, (_, _, no_more _ _, (_, _, no_more _ _, (lifted ∷ [], [], refl, (refl, refl), (_, _, no_more _ _, (_, _, by_event _ _ _ [] [] _ [] flashed _ refl refl refl (refl, refl) (no_more _ _), (_, _, no_more _ _, ([], [], refl, refl, refl, refl, record { requests = refl; in_step = refl; is_shut = inl refl })))))))))

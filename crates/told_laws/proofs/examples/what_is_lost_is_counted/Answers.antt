@@ -1,4 +1,4 @@
-use Rattle.std.proofs.Common.{◌≡◌, ◌+◌, List, [], ◌∷◌, length, refl, sym, subst, arith}
+use Rattle.std.proofs.Common.{◌≡◌, ◌+◌, List, [], ◌∷◌, inl, length, refl, sym, subst, arith}
 use Rattle.event_values.specs.declared.observed.Observed.{Observed}
 use Rattle.mg_line.specs.declared.phone.Act.TheVariants.{OffHook, Flash}
 use Rattle.delivery_laws.specs.Course.{CourseStep, acts, accepts}
@@ -13,16 +13,16 @@ use Rattle.told_laws.proofs.WalkCourses.{none_lost}
 use Rattle.told_laws.proofs.examples.what_is_lost_is_counted.Goals as goal
 
 -- what stands is told at once, and neither told nor kept
-never_stays : Stays (counts 0) (behind_request has_lifting_told) (lifted ∷ []) → ⊥
+never_stays : Stays (counts has_lifting_told 0) (behind_request has_lifting_told) (lifted ∷ []) → ⊥
 unfolding on_examples
-never_stays (occurred, held, order, told, quiet, kept) =
+never_stays (occurred, held, order, told, quiet, kept, own) =
     at_once_stays has_lifting_told.events lifted occurred held [] (λ more. refl) order quiet (sym kept)
 
-none_walks : Walks nothing_asked [] (accepts has_lifting_told ∷ acts OffHook ∷ []) (Stays (counts 0)) → ⊥
+none_walks : Walks nothing_asked [] (accepts has_lifting_told ∷ acts OffHook ∷ []) (Stays (counts has_lifting_told 0)) → ⊥
 unfolding on_examples
 none_walks walk =
     let place : Place = behind_request has_lifting_told in
-    let end = Stays (counts 0) in
+    let end = Stays (counts has_lifting_told 0) in
     let never = none_by_requests place (bare_all has_lifting_told.events.requested refl) in
     let w = from_a_request has_lifting_told (acts OffHook ∷ []) end walk in
     let at = ends_there (λ (p : Place) (x : List Observed). Walks p (with_act p.requests x lifted) [] end) place [] never w in
@@ -58,12 +58,12 @@ returns-clause-counted c = record {
   left = accepts has_lifting_told ∷ [];
   others = a_step 1 (accepts has_lifting_told) [] (acts OffHook ∷ []) (a_lost_act 0 OffHook [] [] no_step);
   counted = omega arith;
-  walk = (_, _, no_more _ _, ([], [], refl, refl, λ is. refl, (_, _, no_more _ _, ([], [], refl, refl, refl, refl))));
+  walk = (_, _, no_more _ _, ([], [], refl, refl, λ is. refl, (_, _, no_more _ _, ([], [], refl, refl, refl, refl, record { requests = refl; in_step = refl; is_shut = inl refl }))));
 }
 
 pub returns-clause-not_counted : goal.returns-clause-not_counted
 returns-clause-not_counted c =
     λ h.
     none_walks
-    (subst (λ (steps : List CourseStep). Walks nothing_asked [] steps (Stays (counts 0)))
+    (subst (λ (steps : List CourseStep). Walks nothing_asked [] steps (Stays (counts has_lifting_told 0)))
     (none_lost h.lost h.left (accepts has_lifting_told ∷ acts OffHook ∷ []) h.others (none_of_them h.lost 0 h.counted refl)) h.walk)

@@ -21,7 +21,7 @@ none_left n (step ∷ left) so =
     let count : length (step ∷ left) + n ≡ 0 = all_counted n (step ∷ left) [] so in absurd (omega (arith, count))
 
 stays_none : (line : LineState) → Stays line nothing_asked [] → of_telephone line.quarantined.events ≡ []
-stays_none line (occurred, held, order, told, quiet, kept) = kept ∙ back_none occurred held (sym order)
+stays_none line (occurred, held, order, told, quiet, kept, own) = kept ∙ back_none occurred held (sym order)
 
 -- where nothing happened nothing is kept
 walks_none : (line : LineState) → WalksButLost [] line → of_telephone line.quarantined.events ≡ []
