@@ -9,3 +9,4 @@ pub mod Premises
 pub mod WorldPremises
 pub mod WalkExample
 pub mod FateExample
+pub mod FrontExample

@@ -1,0 +1,89 @@
+//! Worked examples of where a walk stands, and of what is quarantined at a request, as theorems.
+#![tactic(auto, unfolding(crate::proofs::Computing::on_examples))]
+
+ghost use Rattle.std.specs.Prelude.{◌≡◌, ℕ, codes, List, [], ◌∷◌, ◌++◌};
+ghost use Rattle.std.specs.declared.net.socket_addr.SocketAddrV4.{SocketAddrV4};
+ghost use Rattle.mgcp_text.specs.Reading.{read_text};
+ghost use Rattle.transmission.specs.Texts.{texts_of};
+ghost use Rattle.quarantine.specs.Held.{most_lost};
+ghost use Rattle.mg_line.specs.declared.phone.Act.TheVariants as acts;
+ghost use Rattle.mg_line.specs.declared.phone.Key.TheVariants as keys;
+ghost use Rattle.mg_line.specs.Line.{opening_line};
+ghost use Rattle.plain_machine.specs.declared.setup.Setup.{Setup};
+ghost use Rattle.plain_machine.specs.Event.{GatewayEvent, datagram};
+ghost use Rattle.plain_machine.specs.Example.{from_agent, ready, response, two_lines};
+ghost use Rattle.plain_machine.specs.Lists.{plain};
+ghost use Rattle.plain_machine.specs.Machine.{opening};
+ghost use Rattle.delivery_laws.specs.Course.{acts as does, accepted_at, accepts, course_from, notifies};
+ghost use Rattle.delivery_laws.specs.OnceExample.{five, line_then, six};
+ghost use Rattle.delivery_laws.specs.Rounds.{of_telephone};
+ghost use Rattle.told_laws.specs.Example.{counts, flash_drops, flashes_and_dials, has_all_told, has_all_told_in_loop};
+ghost use Rattle.told_laws.specs.Example.{has_keys_collected, has_lifting_told};
+ghost use Rattle.told_laws.specs.FrontExample.{answer_and_keys, answer_text, answered_by, course_by, keys_text, line_by, machine_by};
+ghost use Rattle.told_laws.specs.FrontExample.{notified_by, presses_six, pressed_at_once, renewed_by, return_embedded, turned_by_flash};
+ghost use Rattle.told_laws.specs.Fronts.{course_amid, machine_amid, WalksAlong};
+ghost use Rattle.told_laws.specs.Premises.{has_each_key_told, pressed_in_loop};
+ghost use Rattle.told_laws.specs.WalkExample.{keeping};
+ghost use Rattle.told_laws.specs.Walking.{behind_embedded, behind_notification, behind_request, nothing_asked};
+ghost use Rattle.told_laws.specs.Walking.{EmbedsNone, NoneLostSince, Stays, TellsOfHeld};
+
+/// A line stands where its own request is in force, or the one that this embedded; in step where it is in step; and where a request is
+/// waited for, if it waits for one: from its notification on, in step, until one comes. At its opening nothing was asked for.
+pub fn a_walk_stands_where_the_line_stands()
+    ensures followed { Stays (keeping has_keys_collected [] []) (behind_request has_keys_collected) [] }
+    ensures another { ¬ Stays (keeping has_lifting_told [] []) (behind_request has_keys_collected) [] }
+    ensures embedded { Stays turned_by_flash (behind_embedded (behind_request flash_drops) return_embedded []) [] }
+    ensures not_yet { ¬ Stays (keeping flash_drops [] []) (behind_embedded (behind_request flash_drops) return_embedded []) [] }
+    ensures no_more { ¬ Stays turned_by_flash (behind_request flash_drops) [] }
+    ensures in_loop { ¬ Stays (keeping has_all_told_in_loop [] []) (behind_request has_all_told) [] }
+    ensures notified { Stays (notified_by has_keys_collected) (behind_notification (behind_request has_keys_collected)) [] }
+    ensures answered { Stays (answered_by has_keys_collected) (behind_notification (behind_request has_keys_collected)) [] }
+    ensures renewed { Stays (renewed_by has_keys_collected) (behind_request has_keys_collected) [] }
+    ensures notified_in_loop { Stays (notified_by has_all_told_in_loop) (behind_notification (behind_request has_all_told_in_loop)) [] }
+    ensures waited_for { ¬ Stays (answered_by has_keys_collected) (behind_request has_keys_collected) [] }
+    ensures waited_for_at_once { ¬ Stays (notified_by has_keys_collected) (behind_request has_keys_collected) [] }
+    ensures not_waited_for { ¬ Stays (keeping has_keys_collected [] []) (behind_notification (behind_request has_keys_collected)) [] }
+    ensures came { ¬ Stays (renewed_by has_keys_collected) (behind_notification (behind_request has_keys_collected)) [] }
+    ensures at_first { Stays opening_line nothing_asked [] }
+    ensures along { WalksAlong two_lines 1 (opening two_lines) (ready ++ flashes_and_dials) nothing_asked [] }
+{}
+
+/// In loop too what is quarantined at a request is told behind it: key 5. Where an answer stands before the request in its datagram, what was
+/// collected is processed before it, so that none is quarantined at the request; that it was before the datagram says nothing.
+pub fn what_is_quarantined_just_before_a_request_is_told()
+    ensures alone { texts_of keys_text ≡ [] ++ keys_text ∷ [] }
+    ensures held { of_telephone (line_by pressed_at_once []).quarantined.events ≡ five ∷ [] }
+    ensures accepted { accepted_at two_lines (machine_by pressed_at_once []) 1 (read_text keys_text)
+        ≡ accepts (has_each_key_told (codes "3")) ∷ [] }
+    ensures embeds_none { EmbedsNone (has_each_key_told (codes "3")).events }
+    ensures none_lost { NoneLostSince (line_by pressed_at_once [])
+        (line_then (pressed_at_once ++ from_agent keys_text ∷ response 200 10000000 ∷ [])) }
+    ensures course { course_by pressed_at_once [] (keys_text ∷ []) (response 200 10000000 ∷ [])
+        ≡ accepts (has_each_key_told (codes "3")) ∷ ([] ++ notifies (codes "3") (five ∷ []) ∷ []) }
+    ensures told { TellsOfHeld (has_each_key_told (codes "3")) (five ∷ []) [] (five ∷ []) }
+    ensures parted { texts_of answer_and_keys ≡ (answer_text ∷ []) ++ keys_text ∷ [] }
+    ensures held_before { of_telephone (line_by pressed_in_loop []).quarantined.events ≡ five ∷ [] }
+    ensures processed { of_telephone (line_by pressed_in_loop (answer_text ∷ [])).quarantined.events ≡ [] }
+    ensures accepted_then { accepted_at two_lines (machine_by pressed_in_loop (answer_text ∷ [])) 1 (read_text keys_text)
+        ≡ accepts (has_each_key_told (codes "3")) ∷ [] }
+    ensures course_then { course_by pressed_in_loop (answer_text ∷ []) (keys_text ∷ []) presses_six
+        ≡ accepts (has_each_key_told (codes "3")) ∷ (does (acts.Key keys.Six) ∷ notifies (codes "3") (six ∷ []) ∷ []) }
+    ensures told_then { TellsOfHeld (has_each_key_told (codes "3")) [] (six ∷ []) (six ∷ []) }
+    ensures by_the_answer { accepted_at two_lines (machine_by pressed_in_loop []) 1 (read_text answer_text) ≡ [] }
+    ensures course_before { course_by pressed_in_loop [] (answer_text ∷ keys_text ∷ []) presses_six
+        ≡ accepts (has_each_key_told (codes "3")) ∷ (does (acts.Key keys.Six) ∷ notifies (codes "3") (six ∷ []) ∷ []) }
+    ensures not_told { ¬ TellsOfHeld (has_each_key_told (codes "3")) (five ∷ []) (six ∷ []) (six ∷ []) }
+{}
+
+/// A text alone in its datagram stands at a front of the events: what happens from there on is what happens by that event and those behind
+/// it. None was lost since where the count is the same, and isn't the greatest, at which it stays.
+pub fn a_text_alone_stands_at_a_front_of_the_events()
+    ensures machine { (setup : Setup) (before : List GatewayEvent) (source : SocketAddrV4) →
+        machine_amid setup before source [] ≡ plain setup before }
+    ensures course { (setup : Setup) (line : ℕ) (before after : List GatewayEvent) (source : SocketAddrV4) (text : List ℕ) →
+        texts_of text ≡ text ∷ [] → course_amid setup (machine_amid setup before source []) line source (text ∷ []) after
+        ≡ course_from setup (plain setup before) line (datagram source text ∷ after) }
+    ensures as_many { NoneLostSince (counts has_lifting_told 1) (counts has_lifting_told 1) }
+    ensures one_more { ¬ NoneLostSince (counts has_lifting_told 0) (counts has_lifting_told 1) }
+    ensures greatest { ¬ NoneLostSince (counts has_lifting_told most_lost) (counts has_lifting_told most_lost) }
+{}
