@@ -33,6 +33,7 @@ pub mod ReturnLemmas
 pub mod ListLemmas
 pub mod CalmLemmas
 pub mod StretchLemmas
+pub mod TakenBehind
 pub mod StretchCourses
 pub mod FateLemmas
 pub mod FateSteps

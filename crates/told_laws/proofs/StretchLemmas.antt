@@ -54,7 +54,7 @@ too_near b first later one two apart =
     let ends = two.within in
     omega (arith, far, begins, ends)
 
-never_again : (taken more : List Reached) (b : Begun) → Spaced (taken ++ more) → Took taken b → Each (λ (one : Reached). Comes one b → ⊥) more
+pub never_again : (taken more : List Reached) (b : Begun) → Spaced (taken ++ more) → Took taken b → Each (λ (one : Reached). Comes one b → ⊥) more
 never_again [] more b spaced took = absurd took
 never_again (x ∷ taken) more b spaced (inl comes) =
     each_weaker (Apart x) (λ (one : Reached). Comes one b → ⊥) (λ one apart two. too_near b x one comes two apart) more (each_back (Apart x) taken more spaced.0)
@@ -66,7 +66,7 @@ spaced_behind (x ∷ taken) more spaced = spaced_behind taken more spaced.1
 
 -- Each command that is over was taken, or was given up
 
-abbrev IsOld : ℕ → List Reached → Begun → Type 0
+abbrev pub IsOld : ℕ → List Reached → Begun → Type 0
 IsOld now taken b = Took taken b ⊎ (b.moment + answer_wait ≤ now)
 
 module _ (line : ℕ) (all : List Reached) (now : ℕ) where
@@ -159,7 +159,7 @@ again_near : (b x : Begun) (one : Reached) → Comes one b → Comes one x → (
 again_near b x one comes other = (other.id ∙ sym comes.id, (let since = comes.since in let within = other.within in omega (arith, since, within)))
 
 module _ (before : List Begun) (early : List Reached) (old now : ℕ) (is_old : Each (IsOld old early) before) (came : Each (Came before) early) (long : old + outliving ≤ now) where
-  none_of : (some : List Begun) (taken more : List Reached) → Each (IsOld old early) some → Spaced (early ++ (taken ++ more)) → Each (λ (one : Reached). now ≤ one.asked.moment) more
+  pub none_of : (some : List Begun) (taken more : List Reached) → Each (IsOld old early) some → Spaced (early ++ (taken ++ more)) → Each (λ (one : Reached). now ≤ one.asked.moment) more
       → Each (λ (one : Reached). OneOf (Comes one) some → ⊥) more
   none_of [] taken more each spaced late = each_weaker (λ (one : Reached). now ≤ one.asked.moment) (λ (one : Reached). OneOf (Comes one) [] → ⊥) (λ one far none. none) more late
   none_of (b ∷ some) taken more each spaced late =
@@ -271,14 +271,14 @@ decided flight (one ∷ taken) = by_tests (one.asked.id == flight.id) (nat_le fl
   by_tests false b other since rest = by_rest (λ is. absurd (eqb-false one.asked.id flight.id other is.0)) rest
 
 -- what began before, and what is on its way
-record Starts (old : ℕ) (begun : List Begun) (taken : List Reached) (pending : Option InFlight) : Type 0 where
-  before : List Begun
-  late : List Begun
-  split : begun ≡ before ++ late
-  late_is : (late ≡ []) ⊎ (late ≡ flying pending)
-  each : Each (IsOld old taken) before
-  came : Each (Came before) taken
-  pairs : Paired late [] pending
+pub record Starts (old : ℕ) (begun : List Begun) (taken : List Reached) (pending : Option InFlight) : Type 0 where
+  pub before : List Begun
+  pub late : List Begun
+  pub split : begun ≡ before ++ late
+  pub late_is : (late ≡ []) ⊎ (late ≡ flying pending)
+  pub each : Each (IsOld old taken) before
+  pub came : Each (Came before) taken
+  pub pairs : Paired late [] pending
 
 starts : (old : ℕ) (begun : List Begun) (taken : List Reached) (pending : Option InFlight) → ReturnLate begun → Each (Came begun) taken → Old old begun taken pending → Starts old begun taken pending
 starts old begun taken None returns came o = record {
@@ -336,6 +336,47 @@ starts old begun taken (Some flight) returns came o = by_copy (decided flight ta
     pairs = inr (record { flight = flight; flies = refl; front = []; is = refl; pairs = tt });
   }
 
+-- Behind steps at whose end it had given nothing up for a while
+
+module _ (setup : Setup) (line : ℕ) (some : 1 ≤ line) (set_up : IsSetUp setup) (first pause up : List WorldStep) (order : first ++ pause ≡ up) (was : Endpoint)
+    (taken_up : steps_are_taken setup world_opening up ≡ true) (at_was : endpoint_at (gateway_in setup (plain_world setup up)).endpoints line ≡ Some was)
+    (calm_before : AnnouncesNothing setup line (plain_world setup first) (plain_world setup up) was) where
+  abbrev first_world : World
+  first_world = plain_world setup first
+
+  abbrev up_world : World
+  up_world = plain_world setup up
+
+  taken_first : steps_are_taken setup world_opening first ≡ true
+  taken_first = taken_front setup world_opening first pause (ap (steps_are_taken setup world_opening) order ∙ taken_up)
+
+  abbrev OldAt : List Begun → List Reached → Option InFlight → Type 0
+  OldAt = Old (now_in setup first_world)
+
+  old_first : KeptIn setup line some set_up first OldAt (old_turns (now_in setup first_world) (now_in setup first_world)) first
+  old_first x there =
+      let p = world_past setup line some set_up first taken_first x there in
+      let k = stood setup line some first set_up taken_first in
+      let returns = subst ReturnLate p.split (ids_return_late setup line some first set_up taken_first x there) in
+      record {
+        done = p.done;
+        split = p.split;
+        each = took_each line (taken_in first_world) (now_in setup first_world) [] p.done (flying x.post.pending) returns
+            (subst (λ (z : List Begun). Each (Came z) (line_taken line (taken_in first_world))) p.split k.came)
+            (each_front (λ (b : Begun). line_of_id b.id ≡ line) p.done (flying x.post.pending) (subst (Each (λ (b : Begun). line_of_id b.id ≡ line)) p.split k.mine)) p.each;
+      }
+
+  old_up : OldAt (line_began setup line up) (line_taken line (taken_in up_world)) was.post.pending
+  old_up =
+      all_keep setup line some set_up first OldAt (old_turns (now_in setup first_world) (now_in setup first_world)) up taken_up was at_was
+      (λ events took. subst (λ (x : List GatewayEvent). has_given_up (sent_at setup line first_world.gateway_took x) was.post ≡ false) (meanwhile_is first_world up_world events took) calm_before)
+      pause order old_first was at_was
+
+  pub starts_at : Starts (now_in setup first_world) (line_began setup line up) (line_taken line (taken_in up_world)) was.post.pending
+  starts_at =
+      starts (now_in setup first_world) (line_began setup line up) (line_taken line (taken_in up_world)) was.post.pending (ids_return_late setup line some up set_up taken_up was at_was)
+      (stood setup line some up set_up taken_up).came old_up
+
 -- Over the stretch
 
 -- what was on its way at first, and what began since, in pairs with what was taken since
@@ -377,35 +418,8 @@ module _ (setup : Setup) (line : ℕ) (some : 1 ≤ line) (first pause stretch :
   taken_up : steps_are_taken setup world_opening up ≡ true
   taken_up = taken_front setup world_opening up stretch taken
 
-  taken_first : steps_are_taken setup world_opening first ≡ true
-  taken_first = taken_front setup world_opening first pause taken_up
-
-  abbrev OldAt : List Begun → List Reached → Option InFlight → Type 0
-  OldAt = Old (now_in setup v)
-
-  old_first : KeptIn setup line some set_up first OldAt (old_turns (now_in setup v) (now_in setup v)) first
-  old_first x there =
-      let p = world_past setup line some set_up first taken_first x there in
-      let k = stood setup line some first set_up taken_first in
-      let returns = subst ReturnLate p.split (ids_return_late setup line some first set_up taken_first x there) in
-      record {
-        done = p.done;
-        split = p.split;
-        each = took_each line (taken_in v) (now_in setup v) [] p.done (flying x.post.pending) returns
-            (subst (λ (z : List Begun). Each (Came z) (line_taken line (taken_in v))) p.split k.came)
-            (each_front (λ (b : Begun). line_of_id b.id ≡ line) p.done (flying x.post.pending) (subst (Each (λ (b : Begun). line_of_id b.id ≡ line)) p.split k.mine)) p.each;
-      }
-
-  old_up : OldAt (line_began setup line up) (line_taken line (taken_in u)) was.post.pending
-  old_up =
-      all_keep setup line some set_up first OldAt (old_turns (now_in setup v) (now_in setup v)) up taken_up was at_was
-      (λ events took. subst (λ (x : List GatewayEvent). has_given_up (sent_at setup line v.gateway_took x) was.post ≡ false) (meanwhile_is v u events took) calm_before)
-      pause refl old_first was at_was
-
   st : Starts (now_in setup v) (line_began setup line up) (line_taken line (taken_in u)) was.post.pending
-  st =
-      starts (now_in setup v) (line_began setup line up) (line_taken line (taken_in u)) was.post.pending (ids_return_late setup line some up set_up taken_up was at_was)
-      (stood setup line some up set_up taken_up).came old_up
+  st = starts_at setup line some set_up first pause up refl was taken_up at_was calm_before
 
   abbrev BesideIt : List Begun → List Reached → Option InFlight → Type 0
   BesideIt = Beside st.before (line_taken line (taken_in u))
