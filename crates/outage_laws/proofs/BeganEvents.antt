@@ -15,8 +15,12 @@ use Rattle.plain_machine.specs.Message.{Said, answer, again, command, resent, ac
 use Rattle.plain_machine.specs.Setup.{IsSetUp}
 use Rattle.machine_laws.specs.Belonging.{is_of, of_line}
 use Rattle.machine_laws.specs.Saying.{Begun, OneOf, begun_at, begun_by, begun_in}
-use Rattle.machine_laws.proofs.EachLemmas.{each_from_all, one_behind}
+use Rattle.machine_laws.proofs.EachLemmas.{Each, each_from_all, each_weaker, one_behind}
 use Rattle.machine_laws.proofs.OwningLemmas.{of_both}
+use Rattle.machine_laws.proofs.PostLogs.{WasBegun}
+use Rattle.agent_core.specs.World.{WorldStep, now_in, plain_world, steps_are_taken, world_opening}
+use Rattle.world_laws.specs.Reached.{own_in}
+use Rattle.world_laws.proofs.LinkLaws.{world_linked}
 use Rattle.delivery_laws.specs.Course.{course_of}
 use Rattle.delivery_laws.specs.Dialled.{told_along}
 use Rattle.delivery_laws.specs.Keeping.{happened_in}
@@ -26,9 +30,10 @@ use Rattle.delivery_laws.proofs.KeepingLemmas.{happened_both}
 use Rattle.delivery_laws.proofs.PlaceLemmas.{one_parted}
 use Rattle.delivery_laws.proofs.RestLemmas.{begun_both}
 use Rattle.delivery_laws.proofs.RoundLaws.{each_filtered, sent_on}
-use Rattle.delivery_laws.proofs.ToldLemmas.{begun_tell, course_tells, told_by}
+use Rattle.delivery_laws.proofs.ToldLemmas.{begun_tell, course_tells, is_mine, mine_is, told_by}
 use Rattle.delivery_laws.proofs.WellLemmas.{IsWell, sent_well}
 use Rattle.delivery_laws.proofs.WorldLemmas.{line_begun}
+use Rattle.told_laws.proofs.ListLemmas.{each_kept}
 
 -- What a line began first is the beginning of what it begins
 
@@ -37,6 +42,17 @@ pub begun_more : (setup : Setup) (line : ℕ) (some more : List GatewayEvent)
 begun_more setup line some more =
     ap begun_in (ap (of_line line) (sent_on setup (opening setup) some more) ∙ of_both line (sent_of setup some) (sent_from setup (plain setup some) more))
     ∙ begun_both (of_line line (sent_of setup some)) (of_line line (sent_from setup (plain setup some) more))
+
+-- and it began all of that by now
+pub begun_past : (setup : Setup) (line : ℕ) (steps : List WorldStep) → IsSetUp setup → steps_are_taken setup world_opening steps ≡ true
+    → Each (λ (b : Begun). b.moment ≤ now_in setup (plain_world setup steps)) (line_begun setup line (plain_world setup steps).gateway_took)
+begun_past setup line steps set_up taken =
+    let w = plain_world setup steps in
+    let IsPast : Begun → Type 0 = λ b. b.moment ≤ now_in setup w in
+    subst (Each IsPast)
+    (mine_is setup line (sent_of setup w.gateway_took) (each_from_all (IsWell setup) (sent_of setup w.gateway_took) (sent_well setup set_up w.gateway_took)))
+    (each_kept IsPast (is_mine line) (own_in setup w)
+    (each_weaker (WasBegun (now_in setup w)) IsPast (λ b was. was.past) (own_in setup w) (world_linked setup steps set_up taken).links.gateway.stands.logged.begun))
 
 -- Behind the events before
 

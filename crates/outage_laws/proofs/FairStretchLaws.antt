@@ -31,7 +31,7 @@ use Rattle.outage_laws.proofs.AnsweredSinceLaws.{LastBegun, answered_since, last
 use Rattle.outage_laws.proofs.BeganEvents.{last_among}
 use Rattle.outage_laws.proofs.CalmStretches.{calm_back}
 use Rattle.outage_laws.proofs.KeepsServes.{keeps_serves}
-use Rattle.outage_laws.proofs.ToldFromLaws.{all_from, told_from}
+use Rattle.outage_laws.proofs.ToldFromLaws.{IsAllTold, rests_from, told_from}
 use Rattle.outage_laws.proofs.ToldSinceLaws.{told_since}
 
 -- Its answers, and what is in flight at the end
@@ -169,13 +169,19 @@ module _ (setup : Setup) (line : ℕ) (some : 1 ≤ line) (first pause stretch :
       (fair_answered setup line some first pause stretch was is set_up taken at_was at_is calm_since since within front later there fair roomy serves_then began reach split at_there)
       is_asked late more
 
-  pub fair_all_from : done_in (course_from setup (plain setup ((plain_world setup (first ++ pause)).gateway_took ++ front)) line later) ≡ []
-      → (told : IsToldFrom was.post.pending (happened_in was.line.quarantined.events ++ done_in (course_from setup (plain setup (plain_world setup (first ++ pause)).gateway_took) line front))
-      (taken_meanwhile setup line (plain_world setup (first ++ pause)) (plain_world setup ((first ++ pause) ++ stretch)))) × (told.rest ≡ [])
-  fair_all_from =
-      all_from setup line some first pause stretch once was is set_up taken at_once at_was at_is calm_before calm_since long since within (2 * within) asking front later there fair
+  pub fair_rests_from : done_in (course_from setup (plain setup ((plain_world setup (first ++ pause)).gateway_took ++ front)) line later) ≡ []
+      → IsAllTold line (plain_world setup ((first ++ pause) ++ stretch)) was is
+      (happened_in was.line.quarantined.events ++ done_in (course_from setup (plain setup (plain_world setup (first ++ pause)).gateway_took) line front))
+      (taken_meanwhile setup line (plain_world setup (first ++ pause)) (plain_world setup ((first ++ pause) ++ stretch)))
+  fair_rests_from =
+      rests_from setup line some first pause stretch once was is set_up taken at_once at_was at_is calm_before calm_since long since within (2 * within) asking front later there fair
       roomy
       (fair_flew setup line some first pause stretch was is set_up taken at_was at_is calm_since since within front later there fair roomy serves_then began reach split at_there)
       asked split at_there
       (fair_answered setup line some first pause stretch was is set_up taken at_was at_is calm_since since within front later there fair roomy serves_then began reach split at_there)
       is_asked late more
+
+  pub fair_all_from : done_in (course_from setup (plain setup ((plain_world setup (first ++ pause)).gateway_took ++ front)) line later) ≡ []
+      → (told : IsToldFrom was.post.pending (happened_in was.line.quarantined.events ++ done_in (course_from setup (plain setup (plain_world setup (first ++ pause)).gateway_took) line front))
+      (taken_meanwhile setup line (plain_world setup (first ++ pause)) (plain_world setup ((first ++ pause) ++ stretch)))) × (told.rest ≡ [])
+  fair_all_from rests = let all = fair_rests_from rests in (all.told, all.rest)

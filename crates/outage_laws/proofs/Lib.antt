@@ -34,9 +34,11 @@ pub mod ToldByLaws
 pub mod ToldLaterLaws
 pub mod CalmStretches
 pub mod CalmFronts
+pub mod LastTaken
 pub mod ToldOutLaws
 pub mod StretchStarts
 pub mod ToldSinceLaws
+pub mod QuietBehind
 pub mod ToldFromLaws
 pub mod AnsweredSinceLaws
 pub mod FlightsSince

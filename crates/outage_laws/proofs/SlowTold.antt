@@ -10,22 +10,23 @@ use Rattle.plain_machine.specs.declared.endpoint.Endpoint.{Endpoint}
 use Rattle.plain_machine.specs.declared.setup.Setup.{Setup}
 use Rattle.plain_machine.specs.Event.{GatewayEvent}
 use Rattle.plain_machine.specs.Lists.{machine_after, plain}
-use Rattle.plain_machine.specs.Machine.{endpoint_at}
+use Rattle.plain_machine.specs.Machine.{Machine, endpoint_at, opening}
 use Rattle.plain_machine.specs.Setup.{IsSetUp}
+use Rattle.plain_machine.proofs.ListLaws.{machine_on}
 use Rattle.machine_laws.specs.Saying.{Begun}
 use Rattle.machine_laws.proofs.LineLemmas.{place_of}
 use Rattle.agent_core.specs.World.{World, WorldStep, gateway_in, now_in, plain_world, steps_are_taken, went, world_after, world_opening}
 use Rattle.world_laws.specs.Reached.{Reached, taken_in}
 use Rattle.delivery_laws.specs.Chances.{last_chance}
 use Rattle.delivery_laws.specs.Copies.{answer_wait}
-use Rattle.delivery_laws.specs.Course.{course_from}
-use Rattle.delivery_laws.specs.Dialled.{AskForAll, done_in}
+use Rattle.delivery_laws.specs.Course.{CourseStep, course_from}
+use Rattle.delivery_laws.specs.Dialled.{AskForAll, done_in, told_along}
 use Rattle.delivery_laws.specs.Fairness.{GoesToAgent}
 use Rattle.delivery_laws.specs.Keeping.{happened_in}
 use Rattle.delivery_laws.specs.OwnChances.{IsOfLine}
 use Rattle.delivery_laws.specs.Rounds.{IsAskedWithin, rounds_take}
 use Rattle.delivery_laws.proofs.ClockLemmas.{front_forward}
-use Rattle.delivery_laws.proofs.DialledLemmas.{ask_front}
+use Rattle.delivery_laws.proofs.DialledLemmas.{ask_front, done_both, told_both}
 use Rattle.delivery_laws.proofs.DialledTakenLemmas.{told_taken}
 use Rattle.delivery_laws.proofs.FairLaws.{IsBefore, one_first}
 use Rattle.delivery_laws.proofs.FrontSteps.{TookThem, took_them}
@@ -34,16 +35,23 @@ use Rattle.delivery_laws.proofs.KeepingLemmas.{happened_both}
 use Rattle.delivery_laws.proofs.MoveLemmas.{Move, agent_took, gateway_took, step_moves}
 use Rattle.delivery_laws.proofs.RoundLaws.{course_on}
 use Rattle.delivery_laws.proofs.StepLemmas.{steps_more, taken_front}
+use Rattle.delivery_laws.proofs.ToldLemmas.{told_by}
 use Rattle.delivery_laws.proofs.WorldLemmas.{line_taken}
-use Rattle.told_laws.specs.Stretch.{outliving, taken_meanwhile}
-use Rattle.told_laws.proofs.ListLemmas.{line_both}
-use Rattle.told_laws.proofs.StretchCourses.{taken_then}
+use Rattle.told_laws.specs.Stretch.{AnnouncesNothing, outliving, taken_meanwhile}
+use Rattle.told_laws.proofs.ListLemmas.{cancel, line_both}
+use Rattle.told_laws.proofs.SettledLemmas.{began_at}
+use Rattle.told_laws.proofs.StretchCourses.{taken_then, told_then as says_then}
+use Rattle.told_laws.proofs.TakenBehind.{TakenBehind, taken_behind}
 use Rattle.outage_laws.specs.AfterOutage.{AgentHasRoomFrom, IsFairFrom, gap_of, longer_wait, well_by}
 use Rattle.outage_laws.specs.ToldSince.{IsAskedForAllSince, IsToldFrom}
+use Rattle.outage_laws.proofs.KeepingSince.{Kept, kept_since}
 use Rattle.outage_laws.proofs.LostLemmas.{lost_on}
 use Rattle.outage_laws.proofs.QuickFronts.{asked_there, at_cut, both, cut, fair_there, gap_no_less, goes_there, long_for, low, mine, no_longer, quick_there, rest, roomy_there, same_end, short, taken_there, took_there}
+use Rattle.outage_laws.proofs.QuietBehind.{none_both, quiet_behind}
+use Rattle.outage_laws.proofs.ServesLaws.{IsQuick}
 use Rattle.outage_laws.proofs.SlowQuarantines.{each_less, late_by, times_no_less}
-use Rattle.outage_laws.proofs.ToldBehindLaws.{told_behind}
+use Rattle.outage_laws.proofs.ToldBehindLaws.{all_behind, calm_whole, told_behind}
+use Rattle.outage_laws.proofs.ToldFromLaws.{IsAllTold}
 
 -- What an agent took stays
 
@@ -64,7 +72,7 @@ takes_behind setup some more =
     let takes = takes_more setup (plain_world setup some) more in
     (takes.0, ap (λ (w : World). taken_in w) (steps_more setup world_opening some more) ∙ takes.1)
 
--- more is told later on
+-- more is told later on, and no more that was done, where it tells nothing of the telephone
 more_told : (first : Option InFlight) (done taken more all : List Observed) → IsToldFrom first done taken → all ≡ taken ++ more → IsToldFrom first done all
 more_told first done taken more all told grown = record {
   late = told.late;
@@ -74,6 +82,21 @@ more_told first done taken more all told grown = record {
   rest = told.rest ++ happened_in more;
   whole = happened_both told.since more ∙ ap (λ (x : List Observed). x ++ happened_in more) told.whole ∙ append_assoc done told.rest (happened_in more);
 }
+
+all_told : (first : Option InFlight) (done taken more all : List Observed) (told : IsToldFrom first done taken) → all ≡ taken ++ more → told.rest ≡ [] → happened_in more ≡ []
+    → (told : IsToldFrom first done all) × (told.rest ≡ [])
+all_told first done taken more all told grown whole none = (
+  record {
+    late = told.late;
+    since = told.since ++ more;
+    late_is = told.late_is;
+    order = grown ∙ ap (λ (x : List Observed). x ++ more) told.order ∙ append_assoc told.late told.since more;
+    rest = [];
+    whole = happened_both told.since more ∙ ap (λ (x : List Observed). happened_in told.since ++ x) none ∙ append-nil (happened_in told.since) ∙ told.whole
+        ∙ ap (λ (x : List Observed). done ++ x) whole;
+  },
+  refl,
+)
 
 -- Numbers
 
@@ -91,6 +114,9 @@ over_by before few short front low more = omega (arith, low, more)
 
 lost_same : (was then is : ℕ) → was ≤ then → then ≤ is → is ≡ was → then ≡ was
 lost_same was then is one two same = omega (arith, one, two, same)
+
+long_on : (was much u then : ℕ) → was + much ≤ u → u ≤ then → was + much ≤ then
+long_on was much u then long on = omega (arith, long, on)
 
 not_later : (front u before : ℕ) → before < front → u ≤ before → front ≤ u → ⊥
 not_later front u before early sooner past = absurd (omega (arith, early, sooner, past))
@@ -214,8 +240,11 @@ module _ (setup : Setup) (line : ℕ) (first pause stretch : List WorldStep) (wa
     abbrev then_world : World
     then_world = plain_world setup then_steps
 
-    whole_order : all ≡ then_steps ++ (cut setup all since within taken fair roomy long_so deep_so).later
-    whole_order = cut_order ∙ ap (λ (s : List WorldStep). s ++ (cut setup all since within taken fair roomy long_so deep_so).later) order
+    abbrev later_steps : List WorldStep
+    later_steps = (cut setup all since within taken fair roomy long_so deep_so).later
+
+    whole_order : all ≡ then_steps ++ later_steps
+    whole_order = cut_order ∙ ap (λ (s : List WorldStep). s ++ later_steps) order
 
     then_taken : steps_are_taken setup world_opening then_steps ≡ true
     then_taken =
@@ -240,10 +269,14 @@ module _ (setup : Setup) (line : ℕ) (first pause stretch : List WorldStep) (wa
         subst (λ (s : List WorldStep). (plain_world setup s).gateway_took ≡ took ++ some) order
         (took_there setup all since within taken fair roomy long_so deep_so took later split early)
 
+    parts_took : w.gateway_took ≡ (took ++ some) ++ behind
+    parts_took = split ∙ ap (λ (x : List GatewayEvent). took ++ x) parts ∙ sym (append_assoc took some behind)
+
+    whole_took : w.gateway_took ≡ then_world.gateway_took ++ behind
+    whole_took = parts_took ∙ ap (λ (x : List GatewayEvent). x ++ behind) (sym then_took)
+
     last_place : endpoint_at (plain setup ((took ++ some) ++ behind)).endpoints line ≡ Some is
-    last_place =
-        subst (λ (x : List GatewayEvent). endpoint_at (plain setup x).endpoints line ≡ Some is)
-        (split ∙ ap (λ (x : List GatewayEvent). took ++ x) parts ∙ sym (append_assoc took some behind)) at_is
+    last_place = subst (λ (x : List GatewayEvent). endpoint_at (plain setup x).endpoints line ≡ Some is) parts_took at_is
 
     then_there : (s : Endpoint) × (endpoint_at (plain setup (took ++ some)).endpoints line ≡ Some s)
     then_there = was_there setup line one (took ++ some) behind is last_place
@@ -284,46 +317,173 @@ module _ (setup : Setup) (line : ℕ) (first pause stretch : List WorldStep) (wa
     over_then : (plain setup took).now + rounds_take held (2 * takes) asking < front_now
     over_then = over_by (plain setup took).now (rounds_take held (2 * takes) asking) takes front_now long_enough more_then
 
+    quick_then : IsQuick takes
+    quick_then = quick_there setup all since within taken fair roomy long_so deep_so
+
+    fair_then : IsFairFrom setup then_steps since takes
+    fair_then = subst (λ (s : List WorldStep). IsFairFrom setup s since takes) order (fair_there setup all since within taken fair roomy long_so deep_so)
+
+    roomy_then : AgentHasRoomFrom setup then_steps since
+    roomy_then = subst (λ (s : List WorldStep). AgentHasRoomFrom setup s since) order (roomy_there setup all since within taken fair roomy long_so deep_so)
+
+    reach_then : (n : ℕ) (b : Begun) → IsOfLine setup then_world n b → since ≤ b.moment + last_chance → GoesToAgent setup then_world b.text
+    reach_then =
+        subst (λ (s : List WorldStep). (n : ℕ) (b : Begun) → IsOfLine setup (plain_world setup s) n b → since ≤ b.moment + last_chance → GoesToAgent setup (plain_world setup s) b.text) order
+        (λ n b of recent. goes_there setup all since within taken fair roomy long_so deep_so n b of (λ whole. reach n b whole recent))
+
+    late_then : well_by setup since takes ≤ now_in setup (plain_world setup first)
+    late_then = late_by since takes within (gap_of takes) (gap_of within) (longer_wait setup) (now_in setup (plain_world setup first)) less (gap_no_less takes within many) late
+
+    is_asked_then : IsAskedWithin setup line took some asking
+    is_asked_then = asked_there setup all since within taken fair roomy long_so deep_so took later split early line asking is_asked
+
+    over_now : (plain setup took).now + rounds_take held (2 * takes) asking < now_in setup then_world
+    over_now = subst (λ (n : ℕ). (plain setup took).now + rounds_take held (2 * takes) asking < n) then_now over_then
+
+    more_now : (plain setup took).now + rounds_take held (2 * takes) asking + takes ≤ now_in setup then_world
+    more_now = subst (λ (n : ℕ). (plain setup took).now + rounds_take held (2 * takes) asking + takes ≤ n) then_now more_then
+
     told_then : ToldBy then_world
     told_then =
-        told_behind setup line first pause sooner_stretch was then_there.0 set_up then_taken at_was at_then since takes
-        (quick_there setup all since within taken fair roomy long_so deep_so)
-        (subst (λ (s : List WorldStep). IsFairFrom setup s since takes) order (fair_there setup all since within taken fair roomy long_so deep_so))
-        (subst (λ (s : List WorldStep). AgentHasRoomFrom setup s since) order (roomy_there setup all since within taken fair roomy long_so deep_so))
-        (subst (λ (s : List WorldStep). (n : ℕ) (b : Begun) → IsOfLine setup (plain_world setup s) n b → since ≤ b.moment + last_chance → GoesToAgent setup (plain_world setup s) b.text) order
-        (λ n b of recent. goes_there setup all since within taken fair roomy long_so deep_so n b of (λ whole. reach n b whole recent)))
-        (late_by since takes within (gap_of takes) (gap_of within) (longer_wait setup) (now_in setup (plain_world setup first)) less (gap_no_less takes within many) late) front some then_took
-        there asking long asked_then at_there
-        (asked_there setup all since within taken fair roomy long_so deep_so took later split early line asking is_asked)
-        (subst (λ (n : ℕ). (plain setup took).now + rounds_take held (2 * takes) asking < n) then_now over_then)
-        (subst (λ (n : ℕ). (plain setup took).now + rounds_take held (2 * takes) asking + takes ≤ n) then_now more_then)
+        told_behind setup line first pause sooner_stretch was then_there.0 set_up then_taken at_was at_then since takes quick_then fair_then roomy_then reach_then late_then front some
+        then_took there asking long asked_then at_there is_asked_then over_now more_now
 
     -- and what the agent took since then it took behind that
 
     by_then : TakesMore u then_world
     by_then = takes_behind setup up sooner_stretch
 
+    grown_by : (more : List Reached) → taken_in w ≡ taken_in then_world ++ more
+        → taken_meanwhile setup line u w ≡ taken_meanwhile setup line u then_world ++ flat_map told_taken (line_taken line more)
+    grown_by more came =
+        taken_then setup line up all (by_then.0 ++ more) set_up up_taken taken
+        (came ∙ ap (λ (x : List Reached). x ++ more) by_then.1 ∙ append_assoc (taken_in u) by_then.0 more)
+        ∙ ap (flat_map told_taken) (line_both line by_then.0 more) ∙ flat_map-append told_taken (line_taken line by_then.0) (line_taken line more)
+        ∙ ap (λ (x : List Observed). x ++ flat_map told_taken (line_taken line more)) (sym (taken_then setup line up then_steps by_then.0 set_up up_taken then_taken by_then.1))
+
     since_then : TakesMore then_world w
-    since_then =
-        subst (λ (s : List WorldStep). TakesMore then_world (plain_world setup s)) (sym whole_order)
-        (takes_behind setup then_steps (cut setup all since within taken fair roomy long_so deep_so).later)
-
-    abbrev told_more : List Observed
-    told_more = flat_map told_taken (line_taken line since_then.0)
-
-    all_came : taken_in w ≡ taken_in u ++ (by_then.0 ++ since_then.0)
-    all_came = since_then.1 ∙ ap (λ (x : List Reached). x ++ since_then.0) by_then.1 ∙ append_assoc (taken_in u) by_then.0 since_then.0
-
-    grown : taken_meanwhile setup line u w ≡ taken_meanwhile setup line u then_world ++ told_more
-    grown =
-        taken_then setup line up all (by_then.0 ++ since_then.0) set_up up_taken taken all_came
-        ∙ ap (flat_map told_taken) (line_both line by_then.0 since_then.0) ∙ flat_map-append told_taken (line_taken line by_then.0) (line_taken line since_then.0)
-        ∙ ap (λ (x : List Observed). x ++ told_more) (sym (taken_then setup line up then_steps by_then.0 set_up up_taken then_taken by_then.1))
+    since_then = subst (λ (s : List WorldStep). TakesMore then_world (plain_world setup s)) (sym whole_order) (takes_behind setup then_steps later_steps)
 
     slow_told : ToldBy w
     slow_told =
         more_told was.post.pending (happened_in was.line.quarantined.events ++ done_in (course_from setup (plain setup u.gateway_took) line front))
-        (taken_meanwhile setup line u then_world) told_more (taken_meanwhile setup line u w) told_then grown
+        (taken_meanwhile setup line u then_world) (flat_map told_taken (line_taken line since_then.0)) (taken_meanwhile setup line u w) told_then
+        (grown_by since_then.0 since_then.1)
+
+    -- Where the telephone rests, nothing of it is told behind that.
+
+    module _ (rests : done_in (course_from setup (plain setup took) line later) ≡ []) where
+      abbrev first_held : List Observed
+      first_held = happened_in was.line.quarantined.events
+
+      -- its course up to there, and from there on
+
+      abbrev course_all : List CourseStep
+      course_all = course_from setup (plain setup u.gateway_took) line (front ++ later)
+
+      abbrev course_then : List CourseStep
+      course_then = course_from setup (plain setup u.gateway_took) line (front ++ some)
+
+      abbrev course_behind : List CourseStep
+      course_behind = course_from setup (plain setup then_world.gateway_took) line behind
+
+      course_parts : course_all ≡ course_then ++ course_behind
+      course_parts =
+          ap (λ (x : List GatewayEvent). course_from setup (plain setup u.gateway_took) line x)
+          (ap (λ (x : List GatewayEvent). front ++ x) parts ∙ sym (append_assoc front some behind))
+          ∙ course_on setup (plain setup u.gateway_took) line (front ++ some) behind
+          ∙ ap (λ (m : Machine). course_then ++ course_from setup m line behind)
+          (sym (machine_on setup (opening setup) u.gateway_took (front ++ some))
+          ∙ ap (λ (x : List GatewayEvent). plain setup x) (sym (append_assoc u.gateway_took front some) ∙ sym then_took))
+
+      rest_parts : (done_in (course_from setup (plain setup took) line some) ≡ []) × (done_in course_behind ≡ [])
+      rest_parts =
+          none_both (done_in (course_from setup (plain setup took) line some)) (done_in course_behind)
+          (ap (λ (m : Machine). done_in (course_from setup (plain setup took) line some) ++ done_in (course_from setup m line behind))
+          (ap (λ (x : List GatewayEvent). plain setup x) then_took ∙ machine_on setup (opening setup) took some)
+          ∙ sym (done_both (course_from setup (plain setup took) line some) (course_from setup (machine_after setup (plain setup took) some) line behind))
+          ∙ ap done_in
+          (sym (course_on setup (plain setup took) line some behind) ∙ ap (λ (x : List GatewayEvent). course_from setup (plain setup took) line x) (sym parts))
+          ∙ rests)
+
+      all_then : IsAllTold line then_world was then_there.0 (first_held ++ done_in (course_from setup (plain setup u.gateway_took) line front))
+          (taken_meanwhile setup line u then_world)
+      all_then =
+          all_behind setup line first pause sooner_stretch was then_there.0 set_up then_taken at_was at_then since takes quick_then fair_then roomy_then reach_then late_then front some
+          then_took there asking long asked_then at_there is_asked_then over_now more_now rest_parts.0
+
+      -- what it begins from there on tells nothing of it, since it keeps nothing
+
+      kept_then : Kept first_held course_then then_there.0.line
+      kept_then =
+          kept_since setup line one u.gateway_took (front ++ some) was then_there.0 at_was
+          (subst (λ (x : List GatewayEvent). endpoint_at (plain setup x).endpoints line ≡ Some then_there.0) (append_assoc u.gateway_took front some) then_there.1)
+          asked.keeps front_course then_lost asked.counted
+
+      kept_all : Kept first_held course_all is.line
+      kept_all =
+          kept_since setup line one u.gateway_took (front ++ later) was is at_was
+          (subst (λ (x : List GatewayEvent). endpoint_at (plain setup x).endpoints line ≡ Some is) (split ∙ append_assoc u.gateway_took front later) at_is)
+          asked.keeps asked.since asked.none_lost asked.counted
+
+      no_more_done : done_in course_then ≡ done_in course_all
+      no_more_done =
+          sym (append-nil (done_in course_then)) ∙ ap (λ (x : List Observed). done_in course_then ++ x) (sym rest_parts.1) ∙ sym (done_both course_then course_behind)
+          ∙ ap done_in (sym course_parts)
+
+      told_parts : happened_in (told_along course_all) ≡ happened_in (told_along course_then) ++ happened_in (told_along course_behind)
+      told_parts =
+          ap (λ (x : List CourseStep). happened_in (told_along x)) course_parts ∙ ap happened_in (told_both course_then course_behind)
+          ∙ happened_both (told_along course_then) (told_along course_behind)
+
+      kept_is : happened_in then_there.0.line.quarantined.events ≡ happened_in (told_along course_behind) ++ happened_in is.line.quarantined.events
+      kept_is =
+          cancel (happened_in (told_along course_then)) (happened_in then_there.0.line.quarantined.events)
+          (happened_in (told_along course_behind) ++ happened_in is.line.quarantined.events)
+          (sym kept_then.whole ∙ ap (λ (x : List Observed). first_held ++ x) no_more_done ∙ kept_all.whole
+          ∙ ap (λ (x : List Observed). x ++ happened_in is.line.quarantined.events) told_parts
+          ∙ append_assoc (happened_in (told_along course_then)) (happened_in (told_along course_behind)) (happened_in is.line.quarantined.events))
+
+      course_says_none : happened_in (told_along course_behind) ≡ []
+      course_says_none = (none_both (happened_in (told_along course_behind)) (happened_in is.line.quarantined.events) (sym kept_is ∙ all_then.left)).0
+
+      -- what the agent takes from there on was in flight, or began then
+
+      long_then : now_in setup (plain_world setup first) + outliving ≤ now_in setup then_world
+      long_then =
+          long_on (now_in setup (plain_world setup first)) outliving (now_in setup u) (now_in setup then_world) long (front_forward setup up sooner_stretch then_taken)
+
+      calm_then : AnnouncesNothing setup line (plain_world setup first) then_world then_there.0
+      calm_then =
+          calm_whole setup line first pause sooner_stretch was then_there.0 set_up then_taken at_was at_then since takes quick_then fair_then roomy_then reach_then late_then front some
+          then_took
+
+      takes_then : TakenBehind setup line then_world w then_there.0.post.pending
+      takes_then =
+          subst (λ (s : List WorldStep). TakenBehind setup line then_world (plain_world setup s) then_there.0.post.pending) (sym whole_order)
+          (taken_behind setup line one set_up first (pause ++ sooner_stretch) then_steps later_steps (sym (append_assoc first pause sooner_stretch)) then_there.0
+          (subst (λ (s : List WorldStep). steps_are_taken setup world_opening s ≡ true) whole_order taken) at_then calm_then long_then)
+
+      behind_is : takes_then.events ≡ behind
+      behind_is = cancel then_world.gateway_took takes_then.events behind (sym takes_then.took ∙ whole_took)
+
+      new_says_none : happened_in (flat_map told_by (began_at setup line then_world.gateway_took takes_then.events)) ≡ []
+      new_says_none =
+          ap (λ (x : List GatewayEvent). happened_in (flat_map told_by (began_at setup line then_world.gateway_took x))) behind_is
+          ∙ ap happened_in
+          (sym (says_then setup line one set_up then_world.gateway_took behind then_there.0 is at_then
+          (subst (λ (x : List GatewayEvent). endpoint_at (plain setup x).endpoints line ≡ Some is) whole_took at_is)))
+          ∙ course_says_none
+
+      tells_none : happened_in (flat_map told_taken (line_taken line takes_then.more)) ≡ []
+      tells_none =
+          quiet_behind then_there.0.post.pending takes_then.late (began_at setup line then_world.gateway_took takes_then.events) (line_taken line (taken_in then_world))
+          (line_taken line takes_then.more) takes_then.late_is takes_then.comes takes_then.anew new_says_none all_then.last
+
+      slow_all : (told : ToldBy w) × (told.rest ≡ [])
+      slow_all =
+          all_told was.post.pending (first_held ++ done_in (course_from setup (plain setup u.gateway_took) line front)) (taken_meanwhile setup line u then_world)
+          (flat_map told_taken (line_taken line takes_then.more)) (taken_meanwhile setup line u w) all_then.told (grown_by takes_then.more takes_then.came) all_then.rest tells_none
 
   -- However long the network takes.
 
@@ -335,3 +495,17 @@ module _ (setup : Setup) (line : ℕ) (first pause stretch : List WorldStep) (wa
 
   pub told_always : ToldBy w
   told_always = by_quick (nat_lt (500 + 2 * within) answer_wait) refl
+
+  -- and all of it, where the telephone rests
+
+  all_by_quick : (b : Bool) → nat_lt (500 + 2 * within) answer_wait ≡ b → done_in (course_from setup (plain setup took) line later) ≡ []
+      → (told : ToldBy w) × (told.rest ≡ [])
+  all_by_quick true quick rests =
+      let told =
+      all_behind setup line first pause stretch was is set_up taken at_was at_is since within (ltb-true (500 + 2 * within) answer_wait quick) fair roomy reach late front later split there
+      asking long asked at_there is_asked over more rests in
+      (told.told, told.rest)
+  all_by_quick false many rests = slow_all many rests
+
+  pub all_always : done_in (course_from setup (plain setup took) line later) ≡ [] → (told : ToldBy w) × (told.rest ≡ [])
+  all_always = all_by_quick (nat_lt (500 + 2 * within) answer_wait) refl

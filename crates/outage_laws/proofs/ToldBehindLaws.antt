@@ -28,11 +28,12 @@ use Rattle.told_laws.proofs.StretchLemmas.{meanwhile_is}
 use Rattle.outage_laws.specs.AfterOutage.{AgentHasRoomFrom, IsFairFrom, gap_of, longer_wait, well_by}
 use Rattle.outage_laws.specs.ToldSince.{FlightsBeganSince, IsAskedForAllSince, IsToldFrom}
 use Rattle.outage_laws.proofs.CalmStretches.{calm_back}
-use Rattle.outage_laws.proofs.FairStretchLaws.{fair_all_from, fair_told_from}
+use Rattle.outage_laws.proofs.FairStretchLaws.{fair_rests_from, fair_told_from}
 use Rattle.outage_laws.proofs.LineWindowLaws.{calm_behind, serving_behind, since_behind}
 use Rattle.outage_laws.proofs.OwnReaches.{own_reaches}
 use Rattle.outage_laws.proofs.ServesFrontLaws.{serves_before}
 use Rattle.outage_laws.proofs.ServesLaws.{IsQuick}
+use Rattle.outage_laws.proofs.ToldFromLaws.{IsAllTold}
 use Rattle.outage_laws.proofs.WellLaws.{both_waits, shorter}
 
 recent : (since moment : ℕ) → since ≤ moment → since ≤ moment + last_chance
@@ -121,6 +122,12 @@ module _ (setup : Setup) (line : ℕ) (first pause stretch : List WorldStep) (wa
       subst (λ (x : List GatewayEvent). has_given_up (of_line line (sent_from setup (plain setup v.gateway_took) x)) was.post ≡ false) (sym (meanwhile_is v u paused up_took))
       (calm_so paused (front ++ later) was refl was_at)
 
+  -- nor by the end
+  pub calm_whole : AnnouncesNothing setup line v w is
+  calm_whole =
+      subst (λ (x : List GatewayEvent). has_given_up (of_line line (sent_from setup (plain setup v.gateway_took) x)) is.post ≡ false) (sym (meanwhile_is v w behind took))
+      (calm_so behind [] is (sym (append-nil behind)) is_at)
+
   since_took : w.gateway_took ≡ u.gateway_took ++ (front ++ later)
   since_took = split ∙ append_assoc u.gateway_took front later
 
@@ -163,8 +170,7 @@ module _ (setup : Setup) (line : ℕ) (first pause stretch : List WorldStep) (wa
         fair_told_from setup line one first pause stretch once.0 was is set_up taken once.1 at_was at_is calm_before calm_since long since within asking front later there fair roomy
         began (λ b of past. reach line b of (recent since b.moment past)) asked split at_there is_asked over more
 
-    pub all_behind : done_in (course_from setup (plain setup (u.gateway_took ++ front)) line later) ≡ []
-        → (told : IsToldFrom was.post.pending done (taken_meanwhile setup line u w)) × (told.rest ≡ [])
+    pub all_behind : done_in (course_from setup (plain setup (u.gateway_took ++ front)) line later) ≡ [] → IsAllTold line w was is done (taken_meanwhile setup line u w)
     all_behind rests =
-        fair_all_from setup line one first pause stretch once.0 was is set_up taken once.1 at_was at_is calm_before calm_since long since within asking front later there fair roomy
+        fair_rests_from setup line one first pause stretch once.0 was is set_up taken once.1 at_was at_is calm_before calm_since long since within asking front later there fair roomy
         began (λ b of past. reach line b of (recent since b.moment past)) asked split at_there is_asked over more rests

@@ -1,6 +1,8 @@
 -- Over a stretch in which a line gives nothing up, nor for a while before, what was quarantined at its beginning, and what its telephone had done
 -- by a moment of it, the agent was told so many rounds, and the network's time, later: whatever was asked for, lost and given up before.
-use Rattle.std.proofs.Common.{◌≡◌, ℕ, ◌+◌, ◌<◌, ◌≤◌, true, false, List, [], ◌∷◌, ◌++◌, length, Some, refl, sym, ap, ◌∙◌, subst, arith, append_assoc, append-nil}
+use Rattle.std.proofs.Common.{◌≡◌, ℕ, ◌+◌, ◌<◌, ◌≤◌, Bool, true, false, List, [], ◌∷◌, ◌++◌, length, Some, inl, inr, refl, sym, ap, ◌∙◌, subst, arith, append_assoc, append-nil}
+use Rattle.std.specs.Prelude.{◌⊎◌, nat_lt}
+use Rattle.std.proofs.lemmas.Bool.{ltb-false, ltb-true}
 use Rattle.std.proofs.lemmas.List.{length-append}
 use Rattle.event_values.specs.declared.observed.Observed.{Observed}
 use Rattle.outbound.specs.Flight.{InFlight}
@@ -13,9 +15,12 @@ use Rattle.plain_machine.specs.Setup.{IsSetUp}
 use Rattle.plain_machine.proofs.ListLaws.{machine_on}
 use Rattle.machine_laws.specs.Saying.{Begun}
 use Rattle.machine_laws.proofs.AnnouncementLaws.{serving_lasts}
+use Rattle.machine_laws.proofs.EachLemmas.{Each, each_back}
 use Rattle.agent_core.specs.World.{World, WorldStep, gateway_in, now_in, plain_world, steps_are_taken, world_opening}
+use Rattle.world_laws.specs.Reached.{taken_in}
 use Rattle.delivery_laws.specs.Course.{CourseStep, course_from, course_of}
 use Rattle.delivery_laws.specs.Dialled.{done_in, told_along, AskForAll}
+use Rattle.delivery_laws.specs.Fairness.{GoesToAgent}
 use Rattle.delivery_laws.specs.GivenUp.{has_given_up}
 use Rattle.delivery_laws.specs.Keeping.{happened_in, KeepsAll}
 use Rattle.delivery_laws.specs.Rounds.{IsAnsweredWithin, IsAskedWithin, rounds_take}
@@ -26,19 +31,34 @@ use Rattle.delivery_laws.proofs.KeepingLemmas.{happened_both}
 use Rattle.delivery_laws.proofs.RoundLaws.{course_on}
 use Rattle.delivery_laws.proofs.StepLemmas.{taken_front}
 use Rattle.delivery_laws.proofs.ToldLemmas.{told_by}
-use Rattle.delivery_laws.proofs.WorldLemmas.{line_begun}
+use Rattle.delivery_laws.proofs.WorldLemmas.{line_begun, line_taken}
 use Rattle.delivery_laws.proofs.FrontSteps.{same_front}
 use Rattle.delivery_laws.proofs.UnservedLemmas.{done_on}
 use Rattle.told_laws.specs.Stretch.{AnnouncesNothing, GivesNothingUp, outliving, taken_meanwhile}
+use Rattle.told_laws.proofs.CalmLemmas.{Took}
 use Rattle.told_laws.proofs.SettledLemmas.{IsThere, began_at, begun_on, sent_at}
 use Rattle.outage_laws.specs.AfterOutage.{AgentHasRoomFrom, IsFairFrom}
 use Rattle.outage_laws.specs.ToldSince.{FlightBeganSince, IsAskedForAllSince, IsToldFrom}
-use Rattle.outage_laws.proofs.ToldOutLaws.{OutSince, told_out}
+use Rattle.outage_laws.proofs.AnsweredSinceLaws.{LastBegun, last_begun}
+use Rattle.outage_laws.proofs.BeganEvents.{begun_past}
+use Rattle.outage_laws.proofs.LastTaken.{took_if_old}
+use Rattle.outage_laws.proofs.QuietBehind.{SaysNone}
+use Rattle.outage_laws.proofs.ToldOutLaws.{OutSince, is_old, told_out}
 use Rattle.outage_laws.proofs.CalmFronts.{calm_fronts}
 use Rattle.outage_laws.proofs.KeepingSince.{Kept, kept_since}
 use Rattle.outage_laws.proofs.KeepsServes.{keeps_serves}
 use Rattle.outage_laws.proofs.LostLemmas.{lost_on}
-use Rattle.outage_laws.proofs.YoungSinceLaws.{left_few, young_few}
+use Rattle.outage_laws.proofs.YoungSinceLaws.{clock_on, left_few, young_few}
+
+-- All of it was told: nothing more is quarantined, and what is in flight was taken, or tells nothing of the telephone.
+pub record IsAllTold (line : ℕ) (w : World) (was is : Endpoint) (done taken : List Observed) : Type 0 where
+  pub told : IsToldFrom was.post.pending done taken
+  pub rest : told.rest ≡ []
+  pub left : happened_in is.line.quarantined.events ≡ []
+  pub last :
+      (flight : InFlight) → is.post.pending ≡ Some flight
+      → Took (line_taken line (taken_in w)) (record { id = flight.id; moment = flight.first; text = flight.text })
+      ⊎ SaysNone (record { id = flight.id; moment = flight.first; text = flight.text })
 
 -- Numbers
 
@@ -64,6 +84,12 @@ from_first d b e h t a c q done told kept = omega (arith, done, told, kept)
 
 no_more_behind : (n m k : ℕ) → n ≡ n + m → m ≡ k + 1 → ⊥
 no_more_behind n m k same some = absurd (omega (arith, same, some))
+
+not_so_soon : (first then clock take : ℕ) → first ≤ then → then ≤ clock → clock + take + 1 ≤ first → ⊥
+not_so_soon first then clock take early on late = absurd (omega (arith, early, on, late))
+
+so_few : (x l s : ℕ) → x + l ≤ s → x ≤ s
+so_few x l s both = omega (arith, both)
 
 module _ (setup : Setup) (line : ℕ) (some : 1 ≤ line) (first pause stretch : List WorldStep) (once was is : Endpoint) (set_up : IsSetUp setup)
     (taken : steps_are_taken setup world_opening ((first ++ pause) ++ stretch) ≡ true)
@@ -238,6 +264,60 @@ module _ (setup : Setup) (line : ℕ) (some : 1 ≤ line) (first pause stretch :
   told_from =
       record { late = is_out.late; since = is_out.since; late_is = is_out.late_is; order = is_out.order; rest = is_out.out.0; whole = is_out.out.1.0 }
 
+  -- And what is in flight at the end the agent took, or it tells no more than was done since.
+
+  module _ (flight : InFlight) (flies : is.post.pending ≡ Some flight) where
+    abbrev b : Begun
+    b = record { id = flight.id; moment = flight.first; text = flight.text }
+
+    its : LastBegun setup line w.gateway_took flight
+    its = last_begun setup line some set_up all is flight taken at_is flies
+
+    began_then : (since ≤ flight.first) × GoesToAgent setup w flight.text
+    began_then = subst (FlightBeganSince setup w since) flies flew
+
+    -- behind the rounds it began since
+    not_before : rounds + 1 ≤ flight.first → line_begun setup line base ≡ line_begun setup line (base ++ (front ++ later)) → ⊥
+    not_before late none =
+        not_so_soon flight.first (now_in setup u) (plain setup some_took).now (rounds_take (length there.line.quarantined.events) answering asking)
+        (each_back (λ (x : Begun). x.moment ≤ now_in setup u) its.front (b ∷ [])
+        (subst (Each (λ (x : Begun). x.moment ≤ now_in setup u)) (none ∙ ap (line_begun setup line) (sym whole) ∙ its.is) (begun_past setup line up set_up taken_up))).0
+        (clock_on setup all taken base front later split) late
+
+    last_over : Took (line_taken line (taken_in w)) b ⊎ (length (happened_in (told_by b)) ≤ length done_since)
+    last_over = by_test (nat_lt flight.first (rounds + 1)) refl where
+      by_test : (t : Bool) → nat_lt flight.first (rounds + 1) ≡ t → Took (line_taken line (taken_in w)) b ⊎ (length (happened_in (told_by b)) ≤ length done_since)
+      by_test true less =
+          inl
+          (took_if_old setup line some all since within is flight its.front set_up taken fair roomy at_is flies began_then.0 began_then.1 its.is
+          (is_old rounds flight.first within (now_in setup w) more (ltb-true flight.first (rounds + 1) less)))
+      by_test false long' =
+          let began : rounds + 1 ≤ flight.first = ltb-false flight.first (rounds + 1) long' in
+          inr
+          (so_few (length (happened_in (told_by b))) (length left) (length done_since)
+          (young_few setup all line base (front ++ later) some_took later answering asking (rounds + 1) there is set_up taken whole at_is split at_there calm is_answered is_asked
+          (just_behind rounds) (is_past rounds (now_in setup w) late) keeps_at serving_at more_then done_then conserves_at flight its.front its.is began
+          (λ none. absurd (not_before began none))))
+
+  -- So all was told, where nothing was done since.
+
+  pub rests_from : done_since ≡ [] → IsAllTold line w was is (held ++ done_in (course front)) (taken_meanwhile setup line u w)
+  rests_from none = record {
+    told = record { late = is_out.late; since = is_out.since; late_is = is_out.late_is; order = is_out.order; rest = is_out.out.0; whole = is_out.out.1.0 };
+    rest = is_out.out.1.1 none;
+    left = none_of left (none_so (length left) few_left);
+    last = λ flight flies. by_last flight (last_over flight flies);
+  } where
+    none_so : (x : ℕ) → x ≤ length done_since → x ≤ 0
+    none_so x few = subst (λ (y : List Observed). x ≤ length y) none few
+
+    by_last : (flight : InFlight)
+        → Took (line_taken line (taken_in w)) (record { id = flight.id; moment = flight.first; text = flight.text })
+        ⊎ (length (happened_in (told_by (record { id = flight.id; moment = flight.first; text = flight.text }))) ≤ length done_since)
+        → Took (line_taken line (taken_in w)) (record { id = flight.id; moment = flight.first; text = flight.text })
+        ⊎ SaysNone (record { id = flight.id; moment = flight.first; text = flight.text })
+    by_last flight (inl took) = inl took
+    by_last flight (inr few) = inr (none_of (happened_in (told_by (record { id = flight.id; moment = flight.first; text = flight.text }))) (none_so _ few))
+
   pub all_from : done_since ≡ [] → (told : IsToldFrom was.post.pending (held ++ done_in (course front)) (taken_meanwhile setup line u w)) × (told.rest ≡ [])
-  all_from none =
-      (record { late = is_out.late; since = is_out.since; late_is = is_out.late_is; order = is_out.order; rest = is_out.out.0; whole = is_out.out.1.0 }, is_out.out.1.1 none)
+  all_from none = let all = rests_from none in (all.told, all.rest)

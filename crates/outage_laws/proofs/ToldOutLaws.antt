@@ -12,55 +12,34 @@ use Rattle.plain_machine.specs.Event.{GatewayEvent}
 use Rattle.plain_machine.specs.Lists.{plain}
 use Rattle.plain_machine.specs.Machine.{endpoint_at}
 use Rattle.plain_machine.specs.Setup.{IsSetUp}
-use Rattle.plain_machine.specs.Posting.{line_of_id}
-use Rattle.plain_machine.specs.Lists.{sent_of}
-use Rattle.machine_laws.proofs.EachLemmas.{Each, any_from_one}
-use Rattle.machine_laws.specs.Saying.{Begun, OneOf}
+use Rattle.machine_laws.specs.Saying.{Begun}
 use Rattle.agent_core.specs.World.{World, WorldStep, gateway_in, now_in, plain_world, steps_are_taken, world_opening}
 use Rattle.world_laws.specs.Reached.{Reached, taken_in}
-use Rattle.world_laws.proofs.WorldLaws.{Came}
 use Rattle.delivery_laws.specs.Course.{course_from}
 use Rattle.delivery_laws.specs.Dialled.{told_along}
 use Rattle.delivery_laws.specs.Fairness.{GoesToAgent}
 use Rattle.delivery_laws.specs.Keeping.{happened_in}
-use Rattle.delivery_laws.specs.OwnChances.{IsOfLine, IsToldAfter}
 use Rattle.delivery_laws.proofs.DialledFlightLemmas.{flying}
 use Rattle.delivery_laws.proofs.DialledTakenLemmas.{told_taken}
-use Rattle.delivery_laws.proofs.FirstBroughtLaws.{begun_of_all}
-use Rattle.delivery_laws.proofs.LineLaws.{of_its_line}
 use Rattle.delivery_laws.proofs.MatchLemmas.{ends_same}
-use Rattle.delivery_laws.proofs.OwnChanceLaws.{told_after}
 use Rattle.delivery_laws.proofs.PairLemmas.{LastFlies, Paired, Pairs, pairs_tell}
-use Rattle.delivery_laws.proofs.PairedSteps.{stood}
-use Rattle.delivery_laws.proofs.PostedLemmas.{HasText, began_says, said_posted}
 use Rattle.delivery_laws.proofs.StepLemmas.{taken_front}
 use Rattle.delivery_laws.proofs.ToldLemmas.{told_by}
 use Rattle.delivery_laws.proofs.WorldLemmas.{line_begun, line_taken}
 use Rattle.told_laws.specs.Stretch.{AnnouncesNothing, GivesNothingUp, IsOnItsWay, outliving, taken_meanwhile}
-use Rattle.told_laws.proofs.CalmLemmas.{Took, last_took, one_of_line}
-use Rattle.told_laws.proofs.ReturnLemmas.{ReturnLate, ids_return_late}
+use Rattle.told_laws.proofs.CalmLemmas.{Took}
 use Rattle.told_laws.proofs.SettledLemmas.{began_at, begun_on}
 use Rattle.told_laws.proofs.StretchCourses.{taken_then, told_then}
 use Rattle.told_laws.proofs.StretchLemmas.{InPairs, in_pairs, late_tells, none_left}
 use Rattle.outage_laws.specs.AfterOutage.{AgentHasRoomFrom, IsFairFrom}
 use Rattle.outage_laws.specs.ToldSince.{FlightBeganSince}
-use Rattle.outage_laws.proofs.BeganEvents.{last_among}
-use Rattle.outage_laws.proofs.SinceLaws.{lately_by}
+use Rattle.outage_laws.proofs.LastTaken.{took_if_old}
 use Rattle.outage_laws.proofs.YoungSinceLaws.{no_more}
 
 -- Numbers
 
-is_old : (rounds first within now : ℕ) → rounds + within ≤ now → first < rounds + 1 → first + 0 + within ≤ now
+pub is_old : (rounds first within now : ℕ) → rounds + within ≤ now → first < rounds + 1 → first + 0 + within ≤ now
 is_old rounds first within now more before = omega (arith, more, before)
-
-at_first_send : (first within now : ℕ) → first + 0 + within ≤ now → first + 0 ≤ now
-at_first_send first within now old = omega (arith, old)
-
-from_first_send : (since first : ℕ) → since ≤ first → since ≤ first + 0
-from_first_send since first late = omega (arith, late)
-
-at_first : (moment : ℕ) → moment ≡ moment + 0
-at_first moment = omega arith
 
 nothing : 0 ≤ 0
 nothing = omega arith
@@ -228,39 +207,20 @@ module _ (setup : Setup) (line : ℕ) (some : 1 ≤ line) (first pause stretch :
 
       -- if it is old it was taken
 
-      its_own : OneOf (λ (x : Begun). x ≡ b) (line_begun setup line w.gateway_took)
-      its_own = subst (OneOf (λ (x : Begun). x ≡ b)) (sym begun_is) (last_among (line_begun setup line u.gateway_took ++ e.front) b)
-
-      is_of_line : IsOfLine setup w line b
-      is_of_line = any_from_one (λ (x : Begun). x ≡ b) (line_begun setup line w.gateway_took) its_own
-
       began_since : (since ≤ flight.first) × GoesToAgent setup w flight.text
       began_since = subst (FlightBeganSince setup w since) last.flies flew
 
-      told_once : IsToldAfter setup w b 0
-      told_once =
-          told_after setup w b 0
-          (subst (λ (moment : ℕ). OneOf (HasText b.text moment) w.posted) (at_first b.moment)
-          (said_posted setup all set_up taken b.text b.moment
-          (began_says b (sent_of setup w.gateway_took) (begun_of_all (λ (x : Begun). x ≡ b) line (sent_of setup w.gateway_took) its_own))))
-
-      lately : b.moment + 0 + within ≤ now_in setup w → OneOf (λ (one : Reached). (one.asked.id ≡ b.id) × (b.moment < one.asked.moment + 40000)) (taken_in w)
-      lately old = lately_by setup all since within line b set_up taken fair roomy is_of_line began_since.1 0 told_once (from_first_send since b.moment began_since.0) old
-
-      took_if_old : b.moment + 0 + within ≤ now_in setup w → Took (line_taken line (taken_in w)) b
-      took_if_old old =
-          last_took (line_begun setup line u.gateway_took ++ e.front) b (line_taken line (taken_in w))
-          (subst ReturnLate begun_is (ids_return_late setup line some all set_up taken is at_is))
-          (subst (λ (x : List Begun). Each (Came x) (line_taken line (taken_in w))) begun_is (stood setup line some all set_up taken).came)
-          (one_of_line line (λ (one : Reached). (one.asked.id ≡ b.id) × (b.moment < one.asked.moment + 40000)) (taken_in w)
-          (λ one same. ap (λ (id : ℕ). line_of_id id) same.0 ∙ of_its_line setup w line is flight at_is last.flies) (lately old))
+      took_it : b.moment + 0 + within ≤ now_in setup w → Took (line_taken line (taken_in w)) b
+      took_it =
+          took_if_old setup line some all since within is flight (line_begun setup line u.gateway_took ++ e.front) set_up taken fair roomy at_is last.flies began_since.0 began_since.1
+          begun_is
 
       short : length (happened_in (told_by b)) + length left ≤ count
       short = by_test (nat_lt flight.first (rounds + 1)) refl where
         by_test : (t : Bool) → nat_lt flight.first (rounds + 1) ≡ t → length (happened_in (told_by b)) + length left ≤ count
         by_test true less =
             absurd (m.untaken last.front flight last.is last.pairs
-            (took_if_old (is_old rounds flight.first within (now_in setup w) more (ltb-true flight.first (rounds + 1) less))))
+            (took_it (is_old rounds flight.first within (now_in setup w) more (ltb-true flight.first (rounds + 1) less))))
         by_test false long' =
             young_few m.events flight e.front m.took new_ends (ltb-false flight.first (rounds + 1) long')
 

@@ -62,7 +62,7 @@ none_new x n a t c few told same none = omega (arith, few, told, same, none)
 
 -- No event sets the clock back
 
-clock_on : (setup : Setup) (steps : List WorldStep) → steps_are_taken setup world_opening steps ≡ true → (front between rest : List GatewayEvent)
+pub clock_on : (setup : Setup) (steps : List WorldStep) → steps_are_taken setup world_opening steps ≡ true → (front between rest : List GatewayEvent)
     → (plain_world setup steps).gateway_took ≡ (front ++ between) ++ rest → (plain setup front).now ≤ (plain setup (front ++ between)).now
 clock_on setup steps taken front between rest took =
     let two = took_them setup steps (front ++ between) rest took in

@@ -53,7 +53,7 @@ pub fn all_is_well_after_an_outage()
 /// all that its telephone does, is asked for all since, loses nothing more, and isn't left without a request for longer than so many ms,
 /// what was quarantined at that moment, and what its telephone had done since by a later one, the agent was told since, as many rounds
 /// later as there were events in its quarantine, and once the time of the network; and that is all, where the telephone rests from that
-/// moment on, and a packet is handed over while it lasts (RFC 3435, 3.5, 4.3 and 4.4).
+/// moment on (RFC 3435, 3.5, 4.3 and 4.4).
 pub fn what_is_dialled_behind_an_outage_is_told()
     ensures told { (setup : Setup) (line since within asking : ℕ) (first pause stretch : List WorldStep)
         (front later : List GatewayEvent) (was is there : Endpoint) → let up = first ++ pause in let steps = up ++ stretch in
@@ -73,7 +73,7 @@ pub fn what_is_dialled_behind_an_outage_is_told()
         (taken_meanwhile setup line u w) }
     ensures rests { (setup : Setup) (line since within asking : ℕ) (first pause stretch : List WorldStep)
         (front later : List GatewayEvent) (was is there : Endpoint) → let up = first ++ pause in let steps = up ++ stretch in
-        IsRun setup steps → within ≤ oldest_packet → IsFairFrom setup steps since within → AgentHasRoomFrom setup steps since →
+        IsRun setup steps → IsFairFrom setup steps since within → AgentHasRoomFrom setup steps since →
         let v = plain_world setup first in let u = plain_world setup up in let w = plain_world setup steps in
         ((line : ℕ) → ReachTheAgentSince setup w line since) →
         endpoint_at (gateway_in setup u).endpoints line ≡ Some was → endpoint_at (gateway_in setup w).endpoints line ≡ Some is →
