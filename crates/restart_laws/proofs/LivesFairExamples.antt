@@ -10,7 +10,7 @@ use Rattle.history.specs.Memory.{most_firsts}
 use Rattle.plain_machine.specs.declared.setup.Setup.{Setup}
 use Rattle.transmission.specs.Texts.{texts_of}
 use Rattle.machine_laws.specs.Saying.{Begun, OneOf}
-use Rattle.machine_laws.proofs.EachLemmas.{Each, all_from_each, any_from_one}
+use Rattle.machine_laws.proofs.EachLemmas.{Each, all_from_each, any_from_one, each_weaker}
 use Rattle.agent_core.specs.declared.packet.End.{End}
 use Rattle.agent_core.specs.declared.packet.End.TheVariants.{AgentEnd as agent_end, GatewayEnd as gateway_end}
 use Rattle.agent_core.specs.declared.packet.Packet.{Packet}
@@ -206,16 +206,24 @@ lives_astray setup w text number letter found of from astray inside goes =
     let there = goes number letter found (eqb-true letter.life (number_of w) of) from (any_from_one (λ (one : List ℕ). one ≡ text) (texts_of letter.post.packet.bytes) inside) in
     let clash : true ≡ false = sym there ∙ astray in cc)
 
--- Whether the ids of two lives lie apart
+-- Whether the ids of two lives lie apart, each with what it began; one life alone does
 
-pub two_apart : (w : LivesWorld) (earlier : Life) (a b c : Begun) → w.over ≡ earlier ∷ [] → begun_of earlier ≡ a ∷ [] → begun_of w.life ≡ b ∷ c ∷ [] → BeginsLater a b
-    → BeginsLater a c → LieApart (lives_of w)
-two_apart w earlier a b c one first second next last =
+pub one_apart : (w : LivesWorld) → w.over ≡ [] → LieApart (lives_of w)
+one_apart w none = pairs_to AreApart (lives_of w) (subst (λ (over : List Life). Pairs AreApart (over ++ w.life ∷ [])) (sym none) (tt, tt))
+
+pub lives_apart : (w : LivesWorld) (earlier : Life) (some more : List Begun) → w.over ≡ earlier ∷ [] → begun_of earlier ≡ some → begun_of w.life ≡ more
+    → Each (λ (x : Begun). Each (BeginsLater x) more) some → LieApart (lives_of w)
+lives_apart w earlier some more one first second each =
     pairs_to AreApart (lives_of w) (subst (λ (over : List Life). Pairs AreApart (over ++ w.life ∷ [])) (sym one) ((here, tt), (tt, tt))) where
-      later : All (BeginsLater a) (begun_of w.life)
-      later = all_from_each (BeginsLater a) (begun_of w.life) (subst (Each (BeginsLater a)) (sym second) (next, (last, tt)))
+      later : (x : Begun) → Each (BeginsLater x) more → All (BeginsLater x) (begun_of w.life)
+      later x all = all_from_each (BeginsLater x) (begun_of w.life) (subst (Each (BeginsLater x)) (sym second) all)
 
       here : AreApart earlier w.life
       here =
           all_from_each (λ (x : Begun). All (BeginsLater x) (begun_of w.life)) (begun_of earlier)
-          (subst (Each (λ (x : Begun). All (BeginsLater x) (begun_of w.life))) (sym first) (later, tt))
+          (subst (Each (λ (x : Begun). All (BeginsLater x) (begun_of w.life))) (sym first)
+          (each_weaker (λ (x : Begun). Each (BeginsLater x) more) (λ (x : Begun). All (BeginsLater x) (begun_of w.life)) later some each))
+
+pub two_apart : (w : LivesWorld) (earlier : Life) (a b c : Begun) → w.over ≡ earlier ∷ [] → begun_of earlier ≡ a ∷ [] → begun_of w.life ≡ b ∷ c ∷ [] → BeginsLater a b
+    → BeginsLater a c → LieApart (lives_of w)
+two_apart w earlier a b c one first second next last = lives_apart w earlier (a ∷ []) (b ∷ c ∷ []) one first second ((next, (last, tt)), tt)

@@ -1,3 +1,4 @@
 pub mod AfterRestart
 pub mod Example
+pub mod InFlightExample
 pub mod Roomless

@@ -7,6 +7,7 @@
 #![tactic(auto)]
 
 pub mod examples;
+pub mod in_flight_examples;
 pub mod laws;
 pub mod quarantine_examples;
 pub mod roomless_examples;
