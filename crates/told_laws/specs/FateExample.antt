@@ -1,12 +1,15 @@
 -- Commands of worked examples, with what became of them, and worlds behind which that is seen.
-use Rattle.std.specs.Prelude.{ℕ, ◌*◌, Bool, List, ◌++◌, codes, decimal, map}
+use Rattle.std.specs.Prelude.{ℕ, ◌*◌, Bool, List, [], ◌∷◌, ◌++◌, codes, decimal, map}
 use Rattle.event_values.specs.declared.observed.Observed.{Observed}
+use Rattle.mg_line.specs.declared.phone.Act.TheVariants.{OffHook}
 use Rattle.outbound.specs.Flight.{InFlight, sent_first}
+use Rattle.plain_machine.specs.declared.endpoint.Endpoint.{Endpoint}
 use Rattle.plain_machine.specs.declared.setup.Setup.{Setup}
-use Rattle.plain_machine.specs.Example.{agent_route, two_lines}
+use Rattle.plain_machine.specs.Event.{GatewayEvent, phone, tick}
+use Rattle.plain_machine.specs.Example.{agent_route, from_agent, two_lines}
 use Rattle.machine_laws.specs.Saying.{Begun}
 use Rattle.agent_core.specs.World.{WorldStep}
-use Rattle.delivery_laws.specs.Example.{took_with}
+use Rattle.delivery_laws.specs.Example.{line_with, took_with}
 use Rattle.told_laws.specs.Fate.{Fate, fates_of, told_by_it}
 use Rattle.told_laws.specs.WorldPremises.{line_in}
 
@@ -51,3 +54,20 @@ fates_with setup steps = fates_of setup 1 (took_with setup steps) (line_in setup
 
 abbrev pub fates_then : List WorldStep → List Fate
 fates_then steps = fates_with two_lines steps
+
+-- Where the gateway isn't set up well: in its domain stands the rest of a notification, and an empty line behind it
+
+abbrev pub doubled : Setup
+doubled = record two_lines {
+  names = record { domain = codes "x MGCP 1.0\r\nX: 0\r\nO: L/hu\r\n\r\n"; lines = 2; table = two_lines.names.table };
+}
+
+-- its announcement is answered, and line 1 is lifted
+abbrev pub lifted_there : List GatewayEvent
+lifted_there = tick 1 ∷ from_agent (codes "200 1 OK\r\n") ∷ phone 1 OffHook ∷ []
+
+abbrev pub line_there : Endpoint
+line_there = line_with doubled lifted_there
+
+abbrev pub fates_there : List Fate
+fates_there = fates_of doubled 1 lifted_there line_there

@@ -6,11 +6,14 @@ ghost use Rattle.restart.specs.declared.restart.Restart.TheVariants.{Waiting, An
 ghost use Rattle.plain_machine.specs.Example.{two_lines};
 ghost use Rattle.plain_machine.specs.Setup.{IsSetUp};
 ghost use Rattle.agent_core.specs.World.{steps_are_taken, world_opening};
+ghost use Rattle.delivery_laws.specs.Course.{course_of};
+ghost use Rattle.delivery_laws.specs.Dialled.{done_in, told_along};
 ghost use Rattle.delivery_laws.specs.DialledExample.{told_then, world, endpoint_then};
 ghost use Rattle.delivery_laws.specs.OnceExample.{five, hung_up, lifted as off_hook};
+ghost use Rattle.told_laws.specs.Among.{AreAmong};
 ghost use Rattle.told_laws.specs.Fate.{IsTakenOf, fates_from, joined, kept_of, waits_to_announce};
 ghost use Rattle.told_laws.specs.FateExample.{fates_then, fates_with, is_back, key, key_flies, lifting, tells_five, tells_lifting};
-ghost use Rattle.told_laws.specs.FateExample.{what_told, which_given_up};
+ghost use Rattle.told_laws.specs.FateExample.{doubled, fates_there, lifted_there, line_there, what_told, which_given_up};
 ghost use Rattle.told_laws.specs.WorldExample.{gives_up, rests, taken_late};
 ghost use Rattle.told_laws.specs.WorldPremises.{asked_for_its_agent, line_in, lying, observed_in, rested, taken_out_of_order};
 
@@ -71,4 +74,14 @@ pub fn else_what_is_kept_is_taken_behind()
     ensures told { joined (fates_then taken_out_of_order) ≡ off_hook ∷ five ∷ [] }
     ensures observed { told_then taken_out_of_order ≡ five ∷ off_hook ∷ [] }
     ensures not_taken { ¬ IsTakenOf (fates_then taken_out_of_order) (endpoint_then taken_out_of_order).post.pending (five ∷ off_hook ∷ []) }
+{}
+
+/// Where a gateway isn't set up well what a line tells may be read as something else: so what it kept, and the agent took, wasn't done.
+pub fn else_what_is_kept_is_read_as_another()
+    ensures not_set_up { ¬ IsSetUp doubled }
+    ensures told { told_along (course_of doubled 1 lifted_there) ≡ off_hook ∷ [] }
+    ensures reads { joined fates_there ≡ hung_up ∷ [] }
+    ensures done { done_in (course_of doubled 1 lifted_there) ≡ off_hook ∷ [] }
+    ensures taken { (took : IsTakenOf fates_there line_there.post.pending (hung_up ∷ [])) × (joined (kept_of took.taken) ≡ hung_up ∷ []) }
+    ensures not_among { ¬ AreAmong (hung_up ∷ []) (off_hook ∷ []) }
 {}
