@@ -1,7 +1,8 @@
 -- The same over a network that is fair from a moment on, where each command that a line begins since goes to the agent: an answer takes twice the
 -- network's time at most.
-use Rattle.std.proofs.Common.{◌≡◌, ℕ, ◌+◌, ◌*◌, ◌<◌, ◌≤◌, true, false, List, [], ◌++◌, length, Option, Some, None, refl, sym, ◌∙◌, subst, append-nil, append_assoc}
+use Rattle.std.proofs.Common.{◌≡◌, ℕ, ◌+◌, ◌*◌, ◌<◌, ◌≤◌, Bool, true, false, List, [], ◌++◌, length, Option, Some, None, refl, sym, ap, ◌∙◌, subst, append-nil, append_assoc}
 use Rattle.std.specs.Prelude.{IfSome}
+use Rattle.event_values.specs.declared.observed.Observed.{Observed}
 use Rattle.outbound.specs.Flight.{InFlight}
 use Rattle.plain_machine.specs.declared.setup.Setup.{Setup}
 use Rattle.plain_machine.specs.declared.endpoint.Endpoint.{Endpoint}
@@ -20,10 +21,11 @@ use Rattle.delivery_laws.specs.GivenUp.{has_given_up}
 use Rattle.delivery_laws.specs.Keeping.{happened_in}
 use Rattle.delivery_laws.specs.OwnChances.{IsOfLine}
 use Rattle.delivery_laws.specs.Rounds.{IsAnsweredWithin, IsAskedWithin, rounds_take}
+use Rattle.delivery_laws.proofs.UnservedLemmas.{unserved_undone}
 use Rattle.delivery_laws.proofs.WorldLemmas.{line_begun}
 use Rattle.told_laws.specs.Stretch.{AnnouncesNothing, GivesNothingUp, outliving, taken_meanwhile}
 use Rattle.told_laws.proofs.SettledLemmas.{sent_at}
-use Rattle.told_laws.proofs.StretchLemmas.{meanwhile_is}
+use Rattle.told_laws.proofs.StretchLemmas.{meanwhile_is, none_left}
 use Rattle.outage_laws.specs.AfterOutage.{AgentHasRoomFrom, IsFairFrom}
 use Rattle.outage_laws.specs.ToldSince.{FlightBeganSince, FlightsBeganSince, IsAskedForAllSince, IsToldFrom, IsToldSince}
 use Rattle.outage_laws.proofs.FlightsSince.{all_flights}
@@ -43,7 +45,7 @@ module _ (setup : Setup) (line : ℕ) (some : 1 ≤ line) (first pause stretch :
     (calm_since : GivesNothingUp setup line (plain_world setup (first ++ pause)) (plain_world setup ((first ++ pause) ++ stretch)) was is)
     (since within : ℕ) (front later : List GatewayEvent) (there : Endpoint)
     (fair : IsFairFrom setup ((first ++ pause) ++ stretch) since within) (roomy : AgentHasRoomFrom setup ((first ++ pause) ++ stretch) since)
-    (serves_then : serves (gateway_in setup (plain_world setup (first ++ pause))).endpoints ≡ true)
+    (serves_then : serves (plain setup ((plain_world setup (first ++ pause)).gateway_took ++ front)).endpoints ≡ true)
     (began : FlightsBeganSince setup line ((plain_world setup (first ++ pause)).gateway_took ++ front) later since)
     (reach : (b : Begun) → IsOfLine setup (plain_world setup ((first ++ pause) ++ stretch)) line b → since ≤ b.moment
     → GoesToAgent setup (plain_world setup ((first ++ pause) ++ stretch)) b.text)
@@ -76,8 +78,7 @@ module _ (setup : Setup) (line : ℕ) (some : 1 ≤ line) (first pause stretch :
 
   pub fair_answered : IsAnsweredWithin setup line some_took later (2 * within)
   fair_answered =
-      answered_since setup all since within line some_took later there is set_up taken fair roomy split (serving_lasts setup u.gateway_took front serves_then) at_there at_is calm began
-      reach
+      answered_since setup all since within line some_took later there is set_up taken fair roomy split serves_then at_there at_is calm began reach
 
   -- what is in flight at the end
   pub fair_flew : FlightBeganSince setup w since is.post.pending
@@ -100,6 +101,16 @@ module _ (setup : Setup) (line : ℕ) (some : 1 ≤ line) (first pause stretch :
 
 -- What is told, where all was asked for in its whole life
 
+nothing_done : (first : Option InFlight) (told done taken : List Observed) → done ≡ [] → IsToldSince first told done taken
+nothing_done first told done taken none = record {
+  late = [];
+  since = taken;
+  late_is = none_left first;
+  order = refl;
+  rest = happened_in told ++ happened_in taken;
+  whole = ap (λ (x : List Observed). x ++ (happened_in told ++ happened_in taken)) (sym none);
+}
+
 module _ (setup : Setup) (line : ℕ) (some : 1 ≤ line) (first pause stretch : List WorldStep) (once was is : Endpoint) (set_up : IsSetUp setup)
     (taken : steps_are_taken setup world_opening ((first ++ pause) ++ stretch) ≡ true)
     (at_once : endpoint_at (gateway_in setup (plain_world setup first)).endpoints line ≡ Some once)
@@ -110,7 +121,6 @@ module _ (setup : Setup) (line : ℕ) (some : 1 ≤ line) (first pause stretch :
     (long : now_in setup (plain_world setup first) + outliving ≤ now_in setup (plain_world setup (first ++ pause)))
     (since within asking : ℕ) (before after front later : List GatewayEvent) (there : Endpoint)
     (fair : IsFairFrom setup ((first ++ pause) ++ stretch) since within) (roomy : AgentHasRoomFrom setup ((first ++ pause) ++ stretch) since)
-    (serves_then : serves (gateway_in setup (plain_world setup (first ++ pause))).endpoints ≡ true)
     (began : FlightsBeganSince setup line ((plain_world setup (first ++ pause)).gateway_took ++ front) later since)
     (reach : (b : Begun) → IsOfLine setup (plain_world setup ((first ++ pause) ++ stretch)) line b → since ≤ b.moment
     → GoesToAgent setup (plain_world setup ((first ++ pause) ++ stretch)) b.text)
@@ -123,15 +133,34 @@ module _ (setup : Setup) (line : ℕ) (some : 1 ≤ line) (first pause stretch :
     < now_in setup (plain_world setup ((first ++ pause) ++ stretch)))
     (more : (plain setup ((plain_world setup (first ++ pause)).gateway_took ++ front)).now + rounds_take (length there.line.quarantined.events) (2 * within) asking + within
     ≤ now_in setup (plain_world setup ((first ++ pause) ++ stretch))) where
-  pub fair_told_since : IsToldSince was.post.pending (told_along (course_of setup line (plain_world setup (first ++ pause)).gateway_took))
-      (done_in (course_of setup line ((plain_world setup (first ++ pause)).gateway_took ++ front))) (taken_meanwhile setup line (plain_world setup (first ++ pause)) (plain_world setup ((first ++ pause) ++ stretch)))
-  fair_told_since =
+  abbrev up_world : World
+  up_world = plain_world setup (first ++ pause)
+
+  abbrev whole_world : World
+  whole_world = plain_world setup ((first ++ pause) ++ stretch)
+
+  abbrev front_took : List GatewayEvent
+  front_took = up_world.gateway_took ++ front
+
+  abbrev IsIt : Type 0
+  IsIt = IsToldSince was.post.pending (told_along (course_of setup line up_world.gateway_took)) (done_in (course_of setup line front_took)) (taken_meanwhile setup line up_world whole_world)
+
+  -- where the gateway doesn't serve yet nothing was done
+  by_serving : (b : Bool) → serves (plain setup front_took).endpoints ≡ b → IsIt
+  by_serving true serves_then =
       told_since setup line some first pause stretch once was is set_up taken at_once at_was at_is calm_before calm_since long since within (2 * within) asking before after front
       later there fair roomy
       (fair_flew setup line some first pause stretch was is set_up taken at_was at_is calm_since since within front later there fair roomy serves_then began reach split at_there)
       took asked split at_there
       (fair_answered setup line some first pause stretch was is set_up taken at_was at_is calm_since since within front later there fair roomy serves_then began reach split at_there)
       is_asked late more
+  by_serving false closed =
+      nothing_done was.post.pending (told_along (course_of setup line up_world.gateway_took)) (done_in (course_of setup line front_took)) (taken_meanwhile setup line up_world whole_world)
+      (unserved_undone setup line before after front_took later there is.line (sym took ∙ split) at_there closed asked)
+
+  pub fair_told_since : IsToldSince was.post.pending (told_along (course_of setup line (plain_world setup (first ++ pause)).gateway_took))
+      (done_in (course_of setup line ((plain_world setup (first ++ pause)).gateway_took ++ front))) (taken_meanwhile setup line (plain_world setup (first ++ pause)) (plain_world setup ((first ++ pause) ++ stretch)))
+  fair_told_since = by_serving (serves (plain setup front_took).endpoints) refl
 
 -- and where all is asked for since
 
@@ -156,8 +185,10 @@ module _ (setup : Setup) (line : ℕ) (some : 1 ≤ line) (first pause stretch :
     < now_in setup (plain_world setup ((first ++ pause) ++ stretch)))
     (more : (plain setup ((plain_world setup (first ++ pause)).gateway_took ++ front)).now + rounds_take (length there.line.quarantined.events) (2 * within) asking + within
     ≤ now_in setup (plain_world setup ((first ++ pause) ++ stretch))) where
-  serves_then : serves (gateway_in setup (plain_world setup (first ++ pause))).endpoints ≡ true
-  serves_then = keeps_serves setup line some (plain_world setup (first ++ pause)).gateway_took was at_was asked.keeps
+  serves_then : serves (plain setup ((plain_world setup (first ++ pause)).gateway_took ++ front)).endpoints ≡ true
+  serves_then =
+      serving_lasts setup (plain_world setup (first ++ pause)).gateway_took front
+      (keeps_serves setup line some (plain_world setup (first ++ pause)).gateway_took was at_was asked.keeps)
 
   pub fair_told_from : IsToldFrom was.post.pending (happened_in was.line.quarantined.events ++ done_in (course_from setup (plain setup (plain_world setup (first ++ pause)).gateway_took) line front))
       (taken_meanwhile setup line (plain_world setup (first ++ pause)) (plain_world setup ((first ++ pause) ++ stretch)))

@@ -26,7 +26,7 @@ ghost use Rattle.outage_laws.specs.ToldSince.{FlightBeganSince, FlightsBeganSinc
 /// network that is fair from some moment on, what its telephone had done by a moment of the stretch the agent was told, so many rounds and
 /// once the network's time later, or it was told at its first send before the stretch. What is in flight at the end may be young, and is to
 /// have begun since the network is fair; what was on its way at the beginning may come, too. Where all that the line sends since the
-/// network is fair goes to the agent, and the gateway serves, an answer takes twice the network's time at most (RFC 3435, 4.3 and 4.4.1).
+/// network is fair goes to the agent, an answer takes twice the network's time at most (RFC 3435, 4.3 and 4.4.1).
 pub fn what_is_dialled_over_a_stretch_is_told()
     ensures told { (setup : Setup) (line since within answering asking : ℕ) (first pause stretch : List WorldStep)
         (before after front later : List GatewayEvent) (was is there : Endpoint) → IsSetUp setup →
@@ -54,7 +54,7 @@ pub fn what_is_dialled_over_a_stretch_is_told()
         AnnouncesNothing setup line v u was → AnnouncesNothing setup line u w is → now_in setup v + outliving ≤ now_in setup u →
         w.gateway_took ≡ before ++ after →
         IsAskedForAll (course_of setup line before) (course_from setup (plain setup before) line after) is.line →
-        IsFairFrom setup steps since within → AgentHasRoomFrom setup steps since → serves (gateway_in setup u).endpoints ≡ true →
+        IsFairFrom setup steps since within → AgentHasRoomFrom setup steps since →
         w.gateway_took ≡ (u.gateway_took ++ front) ++ later →
         let took = u.gateway_took ++ front in endpoint_at (plain setup took).endpoints line ≡ Some there →
         FlightsBeganSince setup line took later since →
