@@ -1,5 +1,5 @@
 -- What isn't told, and what began before a moment, computed; for worked examples.
-use Rattle.std.proofs.Common.{◌≡◌, ℕ, ◌+◌, ◌<◌, ◌≤◌, Bool, true, ◌&&◌, List, [], ◌∷◌, ◌++◌, inl, inr, ap, ◌∙◌, subst, arith}
+use Rattle.std.proofs.Common.{◌≡◌, ℕ, ◌+◌, ◌<◌, ◌≤◌, Bool, true, ◌&&◌, List, [], ◌∷◌, ◌++◌, inl, inr, sym, ap, ◌∙◌, subst, arith}
 use Rattle.std.specs.Prelude.{Any, nat_lt}
 use Rattle.std.proofs.lemmas.Bool.{and_parts, ltb-true}
 use Rattle.event_values.specs.declared.observed.Observed.{Observed}
@@ -7,6 +7,7 @@ use Rattle.machine_laws.specs.Saying.{Begun, OneOf}
 use Rattle.machine_laws.proofs.EachLemmas.{one_from_any}
 use Rattle.delivery_laws.specs.Keeping.{happened_in}
 use Rattle.delivery_laws.specs.OnceExample.{five, hung_up, lifted, six}
+use Rattle.told_laws.proofs.ListLemmas.{cancel}
 
 -- nothing was taken
 pub never_told_since : (one : Observed) (late since rest : List Observed) → late ≡ [] → [] ≡ late ++ since → happened_in since ≡ one ∷ rest → ⊥
@@ -31,6 +32,14 @@ pub told_twice : (late since rest : List Observed) → late ≡ [] → lifted �
 told_twice late since rest none order whole =
     let is : lifted ∷ five ∷ [] ≡ since = order ∙ ap (λ (x : List Observed). x ++ since) none in
     let clash : lifted ∷ lifted ∷ five ∷ [] ≡ lifted ∷ five ∷ rest = ap (λ (x : List Observed). lifted ∷ happened_in x) is ∙ whole in cc
+
+-- more was taken than was done by then
+pub told_more : (late since rest done taken more : List Observed) (x : Observed) → late ≡ [] → taken ≡ late ++ since → happened_in since ≡ done ++ rest → rest ≡ []
+    → happened_in taken ≡ done ++ x ∷ more → ⊥
+told_more late since rest done taken more x none order whole rests all =
+    let same : since ≡ taken = ap (λ (l : List Observed). l ++ since) (sym none) ∙ sym order in
+    let clash : [] ≡ x ∷ more =
+    cancel done [] (x ∷ more) (ap (λ (l : List Observed). done ++ l) (sym rests) ∙ sym whole ∙ ap happened_in same ∙ all) in cc
 
 -- not all was taken
 pub told_less : (late since rest : List Observed) → late ≡ [] → lifted ∷ [] ≡ late ++ since → happened_in since ≡ lifted ∷ five ∷ rest → ⊥

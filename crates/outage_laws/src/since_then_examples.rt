@@ -33,7 +33,7 @@ ghost use Rattle.outage_laws.specs.SinceThenExample.{rested_unasked, six_waits, 
 ghost use Rattle.outage_laws.specs.ToldSince.{FlightBeganSince, FlightsBeganSince};
 
 /// A key for which nobody asked is never told; and what is quarantined behind 11 s, and done since, is told, so much later. All that the
-/// law asks for holds at once.
+/// law asks for holds at once. More is told than what was quarantined, where the telephone doesn't rest since.
 pub fn what_waits_since_then_is_told()
     ensures run { IsRun two_lines told_since_then }
     ensures numbers { HasNumbersLeft (own_in two_lines (world told_since_then)) }
@@ -63,6 +63,14 @@ pub fn what_waits_since_then_is_told()
         (took_between hung_up_then told_since_then)) ≡ [] }
     ensures done_in_all { done_then told_since_then ≡ off_hook ∷ five ∷ five ∷ six ∷ hung_up ∷ [] }
     ensures told_in_all { told_then told_since_then ≡ off_hook ∷ five ∷ six ∷ hung_up ∷ [] }
+    ensures asked_first { WasAskedForAllSince rested_then rested_then told_since_then }
+    ensures answered_first { IsAnsweredWithin two_lines 1 (took_first rested_then) (took_between rested_then told_since_then) (2 * 300) }
+    ensures asked_again_first { IsAskedWithin two_lines 1 (took_first rested_then) (took_between rested_then told_since_then) 100 }
+    ensures more_first { (plain two_lines (took_first rested_then)).now + rounds_take 1 (2 * 300) 100 + 300
+        ≤ now_in two_lines (world told_since_then) }
+    ensures goes_on { done_in (course_from two_lines (plain two_lines (took_first rested_then)) 1
+        (took_between rested_then told_since_then)) ≡ hung_up ∷ [] }
+    ensures told_more { ¬ ((told : ToldFrom rested_then rested_then told_since_then) × (told.rest ≡ [])) }
 {}
 
 /// Where the line doesn't keep all at first a key isn't told, though all else holds that the law asks for.

@@ -27,7 +27,7 @@ ghost use Rattle.outage_laws.specs.ToldBehindExample.{six_told_in_step, told_too
 
 /// The eight sends of a notification are lost, and the network is there again 1 ms behind the last. By that long all is well, and 6,500 ms
 /// later what was dialled in the outage is quarantined yet, and the handset is put back: three rounds of twice 100 ms and 100 ms later, and
-/// 100 ms more, the agent was told all of it.
+/// 100 ms more, the agent was told all of it; and more than what was dialled by the beginning, where the telephone doesn't rest since.
 pub fn all_is_told_behind_an_outage()
     ensures run { IsRun two_lines all_told_in_step }
     ensures fair { IsFairFrom two_lines all_told_in_step 19502 100 }
@@ -49,6 +49,15 @@ pub fn all_is_told_behind_an_outage()
     ensures told { ToldFrom rested_in_step put_back_in_step all_told_in_step }
     ensures rests { done_in (course_from two_lines (plain two_lines (took_first put_back_in_step)) 1
         (took_between put_back_in_step all_told_in_step)) ≡ [] }
+    ensures asked_first { WasAskedForAllSince rested_in_step rested_in_step all_told_in_step }
+    ensures asked_again_first { IsAskedWithin two_lines 1 (took_first rested_in_step) (took_between rested_in_step all_told_in_step) 100 }
+    ensures held_first { (endpoint_then rested_in_step).line.quarantined.events ≡ five ∷ six ∷ [] }
+    ensures more_first { (plain two_lines (took_first rested_in_step)).now + rounds_take 2 (2 * 100) 100 + 100
+        ≤ now_in two_lines (world all_told_in_step) }
+    ensures done_first { done_between rested_in_step rested_in_step ≡ five ∷ six ∷ [] }
+    ensures goes_on { done_in (course_from two_lines (plain two_lines (took_first rested_in_step)) 1
+        (took_between rested_in_step all_told_in_step)) ≡ hung_up ∷ [] }
+    ensures told_more { ¬ ((told : ToldFrom rested_in_step rested_in_step all_told_in_step) × (told.rest ≡ [])) }
 {}
 
 /// Before so many rounds something isn't told; nor where a packet isn't handed over, where nobody asks, or where a request asks for

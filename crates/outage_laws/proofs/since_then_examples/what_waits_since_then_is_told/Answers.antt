@@ -10,7 +10,8 @@ use Rattle.delivery_laws.proofs.ExampleLemmas.{to_agent, took_split}
 use Rattle.delivery_laws.proofs.FrontLemmas.{agent_has_room, answered_within, asked_within}
 use Rattle.outage_laws.specs.AfterOutage.{AgentHasRoomFrom, IsFairFrom}
 use Rattle.std.proofs.Common.{◌≡◌, ℕ, ◌<◌, [], ◌∷◌, length, sym, ap, ◌∙◌, subst, arith}
-use Rattle.std.proofs.Common.{List, ◌++◌}
+use Rattle.std.proofs.Common.{List, ◌++◌, Option, None}
+use Rattle.outbound.specs.Flight.{InFlight}
 use Rattle.event_values.specs.declared.observed.Observed.{Observed}
 use Rattle.world_laws.specs.Reached.{own_in}
 use Rattle.quarantine.specs.Held.{most_lost}
@@ -23,6 +24,7 @@ use Rattle.outage_laws.specs.SinceThenExample.{ToldFrom, WasAskedForAllSince, do
 use Rattle.outage_laws.proofs.Computing.{on_examples}
 use Rattle.outage_laws.proofs.FairFromExamples.{fair_from_is, room_from}
 use Rattle.outage_laws.proofs.HadTimeExamples.{flight_since, flights_since}
+use Rattle.outage_laws.proofs.MoreExamples.{told_more}
 use Rattle.outage_laws.proofs.since_then_examples.what_waits_since_then_is_told.Goals as goal
 
 fair_then : IsFairFrom two_lines told_since_then 0 300
@@ -88,6 +90,35 @@ is_told = record {
   whole = ap (λ (x : List Observed). x ++ []) (sym done_is);
 }
 
+-- from the beginning of the stretch on, at which the handset wasn't put back yet
+
+done_first : done_between rested_then rested_then ≡ six ∷ []
+unfolding on_examples
+done_first = refl
+
+none_flies : (endpoint_then rested_then).post.pending ≡ None
+unfolding on_examples
+none_flies = refl
+
+was_asked_first : WasAskedForAllSince rested_then rested_then told_since_then
+unfolding on_examples
+was_asked_first = record {
+  keeps = was_asked.keeps;
+  since = (record { requested = notifies_each _ refl refl; quarantined = refl }, (record { requested = notifies_each _ refl refl; quarantined = refl }, (record { requested = notifies_each _ refl refl; quarantined = refl }, tt)));
+  none_lost = was_asked.none_lost;
+  counted = was_asked.counted;
+}
+
+answered_first : IsAnsweredWithin two_lines 1 (took_first rested_then) (took_between rested_then told_since_then) 600
+unfolding on_examples
+answered_first = answered_within two_lines 1 (took_first rested_then) (took_between rested_then told_since_then) 600 refl
+
+more_told : (told : ToldFrom rested_then rested_then told_since_then) × (told.rest ≡ []) → ⊥
+more_told t =
+    told_more t.0.late t.0.since t.0.rest (six ∷ []) (six ∷ hung_up ∷ []) [] hung_up
+    (subst (λ (pending : Option InFlight). IsOnItsWay pending t.0.late) none_flies t.0.late_is) (sym taken_is ∙ t.0.order)
+    (t.0.whole ∙ ap (λ (x : List Observed). x ++ t.0.rest) done_first) t.1 refl
+
 pub returns : goal.returns
 unfolding on_examples
 returns c = record {
@@ -115,4 +146,10 @@ returns c = record {
   rests = refl;
   done_in_all = refl;
   told_in_all = refl;
+  asked_first = was_asked_first;
+  answered_first = answered_first;
+  asked_again_first = asked_within two_lines 1 (took_first rested_then) (took_between rested_then told_since_then) 100 refl;
+  more_first = leb-true _ _ refl;
+  goes_on = refl;
+  told_more = more_told;
 }

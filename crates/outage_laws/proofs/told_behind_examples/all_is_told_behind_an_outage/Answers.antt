@@ -1,5 +1,7 @@
-use Rattle.std.proofs.Common.{◌≡◌, ℕ, ◌<◌, List, [], ◌∷◌, ◌++◌, length, refl, sym, ap, ◌∙◌, subst, arith}
+use Rattle.std.proofs.Common.{◌≡◌, ℕ, ◌<◌, List, [], ◌∷◌, ◌++◌, length, Option, None, refl, sym, ap, ◌∙◌, subst, arith}
+use Rattle.std.proofs.lemmas.Bool.{leb-true}
 use Rattle.event_values.specs.declared.observed.Observed.{Observed}
+use Rattle.outbound.specs.Flight.{InFlight}
 use Rattle.quarantine.specs.Held.{most_lost}
 use Rattle.plain_machine.specs.Example.{two_lines}
 use Rattle.world_laws.specs.Example.{world}
@@ -16,6 +18,7 @@ use Rattle.outage_laws.specs.SinceThenExample.{ToldFrom, WasAskedForAllSince, do
 use Rattle.outage_laws.specs.ToldBehindExample.{all_told_in_step, put_back_in_step, rested_in_step}
 use Rattle.outage_laws.proofs.Computing.{on_examples}
 use Rattle.outage_laws.proofs.FairFromExamples.{fair_from_is, room_from}
+use Rattle.outage_laws.proofs.MoreExamples.{told_more}
 use Rattle.outage_laws.proofs.told_behind_examples.all_is_told_behind_an_outage.Goals as goal
 
 some_began : length (own_in two_lines (world all_told_in_step)) ≡ 6
@@ -61,6 +64,31 @@ is_told = record {
   whole = ap (λ (x : List Observed). x ++ []) (sym done_is);
 }
 
+-- from the beginning of the stretch on, at which the handset wasn't put back yet
+
+done_first : done_between rested_in_step rested_in_step ≡ five ∷ six ∷ []
+unfolding on_examples
+done_first = refl
+
+none_flies : (endpoint_then rested_in_step).post.pending ≡ None
+unfolding on_examples
+none_flies = refl
+
+was_asked_first : WasAskedForAllSince rested_in_step rested_in_step all_told_in_step
+unfolding on_examples
+was_asked_first = record {
+  keeps = was_asked.keeps;
+  since = (record { requested = notifies_each _ refl refl; quarantined = refl }, (record { requested = notifies_each _ refl refl; quarantined = refl }, (record { requested = notifies_each _ refl refl; quarantined = refl }, (record { requested = notifies_each _ refl refl; quarantined = refl }, tt))));
+  none_lost = was_asked.none_lost;
+  counted = was_asked.counted;
+}
+
+more_told : (told : ToldFrom rested_in_step rested_in_step all_told_in_step) × (told.rest ≡ []) → ⊥
+more_told t =
+    told_more t.0.late t.0.since t.0.rest (five ∷ six ∷ []) (five ∷ six ∷ hung_up ∷ []) [] hung_up
+    (subst (λ (pending : Option InFlight). IsOnItsWay pending t.0.late) none_flies t.0.late_is) (sym taken_is ∙ t.0.order)
+    (t.0.whole ∙ ap (λ (x : List Observed). x ++ t.0.rest) done_first) t.1 refl
+
 pub returns : goal.returns
 unfolding on_examples
 returns c = record {
@@ -81,4 +109,11 @@ returns c = record {
   taken = taken_is;
   told = is_told;
   rests = refl;
+  asked_first = was_asked_first;
+  asked_again_first = asked_within two_lines 1 (took_first rested_in_step) (took_between rested_in_step all_told_in_step) 100 refl;
+  held_first = refl;
+  more_first = leb-true _ _ refl;
+  done_first = done_first;
+  goes_on = refl;
+  told_more = more_told;
 }
