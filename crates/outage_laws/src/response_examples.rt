@@ -7,7 +7,7 @@ ghost use Rattle.plain_machine.specs.Example.{agent, naming_other, other_entity,
 ghost use Rattle.plain_machine.specs.Lists.{plain};
 ghost use Rattle.plain_machine.specs.Machine.{serves};
 ghost use Rattle.outage_laws.specs.Example.{own_due};
-ghost use Rattle.outage_laws.specs.ResponseExample.{lifted_at_once, line_flies};
+ghost use Rattle.outage_laws.specs.ResponseExample.{announced_again, lifted_at_once, line_flies, line_reports_to};
 
 /// A provisional response puts off what is in flight, to 5,000 ms later; one with another id doesn't, nor does the answer, or one that
 /// comes with the answer in one datagram.
@@ -22,11 +22,22 @@ pub fn what_a_provisional_response_puts_off()
     ensures own_of_another { own_due (tick 1 ∷ response 100 2 ∷ []) ≡ Some 501 }
 {}
 
-/// 521 that names another agent is announced to that one; where it names nobody it is the answer, and so it is to a notification.
+/// 521 that names another agent is announced to that one; where it names nobody it is the answer, and so it is to a notification. Behind the
+/// answer in one datagram, or with another id, it does nothing. So it is of a line that announces itself.
 pub fn what_521_redirects()
     ensures redirected { (plain two_lines (tick 1 ∷ naming_other 521 1 ∷ [])).endpoints.own.entity ≡ other_entity }
     ensures announced_anew { own_due (tick 1 ∷ naming_other 521 1 ∷ []) ≡ Some 501 }
     ensures named_nobody { serves (plain two_lines (tick 1 ∷ response 521 1 ∷ [])).endpoints ≡ true }
     ensures another_code { serves (plain two_lines (tick 1 ∷ naming_other 200 1 ∷ [])).endpoints ≡ true }
     ensures to_a_notification { line_flies (lifted_at_once ++ naming_other 521 10000000 ∷ []) ≡ None }
+    ensures behind_the_answer { (plain two_lines (tick 1
+        ∷ datagram agent (codes "200 1 OK\r\n.\r\n521 1\r\nN: ca2@[127.0.0.2]:2728\r\n") ∷ [])).endpoints.own.entity ≡ two_lines.agent }
+    ensures of_another { (plain two_lines (tick 1 ∷ naming_other 521 2 ∷ [])).endpoints.own.entity ≡ two_lines.agent }
+    ensures line_announces { line_flies announced_again ≡ Some (10000001, 30000) }
+    ensures line_redirected { line_reports_to (announced_again ++ naming_other 521 10000001 ∷ []) ≡ other_entity }
+    ensures line_named_nobody { line_reports_to (announced_again ++ response 521 10000001 ∷ []) ≡ two_lines.agent }
+    ensures line_of_another { line_reports_to (announced_again ++ naming_other 521 10000002 ∷ []) ≡ two_lines.agent }
+    ensures line_behind_the_answer { line_reports_to (announced_again
+        ++ datagram agent (codes "200 10000001 OK\r\n.\r\n521 10000001\r\nN: ca2@[127.0.0.2]:2728\r\n") ∷ []) ≡ two_lines.agent }
+    ensures line_serves { line_reports_to (lifted_at_once ++ naming_other 521 10000000 ∷ []) ≡ two_lines.agent }
 {}
