@@ -122,12 +122,12 @@ stays_at_front setup line before after endpoint last at then_at none =
 
 -- One walk through all events
 
-next_machine : (setup : Setup) (before : List GatewayEvent) (event : GatewayEvent)
+pub next_machine : (setup : Setup) (before : List GatewayEvent) (event : GatewayEvent)
     → plain setup (before ++ event ∷ []) ≡ (effect setup (plain setup before) event).value
 unfolding machine_after
 next_machine setup before event = machine_on setup (opening setup) before (event ∷ [])
 
-one_event : (setup : Setup) (m : Machine) (line : ℕ) (event : GatewayEvent) → course_from setup m line (event ∷ []) ≡ course_at setup m line event
+pub one_event : (setup : Setup) (m : Machine) (line : ℕ) (event : GatewayEvent) → course_from setup m line (event ∷ []) ≡ course_at setup m line event
 unfolding course_from
 one_event setup m line event = append-nil (course_at setup m line event)
 
@@ -170,7 +170,7 @@ low_first : (line most list : ℕ) → line < 1 + list → list ≡ most → lin
 low_first line most list less same = omega (arith, less, same)
 
 -- a line that there is was there at first
-there_at_first : (setup : Setup) (line : ℕ) (events : List GatewayEvent) (endpoint : Endpoint) → endpoint_at (plain setup events).endpoints line ≡ Some endpoint
+pub there_at_first : (setup : Setup) (line : ℕ) (events : List GatewayEvent) (endpoint : Endpoint) → endpoint_at (plain setup events).endpoints line ≡ Some endpoint
     → (s : Endpoint) × (endpoint_at (plain setup []).endpoints line ≡ Some s)
 there_at_first setup line events endpoint at =
     let place = place_of (plain setup events).endpoints line endpoint at in

@@ -10,6 +10,7 @@ pub mod WalkFrontLemmas
 pub mod FrontWalks
 pub mod RequestTurns
 pub mod AmidWalks
+pub mod CountedWalks
 pub mod AskedLemmas
 pub mod LineBounds
 pub mod ToldCourses

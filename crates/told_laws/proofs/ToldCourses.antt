@@ -52,7 +52,7 @@ pub walked_then : (setup : Setup) (line : ℕ) (events : List GatewayEvent) (end
 walked_then setup line events endpoint at =
     from_opening setup line (numbered setup line events endpoint at) (Walked nothing_asked [] 0) (calls_walk nothing_asked [] 0) opening_walks events endpoint at
 
-counted_since : (n lost : ℕ) → min most_lost (0 + n) ≤ lost → min most_lost n ≤ lost
+pub counted_since : (n lost : ℕ) → min most_lost (0 + n) ≤ lost → min most_lost n ≤ lost
 counted_since n lost counted = omega (arith, counted)
 
 pub course_walks_but_lost : (setup : Setup) (line : ℕ) (events : List GatewayEvent) (endpoint : Endpoint) → endpoint_at (plain setup events).endpoints line ≡ Some endpoint

@@ -2,8 +2,11 @@
 use Rattle.std.proofs.Common.{◌≡◌, ℕ, suc, ◌+◌, ◌≤◌, min, Bool, true, false, List, [], ◌∷◌, ◌++◌, Option, None, refl, sym, ap, subst, ◌∙◌, inl, inr, ◌⊎◌, append_assoc, append-nil, arith}
 use Rattle.std.proofs.lemmas.Bool.{true≢false}
 use Rattle.event_values.specs.declared.observed.Observed.{Observed}
+use Rattle.event_requests.specs.declared.request.Request.{Request}
 use Rattle.quarantine.specs.Held.{most_lost}
+use Rattle.timers.specs.declared.kind.LineDue.{LineDue}
 use Rattle.mg_line.specs.declared.phone.Act.{Act}
+use Rattle.mg_line.specs.State.TheVariants.{Notification}
 use Rattle.mg_line.specs.Line.{LineState, Notice, LineDone, opening_line}
 use Rattle.mg_line.specs.Acting.{observed_at, phoned}
 use Rattle.mg_line.specs.Requesting.{asked}
@@ -99,108 +102,152 @@ pub record Walked (place : Place) (waiting : List Observed) (base : ℕ) (servin
   pub counted : min most_lost (base + lost) ≤ line.quarantined.lost
   pub walk : Walks place waiting left (StandsAt serving line)
 
--- an act
-acted_on : (place : Place) (waiting : List Observed) (base : ℕ) (serving : Bool) (course : List CourseStep) (line : LineState) (act : Act) (moment : ℕ)
-    → Walked place waiting base serving course line → ActWalks line (observed_at act) (phoned line act moment) ⊎ Loses line (phoned line act moment)
-    → Walked place waiting base serving ((course ++ acts act ∷ []) ++ steps_of (phoned line act moment).notice) (phoned line act moment).line
-acted_on place waiting base serving course line act moment f (inl walks) =
-    let done : LineDone = phoned line act moment in
-    record {
-      drained = (phoned_moves line act moment f.drained).drained;
-      few = acts_count line act moment f.few;
-      awaits = λ is. (phoned_quiet line act moment (f.awaits is)).awaits;
-      lost = f.lost;
-      left = (f.left ++ acts act ∷ []) ++ steps_of done.notice;
-      others = but_more f.lost (f.left ++ acts act ∷ []) (course ++ acts act ∷ []) (steps_of done.notice)
-          (but_more f.lost f.left course (acts act ∷ []) f.others);
-      counted = still_counted (min most_lost (base + f.lost)) line.quarantined.lost done.line.quarantined.lost f.counted
-          ((lost_only_grows.act line act moment).grows f.few);
-      walk = goes_on place waiting f.left (acts act ∷ []) serving serving line done f.walk
-          (λ p w stands. here
-          (λ (next : Place) (left : List Observed).
-          Walks next (with_act next.requests left (observed_at act)) (steps_of done.notice) (StandsAt serving done.line))
-          p w
-          (on_stands serving p (with_act p.requests w (observed_at act)) done stands.1
-          (λ is. (phoned_quiet line act moment (f.awaits is)).silent) (walks p w stands.0)));
-    }
-acted_on place waiting base serving course line act moment f (inr loses) =
-    let done : LineDone = phoned line act moment in
-    record {
-      drained = (phoned_moves line act moment f.drained).drained;
-      few = acts_count line act moment f.few;
-      awaits = λ is. (phoned_quiet line act moment (f.awaits is)).awaits;
-      lost = suc f.lost;
-      left = f.left;
-      others = subst (λ (n : Option Notice). AllButLost (suc f.lost) f.left ((course ++ acts act ∷ []) ++ steps_of n)) (sym loses.silent)
-          (subst (AllButLost (suc f.lost) f.left) (sym (append-nil (course ++ acts act ∷ []))) (but_one f.lost f.left course act f.others));
-      counted = subst (λ (n : ℕ). min most_lost (base + suc f.lost) ≤ n) (sym loses.counted)
-          (one_counted base f.lost line.quarantined.lost f.counted);
-      walk = walks_map f.left (StandsAt serving line) (StandsAt serving done.line) place waiting
-          (λ p w stands. (other_at line done.line p w stands.0 loses.keeps, stands.1)) f.walk;
-    }
+-- An act is lost, and counted, or it isn't.
+abbrev pub ActCounts : ℕ → ℕ → ℕ → ℕ → Type 0
+ActCounts lost then_lost count then_count =
+    ((then_lost ≡ lost) × (then_count ≡ count)) ⊎ ((then_lost ≡ suc lost) × (then_count ≡ min most_lost (count + 1)))
 
-pub calls_walk : (place : Place) (waiting : List Observed) (base : ℕ) → CallsInTurn (Walked place waiting base)
-calls_walk place waiting base = record {
-  act = λ serving course line act moment f. acted_on place waiting base serving course line act moment f (phoned_walks line act moment f.drained);
-  request = λ course line request moment f.
-      let done : LineDone = asked line request moment in
-      record {
-        drained = (asked_moves line request moment).drained;
-        few = subst (λ (n : ℕ). n ≤ most_lost) (sym (lost_only_grows.request line request moment)) f.few;
-        awaits = λ nor. absurd (true≢false nor);
-        lost = f.lost;
-        left = (f.left ++ accepts request ∷ []) ++ steps_of done.notice;
-        others = but_more f.lost (f.left ++ accepts request ∷ []) (course ++ accepts request ∷ []) (steps_of done.notice)
-            (but_more f.lost f.left course (accepts request ∷ []) f.others);
-        counted = subst (λ (n : ℕ). min most_lost (base + f.lost) ≤ n) (sym (lost_only_grows.request line request moment)) f.counted;
-        walk = goes_on place waiting f.left (accepts request ∷ []) true true line done f.walk
-            (λ p w stands. walks_map (accepts request ∷ steps_of done.notice) (At done.line) (StandsAt true done.line) p w (serves_at done.line)
-            (asked_walks line request moment p w stands.0));
-      };
-  answering = λ serving course line moment waits f.
-      let done : LineDone = answered line moment in
-      record {
-        drained = (answered_moves line moment).drained;
-        few = subst (λ (n : ℕ). n ≤ most_lost) (sym (lost_only_grows.answering line moment)) f.few;
-        awaits = λ is. (answered_quiet line moment (f.awaits is)).awaits;
-        lost = f.lost;
-        left = f.left ++ steps_of done.notice;
-        others = but_more f.lost f.left course (steps_of done.notice) f.others;
-        counted = subst (λ (n : ℕ). min most_lost (base + f.lost) ≤ n) (sym (lost_only_grows.answering line moment)) f.counted;
-        walk = goes_plain place waiting f.left serving serving line done f.walk
-            (λ p w stands. on_stands serving p w done stands.1 (λ is. (answered_quiet line moment (f.awaits is)).silent)
-            (answered_walks line moment p w waits stands.0));
-      };
-  serving = λ course line moment f.
-      let done : LineDone = opened line moment in
-      record {
-        drained = (opened_moves line moment).drained;
-        few = subst (λ (n : ℕ). n ≤ most_lost) (sym (lost_only_grows.serving line moment)) f.few;
-        awaits = λ nor. absurd (true≢false nor);
-        lost = f.lost;
-        left = f.left ++ steps_of done.notice;
-        others = but_more f.lost f.left course (steps_of done.notice) f.others;
-        counted = subst (λ (n : ℕ). min most_lost (base + f.lost) ≤ n) (sym (lost_only_grows.serving line moment)) f.counted;
-        walk = goes_plain place waiting f.left false true line done f.walk
-            (λ p w stands. walks_map (steps_of done.notice) (At done.line) (StandsAt true done.line) p w (serves_at done.line)
-            (opened_walks line moment p w stands.0 (stands.1 refl)));
-      };
-  firing = λ serving course line due moment f.
-      let done : LineDone = fired line due moment in
-      record {
-        drained = (fired_moves line due moment f.drained).drained;
-        few = fires_count line due moment f.few;
-        awaits = λ is. (fired_quiet line due moment (f.awaits is)).awaits;
-        lost = f.lost;
-        left = f.left ++ steps_of done.notice;
-        others = but_more f.lost f.left course (steps_of done.notice) f.others;
-        counted = still_counted (min most_lost (base + f.lost)) line.quarantined.lost done.line.quarantined.lost f.counted
-            ((lost_only_grows.firing line due moment).grows f.few);
-        walk = goes_plain place waiting f.left serving serving line done f.walk
-            (λ p w stands. on_stands serving p w done stands.1 (λ is. (fired_quiet line due moment (f.awaits is)).silent)
-            (fired_walks line due moment p w f.drained stands.0));
-      };
-}
+module _ (place : Place) (waiting : List Observed) (base : ℕ) where
+  abbrev W : Bool → List CourseStep → LineState → Type 0
+  W = Walked place waiting base
+
+  acted_on : (serving : Bool) (course : List CourseStep) (line : LineState) (act : Act) (moment : ℕ) → (f : W serving course line)
+      → ActWalks line (observed_at act) (phoned line act moment) ⊎ Loses line (phoned line act moment)
+      → (g : W serving ((course ++ acts act ∷ []) ++ steps_of (phoned line act moment).notice) (phoned line act moment).line)
+      × ActCounts f.lost g.lost line.quarantined.lost (phoned line act moment).line.quarantined.lost
+  acted_on serving course line act moment f (inl walks) =
+      let done : LineDone = phoned line act moment in (
+        record {
+          drained = (phoned_moves line act moment f.drained).drained;
+          few = acts_count line act moment f.few;
+          awaits = λ is. (phoned_quiet line act moment (f.awaits is)).awaits;
+          lost = f.lost;
+          left = (f.left ++ acts act ∷ []) ++ steps_of done.notice;
+          others = but_more f.lost (f.left ++ acts act ∷ []) (course ++ acts act ∷ []) (steps_of done.notice)
+              (but_more f.lost f.left course (acts act ∷ []) f.others);
+          counted = still_counted (min most_lost (base + f.lost)) line.quarantined.lost done.line.quarantined.lost f.counted
+              ((lost_only_grows.act line act moment).grows f.few);
+          walk = goes_on place waiting f.left (acts act ∷ []) serving serving line done f.walk
+              (λ p w stands. here
+              (λ (next : Place) (left : List Observed).
+              Walks next (with_act next.requests left (observed_at act)) (steps_of done.notice) (StandsAt serving done.line))
+              p w
+              (on_stands serving p (with_act p.requests w (observed_at act)) done stands.1
+              (λ is. (phoned_quiet line act moment (f.awaits is)).silent) (walks.walks p w stands.0)));
+        },
+        inl (refl, walks.same),
+      )
+  acted_on serving course line act moment f (inr loses) =
+      let done : LineDone = phoned line act moment in (
+        record {
+          drained = (phoned_moves line act moment f.drained).drained;
+          few = acts_count line act moment f.few;
+          awaits = λ is. (phoned_quiet line act moment (f.awaits is)).awaits;
+          lost = suc f.lost;
+          left = f.left;
+          others = subst (λ (n : Option Notice). AllButLost (suc f.lost) f.left ((course ++ acts act ∷ []) ++ steps_of n)) (sym loses.silent)
+              (subst (AllButLost (suc f.lost) f.left) (sym (append-nil (course ++ acts act ∷ []))) (but_one f.lost f.left course act f.others));
+          counted = subst (λ (n : ℕ). min most_lost (base + suc f.lost) ≤ n) (sym loses.counted)
+              (one_counted base f.lost line.quarantined.lost f.counted);
+          walk = walks_map f.left (StandsAt serving line) (StandsAt serving done.line) place waiting
+              (λ p w stands. (other_at line done.line p w stands.0 loses.keeps, stands.1)) f.walk;
+        },
+        inr (refl, loses.counted),
+      )
+
+  pub act_walked : (serving : Bool) (course : List CourseStep) (line : LineState) (act : Act) (moment : ℕ) → (f : W serving course line)
+      → (g : W serving ((course ++ acts act ∷ []) ++ steps_of (phoned line act moment).notice) (phoned line act moment).line)
+      × ActCounts f.lost g.lost line.quarantined.lost (phoned line act moment).line.quarantined.lost
+  act_walked serving course line act moment f = acted_on serving course line act moment f (phoned_walks line act moment f.drained)
+
+  -- by nothing else an act is lost
+  pub request_walked : (course : List CourseStep) (line : LineState) (request : Request) (moment : ℕ) → (f : W true course line)
+      → (g : W true ((course ++ accepts request ∷ []) ++ steps_of (asked line request moment).notice) (asked line request moment).line)
+      × (g.lost ≡ f.lost)
+  request_walked course line request moment f =
+      let done : LineDone = asked line request moment in (
+        record {
+          drained = (asked_moves line request moment).drained;
+          few = subst (λ (n : ℕ). n ≤ most_lost) (sym (lost_only_grows.request line request moment)) f.few;
+          awaits = λ nor. absurd (true≢false nor);
+          lost = f.lost;
+          left = (f.left ++ accepts request ∷ []) ++ steps_of done.notice;
+          others = but_more f.lost (f.left ++ accepts request ∷ []) (course ++ accepts request ∷ []) (steps_of done.notice)
+              (but_more f.lost f.left course (accepts request ∷ []) f.others);
+          counted = subst (λ (n : ℕ). min most_lost (base + f.lost) ≤ n) (sym (lost_only_grows.request line request moment)) f.counted;
+          walk = goes_on place waiting f.left (accepts request ∷ []) true true line done f.walk
+              (λ p w stands. walks_map (accepts request ∷ steps_of done.notice) (At done.line) (StandsAt true done.line) p w (serves_at done.line)
+              (asked_walks line request moment p w stands.0));
+        },
+        refl,
+      )
+
+  pub answer_walked : (serving : Bool) (course : List CourseStep) (line : LineState) (moment : ℕ) → line.state ≡ Notification → (f : W serving course line)
+      → (g : W serving (course ++ steps_of (answered line moment).notice) (answered line moment).line) × (g.lost ≡ f.lost)
+  answer_walked serving course line moment waits f =
+      let done : LineDone = answered line moment in (
+        record {
+          drained = (answered_moves line moment).drained;
+          few = subst (λ (n : ℕ). n ≤ most_lost) (sym (lost_only_grows.answering line moment)) f.few;
+          awaits = λ is. (answered_quiet line moment (f.awaits is)).awaits;
+          lost = f.lost;
+          left = f.left ++ steps_of done.notice;
+          others = but_more f.lost f.left course (steps_of done.notice) f.others;
+          counted = subst (λ (n : ℕ). min most_lost (base + f.lost) ≤ n) (sym (lost_only_grows.answering line moment)) f.counted;
+          walk = goes_plain place waiting f.left serving serving line done f.walk
+              (λ p w stands. on_stands serving p w done stands.1 (λ is. (answered_quiet line moment (f.awaits is)).silent)
+              (answered_walks line moment p w waits stands.0));
+        },
+        refl,
+      )
+
+  pub serving_walked : (course : List CourseStep) (line : LineState) (moment : ℕ) → (f : W false course line)
+      → (g : W true (course ++ steps_of (opened line moment).notice) (opened line moment).line) × (g.lost ≡ f.lost)
+  serving_walked course line moment f =
+      let done : LineDone = opened line moment in (
+        record {
+          drained = (opened_moves line moment).drained;
+          few = subst (λ (n : ℕ). n ≤ most_lost) (sym (lost_only_grows.serving line moment)) f.few;
+          awaits = λ nor. absurd (true≢false nor);
+          lost = f.lost;
+          left = f.left ++ steps_of done.notice;
+          others = but_more f.lost f.left course (steps_of done.notice) f.others;
+          counted = subst (λ (n : ℕ). min most_lost (base + f.lost) ≤ n) (sym (lost_only_grows.serving line moment)) f.counted;
+          walk = goes_plain place waiting f.left false true line done f.walk
+              (λ p w stands. walks_map (steps_of done.notice) (At done.line) (StandsAt true done.line) p w (serves_at done.line)
+              (opened_walks line moment p w stands.0 (stands.1 refl)));
+        },
+        refl,
+      )
+
+  pub firing_walked : (serving : Bool) (course : List CourseStep) (line : LineState) (due : LineDue) (moment : ℕ) → (f : W serving course line)
+      → (g : W serving (course ++ steps_of (fired line due moment).notice) (fired line due moment).line) × (g.lost ≡ f.lost)
+  firing_walked serving course line due moment f =
+      let done : LineDone = fired line due moment in (
+        record {
+          drained = (fired_moves line due moment f.drained).drained;
+          few = fires_count line due moment f.few;
+          awaits = λ is. (fired_quiet line due moment (f.awaits is)).awaits;
+          lost = f.lost;
+          left = f.left ++ steps_of done.notice;
+          others = but_more f.lost f.left course (steps_of done.notice) f.others;
+          counted = still_counted (min most_lost (base + f.lost)) line.quarantined.lost done.line.quarantined.lost f.counted
+              ((lost_only_grows.firing line due moment).grows f.few);
+          walk = goes_plain place waiting f.left serving serving line done f.walk
+              (λ p w stands. on_stands serving p w done stands.1 (λ is. (fired_quiet line due moment (f.awaits is)).silent)
+              (fired_walks line due moment p w f.drained stands.0));
+        },
+        refl,
+      )
+
+  pub calls_walk : CallsInTurn W
+  calls_walk = record {
+    act = λ serving course line act moment f. (act_walked serving course line act moment f).0;
+    request = λ course line request moment f. (request_walked course line request moment f).0;
+    answering = λ serving course line moment waits f. (answer_walked serving course line moment waits f).0;
+    serving = λ course line moment f. (serving_walked course line moment f).0;
+    firing = λ serving course line due moment f. (firing_walked serving course line due moment f).0;
+  }
 
 -- where it begins
 none_yet : (lost : ℕ) → min most_lost (lost + 0) ≤ lost

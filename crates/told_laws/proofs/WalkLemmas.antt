@@ -511,24 +511,29 @@ occurs_alone line event moment place waiting at normal empty =
 
 -- while no event occurs it is quarantined, where it is kept and there is room, and else lost
 held_or_lost : (held : Held) (event : Observed)
-    → ((holding held event).events ≡ held.events ++ event ∷ []) ⊎ (holding held event ≡ one_lost held)
+    → (((holding held event).events ≡ held.events ++ event ∷ []) × ((holding held event).lost ≡ held.lost)) ⊎ (holding held event ≡ one_lost held)
 unfolding holding
 held_or_lost held event = by_room (nat_lt (length held.events) held.room) where
-  by_room : (b : Bool) → ((if b then one_kept held event else one_lost held).events ≡ held.events ++ event ∷ [])
+  by_room : (b : Bool)
+      → (((if b then one_kept held event else one_lost held).events ≡ held.events ++ event ∷ [])
+      × ((if b then one_kept held event else one_lost held).lost ≡ held.lost))
       ⊎ ((if b then one_kept held event else one_lost held) ≡ one_lost held)
-  by_room true = inl refl
+  by_room true = inl (refl, refl)
   by_room false = inr refl
 
 -- it has grown, or the count has
 abbrev HeldOrLost : LineState → Observed → Type 0
 HeldOrLost line event =
-    ((quarantining line event).quarantined.events ≡ line.quarantined.events ++ event ∷ [])
+    (((quarantining line event).quarantined.events ≡ line.quarantined.events ++ event ∷ [])
+    × ((quarantining line event).quarantined.lost ≡ line.quarantined.lost))
     ⊎ ((quarantining line event).quarantined ≡ one_lost line.quarantined)
 
 kept_or_lost : (line : LineState) (event : Observed) → is_kept line.requests event ≡ true → HeldOrLost line event
 unfolding quarantining
 kept_or_lost line event kept = by_kept (is_kept line.requests event) kept where
-  by_kept : (b : Bool) → b ≡ true → ((if b then holding line.quarantined event else line.quarantined).events ≡ line.quarantined.events ++ event ∷ [])
+  by_kept : (b : Bool) → b ≡ true
+      → (((if b then holding line.quarantined event else line.quarantined).events ≡ line.quarantined.events ++ event ∷ [])
+      × ((if b then holding line.quarantined event else line.quarantined).lost ≡ line.quarantined.lost))
       ⊎ ((if b then holding line.quarantined event else line.quarantined) ≡ one_lost line.quarantined)
   by_kept true is = held_or_lost line.quarantined event
   by_kept false is = absurd (true≢false (sym is))
@@ -625,9 +630,10 @@ quarantining_keeps line event other = record {
 
 -- an act: kept, dropped or lost
 
-abbrev pub ActWalks : LineState → Observed → LineDone → Type 0
-ActWalks line event done =
-    (place : Place) (waiting : List Observed) → At line place waiting → WalksOn place (with_act place.requests waiting event) done
+-- none is lost
+pub record ActWalks (line : LineState) (event : Observed) (done : LineDone) : Type 0 where
+  pub walks : (place : Place) (waiting : List Observed) → At line place waiting → WalksOn place (with_act place.requests waiting event) done
+  pub same : done.line.quarantined.lost ≡ line.quarantined.lost
 
 -- it is lost, and counted, and nothing else comes of it
 pub record Loses (line : LineState) (done : LineDone) : Type 0 where
@@ -660,9 +666,12 @@ held_walks : (line : LineState) (event : Observed) → is_of_telephone event ≡
     → ActWalks line event (still (quarantining line event)) ⊎ Loses line (still (quarantining line event))
 held_walks line event phone kept (inl grew) =
     inl
-    (λ (place : Place) (waiting : List Observed) (at : At line place waiting).
-    subst (λ (w : List Observed). WalksOn place w (still (quarantining line event))) (act_is line event place waiting true at kept)
-    (here (At (quarantining line event)) place (waiting ++ event ∷ []) (waits_at line event place waiting at phone grew)))
+    (record {
+      walks = λ (place : Place) (waiting : List Observed) (at : At line place waiting).
+          subst (λ (w : List Observed). WalksOn place w (still (quarantining line event))) (act_is line event place waiting true at kept)
+          (here (At (quarantining line event)) place (waiting ++ event ∷ []) (waits_at line event place waiting at phone grew.0));
+      same = grew.1;
+    })
 held_walks line event phone kept (inr lost) = inr (lost_loses line event lost)
 
 kept_in : (state : State) (line : LineState) (event : Observed) (moment : ℕ) → line.state ≡ state → IsDrained line
@@ -670,10 +679,13 @@ kept_in : (state : State) (line : LineState) (event : Observed) (moment : ℕ) �
     → ActWalks line event (detected_in state line event moment) ⊎ Loses line (detected_in state line event moment)
 kept_in Normal line event moment is drained phone kept =
     inl
-    (λ (place : Place) (waiting : List Observed) (at : At line place waiting).
-    subst (λ (w : List Observed). WalksOn place w (occurred line event moment))
-    (ap (λ (b : Bool). if b then waiting ++ event ∷ [] else waiting) phone ∙ act_is line event place waiting true at kept)
-    (occurs_alone line event moment place waiting at is (drained is)))
+    (record {
+      walks = λ (place : Place) (waiting : List Observed) (at : At line place waiting).
+          subst (λ (w : List Observed). WalksOn place w (occurred line event moment))
+          (ap (λ (b : Bool). if b then waiting ++ event ∷ [] else waiting) phone ∙ act_is line event place waiting true at kept)
+          (occurs_alone line event moment place waiting at is (drained is));
+      same = ap (λ (held : Held). held.lost) (occurred_keeps line event moment);
+    })
 kept_in Notification line event moment is drained phone kept = held_walks line event phone kept (kept_or_lost line event kept)
 kept_in Lockstep line event moment is drained phone kept = held_walks line event phone kept (kept_or_lost line event kept)
 
@@ -687,9 +699,12 @@ act_by : (line : LineState) (event : Observed) (moment : ℕ) (b : Bool) → is_
 act_by line event moment true kept drained phone = kept_walks line event moment drained phone kept
 act_by line event moment false kept drained phone =
     inl
-    (λ (place : Place) (waiting : List Observed) (at : At line place waiting).
-    subst (λ (w : List Observed). WalksOn place w (detected line event moment)) (act_is line event place waiting false at kept)
-    (subst (WalksOn place waiting) (sym (unasked_events_do_nothing.detecting line event moment kept)) (here (At line) place waiting at)))
+    (record {
+      walks = λ (place : Place) (waiting : List Observed) (at : At line place waiting).
+          subst (λ (w : List Observed). WalksOn place w (detected line event moment)) (act_is line event place waiting false at kept)
+          (subst (WalksOn place waiting) (sym (unasked_events_do_nothing.detecting line event moment kept)) (here (At line) place waiting at));
+      same = ap (λ (done : LineDone). done.line.quarantined.lost) (unasked_events_do_nothing.detecting line event moment kept);
+    })
 
 pub act_walks : (line : LineState) (event : Observed) (moment : ℕ) → IsDrained line → is_of_telephone event ≡ true
     → ActWalks line event (detected line event moment) ⊎ Loses line (detected line event moment)
@@ -700,8 +715,11 @@ pub from_hooked : (line other : LineState) (event : Observed) (done : LineDone) 
     → ActWalks other event done ⊎ Loses other done → ActWalks line event done ⊎ Loses line done
 from_hooked line other event done keeps same (inl walks) =
     inl
-    (λ (place : Place) (waiting : List Observed) (at : At line place waiting).
-    walks place waiting (other_at line other place waiting at keeps))
+    (record {
+      walks = λ (place : Place) (waiting : List Observed) (at : At line place waiting).
+          walks.walks place waiting (other_at line other place waiting at keeps);
+      same = walks.same ∙ same;
+    })
 from_hooked line other event done keeps same (inr loses) =
     inr
     (record {

@@ -1,6 +1,7 @@
 pub mod Among
 pub mod Walking
 pub mod Fronts
+pub mod Counting
 pub mod Stretch
 pub mod Fate
 pub mod Example

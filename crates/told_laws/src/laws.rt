@@ -22,6 +22,7 @@ ghost use Rattle.told_laws.specs.Among.{AreAmong, IsToldInOrder};
 ghost use Rattle.delivery_laws.specs.Dialled.{done_in, told_along, latest_from, IsAskedForAll, IsToldOnce};
 ghost use Rattle.told_laws.specs.Fate.{IsTakenOf, fates_of, joined, kept_of};
 ghost use Rattle.told_laws.specs.Stretch.{AnnouncesNothing, IsWhole, course_meanwhile, outliving, taken_meanwhile};
+ghost use Rattle.told_laws.specs.Counting.{ends_lost, WalksAsCounted};
 ghost use Rattle.told_laws.specs.Fronts.{course_amid, machine_amid, WalksAlong};
 ghost use Rattle.told_laws.specs.Walking.{nothing_asked, EmbedsNone, NoneLostSince, Walks, Stays, WalksButLost, AreActs};
 ghost use Rattle.told_laws.specs.Walking.{TellsAFront, TellsOfHeld, TellsWhatWasKept};
@@ -37,8 +38,8 @@ pub fn what_is_told_was_done_in_that_order()
 {}
 
 /// Each act is walked through by what the line tells: it is told, in its order, by a notification that tells all that R has told of a front
-/// of what waits; or it waits, accumulated or quarantined; or it was lost for want of room, and the line counts each, so none where it
-/// counts none; or it was dropped: neither R nor T named it, and it isn't persistent; R gave it nothing, or I; E without A took it, or
+/// of what waits; or it waits, accumulated or quarantined; or it was lost for want of room, and the line counts each, beside ends of signals
+/// and of timer T alone, so none where it counts none; or it was dropped: neither R nor T named it, and it isn't persistent; R gave it nothing, or I; E without A took it, or
 /// emptied the list in which it was; or a request emptied that list, in which R had none told at once, and which was empty where the line
 /// waited for that request, in step; or it discards what is quarantined. R, T and Q of that moment are the line's own: where none is lost one
 /// walk goes through all events, and behind each of them its place is where the line stands, with the request, or the embedded one, that is
@@ -46,6 +47,9 @@ pub fn what_is_told_was_done_in_that_order()
 pub fn each_act_is_walked_through()
     ensures but_lost { (setup : Setup) (line : ℕ) (events : List GatewayEvent) (endpoint : Endpoint) →
         endpoint_at (plain setup events).endpoints line ≡ Some endpoint → WalksButLost (course_of setup line events) endpoint.line }
+    ensures as_counted { (setup : Setup) (line : ℕ) (events : List GatewayEvent) (endpoint : Endpoint) →
+        endpoint_at (plain setup events).endpoints line ≡ Some endpoint →
+        WalksAsCounted (ends_lost setup line (opening setup) events) (course_of setup line events) endpoint.line }
     ensures none_lost { (setup : Setup) (line : ℕ) (events : List GatewayEvent) (endpoint : Endpoint) →
         endpoint_at (plain setup events).endpoints line ≡ Some endpoint → endpoint.line.quarantined.lost ≡ 0 →
         Walks nothing_asked [] (course_of setup line events) (Stays endpoint.line) }

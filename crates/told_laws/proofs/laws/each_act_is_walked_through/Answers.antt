@@ -1,3 +1,4 @@
+use Rattle.told_laws.proofs.CountedWalks.{walks_as_counted}
 use Rattle.told_laws.proofs.FrontWalks.{walks_along_all}
 use Rattle.told_laws.proofs.ToldCourses.{course_walks, course_walks_but_lost}
 use Rattle.told_laws.proofs.laws.each_act_is_walked_through.Goals as goal
@@ -10,3 +11,6 @@ returns-clause-none_lost c = course_walks
 
 pub returns-clause-at_each_event : goal.returns-clause-at_each_event
 returns-clause-at_each_event c = walks_along_all
+
+pub returns-clause-as_counted : goal.returns-clause-as_counted
+returns-clause-as_counted c = walks_as_counted
