@@ -14,6 +14,7 @@ use gateway_core::{Gateway, Refusal};
 use line_changes::MOST_WATCHERS;
 use live_ends::STOP_FROM_AFAR;
 use live_journal::Journal;
+use live_play::put_shown;
 use message_counts::Faults;
 use mg_bytes::{Draft, OutOfMemory};
 use std::alloc::Global;
