@@ -1,5 +1,5 @@
 -- What the page is shown of the lines of a gateway: of each its hook, what is heard, its connections, and how many of its events were lost.
-use Rattle.std.specs.Prelude.{ℕ, ◌+◌, ◌++◌, ◌==◌, if◌then◌else◌, suc, Bool, true, false, List, [], ◌∷◌, map, Option, Some, None}
+use Rattle.std.specs.Prelude.{ℕ, ◌+◌, ◌++◌, ◌==◌, if◌then◌else◌, zero, suc, Bool, true, false, List, [], ◌∷◌, map, Option, Some, None}
 use Rattle.std.specs.Net.Text.{socket_v4_text}
 use Rattle.std.specs.declared.net.socket_addr.SocketAddrV4.{SocketAddrV4}
 use Rattle.mg_packages.specs.declared.hook.Hook.{Hook}
@@ -79,7 +79,7 @@ line_viewed setup m line = viewed_with (seen_of setup m line) (connections_of m 
 
 -- its first so many lines, from line 1
 unfoldable pub lines_viewed : Setup → Machine → ℕ → List (Option LineShown)
-lines_viewed setup m 0 = []
+lines_viewed setup m zero = []
 lines_viewed setup m (suc line) = lines_viewed setup m line ++ (line_viewed setup m (suc line) ∷ [])
 
 -- what lists of views show
