@@ -6,7 +6,7 @@ use Rattle.event_requests.specs.Choice.{is_kept}
 use Rattle.event_requests.specs.declared.request.Request.{Request}
 use Rattle.quarantine.specs.Held.{most_lost}
 use Rattle.mg_line.specs.Answering.{is_loop}
-use Rattle.mg_line.specs.Line.{LineState}
+use Rattle.mg_line.specs.Line.{LineState, opening_line}
 use Rattle.plain_machine.specs.declared.setup.Setup.{Setup}
 use Rattle.plain_machine.specs.declared.endpoint.Endpoint.{Endpoint}
 use Rattle.plain_machine.specs.Event.{GatewayEvent}
@@ -25,7 +25,7 @@ use Rattle.told_laws.proofs.LineBounds.{line_is_there, who_is_there_stays}
 use Rattle.told_laws.proofs.ToldCourses.{walked_then}
 use Rattle.told_laws.proofs.WalkCourses.{StandsAt, Walked, calls_walk, none_lost, opening_at, starts, stays}
 use Rattle.told_laws.proofs.WalkFrontLemmas.{IsPlaceOf, acts_alone, embeds_none, front_told, none_where_shut, place_then, shut_at, walk_ends, walk_place, walks_split}
-use Rattle.told_laws.proofs.WalkLemmas.{At, walks_map}
+use Rattle.told_laws.proofs.WalkLemmas.{At, here, walks_both, walks_map}
 
 -- From a front on
 
@@ -186,6 +186,24 @@ walks_along_all setup line events endpoint at none =
     let first = there_at_first setup line events endpoint at in
     walks_along setup line [] events first.0 endpoint first.1 at none nothing_asked []
     (subst (λ (l : LineState). At l nothing_asked []) (sym (opens setup line first.0 first.1).0) opening_at, λ is. refl)
+
+pub stands_at_first : (setup : Setup) (line : ℕ) → StandsIn line (opening setup).endpoints nothing_asked []
+stands_at_first setup line endpoint at =
+    subst (λ (l : LineState). Stays l nothing_asked []) (sym (opens setup line endpoint at).0) (stays opening_line nothing_asked [] opening_at)
+
+-- it is a walk through the whole course
+pub walks_whole : (setup : Setup) (line : ℕ) (m : Machine) (events : List GatewayEvent) (place : Place) (waiting : List Observed)
+    → StandsIn line m.endpoints place waiting → WalksAlong setup line m events place waiting
+    → Walks place waiting (course_from setup m line events) (StandsIn line (machine_after setup m events).endpoints)
+unfolding course_from machine_after
+walks_whole setup line m [] place waiting stands along = here (StandsIn line m.endpoints) place waiting stands
+walks_whole setup line m (event ∷ events) place waiting stands along =
+    let next : Machine = (effect setup m event).value in
+    let end : End = StandsIn line (machine_after setup next events).endpoints in
+    walks_both (course_at setup m line event) (course_from setup next line events) end place waiting
+    (walks_map (course_at setup m line event) (λ (p : Place) (w : List Observed). StandsIn line next.endpoints p w × WalksAlong setup line next events p w)
+    (λ (p : Place) (w : List Observed). Walks p w (course_from setup next line events) end) place waiting
+    (λ p w x. walks_whole setup line next events p w x.0 x.1) along)
 
 -- In step, behind a notification: what is quarantined there is what the next request leaves, or discards
 

@@ -1,6 +1,6 @@
 -- What the worked examples speak of where a walk stands, and amid datagrams.
 use Rattle.std.specs.Option.{unwrap_or}
-use Rattle.std.specs.Prelude.{ℕ, true, List, [], ◌∷◌, ◌++◌, codes, option_map}
+use Rattle.std.specs.Prelude.{ℕ, true, List, [], ◌∷◌, ◌++◌, codes, option_map, Some}
 use Rattle.event_syntax.specs.declared.request.EmbeddedRequest.{EmbeddedRequest}
 use Rattle.event_requests.specs.Example.{embedded_by}
 use Rattle.event_requests.specs.Requests.{with_embedded}
@@ -9,10 +9,14 @@ use Rattle.mg_line.specs.declared.phone.Act.TheVariants.{OffHook, Key}
 use Rattle.mg_line.specs.declared.phone.Key.TheVariants.{Five, Six}
 use Rattle.mg_line.specs.Line.{LineState, opening_line}
 use Rattle.mg_line.specs.State.TheVariants.{Notification, Lockstep}
+use Rattle.mg_line.specs.Scenario.{requests}
+use Rattle.plain_machine.specs.declared.endpoint.Endpoint.{Endpoint}
 use Rattle.plain_machine.specs.Event.{GatewayEvent, phone}
-use Rattle.plain_machine.specs.Example.{agent, ready, two_lines}
+use Rattle.plain_machine.specs.Example.{agent, ready, ready_endpoint, ready_endpoints, ready_machine, two_lines}
+use Rattle.plain_machine.specs.Lists.{machine_after}
 use Rattle.plain_machine.specs.Machine.{Machine, endpoint_at}
 use Rattle.delivery_laws.specs.Course.{CourseStep}
+use Rattle.told_laws.specs.Counting.{ends_lost, lost_in}
 use Rattle.told_laws.specs.Example.{flash_drops, flashed}
 use Rattle.told_laws.specs.Fronts.{course_amid, machine_amid}
 use Rattle.told_laws.specs.Premises.{asks}
@@ -63,3 +67,24 @@ line_by events texts = unwrap_or (option_map (λ endpoint. endpoint.line) (endpo
 
 abbrev pub course_by : List GatewayEvent → List (List ℕ) → List (List ℕ) → List GatewayEvent → List CourseStep
 course_by events texts more after = course_amid two_lines (machine_by events texts) 1 agent more after
+
+-- each line of a gateway waits for the answer to its notification, and its quarantine has no room; timer T runs on it until 2,000
+abbrev pub has_digits_told : Request
+has_digits_told = requests (codes "A1") (codes "D/[0-9T](D)")
+
+abbrev roomless_endpoint : ℕ → Endpoint
+roomless_endpoint line = record (ready_endpoint two_lines line) {
+  line = record (notified_by has_digits_told) { timer = Some 2000; quarantined = record opening_line.quarantined { room = 0 } };
+}
+
+abbrev pub roomless : Machine
+roomless = record (ready_machine two_lines) {
+  endpoints = record (ready_endpoints two_lines) { list = roomless_endpoint 1 ∷ roomless_endpoint 2 ∷ [] };
+}
+
+-- what line 1 counts as lost behind these, and how many ends these are
+abbrev pub lost_by : List GatewayEvent → ℕ
+lost_by events = lost_in 1 (machine_after two_lines roomless events)
+
+abbrev pub ends_by : List GatewayEvent → ℕ
+ends_by events = ends_lost two_lines 1 roomless events

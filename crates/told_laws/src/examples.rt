@@ -12,13 +12,17 @@ ghost use Rattle.mg_packages.specs.declared.event.LineEvent.TheVariants as event
 ghost use Rattle.mg_packages.specs.declared.signal.Signal.TheVariants as tones;
 ghost use Rattle.mg_bytes.specs.declared.letter.Letter.TheVariants as letters;
 ghost use Rattle.plain_machine.specs.Event.{phone};
-ghost use Rattle.plain_machine.specs.Example.{rqnt, response};
+ghost use Rattle.plain_machine.specs.Example.{rqnt, ready, response, two_lines};
+ghost use Rattle.plain_machine.specs.Machine.{opening};
+ghost use Rattle.quarantine.specs.Held.{most_lost};
 ghost use Rattle.delivery_laws.specs.Course.{acts as does, accepts, notifies};
 ghost use Rattle.delivery_laws.specs.Rounds.{of_telephone};
 ghost use Rattle.told_laws.specs.Among.{AreAmong, kept_by};
 ghost use Rattle.delivery_laws.specs.Dialled.{latest_from, told_along};
 ghost use Rattle.told_laws.specs.Walking.{nothing_asked, EmbedsNone, reaction_to, Brings, TellsAFront, TellsOfHeld, TellsWhatWasKept, Walks};
-ghost use Rattle.told_laws.specs.Walking.{behind_request, AllButLost, TellsOf, WalksButLost};
+ghost use Rattle.told_laws.specs.Counting.{WalksAsCounted};
+ghost use Rattle.told_laws.specs.Fronts.{WalksAlong};
+ghost use Rattle.told_laws.specs.Walking.{behind_request, AllButLost, NoneLostSince, TellsOf, WalksButLost};
 ghost use Rattle.told_laws.specs.Example.{dials_two, flashes_and_dials, has_keys_collected, has_lifting_told, has_lifting_kept};
 ghost use Rattle.told_laws.specs.Example.{has_all_told, has_all_told_in_loop, discards_then, flashed, flash_drops, flash_carries};
 ghost use Rattle.told_laws.specs.Example.{flashes_and_hangs_up, counts, waits, WalksThen, request_then, next_request_then, told_twice};
@@ -112,12 +116,17 @@ pub fn what_is_lost_is_counted()
     ensures notification { ¬ AllButLost 1 [] (notifies (codes "A1") (five ∷ []) ∷ []) }
     ensures counted { WalksButLost (accepts has_lifting_told ∷ does acts.OffHook ∷ []) (counts has_lifting_told 1) }
     ensures not_counted { ¬ WalksButLost (accepts has_lifting_told ∷ does acts.OffHook ∷ []) (counts has_lifting_told 0) }
+    ensures as_counted { WalksAsCounted 0 (accepts has_lifting_told ∷ does acts.OffHook ∷ []) (counts has_lifting_told 1) }
+    ensures beside_an_end { WalksAsCounted 1 (accepts has_lifting_told ∷ does acts.OffHook ∷ []) (counts has_lifting_told 2) }
+    ensures at_most { WalksAsCounted most_lost (accepts has_lifting_told ∷ does acts.OffHook ∷ []) (counts has_lifting_told most_lost) }
+    ensures one_too_many { ¬ WalksAsCounted 0 (accepts has_lifting_told ∷ []) (counts has_lifting_told 1) }
 {}
 
 /// Where more comes than there is room for, the last is lost, and the walk says so of none but what is counted.
 pub fn else_an_act_may_leave_the_walk()
     ensures lost { ¬ WalksThen asked_and_full }
     ensures is_lost { (line_then asked_and_full).quarantined.lost ≡ 1 }
+    ensures not_along { ¬ WalksAlong two_lines 1 (opening two_lines) (ready ++ asked_and_full) nothing_asked [] }
 {}
 
 /// The first notification behind a request that embeds another may skip what its R names.
@@ -149,6 +158,7 @@ pub fn else_what_is_lost_is_skipped()
         (hung_up ∷ []) }
     ensures skipped_meanwhile { ¬ TellsWhatWasKept (request_then full_then_asked) has_return_told (lifted ∷ []) (lifted ∷ [])
         (replicate most_quarantined five) (six ∷ hung_up ∷ []) (hung_up ∷ []) }
+    ensures lost_since { ¬ NoneLostSince (line_then filled) (line_then full_then_asked) }
     ensures before { course_then filled
         ≡ (accepts (request_then full_then_asked) ∷ does acts.OffHook ∷ []) ++ notifies (codes "C2") (lifted ∷ [])
         ∷ replicate most_quarantined (does (acts.Key keys.Five)) }

@@ -10,7 +10,7 @@ ghost use Rattle.mg_line.specs.declared.phone.Act.TheVariants as acts;
 ghost use Rattle.mg_line.specs.declared.phone.Key.TheVariants as keys;
 ghost use Rattle.mg_line.specs.Line.{opening_line};
 ghost use Rattle.plain_machine.specs.declared.setup.Setup.{Setup};
-ghost use Rattle.plain_machine.specs.Event.{GatewayEvent, datagram};
+ghost use Rattle.plain_machine.specs.Event.{GatewayEvent, datagram, phone, tick};
 ghost use Rattle.plain_machine.specs.Example.{from_agent, ready, response, two_lines};
 ghost use Rattle.plain_machine.specs.Lists.{plain};
 ghost use Rattle.plain_machine.specs.Machine.{opening};
@@ -19,7 +19,8 @@ ghost use Rattle.delivery_laws.specs.OnceExample.{five, line_then, six};
 ghost use Rattle.delivery_laws.specs.Rounds.{of_telephone};
 ghost use Rattle.told_laws.specs.Example.{counts, flash_drops, flashes_and_dials, has_all_told, has_all_told_in_loop};
 ghost use Rattle.told_laws.specs.Example.{has_keys_collected, has_lifting_told};
-ghost use Rattle.told_laws.specs.FrontExample.{answer_and_keys, answer_text, answered_by, course_by, keys_text, line_by, machine_by};
+ghost use Rattle.told_laws.specs.FrontExample.{answer_and_keys, answer_text, answered_by, course_by, ends_by, keys_text, line_by};
+ghost use Rattle.told_laws.specs.FrontExample.{lost_by, machine_by};
 ghost use Rattle.told_laws.specs.FrontExample.{notified_by, presses_six, pressed_at_once, renewed_by, return_embedded, turned_by_flash};
 ghost use Rattle.told_laws.specs.Fronts.{course_amid, machine_amid, WalksAlong};
 ghost use Rattle.told_laws.specs.Premises.{has_each_key_told, pressed_in_loop};
@@ -86,4 +87,16 @@ pub fn a_text_alone_stands_at_a_front_of_the_events()
     ensures as_many { NoneLostSince (counts has_lifting_told 1) (counts has_lifting_told 1) }
     ensures one_more { ¬ NoneLostSince (counts has_lifting_told 0) (counts has_lifting_told 1) }
     ensures greatest { ¬ NoneLostSince (counts has_lifting_told most_lost) (counts has_lifting_told most_lost) }
+{}
+
+/// Where there is no room, an end of timer T is lost, and counted as an end; an act is, and isn't counted as one; nor is anything else.
+pub fn what_is_lost_is_an_act_or_an_end()
+    ensures an_end { lost_by (tick 2000 ∷ []) ≡ 1 }
+    ensures counts_as_one { ends_by (tick 2000 ∷ []) ≡ 1 }
+    ensures an_act { lost_by (phone 1 (acts.Key keys.Five) ∷ []) ≡ 1 }
+    ensures no_end { ends_by (phone 1 (acts.Key keys.Five) ∷ []) ≡ 0 }
+    ensures elsewhere { lost_by (phone 2 (acts.Key keys.Five) ∷ []) ≡ 0 }
+    ensures not_named { lost_by (phone 1 (acts.Key keys.Star) ∷ []) ≡ 0 }
+    ensures all { lost_by (phone 1 (acts.Key keys.Five) ∷ tick 2000 ∷ phone 1 (acts.Key keys.Five) ∷ []) ≡ 3 }
+    ensures ends { ends_by (phone 1 (acts.Key keys.Five) ∷ tick 2000 ∷ phone 1 (acts.Key keys.Five) ∷ []) ≡ 1 }
 {}

@@ -1,4 +1,4 @@
-use Rattle.std.proofs.Common.{◌≡◌, ℕ, Bool, List, [], ◌∷◌, ◌++◌, refl, sym, ap, ◌∙◌}
+use Rattle.std.proofs.Common.{◌≡◌, ℕ, ◌≤◌, Bool, List, [], ◌∷◌, ◌++◌, refl, sym, ap, ◌∙◌, arith}
 use Rattle.std.specs.Prelude.{filter, if◌then◌else◌, replicate}
 use Rattle.event_values.specs.declared.observed.Observed.{Observed}
 use Rattle.quarantine.specs.Given.{InOrderBut, none, kept, left_out}
@@ -57,3 +57,7 @@ returns-clause-skipped_of_held c =
     let fives = replicate most_quarantined five in
     let same : hung_up ≡ six = tells_behind test fives six hung_up h.front h.rest (hung_up ∷ []) [] refl refl h.order h.told_so in
     cc)
+
+pub returns-clause-lost_since : goal.returns-clause-lost_since
+unfolding on_examples
+returns-clause-lost_since c = λ h. (let few : 1 ≤ 0 = h.0 in omega (arith, few))

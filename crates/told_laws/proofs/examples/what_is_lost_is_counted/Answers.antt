@@ -1,10 +1,11 @@
-use Rattle.std.proofs.Common.{◌≡◌, ◌+◌, List, [], ◌∷◌, inl, length, refl, sym, subst, arith}
+use Rattle.std.proofs.Common.{◌≡◌, ℕ, suc, ◌+◌, min, List, [], ◌∷◌, inl, length, refl, sym, subst, arith}
 use Rattle.event_values.specs.declared.observed.Observed.{Observed}
 use Rattle.mg_line.specs.declared.phone.Act.TheVariants.{OffHook, Flash}
 use Rattle.delivery_laws.specs.Course.{CourseStep, acts, accepts}
 use Rattle.delivery_laws.specs.OnceExample.{lifted}
 use Rattle.told_laws.specs.Example.{counts, has_lifting_told}
-use Rattle.told_laws.specs.Walking.{Place, nothing_asked, behind_request, no_more, with_act, Walks, Stays, no_step, a_step, a_lost_act}
+use Rattle.quarantine.specs.Held.{most_lost}
+use Rattle.told_laws.specs.Walking.{Place, nothing_asked, behind_request, no_more, with_act, Walks, Stays, AllButLost, no_step, a_step, a_lost_act}
 use Rattle.told_laws.proofs.Computing.{on_examples}
 use Rattle.told_laws.proofs.ExampleLemmas.{all_counted, at_once_stays, bare_all, ends_there, from_a_request, none_but_acts}
 use Rattle.told_laws.proofs.ToldCourses.{none_of_them}
@@ -60,6 +61,57 @@ returns-clause-counted c = record {
   counted = omega arith;
   walk = (_, _, no_more _ _, ([], [], refl, refl, λ is. refl, (_, _, no_more _ _, ([], [], refl, refl, refl, refl, record { requests = refl; in_step = refl; is_shut = inl refl }))));
 }
+
+pub returns-clause-as_counted : goal.returns-clause-as_counted
+unfolding on_examples
+returns-clause-as_counted c = record {
+  walks = record {
+    lost = 1;
+    left = accepts has_lifting_told ∷ [];
+    others = a_step 1 (accepts has_lifting_told) [] (acts OffHook ∷ []) (a_lost_act 0 OffHook [] [] no_step);
+    counted = omega arith;
+    walk = (_, _, no_more _ _, ([], [], refl, refl, λ is. refl, (_, _, no_more _ _, ([], [], refl, refl, refl, refl, record { requests = refl; in_step = refl; is_shut = inl refl }))));
+  };
+  exact = omega arith;
+}
+
+pub returns-clause-beside_an_end : goal.returns-clause-beside_an_end
+unfolding on_examples
+returns-clause-beside_an_end c = record {
+  walks = record {
+    lost = 1;
+    left = accepts has_lifting_told ∷ [];
+    others = a_step 1 (accepts has_lifting_told) [] (acts OffHook ∷ []) (a_lost_act 0 OffHook [] [] no_step);
+    counted = omega arith;
+    walk = (_, _, no_more _ _, ([], [], refl, refl, λ is. refl, (_, _, no_more _ _, ([], [], refl, refl, refl, refl, record { requests = refl; in_step = refl; is_shut = inl refl }))));
+  };
+  exact = omega arith;
+}
+
+pub returns-clause-at_most : goal.returns-clause-at_most
+unfolding on_examples
+returns-clause-at_most c = record {
+  walks = record {
+    lost = 1;
+    left = accepts has_lifting_told ∷ [];
+    others = a_step 1 (accepts has_lifting_told) [] (acts OffHook ∷ []) (a_lost_act 0 OffHook [] [] no_step);
+    counted = omega arith;
+    walk = (_, _, no_more _ _, ([], [], refl, refl, λ is. refl, (_, _, no_more _ _, ([], [], refl, refl, refl, refl, record { requests = refl; in_step = refl; is_shut = inl refl }))));
+  };
+  exact = omega arith;
+}
+
+-- a request is no act, so none is lost
+none_of_request : (n : ℕ) (left : List CourseStep) → AllButLost n left (accepts has_lifting_told ∷ []) → 1 ≡ min most_lost (n + 0) → ⊥
+none_of_request n [] so exact = none_but_acts n [] (accepts has_lifting_told ∷ []) so refl
+none_of_request n (step ∷ left) so exact =
+    (let count : length (step ∷ left) + n ≡ length (accepts has_lifting_told ∷ []) = all_counted n (step ∷ left) (accepts has_lifting_told ∷ []) so in
+    let all : suc (length left) + n ≡ 1 = count in
+    omega (arith, all, exact))
+
+pub returns-clause-one_too_many : goal.returns-clause-one_too_many
+unfolding on_examples
+returns-clause-one_too_many c = λ h. none_of_request h.walks.lost h.walks.left h.walks.others h.exact
 
 pub returns-clause-not_counted : goal.returns-clause-not_counted
 returns-clause-not_counted c =
