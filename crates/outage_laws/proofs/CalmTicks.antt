@@ -104,7 +104,7 @@ said_undone (again id text) = refl
 said_undone (resent flight) = refl
 said_undone (acknowledgement response) = refl
 
-sent_undone : (sent : List Sent) → done_in (steps_in sent) ≡ []
+pub sent_undone : (sent : List Sent) → done_in (steps_in sent) ≡ []
 sent_undone [] = refl
 sent_undone (one ∷ sent) =
     done_both (notified_by one.said) (steps_in sent)

@@ -83,3 +83,7 @@ mod RoomlessRest
 mod RoomlessTold
 mod RoomlessEver
 mod RoomlessCopies
+mod CrowdedMachine
+mod CrowdedRounds
+mod CrowdedWorld
+mod CrowdedTold

@@ -147,7 +147,7 @@ high_other least id moment other less (Confirmation spans) low = tt
 abbrev found_of : List Entry → KeptFirst → Found
 found_of entries f = record { first = f; after = entries }
 
-latest_none : (id now : ℕ) (entries : List Entry) → Each (IsOther id) entries → latest entries id now ≡ None
+pub latest_none : (id now : ℕ) (entries : List Entry) → Each (IsOther id) entries → latest entries id now ≡ None
 unfolding latest
 latest_none id now [] other = refl
 latest_none id now (First first ∷ entries) other =
@@ -206,7 +206,7 @@ OldOrNew xs new_one number post = (slice_get xs number ≡ Some post) ⊎ ((numb
 one_further : (n last : ℕ) → n ≡ last → suc n ≡ suc last
 one_further n last same = omega (arith, same)
 
-same_post : (x y : Posted) → Some x ≡ Some y → x ≡ y
+pub same_post : (x y : Posted) → Some x ≡ Some y → x ≡ y
 same_post x y same = cc
 
 old_or_new : (xs : List Posted) (new_one : Posted) (number : ℕ) (post : Posted) → slice_get (xs ++ new_one ∷ []) number ≡ Some post → OldOrNew xs new_one number post
@@ -298,7 +298,7 @@ heard m source text outcome asked looked one reads is looks =
     ∙ ap (λ (c : Option GatewayCommand). after (handled_as c outcome m source text) (λ (next : AgentMachine). idle next)) is
     ∙ ap (λ (l : Looked). after (transacted_by l m source asked) (λ (next : AgentMachine). idle next)) looks
 
-gateway_hears : (m : Machine) (source : SocketAddrV4) (text : List ℕ) (outcome : Outcome) → texts_of text ≡ text ∷ [] → read_text text ≡ outcome
+pub gateway_hears : (m : Machine) (source : SocketAddrV4) (text : List ℕ) (outcome : Outcome) → texts_of text ≡ text ∷ [] → read_text text ≡ outcome
     → effect two_lines m (datagram source text) ≡ record { value = (handled two_lines m source outcome).value; sent = (handled two_lines m source outcome).sent ++ [] }
 unfolding effect gateway_took_all
 gateway_hears m source text outcome one reads =
@@ -350,7 +350,7 @@ none_notified : notified_in 1 [] ≡ []
 unfolding on_examples
 none_notified = refl
 
-response_course : (m : Machine) (source : SocketAddrV4) (text : List ℕ) (id : ℕ) → texts_of text ≡ text ∷ [] → read_text text ≡ message (messages.Response 200 id [] [])
+pub response_course : (m : Machine) (source : SocketAddrV4) (text : List ℕ) (id : ℕ) → texts_of text ≡ text ∷ [] → read_text text ≡ message (messages.Response 200 id [] [])
     → (handled two_lines m source (message (messages.Response 200 id [] []))).sent ≡ [] → course_from two_lines m 1 (datagram source text ∷ []) ≡ []
 unfolding course_from course_in
 response_course m source text id one reads quiet =

@@ -16,3 +16,4 @@ pub mod MorePremises
 pub mod SlowExample
 pub mod SlowerExample
 pub mod SinceExample
+pub mod Crowded

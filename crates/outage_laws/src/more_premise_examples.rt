@@ -2,31 +2,37 @@
 //! law says doesn't hold: those that have none in the examples of each law.
 #![tactic(auto, unfolding(crate::proofs::Computing::on_examples))]
 
-ghost use Rattle.std.specs.Prelude.{◌≡◌, ◌≤◌, ◌<◌, ◌+◌, ◌*◌, ◌++◌, [], ◌∷◌, ℕ, None, length, false, true};
+ghost use Rattle.std.specs.Prelude.{◌≡◌, ◌≤◌, ◌<◌, ◌+◌, ◌*◌, ◌++◌, [], ◌∷◌, ℕ, List, None, length, false, true};
+ghost use Rattle.event_values.specs.declared.observed.Observed.{Observed};
 ghost use Rattle.restart.specs.declared.restart.Restart.TheVariants.{Serving};
+ghost use Rattle.mg_line.specs.Line.{most_quarantined};
 ghost use Rattle.plain_machine.specs.Example.{two_lines};
 ghost use Rattle.plain_machine.specs.Lists.{plain, sent_from, sent_of};
 ghost use Rattle.plain_machine.specs.Machine.{serves};
 ghost use Rattle.plain_machine.specs.Setup.{IsSetUp};
 ghost use Rattle.machine_laws.specs.Belonging.{of_line};
 ghost use Rattle.machine_laws.specs.Saying.{Begun, HasNumbersLeft};
-ghost use Rattle.agent_core.specs.World.{gateway_in, now_in, plain_world, steps_are_taken, world_opening};
+ghost use Rattle.call_agent.specs.Agent.{observed_on};
+ghost use Rattle.agent_core.specs.World.{agent_in, gateway_in, now_in, plain_world, steps_are_taken, world_opening};
+ghost use Rattle.world_laws.specs.Example.{world};
 ghost use Rattle.world_laws.specs.Reached.{own_in};
 ghost use Rattle.delivery_laws.specs.Copies.{IsRun};
 ghost use Rattle.delivery_laws.specs.Course.{course_from, course_of};
-ghost use Rattle.delivery_laws.specs.Dialled.{AskForAll, AsksIfAny, IsAskedForAll, done_in, latest_from};
+ghost use Rattle.delivery_laws.specs.Dialled.{AskForAll, AsksIfAny, IsAskedForAll, done_in, latest_from, told_along};
 ghost use Rattle.delivery_laws.specs.DialledExample.{asked as asked_for_all};
-ghost use Rattle.delivery_laws.specs.Example.{asked_in_step, hasty, line_with, took_between_with, took_with};
-ghost use Rattle.delivery_laws.specs.Fairness.{GoesToAgent};
+ghost use Rattle.delivery_laws.specs.Example.{asked_in_step, hasty, line_with, took_between, took_between_with, took_first, took_with};
+ghost use Rattle.delivery_laws.specs.Fairness.{AgentAlwaysHasRoom, GoesToAgent, IsFair, ReachTheAgent};
 ghost use Rattle.delivery_laws.specs.GivenUp.{has_given_up};
-ghost use Rattle.delivery_laws.specs.Keeping.{KeepsAll};
+ghost use Rattle.delivery_laws.specs.Keeping.{KeepsAll, happened_in};
 ghost use Rattle.delivery_laws.specs.OnceExample.{five, hung_up, lifted as off_hook};
 ghost use Rattle.delivery_laws.specs.OwnChances.{IsOfLine};
 ghost use Rattle.delivery_laws.specs.Rounds.{IsAnsweredWithin, IsAskedWithin, rounds_take};
-ghost use Rattle.told_laws.specs.Stretch.{outliving};
+ghost use Rattle.told_laws.specs.Stretch.{AnnouncesNothing, outliving, taken_meanwhile};
 ghost use Rattle.told_laws.specs.WorldExample.{gives_up_sooner};
 ghost use Rattle.told_laws.specs.WorldPremises.{gives_up_since, line_in, observed_in, unanswered};
 ghost use Rattle.outage_laws.specs.AfterOutage.{AgentHasRoomFrom, IsFairFrom, ReachTheAgentSince, well_by};
+ghost use Rattle.outage_laws.specs.Crowded.{crowded, idle, idle_soon, told_all_but_one};
+ghost use Rattle.outage_laws.specs.HadTime.{FlightGoesToAgent, HadItsTimeIfBefore};
 ghost use Rattle.outage_laws.specs.LinePremises.{answered_ever_later, held_with, long_winded};
 ghost use Rattle.outage_laws.specs.MorePremises.{CalmBetween, IsAskedSince, IsToldAt, IsToldFromThen, back_again, back_since, comes_before};
 ghost use Rattle.outage_laws.specs.MorePremises.{done_at_these, elsewhere_once, elsewhere_twice, forged, forged_lifted, forged_once};
@@ -37,10 +43,11 @@ ghost use Rattle.outage_laws.specs.MorePremises.{put_back_then, rested_on, reste
 ghost use Rattle.outage_laws.specs.MorePremises.{dropped_for_none, lifted_astray, never_asked_in_step, pressed_for_none, pressed_in_step};
 ghost use Rattle.outage_laws.specs.MorePremises.{step_once, step_twice, told_astray, told_elsewhere};
 ghost use Rattle.outage_laws.specs.Premises.{reported_elsewhere};
+ghost use Rattle.outage_laws.specs.Roomless.{asked_first};
 ghost use Rattle.outage_laws.specs.SinceThenExample.{asked_at_last, hung_up_then, never_asked, pressed_again, rested_then, rested_unasked};
 ghost use Rattle.outage_laws.specs.SinceThenExample.{told_since_then};
 ghost use Rattle.outage_laws.specs.ToldLaterExample.{reports_elsewhere};
-ghost use Rattle.outage_laws.specs.ToldSince.{FlightBeganSince, FlightsBeganSince};
+ghost use Rattle.outage_laws.specs.ToldSince.{FlightBeganSince, FlightsBeganSince, IsToldFrom, IsToldSince};
 
 /// Where the gateway isn't set up well the agent may take another text for the notification, and never that, though all else holds that the
 /// laws of what is told, over a stretch or behind an outage, ask for; and where that was, and is told so much later.
@@ -524,7 +531,9 @@ pub fn else_what_is_asked_for_no_more_isnt_told()
 {}
 
 /// Where the line was never asked, or asked only behind its first act, not all that it ever did is told: all else holds, as in the examples
-/// of what is told since a moment. And what is in flight later on may begin before a moment that is yet to come.
+/// of what is told since a moment. And what is in flight later on may begin before a moment that is yet to come. And where one act more is
+/// done than there is room for in the quarantine that one alone isn't told, though all else holds, and the line tells one of the others
+/// behind each answer, however late that is: of so many acts too many to compute, by induction.
 pub fn else_what_was_done_before_isnt_told()
     ensures undone { done_in (course_of two_lines 1 []) ≡ [] }
     ensures not_asked { ¬ AsksIfAny (latest_from None (course_of two_lines 1 [])) }
@@ -541,4 +550,47 @@ pub fn else_what_was_done_before_isnt_told()
     ensures yet_to_come { (plain two_lines (took_with two_lines step_twice)).now < 22002 }
     ensures began_before { ¬ FlightsBeganSince two_lines 1 (took_with two_lines step_twice)
         (took_between_with two_lines step_twice pressed_in_step) 22002 }
+    ensures lost_run { IsRun two_lines told_all_but_one }
+    ensures lost_fair { IsFairFrom two_lines told_all_but_one 0 0 × IsFair two_lines told_all_but_one 0 }
+    ensures lost_room { AgentHasRoomFrom two_lines told_all_but_one 0 × AgentAlwaysHasRoom two_lines told_all_but_one }
+    ensures lost_goes { ((line : ℕ) (b : Begun) → IsOfLine two_lines (world told_all_but_one) line b →
+        GoesToAgent two_lines (world told_all_but_one) b.text) × ReachTheAgent two_lines told_all_but_one 1 }
+    ensures lost_moments { (now_in two_lines (world idle_soon) ≡ 10001) × (now_in two_lines (world idle) ≡ 21001) ×
+        ((plain two_lines (took_first crowded)).now ≡ 21001) × (now_in two_lines (world told_all_but_one) ≡ 21002) }
+    ensures lost_late { (well_by two_lines 0 0 ≤ 10001) × (10001 + outliving ≤ 21001) ×
+        (serves (gateway_in two_lines (world idle)).endpoints ≡ true) }
+    ensures lost_calm { AnnouncesNothing two_lines 1 (world idle_soon) (world idle) (line_with two_lines (took_first idle)) ×
+        AnnouncesNothing two_lines 1 (world idle) (world told_all_but_one) (line_with two_lines (took_first told_all_but_one)) ×
+        (has_given_up (of_line 1 (sent_of two_lines (took_first told_all_but_one)))
+        (line_with two_lines (took_first told_all_but_one)).post ≡ false) }
+    ensures lost_split { (took_first crowded ≡ took_first idle ++ took_between idle crowded) ×
+        (took_first told_all_but_one ≡ took_first crowded ++ took_between crowded told_all_but_one) ×
+        (took_first told_all_but_one ≡ took_first asked_first ++ took_between asked_first told_all_but_one) }
+    ensures lost_asked { KeepsAll (line_with two_lines (took_first idle)).line ×
+        AskForAll (course_from two_lines (gateway_in two_lines (world idle)) 1
+        (took_between idle crowded ++ took_between crowded told_all_but_one)) }
+    ensures lost_asked_ever { (done_in (course_of two_lines 1 (took_first asked_first)) ≡ []) ×
+        AsksIfAny (latest_from None (course_of two_lines 1 (took_first asked_first))) ×
+        AskForAll (course_from two_lines (plain two_lines (took_first asked_first)) 1 (took_between asked_first told_all_but_one)) }
+    ensures lost_began { FlightBeganSince two_lines (world told_all_but_one) 0
+        (line_with two_lines (took_first told_all_but_one)).post.pending
+        × FlightsBeganSince two_lines 1 (took_first crowded) (took_between crowded told_all_but_one) 0
+        × FlightGoesToAgent two_lines (world told_all_but_one) (line_with two_lines (took_first told_all_but_one)).post.pending
+        × HadItsTimeIfBefore two_lines told_all_but_one 0 21002 (line_with two_lines (took_first told_all_but_one)).post.pending }
+    ensures lost_waits { IsAskedWithin two_lines 1 (took_first crowded) (took_between crowded told_all_but_one) 0 ×
+        IsAnsweredWithin two_lines 1 (took_first crowded) (took_between crowded told_all_but_one) 0 }
+    ensures lost_held { (length (line_with two_lines (took_first crowded)).line.quarantined.events ≡ most_quarantined) ×
+        (21001 + rounds_take most_quarantined (2 * 0) 0 + 0 < 21002) }
+    ensures lost_rests { done_in (course_from two_lines (plain two_lines (took_first crowded)) 1
+        (took_between crowded told_all_but_one)) ≡ [] }
+    ensures lost_one { ((line_with two_lines (took_first idle)).line.quarantined.lost ≡ 0) ×
+        ((line_with two_lines (took_first told_all_but_one)).line.quarantined.lost ≡ 1) }
+    ensures lost_not_told { (¬ IsToldFrom (line_with two_lines (took_first idle)).post.pending
+        (happened_in (line_with two_lines (took_first idle)).line.quarantined.events ++
+        done_in (course_from two_lines (gateway_in two_lines (world idle)) 1 (took_between idle crowded)))
+        (taken_meanwhile two_lines 1 (world idle) (world told_all_but_one))) ×
+        (¬ IsToldSince (line_with two_lines (took_first idle)).post.pending (told_along (course_of two_lines 1 (took_first idle)))
+        (done_in (course_of two_lines 1 (took_first crowded))) (taken_meanwhile two_lines 1 (world idle) (world told_all_but_one))) ×
+        (¬ ((rest : List Observed) × (happened_in (observed_on 1 (agent_in two_lines (world told_all_but_one))) ≡
+        done_in (course_of two_lines 1 (took_first crowded)) ++ rest))) }
 {}

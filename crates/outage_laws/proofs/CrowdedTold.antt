@@ -1,0 +1,878 @@
+-- In the world in which one act alone is lost, all that the laws of what is dialled ask for holds but that none is; and that act isn't told.
+use Rattle.std.proofs.Common.{◌≡◌, ◌++◌, ◌≤◌, ℕ, zero, suc, ◌+◌, ◌*◌, ◌<◌, ◌||◌, ◌&&◌, Bool, true, false, [], ◌∷◌, List, Option, Some, None, inl, inr, refl, ap, sym, ◌∙◌, append-nil, append_assoc, arith, subst}
+use Rattle.std.specs.Prelude.{◌⊎◌, IfSome, drop, length, nat_le, not, slice_get}
+use Rattle.std.specs.Option.{unwrap_or}
+use Rattle.std.proofs.Math.Seq.{drop-append_seam}
+use Rattle.std.proofs.lemmas.Bool.{and_parts, leb-true}
+use Rattle.std.proofs.lemmas.List.{length-append, length-map}
+use Rattle.std.specs.declared.net.socket_addr.SocketAddrV4.{SocketAddrV4}
+use Rattle.event_values.specs.declared.observed.Observed.{Observed}
+use Rattle.event_values.specs.declared.observed.Observed.TheVariants.{Ended, Happened}
+use Rattle.event_requests.specs.declared.request.Request.{Request}
+use Rattle.history.specs.Kept.{firsts_in, young_firsts}
+use Rattle.history.specs.Memory.{most_firsts}
+use Rattle.transactions.proofs.CountLaws.{young-le-firsts}
+use Rattle.mgcp_text.specs.declared.message.Message.TheVariants as messages
+use Rattle.mgcp_text.specs.Reading.{Outcome, message, read_text}
+use Rattle.endpoint_names.specs.Route.{at}
+use Rattle.mg_line.specs.Line.{most_quarantined}
+use Rattle.mg_line.specs.State.{State}
+use Rattle.mg_line.specs.State.TheVariants.{Lockstep, Normal, Notification}
+use Rattle.mg_line.specs.declared.phone.Act.TheVariants.{Key}
+use Rattle.mg_line.specs.declared.phone.Key.TheVariants.{Five}
+use Rattle.outbound.specs.Flight.{InFlight}
+use Rattle.quarantine.specs.Held.{Held}
+use Rattle.restart.specs.Restarting.{is_serving}
+use Rattle.transmission.specs.Texts.{texts_of}
+use Rattle.plain_machine.specs.declared.endpoint.Endpoint.{Endpoint}
+use Rattle.plain_machine.specs.Answering.{handled}
+use Rattle.plain_machine.specs.Effect.{Effect}
+use Rattle.plain_machine.specs.Event.{GatewayEvent, datagram, tick}
+use Rattle.plain_machine.specs.Example.{two_lines}
+use Rattle.plain_machine.specs.Happening.{effect}
+use Rattle.plain_machine.specs.Lists.{machine_after, plain, sent_from, sent_of}
+use Rattle.plain_machine.specs.Machine.{Machine, endpoint_at, opening, opening_endpoint, serves}
+use Rattle.plain_machine.specs.Message.{Sent}
+use Rattle.plain_machine.specs.Posting.{id_on, numbers}
+use Rattle.plain_machine.proofs.ListLaws.{machine_on}
+use Rattle.machine_laws.specs.Belonging.{of_line}
+use Rattle.machine_laws.proofs.EachLemmas.{each_at}
+use Rattle.call_agent.specs.Agent.{AgentMachine, observed_on}
+use Rattle.call_agent.specs.Taking.{answer_to}
+use Rattle.agent_core.specs.declared.packet.Posted.{Posted}
+use Rattle.agent_core.specs.World.{World, WorldStep, agent_in, gateway_in, now_in, plain_world, steps_are_taken, went, world_after, world_opening}
+use Rattle.world_laws.specs.Example.{world}
+use Rattle.world_laws.specs.Reached.{Reached, key_kept, key_reached, taken_in}
+use Rattle.world_laws.proofs.TakenLaws.{agent_keys}
+use Rattle.delivery_laws.specs.Course.{CourseStep, accepted_at, accepts, acts, course_from, course_in, course_of, notified_in, notifies, requests_in}
+use Rattle.delivery_laws.specs.Dialled.{AskForAll, AsksIfAny, done_in, latest_from, told_along}
+use Rattle.delivery_laws.specs.Example.{line_with, took_between, took_first}
+use Rattle.delivery_laws.specs.Fairness.{AgentAlwaysHasRoom, GoesToAgent, IsFair, ReachTheAgent}
+use Rattle.delivery_laws.specs.GivenUp.{has_given_up}
+use Rattle.delivery_laws.specs.Keeping.{KeepsAll, happened_in}
+use Rattle.delivery_laws.specs.Rounds.{IsAnsweredWithin, IsAskedWithin, IsAwaited, rounds_take}
+use Rattle.delivery_laws.proofs.AskingLemmas.{notifies_each}
+use Rattle.delivery_laws.proofs.DialledLemmas.{ask_back, done_both}
+use Rattle.delivery_laws.proofs.ExampleLemmas.{took_split, two_lines_set_up}
+use Rattle.delivery_laws.proofs.FairLaws.{found_within}
+use Rattle.delivery_laws.proofs.MoveLemmas.{Move, agent_took, gateway_took, step_moves}
+use Rattle.delivery_laws.proofs.RoundLaws.{course_on, sent_on}
+use Rattle.delivery_laws.proofs.RoundTurns.{requests_both, sent_asks}
+use Rattle.delivery_laws.proofs.StepLemmas.{steps_more, taken_front}
+use Rattle.told_laws.specs.Stretch.{AnnouncesNothing, outliving, taken_meanwhile}
+use Rattle.told_laws.proofs.StretchLemmas.{meanwhile_is}
+use Rattle.outage_laws.specs.AfterOutage.{AgentHasRoomFrom, IsFairFrom, well_by}
+use Rattle.outage_laws.specs.Crowded.{crowded, idle, idle_soon, tellings, told_all_but_one}
+use Rattle.outage_laws.specs.HadTime.{FlightGoesToAgent, HadItsTimeIfBefore}
+use Rattle.outage_laws.specs.Roomless.{asked_first}
+use Rattle.outage_laws.specs.ToldSince.{FlightBeganSince, FlightsBeganSince, IsToldFrom, IsToldSince}
+use Rattle.outage_laws.proofs.CalmTicks.{sent_undone}
+use Rattle.outage_laws.proofs.Computing.{on_examples}
+use Rattle.outage_laws.proofs.CrowdedMachine.{five, holds, key, more_held, next_told, none_told, now_then, resting, waiting}
+use Rattle.outage_laws.proofs.CrowdedRounds.{Waits, answer_goes, answer_of, reads}
+use Rattle.outage_laws.proofs.CrowdedWorld.{Over, answers, base_took, crowded_is, few_at_last, few_places, few_then, fives, idle_is, key_events, known_then, low_at_last, low_then, many_fives, one_more_lost, over_is, pressed_on, told_is, waits_last, waits_there}
+use Rattle.outage_laws.proofs.FairFromExamples.{room_from}
+use Rattle.outage_laws.proofs.RoomlessMachine.{key_sent}
+use Rattle.outage_laws.proofs.RoomlessRounds.{IsGoing, alone, announced_both, asks_more, gateway_hears, has_announced, key_command}
+
+-- the last world, and what the gateway took in each part of it
+
+abbrev w : World
+w = plain_world two_lines told_all_but_one
+
+abbrev pub o : Over base_took known_then told_all_but_one (record (resting (1 + most_quarantined + 1) (holds [] (one_more_lost 0))) { now = 21002 }) (6 + 2 * most_quarantined + 2)
+    (0 + most_quarantined + 1) ((key_events (1 + (most_quarantined + 1)) ++ answers 1 (most_quarantined + 1)) ++ tick 21002 ∷ [])
+o = over_is
+
+abbrev all_keys : List GatewayEvent
+all_keys = key_events (1 + (most_quarantined + 1))
+
+abbrev all_answers : List GatewayEvent
+all_answers = answers 1 (most_quarantined + 1)
+
+abbrev then_on : List GatewayEvent
+then_on = all_answers ++ tick 21002 ∷ []
+
+abbrev crowd_took : List GatewayEvent
+crowd_took = took_first crowded
+
+crowd_is : crowd_took ≡ base_took ++ all_keys
+crowd_is = crowded_is.crowd.took
+
+whole_is : took_first told_all_but_one ≡ crowd_took ++ then_on
+whole_is =
+    o.took ∙ ap (λ (x : List GatewayEvent). base_took ++ x) (append_assoc all_keys all_answers (tick 21002 ∷ [])) ∙ sym (append_assoc base_took all_keys then_on)
+    ∙ ap (λ (x : List GatewayEvent). x ++ then_on) (sym crowd_is)
+
+keys_are : took_between idle crowded ≡ all_keys
+keys_are = ap (drop (length base_took)) crowd_is ∙ drop-append_seam base_took all_keys
+
+rest_is : took_between crowded told_all_but_one ≡ then_on
+rest_is = ap (drop (length crowd_took)) whole_is ∙ drop-append_seam crowd_took then_on
+
+pub split : took_first told_all_but_one ≡ crowd_took ++ took_between crowded told_all_but_one
+split = whole_is ∙ ap (λ (x : List GatewayEvent). crowd_took ++ x) (sym rest_is)
+
+pub front : took_first crowded ≡ took_first idle ++ took_between idle crowded
+front = crowd_is ∙ ap (λ (x : List GatewayEvent). base_took ++ x) (sym keys_are)
+
+-- What an agent took stays
+
+abbrev TakesMore : World → World → Type 0
+TakesMore was is = (more : List Reached) × (taken_in is ≡ taken_in was ++ more)
+
+takes_more : (x : World) (steps : List WorldStep) → TakesMore x (world_after two_lines x steps)
+unfolding world_after
+takes_more x [] = ([], sym (append-nil (taken_in x)))
+takes_more x (step ∷ steps) = by_move (step_moves two_lines x step) (takes_more (went two_lines x step) steps) where
+  by_move : Move x (went two_lines x step) → TakesMore (went two_lines x step) (world_after two_lines (went two_lines x step) steps)
+      → TakesMore x (world_after two_lines (went two_lines x step) steps)
+  by_move (gateway_took event took taken) more = (more.0, more.1 ∙ ap (λ (y : List Reached). y ++ more.0) taken)
+  by_move (agent_took some took taken) more =
+      (some ++ more.0, more.1 ∙ ap (λ (y : List Reached). y ++ more.0) taken ∙ append_assoc (taken_in x) some more.0)
+
+takes_behind : (some more : List WorldStep) → TakesMore (plain_world two_lines some) (plain_world two_lines (some ++ more))
+takes_behind some more =
+    let takes = takes_more (plain_world two_lines some) more in
+    (takes.0, ap (λ (x : World). taken_in x) (steps_more two_lines world_opening some more) ∙ takes.1)
+
+-- The network, and the agent's room
+
+zero_less : (x : ℕ) → 0 ≤ x
+zero_less x = omega arith
+
+fair_so : (number : ℕ) (post : Posted) → slice_get w.posted number ≡ Some post → number < 6 + 2 * most_quarantined + 2
+fair_so number post found = let low = found_within w.posted number post found in let is = o.posts in omega (arith, low, is)
+
+pub fair_from : IsFairFrom two_lines told_all_but_one 0 0
+fair_from number post found past old = o.gone number post found (fair_so number post found)
+
+pub fair : IsFair two_lines told_all_but_one 0
+fair number post found old = o.gone number post found (fair_so number post found)
+
+pub goes : (said : List ℕ) → GoesToAgent two_lines w said
+goes said = λ number post found from inside. (subst (λ (x : Option Posted). IfSome x IsGoing) found (each_at IsGoing w.posted number o.going)) from
+
+pub reaches : ReachTheAgent two_lines told_all_but_one 1
+reaches b own of = goes b.text
+
+same_many : (x y : ℕ) → x ≡ y → x ≤ y
+same_many x y same = omega (arith, same)
+
+pub room : AgentAlwaysHasRoom two_lines told_all_but_one
+room before later order = few where
+  v : World
+  v = plain_world two_lines before
+
+  taken : steps_are_taken two_lines world_opening before ≡ true
+  taken = taken_front two_lines world_opening before later (subst (λ (s : List WorldStep). steps_are_taken two_lines world_opening s ≡ true) order o.taken)
+
+  count_of : (steps : List WorldStep) → steps_are_taken two_lines world_opening steps ≡ true
+      → length (firsts_in (agent_in two_lines (plain_world two_lines steps)).history) ≡ length (taken_in (plain_world two_lines steps))
+  count_of steps is =
+      sym (length-map (firsts_in (agent_in two_lines (plain_world two_lines steps)).history) key_kept) ∙ ap length (agent_keys two_lines steps two_lines_set_up is)
+      ∙ length-map (taken_in (plain_world two_lines steps)) key_reached
+
+  more_taken : length (taken_in w) ≡ length (taken_in v) + length (takes_behind before later).0
+  more_taken =
+      ap (λ (s : List WorldStep). length (taken_in (plain_world two_lines s))) order ∙ ap length (takes_behind before later).1
+      ∙ length-append (taken_in v) (takes_behind before later).0
+
+  few : length (young_firsts (now_in two_lines v) (agent_in two_lines v).history) < most_firsts
+  few =
+      let young = young-le-firsts (now_in two_lines v) (agent_in two_lines v).history in let here = count_of before taken in let there = count_of told_all_but_one o.taken in
+      let all = o.count in let grown = more_taken in omega (arith, young, here, there, all, grown)
+
+pub room_since : AgentHasRoomFrom two_lines told_all_but_one 0
+room_since = room_from two_lines told_all_but_one 0 room
+
+-- The moments
+
+pub now_soon : now_in two_lines (world idle_soon) ≡ 10001
+unfolding on_examples
+now_soon = refl
+
+pub now_idle : now_in two_lines (world idle) ≡ 21001
+now_idle = ap (λ (m : Machine). m.now) idle_is.gateway
+
+pub now_crowded : (plain two_lines (took_first crowded)).now ≡ 21001
+now_crowded = ap (λ (m : Machine). m.now) crowded_is.crowd.gateway ∙ crowded_is.crowd.clock
+
+pub now_last : now_in two_lines (world told_all_but_one) ≡ 21002
+now_last = ap (λ (m : Machine). m.now) o.gateway
+
+pub well_soon : well_by two_lines 0 0 ≤ 10001
+unfolding on_examples
+well_soon = leb-true _ _ refl
+
+pub long : 10001 + outliving ≤ 21001
+unfolding on_examples
+long = leb-true _ _ refl
+
+pub serving : serves (gateway_in two_lines (world idle)).endpoints ≡ true
+unfolding on_examples
+serving = refl
+
+-- What happens at a key, at an answer and as the clock goes on
+
+key_course : (n number : ℕ) (held : Held) → course_from two_lines (waiting n number held) 1 (key ∷ []) ≡ acts (Key Five) ∷ []
+unfolding on_examples
+key_course n number held = refl
+
+tick_course : (n lost : ℕ) → course_from two_lines (resting n (holds [] lost)) 1 (tick 21002 ∷ []) ≡ []
+unfolding on_examples
+tick_course n lost = refl
+
+answer_course : (m : Machine) (source : SocketAddrV4) (text : List ℕ) (id : ℕ) → texts_of text ≡ text ∷ [] → read_text text ≡ message (messages.Response 200 id [] [])
+    → course_from two_lines m 1 (datagram source text ∷ []) ≡ notified_in 1 (handled two_lines m source (message (messages.Response 200 id [] []))).sent
+unfolding course_from course_in
+answer_course m source text id one is =
+    ap (λ (texts : List (List ℕ)). course_in two_lines m 1 source texts ++ []) one
+    ∙ ap (λ (x : Outcome). ((accepted_at two_lines m 1 x ++ notified_in 1 (handled two_lines m source x).sent) ++ []) ++ []) is
+    ∙ append-nil (notified_in 1 (handled two_lines m source (message (messages.Response 200 id [] []))).sent ++ [])
+    ∙ append-nil (notified_in 1 (handled two_lines m source (message (messages.Response 200 id [] []))).sent)
+
+-- whether a line waits for nothing for long: it isn't in lockstep, and what it waits for was sent just now
+
+abbrev is_awaited : ℕ → Option InFlight → Bool
+is_awaited now None = false
+is_awaited now (Some flight) = nat_le flight.first now && nat_le now (flight.first + 0)
+
+abbrev fine_state : State → ℕ → Option InFlight → Bool
+fine_state Normal now pending = true
+fine_state Notification now pending = is_awaited now pending
+fine_state Lockstep now pending = false
+
+abbrev is_fine : ℕ → Option Endpoint → Bool
+is_fine now None = true
+is_fine now (Some s) = fine_state s.line.state now s.post.pending
+
+abbrev IsFine : Machine → Type 0
+IsFine m = is_fine m.now (endpoint_at m.endpoints 1) ≡ true
+
+fine_waits : (n number : ℕ) (held : Held) → IsFine (waiting n number held)
+unfolding on_examples
+fine_waits n number held = refl
+
+fine_rests : (n lost : ℕ) → IsFine (resting n (holds [] lost))
+unfolding on_examples
+fine_rests n lost = refl
+
+fine_last : (n lost : ℕ) → IsFine (record (resting n (holds [] lost)) { now = 21002 })
+unfolding on_examples
+fine_last n lost = refl
+
+-- Of events behind others: the line announces nothing, is asked for nothing, and waits for nothing for long; and so much was done
+
+record Track (before events : List GatewayEvent) (done : List Observed) : Type 0 where
+  quiet : has_announced (sent_from two_lines (plain two_lines before) events) ≡ false
+  unasked : requests_in (course_from two_lines (plain two_lines before) 1 events) ≡ []
+  done_is : done_in (course_from two_lines (plain two_lines before) 1 events) ≡ done
+  fine : (some rest : List GatewayEvent) → events ≡ some ++ rest → IsFine (plain two_lines (before ++ some))
+
+no_events : (some rest : List GatewayEvent) → [] ≡ some ++ rest → some ≡ []
+no_events [] rest same = refl
+no_events (event ∷ some) rest same = absurd cc
+
+none_announced : has_announced [] ≡ false
+unfolding on_examples
+none_announced = refl
+
+key_announced : (n : ℕ) → has_announced (key_sent now_then n ∷ []) ≡ false
+unfolding on_examples
+key_announced n = refl
+
+track_none : (before : List GatewayEvent) → IsFine (plain two_lines before) → Track before [] []
+unfolding sent_from course_from
+track_none before fine = record {
+  quiet = none_announced;
+  unasked = refl;
+  done_is = refl;
+  fine = λ some rest order.
+      subst (λ (x : List GatewayEvent). IsFine (plain two_lines (before ++ x))) (sym (no_events some rest order))
+      (subst (λ (x : List GatewayEvent). IsFine (plain two_lines x)) (sym (append-nil before)) fine);
+}
+
+-- a front of a list with one more at its end
+front_of : (xs : List GatewayEvent) (x : GatewayEvent) (some rest : List GatewayEvent) → xs ++ x ∷ [] ≡ some ++ rest
+    → ((more : List GatewayEvent) × (xs ≡ some ++ more)) ⊎ (some ≡ xs ++ x ∷ [])
+front_of xs x [] rest same = inl (xs, refl)
+front_of [] x (y ∷ some) rest same = inr (by_some some (rest_same x y [] (some ++ rest) same) (head_same x y [] (some ++ rest) same)) where
+  head_same : (a b : GatewayEvent) (xs' ys : List GatewayEvent) → a ∷ xs' ≡ b ∷ ys → a ≡ b
+  head_same a b xs' ys is = cc
+
+  rest_same : (a b : GatewayEvent) (xs' ys : List GatewayEvent) → a ∷ xs' ≡ b ∷ ys → xs' ≡ ys
+  rest_same a b xs' ys is = cc
+
+  by_some : (more : List GatewayEvent) → [] ≡ more ++ rest → x ≡ y → y ∷ more ≡ x ∷ []
+  by_some [] none is = ap (λ (z : GatewayEvent). z ∷ []) (sym is)
+  by_some (z ∷ more) none is = absurd cc
+front_of (z ∷ xs) x (y ∷ some) rest same = by_rest (front_of xs x some rest (rest_same z y (xs ++ x ∷ []) (some ++ rest) same)) where
+  head_same : (a b : GatewayEvent) (xs' ys : List GatewayEvent) → a ∷ xs' ≡ b ∷ ys → a ≡ b
+  head_same a b xs' ys is = cc
+
+  rest_same : (a b : GatewayEvent) (xs' ys : List GatewayEvent) → a ∷ xs' ≡ b ∷ ys → xs' ≡ ys
+  rest_same a b xs' ys is = cc
+
+  first : z ≡ y
+  first = head_same z y (xs ++ x ∷ []) (some ++ rest) same
+
+  by_rest : ((more : List GatewayEvent) × (xs ≡ some ++ more)) ⊎ (some ≡ xs ++ x ∷ [])
+      → ((more : List GatewayEvent) × (z ∷ xs ≡ (y ∷ some) ++ more)) ⊎ (y ∷ some ≡ (z ∷ xs) ++ x ∷ [])
+  by_rest (inl front) = inl (front.0, ap (λ (e : GatewayEvent). e ∷ xs) first ∙ ap (λ (more : List GatewayEvent). y ∷ more) front.1)
+  by_rest (inr all) = inr (ap (λ (more : List GatewayEvent). y ∷ more) all ∙ ap (λ (e : GatewayEvent). e ∷ (xs ++ x ∷ [])) (sym first))
+
+module _ (before events : List GatewayEvent) (done more : List Observed) (event : GatewayEvent) (t : Track before events done) (m : Machine)
+    (at_m : plain two_lines (before ++ events) ≡ m) (quiet : has_announced (effect two_lines m event).sent ≡ false)
+    (unasked : requests_in (course_from two_lines m 1 (event ∷ [])) ≡ []) (does : done_in (course_from two_lines m 1 (event ∷ [])) ≡ more)
+    (fine : IsFine (effect two_lines m event).value) where
+  there : machine_after two_lines (plain two_lines before) events ≡ m
+  there = sym (machine_on two_lines (opening two_lines) before events) ∙ at_m
+
+  course_is : course_from two_lines (plain two_lines before) 1 (events ++ event ∷ []) ≡ course_from two_lines (plain two_lines before) 1 events ++ course_from two_lines m 1 (event ∷ [])
+  course_is =
+      course_on two_lines (plain two_lines before) 1 events (event ∷ [])
+      ∙ ap (λ (x : Machine). course_from two_lines (plain two_lines before) 1 events ++ course_from two_lines x 1 (event ∷ [])) there
+
+  sent_one : sent_from two_lines m (event ∷ []) ≡ (effect two_lines m event).sent
+  unfolding sent_from
+  sent_one = append-nil (effect two_lines m event).sent
+
+  sent_is : sent_from two_lines (plain two_lines before) (events ++ event ∷ []) ≡ sent_from two_lines (plain two_lines before) events ++ (effect two_lines m event).sent
+  sent_is =
+      sent_on two_lines (plain two_lines before) events (event ∷ [])
+      ∙ ap (λ (x : Machine). sent_from two_lines (plain two_lines before) events ++ sent_from two_lines x (event ∷ [])) there
+      ∙ ap (λ (x : List Sent). sent_from two_lines (plain two_lines before) events ++ x) sent_one
+
+  next_is : plain two_lines (before ++ (events ++ event ∷ [])) ≡ (effect two_lines m event).value
+  unfolding machine_after
+  next_is =
+      ap (plain two_lines) (sym (append_assoc before events (event ∷ []))) ∙ machine_on two_lines (opening two_lines) (before ++ events) (event ∷ [])
+      ∙ ap (λ (x : Machine). (effect two_lines x event).value) at_m
+
+  track_on : Track before (events ++ event ∷ []) (done ++ more)
+  track_on = record {
+    quiet = ap has_announced sent_is ∙ announced_both (sent_from two_lines (plain two_lines before) events) (effect two_lines m event).sent t.quiet quiet;
+    unasked = ap requests_in course_is ∙ requests_both (course_from two_lines (plain two_lines before) 1 events) (course_from two_lines m 1 (event ∷ []))
+        ∙ ap (λ (x : List Request). x ++ requests_in (course_from two_lines m 1 (event ∷ []))) t.unasked ∙ unasked;
+    done_is = ap done_in course_is ∙ done_both (course_from two_lines (plain two_lines before) 1 events) (course_from two_lines m 1 (event ∷ []))
+        ∙ ap (λ (x : List Observed). x ++ done_in (course_from two_lines m 1 (event ∷ []))) t.done_is ∙ ap (λ (x : List Observed). done ++ x) does;
+    fine = λ some rest order. by_front some (front_of events event some rest order);
+  } where
+    by_front : (some : List GatewayEvent) → ((more : List GatewayEvent) × (events ≡ some ++ more)) ⊎ (some ≡ events ++ event ∷ []) → IsFine (plain two_lines (before ++ some))
+    by_front some (inl front) = t.fine some front.0 front.1
+    by_front some (inr all) =
+        subst (λ (x : List GatewayEvent). IsFine (plain two_lines (before ++ x))) (sym all) (subst (λ (x : Machine). IsFine x) (sym next_is) fine)
+
+-- The keys
+
+no_key_events : key_events 0 ≡ []
+unfolding key_events
+no_key_events = refl
+
+one_key_more : (k : ℕ) → key_events k ++ key ∷ [] ≡ key_events (suc k)
+unfolding key_events
+one_key_more k = refl
+
+one_five_more : (k : ℕ) → fives k ++ five ∷ [] ≡ fives (suc k)
+unfolding fives
+one_five_more k = refl
+
+idle_at : plain two_lines base_took ≡ resting 1 (holds [] 0)
+idle_at = idle_is.gateway
+
+first_quiet : has_announced (effect two_lines (resting 1 (holds [] 0)) key).sent ≡ false
+unfolding on_examples
+first_quiet = refl
+
+first_fine : IsFine (effect two_lines (resting 1 (holds [] 0)) key).value
+unfolding on_examples
+first_fine = refl
+
+first_unasked : requests_in (course_from two_lines (resting 1 (holds [] 0)) 1 (key ∷ [])) ≡ []
+unfolding on_examples
+first_unasked = refl
+
+first_done : done_in (course_from two_lines (resting 1 (holds [] 0)) 1 (key ∷ [])) ≡ five ∷ []
+unfolding on_examples
+first_done = refl
+
+one_five : [] ++ five ∷ [] ≡ fives 1
+unfolding fives
+one_five = refl
+
+one_key : [] ++ key ∷ [] ≡ key_events 1
+unfolding key_events
+one_key = refl
+
+first_track : Track base_took (key_events 1) (fives 1)
+first_track =
+    subst (λ (e : List GatewayEvent). Track base_took e (fives 1)) one_key
+    (subst (Track base_took ([] ++ key ∷ [])) one_five
+    (track_on base_took [] [] (five ∷ []) key (track_none base_took (subst IsFine (sym idle_at) (fine_rests 1 0))) (resting 1 (holds [] 0))
+    (ap (plain two_lines) (append-nil base_took) ∙ idle_at) first_quiet first_unasked first_done first_fine))
+
+key_track : (k : ℕ) (held : Held) → plain two_lines (base_took ++ key_events (suc k)) ≡ waiting 1 2 held → Track base_took (key_events (suc k)) (fives (suc k))
+    → Track base_took (key_events (suc (suc k))) (fives (suc (suc k)))
+key_track k held at_m t =
+    subst (λ (e : List GatewayEvent). Track base_took e (fives (suc (suc k)))) (one_key_more (suc k))
+    (subst (Track base_took (key_events (suc k) ++ key ∷ [])) (one_five_more (suc k))
+    (track_on base_took (key_events (suc k)) (fives (suc k)) (five ∷ []) key t (waiting 1 2 held) at_m
+    (ap (λ (e : Effect Machine). has_announced e.sent) (more_held 1 2 held) ∙ none_announced) (ap requests_in (key_course 1 2 held)) (ap done_in (key_course 1 2 held))
+    (ap (λ (e : Effect Machine). is_fine e.value.now (endpoint_at e.value.endpoints 1)) (more_held 1 2 held) ∙ fine_waits 1 2 _)))
+
+at_keys : (k : ℕ) → k ≤ most_quarantined → plain two_lines (base_took ++ key_events (suc k)) ≡ waiting 1 2 (holds (fives k) 0)
+at_keys k low =
+    let s = pressed_on base_took known_then idle 1 6 0 0 (omega arith) idle_is k low in ap (plain two_lines) (sym s.crowd.took) ∙ s.crowd.gateway
+
+less_yet : (k : ℕ) → suc k ≤ most_quarantined → k ≤ most_quarantined
+less_yet k low = omega (arith, low)
+
+keys_track : (k : ℕ) → k ≤ most_quarantined → Track base_took (key_events (suc k)) (fives (suc k))
+keys_track zero low = first_track
+keys_track (suc k) low = key_track k (holds (fives k) 0) (at_keys k (less_yet k low)) (keys_track k (less_yet k low))
+
+abbrev all_fives : List Observed
+all_fives = fives (1 + (most_quarantined + 1))
+
+all_keys_track : Track base_took all_keys all_fives
+all_keys_track = key_track most_quarantined (holds (fives most_quarantined) 0) (at_keys most_quarantined (omega arith)) (keys_track most_quarantined (omega arith))
+
+-- The answers
+
+abbrev lost_one : ℕ
+lost_one = one_more_lost 0
+
+no_answers : answers 1 0 ≡ []
+unfolding answers
+no_answers = refl
+
+one_answer_more : (j : ℕ) → answers 1 j ++ answer_of (1 + j) ∷ [] ≡ answers 1 (suc j)
+unfolding answers
+one_answer_more j = refl
+
+crowd_at : plain two_lines crowd_took ≡ waiting 1 2 (holds (fives most_quarantined) lost_one)
+crowd_at = crowded_is.crowd.gateway
+
+took_so : (j : ℕ) → crowd_took ++ answers 1 j ≡ base_took ++ (all_keys ++ answers 1 j)
+took_so j = ap (λ (x : List GatewayEvent). x ++ answers 1 j) crowd_is ∙ append_assoc base_took all_keys (answers 1 j)
+
+low_first : 1 ≤ 6
+low_first = omega arith
+
+abbrev source_of : SocketAddrV4
+source_of = at two_lines.agent.route 0
+
+-- at the answer to the notification under this number, which goes out alone and can be read
+module _ (n number : ℕ) (held : Held) (next : Machine) (sent : List Sent) (alone_so : texts_of (answer_to (key_command n)) ≡ answer_to (key_command n) ∷ [])
+    (reads_so : read_text (answer_to (key_command n)) ≡ message (messages.Response 200 (id_on 1 n) [] []))
+    (does : handled two_lines (waiting n number held) source_of (message (messages.Response 200 (id_on 1 n) [] [])) ≡ record { value = next; sent = sent }) where
+  effect_is : effect two_lines (waiting n number held) (answer_of n) ≡ record { value = next; sent = sent ++ [] }
+  effect_is =
+      gateway_hears (waiting n number held) source_of (answer_to (key_command n)) (message (messages.Response 200 (id_on 1 n) [] [])) alone_so reads_so
+      ∙ ap (λ (e : Effect Machine). (record { value = e.value; sent = e.sent ++ [] })) does
+
+  course_so : course_from two_lines (waiting n number held) 1 (answer_of n ∷ []) ≡ notified_in 1 sent
+  course_so =
+      answer_course (waiting n number held) source_of (answer_to (key_command n)) (id_on 1 n) alone_so reads_so ∙ ap (λ (e : Effect Machine). notified_in 1 e.sent) does
+
+  answer_quiet : has_announced sent ≡ false → has_announced (effect two_lines (waiting n number held) (answer_of n)).sent ≡ false
+  answer_quiet quiet = ap (λ (e : Effect Machine). has_announced e.sent) effect_is ∙ ap has_announced (append-nil sent) ∙ quiet
+
+  answer_unasked : requests_in (course_from two_lines (waiting n number held) 1 (answer_of n ∷ [])) ≡ []
+  answer_unasked = ap requests_in course_so ∙ sent_asks (of_line 1 sent)
+
+  answer_undone : done_in (course_from two_lines (waiting n number held) 1 (answer_of n ∷ [])) ≡ []
+  answer_undone = ap done_in course_so ∙ sent_undone (of_line 1 sent)
+
+  answer_fine : IsFine next → IsFine (effect two_lines (waiting n number held) (answer_of n)).value
+  answer_fine fine = subst (λ (e : Effect Machine). IsFine e.value) (sym effect_is) fine
+
+  -- so behind the answers before it
+  answer_track : (j : ℕ) → n ≡ 1 + j → plain two_lines (crowd_took ++ answers 1 j) ≡ waiting n number held → has_announced sent ≡ false → IsFine next
+      → Track crowd_took (answers 1 j) [] → Track crowd_took (answers 1 (suc j)) []
+  answer_track j same at_m quiet fine t =
+      subst (λ (e : List GatewayEvent). Track crowd_took e []) (ap (λ (k : ℕ). answers 1 j ++ answer_of k ∷ []) same ∙ one_answer_more j)
+      (track_on crowd_took (answers 1 j) [] [] (answer_of n) t (waiting n number held) at_m (answer_quiet quiet) answer_unasked answer_undone (answer_fine fine))
+
+answered_at : (j : ℕ) (held : Held) → Waits base_took known_then (crowded ++ tellings 6 j) (1 + j) (6 + 2 * j) (0 + j) held (all_keys ++ answers 1 j)
+    → plain two_lines (crowd_took ++ answers 1 j) ≡ waiting (1 + j) (1 + j + 1) held
+answered_at j held s = ap (plain two_lines) (took_so j ∙ sym s.crowd.took) ∙ s.crowd.gateway
+
+few_numbers : (j : ℕ) → j ≤ most_quarantined → 1 + j + 1 + 1 < numbers
+few_numbers j low = omega (arith, low)
+
+few_number : (j : ℕ) → j ≤ most_quarantined → 1 + j < numbers
+few_number j low = omega (arith, low)
+
+no_more_than : (j r most : ℕ) → suc j + r ≡ most → j ≤ most
+no_more_than j r most all = omega (arith, all)
+
+one_left_more : (j r : ℕ) → suc j + r ≡ most_quarantined → j + suc r ≡ most_quarantined
+one_left_more j r all = omega (arith, all)
+
+answers_track : (j r : ℕ) → j + r ≡ most_quarantined → Track crowd_took (answers 1 j) []
+answers_track zero r all =
+    subst (λ (e : List GatewayEvent). Track crowd_took e []) (sym no_answers)
+    (track_none crowd_took (subst IsFine (sym crowd_at) (fine_waits 1 2 (holds (fives most_quarantined) lost_one))))
+answers_track (suc j) r all =
+    answer_track (1 + j) (1 + j + 1) (holds (five ∷ fives r) lost_one) (waiting (1 + j + 1) (1 + j + 1 + 1) (holds (fives r) lost_one)) (key_sent now_then (1 + j + 1) ∷ []) alone_so
+    reads_so (next_told (1 + j) lost_one (fives r) source_of (few_numbers j (no_more_than j r most_quarantined all))) j refl
+    (answered_at j (holds (five ∷ fives r) lost_one) there_so) (key_announced (1 + j + 1)) (fine_waits (1 + j + 1) (1 + j + 1 + 1) (holds (fives r) lost_one))
+    (answers_track j (suc r) (one_left_more j r all)) where
+      there_so : Waits base_took known_then (crowded ++ tellings 6 j) (1 + j) (6 + 2 * j) (0 + j) (holds (five ∷ fives r) lost_one) (all_keys ++ answers 1 j)
+      there_so = waits_there base_took known_then crowded 1 6 0 lost_one all_keys low_first few_places crowded_is j r all
+
+      alone_so : texts_of (answer_to (key_command (1 + j))) ≡ answer_to (key_command (1 + j)) ∷ []
+      alone_so =
+          alone (answer_to (key_command (1 + j)))
+          (answer_goes base_took known_then (crowded ++ tellings 6 j) (1 + j) (6 + 2 * j) (0 + j) (holds (five ∷ fives r) lost_one) (all_keys ++ answers 1 j)
+          (few_then base_took known_then crowded 1 6 0 lost_one all_keys low_first few_places crowded_is j r all)
+          (low_then base_took known_then crowded 1 6 0 lost_one all_keys low_first few_places crowded_is j) there_so)
+
+      reads_so : read_text (answer_to (key_command (1 + j))) ≡ message (messages.Response 200 (id_on 1 (1 + j)) [] [])
+      reads_so =
+          reads base_took known_then (crowded ++ tellings 6 j) (1 + j) (6 + 2 * j) (0 + j) (holds (five ∷ fives r) lost_one) (all_keys ++ answers 1 j)
+          (few_then base_took known_then crowded 1 6 0 lost_one all_keys low_first few_places crowded_is j r all)
+          (low_then base_took known_then crowded 1 6 0 lost_one all_keys low_first few_places crowded_is j) there_so
+
+last_so : Waits base_took known_then (crowded ++ tellings 6 most_quarantined) (1 + most_quarantined) (6 + 2 * most_quarantined) (0 + most_quarantined) (holds [] lost_one)
+    (all_keys ++ answers 1 most_quarantined)
+last_so = waits_last base_took known_then crowded 1 6 0 lost_one all_keys low_first few_places crowded_is
+
+all_answers_track : Track crowd_took all_answers []
+all_answers_track =
+    answer_track (1 + most_quarantined) (1 + most_quarantined + 1) (holds [] lost_one) (resting (1 + most_quarantined + 1) (holds [] lost_one)) [] alone_so reads_so
+    (none_told (1 + most_quarantined) lost_one source_of (omega arith)) most_quarantined refl (answered_at most_quarantined (holds [] lost_one) last_so) none_announced
+    (fine_rests (1 + most_quarantined + 1) lost_one) (answers_track most_quarantined 0 (omega arith)) where
+      few_last : 6 + 2 * most_quarantined + 2 < most_firsts
+      few_last = few_at_last base_took known_then crowded 1 6 0 lost_one all_keys low_first few_places crowded_is
+
+      low_last : 1 + most_quarantined ≤ 6 + 2 * most_quarantined
+      low_last = low_at_last base_took known_then crowded 1 6 0 lost_one all_keys low_first few_places crowded_is
+
+      alone_so : texts_of (answer_to (key_command (1 + most_quarantined))) ≡ answer_to (key_command (1 + most_quarantined)) ∷ []
+      alone_so =
+          alone (answer_to (key_command (1 + most_quarantined)))
+          (answer_goes base_took known_then (crowded ++ tellings 6 most_quarantined) (1 + most_quarantined) (6 + 2 * most_quarantined) (0 + most_quarantined) (holds [] lost_one)
+          (all_keys ++ answers 1 most_quarantined) few_last low_last last_so)
+
+      reads_so : read_text (answer_to (key_command (1 + most_quarantined))) ≡ message (messages.Response 200 (id_on 1 (1 + most_quarantined)) [] [])
+      reads_so =
+          reads base_took known_then (crowded ++ tellings 6 most_quarantined) (1 + most_quarantined) (6 + 2 * most_quarantined) (0 + most_quarantined) (holds [] lost_one)
+          (all_keys ++ answers 1 most_quarantined) few_last low_last last_so
+
+-- and a ms
+
+last_at : plain two_lines (crowd_took ++ all_answers) ≡ resting (1 + most_quarantined + 1) (holds [] lost_one)
+last_at = ap (plain two_lines) (took_so (most_quarantined + 1) ∙ sym told_is.took) ∙ told_is.gateway
+
+tick_quiet : (n lost : ℕ) → has_announced (effect two_lines (resting n (holds [] lost)) (tick 21002)).sent ≡ false
+unfolding on_examples
+tick_quiet n lost = refl
+
+tick_fine : (n lost : ℕ) → IsFine (effect two_lines (resting n (holds [] lost)) (tick 21002)).value
+unfolding on_examples
+tick_fine n lost = refl
+
+then_track : Track crowd_took then_on []
+then_track =
+    track_on crowd_took all_answers [] [] (tick 21002) all_answers_track (resting (1 + most_quarantined + 1) (holds [] lost_one)) last_at (tick_quiet (1 + most_quarantined + 1) lost_one)
+    (ap requests_in (tick_course (1 + most_quarantined + 1) lost_one)) (ap done_in (tick_course (1 + most_quarantined + 1) lost_one)) (tick_fine (1 + most_quarantined + 1) lost_one)
+
+-- It waits for no request, and for its answer no longer than the network takes
+
+is_awaited_so : (now : ℕ) (pending : Option InFlight) → is_awaited now pending ≡ true → IsAwaited now 0 pending
+is_awaited_so now None is = absurd cc
+is_awaited_so now (Some flight) is =
+    let both = and_parts (nat_le flight.first now) (nat_le now (flight.first + 0)) is in
+    record { flight = flight; flies = refl; sent = leb-true flight.first now both.0; lately = leb-true now (flight.first + 0) both.1 }
+
+not_locked : (state : State) (now : ℕ) (pending : Option InFlight) → state ≡ Lockstep → fine_state state now pending ≡ true → ⊥
+not_locked Normal now pending is fine = absurd cc
+not_locked Notification now pending is fine = absurd cc
+not_locked Lockstep now pending is fine = absurd cc
+
+waits_lately : (state : State) (now : ℕ) (pending : Option InFlight) → state ≡ Notification → fine_state state now pending ≡ true → is_awaited now pending ≡ true
+waits_lately Normal now pending is fine = absurd cc
+waits_lately Notification now pending is fine = fine
+waits_lately Lockstep now pending is fine = absurd cc
+
+pub asked : IsAskedWithin two_lines 1 crowd_took (took_between crowded told_all_but_one) 0
+asked some between later s order at_s state late none =
+    let m : Machine = plain two_lines (crowd_took ++ some) in
+    not_locked s.line.state m.now s.post.pending state
+    (subst (λ (x : Option Endpoint). is_fine m.now x ≡ true) at_s (then_track.fine some (between ++ later) (sym rest_is ∙ order ∙ append_assoc some between later)))
+
+pub answered : IsAnsweredWithin two_lines 1 crowd_took (took_between crowded told_all_but_one) 0
+answered some later s order at_s state =
+    let m : Machine = plain two_lines (crowd_took ++ some) in
+    is_awaited_so m.now s.post.pending
+    (waits_lately s.line.state m.now s.post.pending state (subst (λ (x : Option Endpoint). is_fine m.now x ≡ true) at_s (then_track.fine some later (sym rest_is ∙ order))))
+
+-- What is done, and asked for
+
+pub done_no_more : done_in (course_from two_lines (plain two_lines crowd_took) 1 (took_between crowded told_all_but_one)) ≡ []
+done_no_more = ap (λ (x : List GatewayEvent). done_in (course_from two_lines (plain two_lines crowd_took) 1 x)) rest_is ∙ then_track.done_is
+
+done_since : done_in (course_from two_lines (gateway_in two_lines (world idle)) 1 (took_between idle crowded)) ≡ all_fives
+done_since = ap (λ (x : List GatewayEvent). done_in (course_from two_lines (plain two_lines base_took) 1 x)) keys_are ∙ all_keys_track.done_is
+
+asks_none : (course : List CourseStep) → requests_in course ≡ [] → AskForAll course
+asks_none [] none = tt
+asks_none (acts act ∷ course) none = asks_none course none
+asks_none (accepts request ∷ course) none = absurd cc
+asks_none (notifies identifier observed ∷ course) none = asks_none course none
+
+both_on : (all_keys ++ then_on) ≡ took_between idle crowded ++ took_between crowded told_all_but_one
+both_on = ap (λ (x : List GatewayEvent). x ++ then_on) (sym keys_are) ∙ ap (λ (x : List GatewayEvent). took_between idle crowded ++ x) (sym rest_is)
+
+behind_keys : machine_after two_lines (plain two_lines base_took) all_keys ≡ plain two_lines crowd_took
+behind_keys = sym (machine_on two_lines (opening two_lines) base_took all_keys) ∙ ap (plain two_lines) (sym crowd_is)
+
+unasked_since : requests_in (course_from two_lines (plain two_lines base_took) 1 (all_keys ++ then_on)) ≡ []
+unasked_since =
+    ap requests_in (course_on two_lines (plain two_lines base_took) 1 all_keys then_on)
+    ∙ requests_both (course_from two_lines (plain two_lines base_took) 1 all_keys) (course_from two_lines (machine_after two_lines (plain two_lines base_took) all_keys) 1 then_on)
+    ∙ ap (λ (x : List Request). x ++ requests_in (course_from two_lines (machine_after two_lines (plain two_lines base_took) all_keys) 1 then_on)) all_keys_track.unasked
+    ∙ ap (λ (m : Machine). requests_in (course_from two_lines m 1 then_on)) behind_keys ∙ then_track.unasked
+
+pub asked_since : AskForAll (course_from two_lines (gateway_in two_lines (world idle)) 1 (took_between idle crowded ++ took_between crowded told_all_but_one))
+asked_since =
+    subst (λ (x : List GatewayEvent). AskForAll (course_from two_lines (plain two_lines base_took) 1 x)) both_on
+    (asks_none (course_from two_lines (plain two_lines base_took) 1 (all_keys ++ then_on)) unasked_since)
+
+pub keeps : KeepsAll (line_with two_lines (took_first idle)).line
+unfolding on_examples
+keeps = record { asked = notifies_each _ refl refl; untimed = refl; accumulated = refl; of_phone = tt; normal = λ is. refl }
+
+-- from the first request on
+
+asked_idle : AskForAll (course_of two_lines 1 (took_first idle))
+unfolding on_examples
+asked_idle = (record { requested = notifies_each _ refl refl; quarantined = refl }, tt)
+
+whole_from : took_first told_all_but_one ≡ base_took ++ (all_keys ++ then_on)
+whole_from = whole_is ∙ ap (λ (x : List GatewayEvent). x ++ then_on) crowd_is ∙ append_assoc base_took all_keys then_on
+
+pub undone_first : done_in (course_of two_lines 1 (took_first asked_first)) ≡ []
+unfolding on_examples
+undone_first = refl
+
+pub asked_so : AsksIfAny (latest_from None (course_of two_lines 1 (took_first asked_first)))
+unfolding on_examples
+asked_so = record { requested = notifies_each _ refl refl; quarantined = refl }
+
+steps_first : told_all_but_one ≡ asked_first ++ drop (length asked_first) told_all_but_one
+unfolding on_examples
+steps_first = refl
+
+pub split_first : took_first told_all_but_one ≡ took_first asked_first ++ took_between asked_first told_all_but_one
+split_first = took_split two_lines asked_first told_all_but_one steps_first
+
+pub asked_ever : AskForAll (course_from two_lines (plain two_lines (took_first asked_first)) 1 (took_between asked_first told_all_but_one))
+asked_ever =
+    ask_back (course_of two_lines 1 (took_first asked_first)) (course_from two_lines (plain two_lines (took_first asked_first)) 1 (took_between asked_first told_all_but_one))
+    (subst AskForAll (course_on_of (took_first asked_first) (took_between asked_first told_all_but_one))
+    (subst (λ (x : List GatewayEvent). AskForAll (course_of two_lines 1 x)) (sym whole_from ∙ split_first)
+    (asks_more base_took (all_keys ++ then_on) asked_idle (asks_none (course_from two_lines (plain two_lines base_took) 1 (all_keys ++ then_on)) unasked_since)))) where
+      course_on_of : (some more : List GatewayEvent) → course_of two_lines 1 (some ++ more) ≡ course_of two_lines 1 some ++ course_from two_lines (plain two_lines some) 1 more
+      course_on_of some more = course_on two_lines (opening two_lines) 1 some more
+
+-- It gives nothing up
+
+neither : (a b : Bool) → a ≡ false → b ≡ false → (a || b) ≡ false
+neither a b one two = rw (one, two) refl
+
+abbrev line_in : Machine → Endpoint
+line_in m = unwrap_or (endpoint_at m.endpoints 1) (opening_endpoint two_lines 1)
+
+abbrev last_machine : Machine
+last_machine = record (resting (1 + most_quarantined + 1) (holds [] lost_one)) { now = 21002 }
+
+pub calm_before : AnnouncesNothing two_lines 1 (world idle_soon) (world idle) (line_with two_lines (took_first idle))
+unfolding on_examples
+calm_before = refl
+
+serves_last : not (is_serving (line_in last_machine).post.restart) ≡ false
+unfolding on_examples
+serves_last = refl
+
+serves_at_last : not (is_serving (line_with two_lines (took_first told_all_but_one)).post.restart) ≡ false
+serves_at_last = ap (λ (m : Machine). not (is_serving (line_in m).post.restart)) o.gateway ∙ serves_last
+
+quiet_since : has_announced (sent_from two_lines (plain two_lines base_took) (all_keys ++ then_on)) ≡ false
+quiet_since =
+    ap has_announced (sent_on two_lines (plain two_lines base_took) all_keys then_on)
+    ∙ announced_both (sent_from two_lines (plain two_lines base_took) all_keys) (sent_from two_lines (machine_after two_lines (plain two_lines base_took) all_keys) then_on) all_keys_track.quiet
+    (ap (λ (m : Machine). has_announced (sent_from two_lines m then_on)) behind_keys ∙ then_track.quiet)
+
+pub calm_since : AnnouncesNothing two_lines 1 (world idle) (world told_all_but_one) (line_with two_lines (took_first told_all_but_one))
+calm_since =
+    ap (λ (x : List GatewayEvent). has_given_up (of_line 1 (sent_from two_lines (gateway_in two_lines (world idle)) x)) (line_with two_lines (took_first told_all_but_one)).post)
+    (meanwhile_is (world idle) (world told_all_but_one) (all_keys ++ then_on) whole_from)
+    ∙ neither (has_announced (sent_from two_lines (plain two_lines base_took) (all_keys ++ then_on))) (not (is_serving (line_with two_lines (took_first told_all_but_one)).post.restart))
+    quiet_since serves_at_last
+
+quiet_idle : has_announced (sent_of two_lines (took_first idle)) ≡ false
+unfolding on_examples
+quiet_idle = refl
+
+pub calm_ever : has_given_up (of_line 1 (sent_of two_lines (took_first told_all_but_one))) (line_with two_lines (took_first told_all_but_one)).post ≡ false
+calm_ever =
+    neither (has_announced (sent_of two_lines (took_first told_all_but_one))) (not (is_serving (line_with two_lines (took_first told_all_but_one)).post.restart))
+    (ap (λ (x : List GatewayEvent). has_announced (sent_of two_lines x)) whole_from
+    ∙ ap has_announced (sent_on two_lines (opening two_lines) base_took (all_keys ++ then_on))
+    ∙ announced_both (sent_of two_lines base_took) (sent_from two_lines (plain two_lines base_took) (all_keys ++ then_on)) quiet_idle quiet_since) serves_at_last
+
+-- What is in flight, and quarantined, and lost
+
+flew_so : (pending : Option InFlight) → IfSome pending (λ (flight : InFlight). (0 ≤ flight.first) × GoesToAgent two_lines w flight.text)
+flew_so None = tt
+flew_so (Some flight) = (omega arith, goes flight.text)
+
+pub flew : FlightBeganSince two_lines (world told_all_but_one) 0 (line_with two_lines (took_first told_all_but_one)).post.pending
+flew = flew_so (line_with two_lines (took_first told_all_but_one)).post.pending
+
+began_so : (pending : Option InFlight) → IfSome pending (λ (flight : InFlight). 0 ≤ flight.first)
+began_so None = tt
+began_so (Some flight) = omega arith
+
+pub began : FlightsBeganSince two_lines 1 (took_first crowded) (took_between crowded told_all_but_one) 0
+began some later s order past at_s = began_so s.post.pending
+
+flies_so : (pending : Option InFlight) → IfSome pending (λ (flight : InFlight). GoesToAgent two_lines w flight.text)
+flies_so None = tt
+flies_so (Some flight) = goes flight.text
+
+pub flies : FlightGoesToAgent two_lines (world told_all_but_one) (line_with two_lines (took_first told_all_but_one)).post.pending
+flies = flies_so (line_with two_lines (took_first told_all_but_one)).post.pending
+
+by_now : (first now : ℕ) → now ≡ 21002 → first < 21002 → first + 0 ≤ now
+by_now first now same less = omega (arith, same, less)
+
+had_so : (pending : Option InFlight) → HadItsTimeIfBefore two_lines told_all_but_one 0 21002 pending
+had_so None = tt
+had_so (Some flight) = (by_now flight.first (now_in two_lines (plain_world two_lines told_all_but_one)) now_last, goes flight.text)
+
+pub had : HadItsTimeIfBefore two_lines told_all_but_one 0 21002 (line_with two_lines (took_first told_all_but_one)).post.pending
+had = had_so (line_with two_lines (took_first told_all_but_one)).post.pending
+
+held_there : (events : List Observed) (lost : ℕ) → (line_in (waiting 1 2 (holds events lost))).line.quarantined.events ≡ events
+unfolding on_examples
+held_there events lost = refl
+
+pub held : length (line_with two_lines (took_first crowded)).line.quarantined.events ≡ most_quarantined
+held =
+    ap (λ (m : Machine). length (line_in m).line.quarantined.events) crowded_is.crowd.gateway ∙ ap length (held_there (fives most_quarantined) lost_one) ∙ many_fives most_quarantined
+
+pub over : 21001 + rounds_take most_quarantined 0 0 + 0 < 21002
+over = omega arith
+
+pub none_lost_yet : (line_with two_lines (took_first idle)).line.quarantined.lost ≡ 0
+unfolding on_examples
+none_lost_yet = refl
+
+lost_then : (n lost : ℕ) → (line_in (record (resting n (holds [] lost)) { now = 21002 })).line.quarantined.lost ≡ lost
+unfolding on_examples
+lost_then n lost = refl
+
+pub one_is_lost : (line_with two_lines (took_first told_all_but_one)).line.quarantined.lost ≡ 1
+one_is_lost = ap (λ (m : Machine). (line_in m).line.quarantined.lost) o.gateway ∙ lost_then (1 + most_quarantined + 1) lost_one
+
+-- What the agent was told
+
+observed_is : (m : AgentMachine) (xs : List Observed) → m.taken ≡ xs ∷ [] ∷ [] → observed_on 1 m ≡ xs
+unfolding on_examples
+observed_is m xs told = ap (λ (t : List (List Observed)). observed_on 1 (record m { taken = t })) told
+
+idle_told : (agent_in two_lines (world idle)).taken ≡ known_then ∷ [] ∷ []
+unfolding on_examples
+idle_told = refl
+
+taken_is : taken_meanwhile two_lines 1 (world idle) (world told_all_but_one) ≡ o.more
+taken_is =
+    ap (λ (xs : List Observed). drop (length xs) (observed_on 1 (agent_in two_lines (world told_all_but_one)))) (observed_is (agent_in two_lines (world idle)) known_then idle_told)
+    ∙ ap (drop (length known_then)) (observed_is (agent_in two_lines (world told_all_but_one)) (known_then ++ o.more) o.told) ∙ drop-append_seam known_then o.more
+
+happened_few : (events : List Observed) → length (happened_in events) ≤ length events
+happened_few [] = omega arith
+happened_few (Happened event ∷ events) = let few = happened_few events in omega (arith, few)
+happened_few (Ended signal ∷ events) = let few = happened_few events in omega (arith, few)
+
+many_taken : length (taken_meanwhile two_lines 1 (world idle) (world told_all_but_one)) ≡ 0 + most_quarantined + 1
+many_taken = ap length taken_is ∙ o.many_is
+
+many_done : length (done_in (course_from two_lines (gateway_in two_lines (world idle)) 1 (took_between idle crowded))) ≡ 1 + (most_quarantined + 1)
+many_done = ap length done_since ∙ many_fives (1 + (most_quarantined + 1))
+
+too_few : (first : Option InFlight) (told held done taken : List Observed) (n m : ℕ) → length taken ≡ n → length (happened_in told) ≡ length held → length done ≡ m → n < m
+    → IsToldSince first told (held ++ done) taken → ⊥
+too_few first told held done taken n m few same many less t =
+    let a : length taken ≡ length t.late + length t.since = ap length t.order ∙ length-append t.late t.since in
+    let b : length (happened_in t.since) ≤ length t.since = happened_few t.since in
+    let c : length (happened_in told ++ happened_in t.since) ≡ length (happened_in told) + length (happened_in t.since) = length-append (happened_in told) (happened_in t.since) in
+    let d : length ((held ++ done) ++ t.rest) ≡ length (held ++ done) + length t.rest = length-append (held ++ done) t.rest in
+    let e : length (held ++ done) ≡ length held + length done = length-append held done in
+    let f : length (happened_in told ++ happened_in t.since) ≡ length ((held ++ done) ++ t.rest) = ap length t.whole in
+    absurd (omega (arith, a, b, c, d, e, f, few, same, many, less))
+
+none_before : (kept : List Observed) → kept ≡ [] → length (happened_in []) ≡ length kept
+none_before kept none = ap length (sym none)
+
+held_before : happened_in (line_with two_lines (took_first idle)).line.quarantined.events ≡ []
+unfolding on_examples
+held_before = refl
+
+pub not_told : IsToldFrom (line_with two_lines (took_first idle)).post.pending
+    (happened_in (line_with two_lines (took_first idle)).line.quarantined.events ++ done_in (course_from two_lines (gateway_in two_lines (world idle)) 1 (took_between idle crowded)))
+    (taken_meanwhile two_lines 1 (world idle) (world told_all_but_one)) → ⊥
+not_told =
+    too_few (line_with two_lines (took_first idle)).post.pending [] (happened_in (line_with two_lines (took_first idle)).line.quarantined.events)
+    (done_in (course_from two_lines (gateway_in two_lines (world idle)) 1 (took_between idle crowded))) (taken_meanwhile two_lines 1 (world idle) (world told_all_but_one))
+    (0 + most_quarantined + 1) (1 + (most_quarantined + 1)) many_taken
+    (none_before (happened_in (line_with two_lines (took_first idle)).line.quarantined.events) held_before) many_done (omega arith)
+
+told_one : length (happened_in (told_along (course_of two_lines 1 (took_first idle)))) ≡ 1
+unfolding on_examples
+told_one = refl
+
+one_before : length (done_in (course_of two_lines 1 (took_first idle))) ≡ 1
+unfolding on_examples
+one_before = refl
+
+told_before : length (happened_in (told_along (course_of two_lines 1 (took_first idle)))) ≡ length (done_in (course_of two_lines 1 (took_first idle)))
+told_before = told_one ∙ sym one_before
+
+done_all : done_in (course_of two_lines 1 crowd_took)
+    ≡ done_in (course_of two_lines 1 (took_first idle)) ++ done_in (course_from two_lines (gateway_in two_lines (world idle)) 1 (took_between idle crowded))
+done_all =
+    ap (λ (x : List GatewayEvent). done_in (course_of two_lines 1 x)) front
+    ∙ ap done_in (course_on two_lines (opening two_lines) 1 base_took (took_between idle crowded))
+    ∙ done_both (course_of two_lines 1 base_took) (course_from two_lines (machine_after two_lines (opening two_lines) base_took) 1 (took_between idle crowded))
+
+pub not_told_along : IsToldSince (line_with two_lines (took_first idle)).post.pending (told_along (course_of two_lines 1 (took_first idle))) (done_in (course_of two_lines 1 crowd_took))
+    (taken_meanwhile two_lines 1 (world idle) (world told_all_but_one)) → ⊥
+not_told_along t =
+    too_few (line_with two_lines (took_first idle)).post.pending (told_along (course_of two_lines 1 (took_first idle))) (done_in (course_of two_lines 1 (took_first idle)))
+    (done_in (course_from two_lines (gateway_in two_lines (world idle)) 1 (took_between idle crowded))) (taken_meanwhile two_lines 1 (world idle) (world told_all_but_one))
+    (0 + most_quarantined + 1) (1 + (most_quarantined + 1)) many_taken told_before many_done (omega arith)
+    (subst (λ (x : List Observed). IsToldSince (line_with two_lines (took_first idle)).post.pending (told_along (course_of two_lines 1 (took_first idle))) x
+    (taken_meanwhile two_lines 1 (world idle) (world told_all_but_one))) done_all t)
+
+pub not_told_ever : (rest : List Observed) × (happened_in (observed_on 1 (agent_in two_lines (world told_all_but_one))) ≡ done_in (course_of two_lines 1 crowd_took) ++ rest) → ⊥
+not_told_ever all =
+    let observed : List Observed = observed_on 1 (agent_in two_lines (world told_all_but_one)) in
+    let before : List Observed = done_in (course_of two_lines 1 (took_first idle)) in
+    let since : List Observed = done_in (course_from two_lines (gateway_in two_lines (world idle)) 1 (took_between idle crowded)) in
+    let a : length observed ≡ length known_then + length o.more =
+    ap length (observed_is (agent_in two_lines (world told_all_but_one)) (known_then ++ o.more) o.told) ∙ length-append known_then o.more in
+    let j : length known_then ≡ 1 = refl in
+    let b : length (happened_in observed) ≤ length observed = happened_few observed in
+    let c : length (happened_in observed) ≡ length (done_in (course_of two_lines 1 crowd_took) ++ all.0) = ap length all.1 in
+    let d : length (done_in (course_of two_lines 1 crowd_took) ++ all.0) ≡ length (done_in (course_of two_lines 1 crowd_took)) + length all.0 =
+    length-append (done_in (course_of two_lines 1 crowd_took)) all.0 in
+    let e : length (done_in (course_of two_lines 1 crowd_took)) ≡ length (before ++ since) = ap length done_all in
+    let f : length (before ++ since) ≡ length before + length since = length-append before since in
+    let g = one_before in let h = many_done in let i = o.many_is in
+    absurd (omega (arith, a, b, c, d, e, f, g, h, i, j))
