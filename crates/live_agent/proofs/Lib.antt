@@ -2,3 +2,5 @@ pub mod Computing
 pub mod FlightLemmas
 pub mod TurnLemmas
 pub mod WaitingLemmas
+pub mod AnnounceLemmas
+pub mod StepExampleLemmas

@@ -1,5 +1,5 @@
 -- What the worked examples speak of.
-use Rattle.std.specs.Prelude.{ℕ, List, [], ◌∷◌, false, true, codes}
+use Rattle.std.specs.Prelude.{ℕ, List, [], ◌∷◌, false, true, codes, Some}
 use Rattle.endpoint_names.specs.declared.route.Route.TheVariants.{One}
 use Rattle.endpoint_names.specs.RouteExample.{agent_at}
 use Rattle.outbound.specs.Flight.{InFlight, sent_first}
@@ -49,3 +49,10 @@ creating = record {
 -- a command that was issued at moment 0
 abbrev pub issued : InFlight
 issued = sent_first 7 (One (agent_at 1)) (codes "AUEP 7 aaln/1 MGCP 1.0\r\n") 0
+
+-- a line whose deletion was put off at 500, for the first time: it is sent again at 1,500, or at once
+abbrev pub deleted_now : Care
+deleted_now = record new_care { put_off = 1 }
+
+abbrev pub deleted_later : Care
+deleted_later = record deleted_now { again = Some 1500 }

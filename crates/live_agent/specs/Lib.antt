@@ -16,3 +16,4 @@ pub mod Report
 pub mod Wiring
 pub mod Announcing
 pub mod Meaning
+pub mod Steps

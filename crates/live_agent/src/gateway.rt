@@ -179,6 +179,7 @@ impl Gateway {
         ensures ticked { OnOk result (self.new.ticked ≡ tick_to self.old.ticked moment) }
         ensures err { OnErr result (AgentStays self.old.agent.value self.new.agent.value) }
         ensures not_ticked { OnErr result (self.new.ticked ≡ self.old.ticked) }
+        ensures rest { self.new ≡ record self.old { agent = self.new.agent; ticked = self.new.ticked } }
     {
         let moment = tick_to(self.ticked, moment);
         let outputs = self.agent.step(Event::Tick { moment })?;
@@ -198,6 +199,7 @@ impl Gateway {
     pub(crate) fn put_off(&mut self, line: usize, moment: u64) -> Result<(), OutOfMemory>
         ensures ok { OnOk result (self.new.wakes.items ≡ self.old.wakes.items ++ (record { moment = moment; line = line }) ∷ []) }
         ensures err { OnErr result (self.new.wakes.items ≡ self.old.wakes.items) }
+        ensures rest { self.new ≡ record self.old { wakes = self.new.wakes } }
     {
         match self.wakes.push(Wake { moment, line }) {
             Ok(()) => Ok(()),
@@ -218,7 +220,8 @@ impl Gateway {
     /// The next line to which a command is sent again by now. It isn't put off any more.
     pub(crate) fn woken(&mut self) -> Option<Wake>
         ensures wake { result ≡ first_woken self.old.ticked self.old.wakes.items }
-        ensures rest { self.new.wakes.items ≡ behind_woken self.old.ticked self.old.wakes.items }
+        ensures others { self.new.wakes.items ≡ behind_woken self.old.ticked self.old.wakes.items }
+        ensures rest { self.new ≡ record self.old { wakes = self.new.wakes } }
     {
         let first = self.wakes.first().copied()?;
         if first.moment <= self.ticked {

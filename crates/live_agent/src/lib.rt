@@ -24,6 +24,7 @@ mod recorder;
 mod responses;
 mod serving;
 mod session;
+pub mod step_examples;
 mod switchboard;
 mod telephone;
 mod typed;

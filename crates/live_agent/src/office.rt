@@ -1,19 +1,20 @@
 //! The exchange in the program's hands: which command each line is sent, and what its answer means for the line's calls.
 //!
 //! Nothing goes over all lines but the opening: those to which something has happened wait, and are settled.
-ghost use Rattle.std.specs.Prelude.{◌≡◌, ◌≢◌, ◌⊎◌, ◌↔◌, ℕ, true, false, length, replicate, Some, IfOk, IfSome, IsTrue, OnOk, OnErr, option_map, slice_get, slice_set};
+ghost use Rattle.std.specs.Prelude.{◌≡◌, ◌≢◌, ◌⊎◌, ◌↔◌, ℕ, true, false, length, replicate, Some, IfOk, IfSome, IsTrue, is_none, OnOk, OnErr, option_map, slice_get, slice_set};
 ghost use Rattle.call_routing.specs.Phases.{named_by};
 ghost use Rattle.call_routing.specs.declared.told.Told.TheVariants.{Flash};
 ghost use Rattle.call_routing.specs.declared.command.Outcome.TheVariants.{GivenUp};
-ghost use Rattle.call_routing.specs.Exchange.{opening, phase_of, flight_in, line_of, told};
+ghost use Rattle.call_routing.specs.Exchange.{opening, phase_of, flight_in, line_of, told, due, sent_to};
 ghost use Rattle.call_routing.specs.Numbers.{told_in};
 ghost use Rattle.agent_texts.specs.Telling.{change_told, Tells};
 ghost use Rattle.live_agent.specs.declared.care.Duty.TheVariants.{Clear, Audit};
-ghost use Rattle.live_agent.specs.Duties.{new_care, landed, owed, lost, announced, told_care, told_of, woken, changed_by};
+ghost use Rattle.live_agent.specs.Duties.{new_care, landed, lost, announced, told_of, woken, changed_by};
 ghost use Rattle.live_agent.specs.Hooks.{notified};
 ghost use Rattle.live_agent.specs.Orders.{shown, duty_of, flight_of, was_found_off, is_outlived, has_told, again_of, is_put_off_in, cared, routed, ordered};
 ghost use Rattle.live_agent.specs.Showing.{shown_in, Shows};
 ghost use Rattle.live_agent.specs.Turns.{forsaken, heard_by, announced_by, outcome_with, told_by_audit, kept_behind, cleared_by, Routes, TakesAudit, AnswersAudit, TakesResponse, TakesAnswer};
+ghost use Rattle.live_agent.specs.Steps.{landed_if, Begins, Hears};
 ghost use Rattle.live_agent.specs.Waiting.{waits, settling, settled_at, Settles};
 
 use crate::care::{Care, Change, Duty, NEW_CARE, Shown, fixed_order};
@@ -189,7 +190,10 @@ fn routed(
     line: usize,
     map: &[u8],
 ) -> Result<Option<Order>, OutOfMemory>
-    ensures { IfOk result (λ order. option_map shown order ≡ routed exchange.old line map.now) }
+    ensures order { IfOk result (λ order. option_map shown order ≡ routed exchange.old line map.now) }
+    ensures sent { exchange.new ≡ sent_to exchange.old line }
+    ensures none { IfOk result (λ order. is_none order ≡ is_none (due exchange.old line)) }
+    ensures err { OnErr result (is_none (due exchange.old line) ≡ false) }
 {
     let Some(command) = exchange.send(line) else {
         return Ok(None);
@@ -394,10 +398,7 @@ fn take_told(
     line: usize,
     observed: &[Observed],
 )
-    ensures { (exchange.new ≡ heard_by exchange.old line
-        (notified (was_found_off (slice_get cares.old.items line)) (told_in plan.now observed.now)))
-        ⊎ ((exchange.new ≡ exchange.old)
-        × (cares.new.items ≡ cared (λ care. owed care Audit) (cared told_care cares.old.items line) line)) }
+    ensures { Hears (told_in plan.now observed.now) line exchange.old cares.old.items exchange.new cares.new.items }
 {
     let was_off = was_found_off(change_at(cares, line, Change::Tell));
     match hear(alloc, exchange, plan, was_off, line, observed) {
@@ -511,8 +512,9 @@ impl Office {
     /// The command that is to be issued to the line now, if one is; it is in flight from then on. After an error, which is for want of
     /// memory, it was given up.
     pub(crate) fn order(&mut self, alloc: Global, line: usize) -> Result<Option<Order>, OutOfMemory>
-        ensures { IfOk result (λ order. option_map shown order
+        ensures order { IfOk result (λ order. option_map shown order
             ≡ ordered (slice_get self.old.cares.items line) self.old.exchange line self.old.map) }
+        ensures begins { Begins line self.old.exchange self.old.cares.items self.new.exchange self.new.cares.items }
     {
         let Some(duty) = duty_of(change_at(&mut self.cares, line, Change::Begin)) else {
             return Ok(None);
@@ -528,9 +530,15 @@ impl Office {
 
     // The command of the exchange to the line, where that sends one; else none is in flight.
     fn route(&mut self, alloc: Global, line: usize) -> Result<Option<Order>, OutOfMemory>
-        ensures { IfOk result (λ order. option_map shown order ≡ routed self.old.exchange line self.old.map) }
+        ensures order { IfOk result (λ order. option_map shown order ≡ routed self.old.exchange line self.old.map) }
+        ensures sent { self.new.exchange ≡ sent_to self.old.exchange line }
+        ensures cares { self.new.cares.items
+            ≡ landed_if (is_none (due self.old.exchange line)) self.old.cares.items line }
     {
-        let order = routed(alloc, &mut self.exchange, line, self.map.as_bytes())?;
+        let order = match routed(alloc, &mut self.exchange, line, self.map.as_bytes()) {
+            Ok(order) => order,
+            Err(refused) => return Err(refused),
+        };
         if order.is_none() {
             let _ = change_at(&mut self.cares, line, Change::Land);
         }
@@ -616,10 +624,8 @@ impl Office {
 
     /// A notification of the line told this. Where memory is refused the line's hook is asked for.
     pub(crate) fn told(&mut self, alloc: Global, line: usize, observed: &[Observed])
-        ensures exchange { (self.new.exchange ≡ heard_by self.old.exchange line
-            (notified (was_found_off (slice_get self.old.cares.items line)) (told_in self.old.plan observed.now)))
-            ⊎ ((self.new.exchange ≡ self.old.exchange)
-            × (self.new.cares.items ≡ cared (λ care. owed care Audit) (cared told_care self.old.cares.items line) line)) }
+        ensures hears { Hears (told_in self.old.plan observed.now) line self.old.exchange self.old.cares.items
+            self.new.exchange self.new.cares.items }
         ensures waits { waits self.new.worklist.waiting.items self.new.worklist.is_all line ≡ true }
     {
         touch(&mut self.worklist, &self.exchange, line);

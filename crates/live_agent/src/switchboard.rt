@@ -1,7 +1,12 @@
 //! The gateways that a call agent works with, and their lines.
-ghost use Rattle.std.specs.Prelude.{◌≡◌, ◌∷◌, ◌++◌, IfOk, is_some, length, option_map, position, slice_get};
+ghost use Rattle.std.specs.Prelude.{◌≡◌, ◌∷◌, ◌++◌, true, false, IfOk, is_err, is_ok, is_some, length, option_map, position, slice_get};
+ghost use Rattle.plain_machine.specs.Event.{datagram, tick};
+ghost use Rattle.call_agent.specs.Hearing.{hears};
+ghost use Rattle.call_agent.specs.AgentStands.{AgentTook};
+ghost use Rattle.live_agent.specs.AgentClock.{tick_to};
 ghost use Rattle.live_agent.specs.Boards.{is_at, settling_in, SettlesIn, taking_in, woken_at, WakesIn, Answers};
 ghost use Rattle.live_agent.specs.Meaning.{has_domain, meant};
+ghost use Rattle.live_agent.specs.Steps.{is_meant, line_behind, exchange_if, cares_if, settled_in, Announces, AnnouncesTo, AtPlace, Begins, Forgets, HearsSome, Issues, IssuesAt, OfOffice, Ticks, ToldAt, Wakens};
 ghost use Rattle.live_agent.specs.Waiting.{Settles};
 
 use crate::flight::Flight;
@@ -103,7 +108,8 @@ fn answer_at(
     code: u16,
     text: &[u8],
 )
-    ensures { Answers line code text.now gateway.old office.old gateway.new office.new }
+    ensures answers { Answers line code text.now gateway.old office.old gateway.new office.new }
+    ensures rest { gateway.new ≡ record gateway.old { wakes = gateway.new.wakes } }
 {
     let moment = gateway.ticked();
     let Some(again) = office.answered(alloc, line, moment, code, text) else {
@@ -119,6 +125,48 @@ fn has_domain(gateway: &Gateway, domain: &[u8]) -> bool
     ensures { result ≡ has_domain domain.now gateway.now }
 {
     same_no_case(gateway.domain.as_bytes(), domain)
+}
+
+// Whether a name means the line that is so many behind the first of its gateway.
+fn is_meant(pattern: Pattern, before: u16) -> bool
+    ensures { result ≡ is_meant pattern before }
+{
+    match pattern {
+        Pattern::One(line) => usize::from(line) == usize::from(before) + 1,
+        Pattern::All | Pattern::Any => true,
+    }
+}
+
+// The place of the line that is so many behind the first, which has this one.
+fn line_behind(first: usize, before: u16) -> usize
+    ensures { result ≡ line_behind first before }
+{
+    first.saturating_add(usize::from(before))
+}
+
+// A line is there again, or lost its agent, if a name means it.
+fn announce_if(office: &mut Office, is_named: bool, line: usize, is_restart: bool)
+    ensures exchange { office.new.exchange ≡ exchange_if is_named is_restart line office.old.exchange }
+    ensures cares { office.new.cares.items ≡ cares_if is_named is_restart line office.old.cares.items }
+{
+    if is_named {
+        office.announced(line, is_restart);
+    }
+}
+
+// The lines of a gateway that a name means are there again, or lost their agent. The first of them has this place, and there are so many.
+fn announce_all(office: &mut Office, pattern: Pattern, first: usize, lines: u16, is_restart: bool)
+    ensures { Announces is_restart pattern first lines office.old.exchange office.old.cares.items
+        office.new.exchange office.new.cares.items }
+{
+    for before in 0..lines {
+        announce_if(
+            office,
+            is_meant(pattern, before),
+            line_behind(first, before),
+            is_restart,
+        );
+    }
 }
 
 impl Switchboard {
@@ -236,7 +284,12 @@ impl Switchboard {
         place: usize,
         source: SocketAddrV4,
         bytes: &[u8],
-    ) -> Result<Outputs, Refusal> {
+    ) -> Result<Outputs, Refusal>
+        ensures took { AtPlace place (λ was is. IfOk result (λ outputs.
+            AgentTook was.agent.value (hears (datagram source bytes.now)) is.agent.value outputs))
+            self.old.gateways.items self.new.gateways.items }
+        ensures office { self.new.office ≡ self.old.office }
+    {
         match self.gateways.get_mut(place) {
             Some(gateway) => gateway.agent.step(Event::Datagram { source, bytes }),
             None => Ok(Sequence::new(self.alloc)),
@@ -244,7 +297,13 @@ impl Switchboard {
     }
 
     /// The clock of the agent of the gateway at this place goes on to this moment (in ms), but by no more than a second: what is sent.
-    pub fn tick(&mut self, place: usize, moment: u64) -> Result<Outputs, Refusal> {
+    pub fn tick(&mut self, place: usize, moment: u64) -> Result<Outputs, Refusal>
+        ensures took { AtPlace place (λ was is. IfOk result (λ outputs.
+            AgentTook was.agent.value (hears (tick (tick_to was.ticked moment))) is.agent.value outputs))
+            self.old.gateways.items self.new.gateways.items }
+        ensures clock { AtPlace place (Ticks (is_ok result) moment) self.old.gateways.items self.new.gateways.items }
+        ensures office { self.new.office ≡ self.old.office }
+    {
         match self.gateways.get_mut(place) {
             Some(gateway) => gateway.tick(moment),
             None => Ok(Sequence::new(self.alloc)),
@@ -322,7 +381,9 @@ impl Switchboard {
     }
 
     // Issues a command of the exchange to a line.
-    fn issue(&mut self, line: usize, order: &Order) -> Result<Issued, IssueFault> {
+    fn issue(&mut self, line: usize, order: &Order) -> Result<Issued, IssueFault>
+        ensures { self.new.office ≡ self.old.office }
+    {
         let Some(station) = self.stations.get(line) else {
             return Err(IssueFault::BadCommand);
         };
@@ -335,22 +396,42 @@ impl Switchboard {
     }
 
     // The command in flight to a line was given up, or couldn't be issued.
-    fn forget(&mut self, line: usize) {
+    fn forget(&mut self, line: usize)
+        ensures office { OfOffice (Forgets line) self.old.office self.new.office }
+        ensures rest { self.new ≡ record self.old { office = self.new.office } }
+    {
         if let Some(office) = &mut self.office {
             office.given_up(line);
         }
     }
 
-    /// Issues what the line that is settled so many behind the first is to be sent now: what is to be sent, if anything is. Where it
-    /// can't be issued it counts as given up.
-    pub fn issue_next(&mut self, index: usize) -> Result<Option<Issued>, IssueFault> {
-        let Some(office) = &mut self.office else {
-            return Ok(None);
-        };
-        let Some(line) = office.settled_at(index) else {
-            return Ok(None);
-        };
-        let issued = match office.order(self.alloc, line) {
+    // The line of the exchange that is settled so many behind the first.
+    fn settled_at(&self, index: usize) -> Option<usize>
+        ensures { result ≡ settled_in index self.now.office }
+    {
+        match &self.office {
+            Some(office) => office.settled_at(index),
+            None => None,
+        }
+    }
+
+    // The command that is to be issued to a line now, if one is; it is in flight from then on. After an error, which is for want of
+    // memory, it was given up.
+    fn order(&mut self, line: usize) -> Result<Option<Order>, OutOfMemory>
+        ensures office { OfOffice (Begins line) self.old.office self.new.office }
+        ensures rest { self.new ≡ record self.old { office = self.new.office } }
+    {
+        match &mut self.office {
+            Some(office) => office.order(self.alloc, line),
+            None => Ok(None),
+        }
+    }
+
+    // Issues what a line is to be sent now: what is to be sent, if anything is. Where it can't be issued it counts as given up.
+    fn issue_to(&mut self, line: usize) -> Result<Option<Issued>, IssueFault>
+        ensures { Issues (is_err result) line self.old.office self.new.office }
+    {
+        let issued = match self.order(line) {
             Ok(None) => return Ok(None),
             Ok(Some(order)) => self.issue(line, &order),
             Err(_) => Err(IssueFault::OutOfMemory),
@@ -364,8 +445,22 @@ impl Switchboard {
         }
     }
 
+    /// Issues what the line that is settled so many behind the first is to be sent now: what is to be sent, if anything is. Where it
+    /// can't be issued it counts as given up.
+    pub fn issue_next(&mut self, index: usize) -> Result<Option<Issued>, IssueFault>
+        ensures { IssuesAt (settled_in index self.old.office) (is_err result) self.old.office self.new.office }
+    {
+        match self.settled_at(index) {
+            Some(line) => self.issue_to(line),
+            None => Ok(None),
+        }
+    }
+
     /// Tells how the line that is settled so many behind the first stands, where that has changed.
-    pub fn show(&mut self, journal: &mut Journal, index: usize) {
+    pub fn show(&mut self, journal: &mut Journal, index: usize)
+        ensures office { ToldAt (settled_in index self.old.office) self.old.office self.new.office }
+        ensures rest { self.new ≡ record self.old { office = self.new.office } }
+    {
         let Some(office) = &mut self.office else {
             return;
         };
@@ -407,6 +502,7 @@ impl Switchboard {
     // The next line of the gateway at this place to which a command is sent again by now. It isn't put off any more.
     fn woken(&mut self, place: usize) -> Option<Wake>
         ensures wake { result ≡ woken_at (slice_get self.old.gateways.items place) }
+        ensures gateway { AtPlace place Wakens self.old.gateways.items self.new.gateways.items }
         ensures office { self.new.office ≡ self.old.office }
     {
         let gateway = self.gateways.get_mut(place)?;
@@ -417,6 +513,7 @@ impl Switchboard {
     pub fn wake(&mut self, place: usize) -> bool
         ensures found { result ≡ is_some (woken_at (slice_get self.old.gateways.items place)) }
         ensures line { WakesIn (woken_at (slice_get self.old.gateways.items place)) self.old.office self.new.office }
+        ensures gateway { AtPlace place Wakens self.old.gateways.items self.new.gateways.items }
     {
         let Some(wake) = self.woken(place) else {
             return false;
@@ -446,25 +543,24 @@ impl Switchboard {
     }
 
     // The lines of a gateway that a name means are there again, or lost their agent.
-    fn announce(&mut self, place: usize, name: &[u8], is_restart: bool) {
+    fn announce(&mut self, place: usize, name: &[u8], is_restart: bool)
+        ensures office { AnnouncesTo is_restart name.now (slice_get self.old.gateways.items place) self.old.office self.new.office }
+        ensures rest { self.new ≡ record self.old { office = self.new.office } }
+    {
         let Some(gateway) = self.gateways.get(place) else {
             return;
         };
         let Ok(pattern) = read_name(name, gateway.domain.as_bytes(), gateway.lines) else {
             return;
         };
-        let Some(office) = &mut self.office else {
-            return;
-        };
-        for before in 0..gateway.lines {
-            let is_meant = match pattern {
-                Pattern::One(line) => line == before.saturating_add(1),
-                Pattern::All | Pattern::Any => true,
-            };
-            if is_meant {
-                let line = gateway.first.saturating_add(usize::from(before));
-                office.announced(line, is_restart);
-            }
+        if let Some(office) = &mut self.office {
+            announce_all(
+                &mut **office,
+                pattern,
+                gateway.first,
+                gateway.lines,
+                is_restart,
+            );
         }
     }
 
@@ -594,7 +690,10 @@ impl Switchboard {
     }
 
     // Takes what a line has told and wasn't taken yet: whether there was anything.
-    fn take_of(&mut self, journal: &mut Journal, place: usize, line: usize) -> bool {
+    fn take_of(&mut self, journal: &mut Journal, place: usize, line: usize) -> bool
+        ensures told { result ≡ true → OfOffice (HearsSome line) self.old.office self.new.office }
+        ensures nothing { result ≡ false → self.new.office ≡ self.old.office }
+    {
         let Some(gateway) = self.gateways.get(place) else {
             return false;
         };

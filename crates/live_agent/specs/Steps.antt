@@ -1,0 +1,148 @@
+-- What a step of a board does to the exchange, and to what is kept of its lines beside that; and to what its gateways send again.
+use Rattle.std.specs.Prelude.{◌≡◌, ◌⊎◌, ℕ, zero, suc, ◌+◌, ◌-◌, ◌^◌, ◌==◌, min, Bool, true, false, is_none, if◌then◌else◌, List, Option, Some, None, IfSome, IsSomeAnd, Result, Ok, Err, slice_get}
+use Rattle.std.specs.Global.{Box}
+use Rattle.endpoint_names.specs.declared.name.Pattern.{Pattern}
+use Rattle.endpoint_names.specs.declared.name.Pattern.TheVariants.{One, All, Any}
+use Rattle.endpoint_names.specs.declared.name.NameFault.{NameFault}
+use Rattle.endpoint_names.specs.Name.{name_of}
+use Rattle.call_routing.specs.declared.told.Told.{Told}
+use Rattle.call_routing.specs.Exchange.{ExchangeState, due, sent_to}
+use Rattle.live_agent.specs.declared.care.Duty.{Duty}
+use Rattle.live_agent.specs.declared.care.Duty.TheVariants.{Audit}
+use Rattle.live_agent.specs.declared.care.Care.{Care}
+use Rattle.live_agent.specs.declared.gateway.Gateway.{Gateway}
+use Rattle.live_agent.specs.declared.office.Office.{Office}
+use Rattle.live_agent.specs.AgentClock.{tick_to}
+use Rattle.live_agent.specs.Duties.{announced, begun, fixed_order, landed, lost, owed, told_care, told_of}
+use Rattle.live_agent.specs.Hooks.{notified}
+use Rattle.live_agent.specs.Orders.{Shown, cared, duty_of, flight_of, was_found_off}
+use Rattle.live_agent.specs.Showing.{shown_in}
+use Rattle.live_agent.specs.Turns.{announced_by, forsaken, heard_by}
+use Rattle.live_agent.specs.Waiting.{settled_at}
+use Rattle.live_agent.specs.Wakes.{behind_woken}
+
+-- What a step makes of the exchange, and of what is kept of its lines. It is one of a board's exchange; where there is none, there is
+-- none behind it.
+abbrev pub OfOffice : (ExchangeState → List Care → ExchangeState → List Care → Type 0) → Option (Box Office) → Option (Box Office) → Type 0
+OfOffice Does None is = is ≡ None
+OfOffice Does (Some was) is =
+    IsSomeAnd is (λ office. Does was.value.exchange was.value.cares.items office.value.exchange office.value.cares.items)
+
+-- What becomes of a line
+
+-- the command in flight to it was given up, or couldn't be issued
+abbrev pub Forgets : ℕ → ExchangeState → List Care → ExchangeState → List Care → Type 0
+Forgets line was cares is kept = (is ≡ forsaken was line (flight_of (slice_get cares line))) × (kept ≡ cared lost cares line)
+
+-- A notification of it told this. Where memory is refused for that its hook is asked for.
+abbrev pub Hears : Option Told → ℕ → ExchangeState → List Care → ExchangeState → List Care → Type 0
+Hears event line was cares is kept =
+    ((is ≡ heard_by was line (notified (was_found_off (slice_get cares line)) event)) × (kept ≡ cared told_care cares line))
+    ⊎ ((is ≡ was) × (kept ≡ cared (λ care. owed care Audit) (cared told_care cares line) line))
+
+-- so it told something
+abbrev pub HearsSome : ℕ → ExchangeState → List Care → ExchangeState → List Care → Type 0
+HearsSome line was cares is kept = (event : Option Told) × Hears event line was cares is kept
+
+-- how it stands was told
+abbrev pub ToldOf : ℕ → ExchangeState → List Care → ExchangeState → List Care → Type 0
+ToldOf line was cares is kept = (is ≡ was) × (kept ≡ cared (told_of (shown_in was line)) cares line)
+
+-- What is next at it begins, if anything does: it is in flight. Where the exchange says what is next, that is sent, if there is anything;
+-- else nothing is in flight.
+abbrev pub landed_if : Bool → List Care → ℕ → List Care
+landed_if true cares line = cared landed cares line
+landed_if false cares line = cares
+
+abbrev pub BeginsAs : Option Shown → ℕ → ExchangeState → List Care → ExchangeState → List Care → Type 0
+BeginsAs (Some fixed) line was cares is kept = (is ≡ was) × (kept ≡ cared begun cares line)
+BeginsAs None line was cares is kept =
+    (is ≡ sent_to was line) × (kept ≡ landed_if (is_none (due was line)) (cared begun cares line) line)
+
+abbrev pub BeginsBy : Option Duty → ℕ → ExchangeState → List Care → ExchangeState → List Care → Type 0
+BeginsBy None line was cares is kept = (is ≡ was) × (kept ≡ cared begun cares line)
+BeginsBy (Some duty) line was cares is kept = BeginsAs (fixed_order duty) line was cares is kept
+
+abbrev pub Begins : ℕ → ExchangeState → List Care → ExchangeState → List Care → Type 0
+Begins line was cares is kept = BeginsBy (duty_of (slice_get cares line)) line was cares is kept
+
+-- What becomes of the lines of a gateway that a name means
+
+-- the name means the line that is so many behind the first
+abbrev pub is_meant : Pattern → ℕ → Bool
+is_meant (One line) before = line == before + 1
+is_meant All before = true
+is_meant Any before = true
+
+-- the line that is so many behind the first, which has this place
+abbrev pub line_behind : ℕ → ℕ → ℕ
+line_behind first before = min (first + before) (2 ^ 64 - 1)
+
+-- a line is announced, if it is meant
+abbrev pub exchange_if : Bool → Bool → ℕ → ExchangeState → ExchangeState
+exchange_if is_meant is_restart line exchange = if is_meant then announced_by is_restart exchange line else exchange
+
+abbrev pub cares_if : Bool → Bool → ℕ → List Care → List Care
+cares_if is_meant is_restart line cares = if is_meant then cared (announced is_restart) cares line else cares
+
+-- so many lines of the gateway, one after another
+unfoldable pub exchange_announced : Bool → Pattern → ℕ → ℕ → ExchangeState → ExchangeState
+exchange_announced is_restart pattern first zero exchange = exchange
+exchange_announced is_restart pattern first (suc before) exchange =
+    exchange_if (is_meant pattern before) is_restart (line_behind first before)
+    (exchange_announced is_restart pattern first before exchange)
+
+unfoldable pub cares_announced : Bool → Pattern → ℕ → ℕ → List Care → List Care
+cares_announced is_restart pattern first zero cares = cares
+cares_announced is_restart pattern first (suc before) cares =
+    cares_if (is_meant pattern before) is_restart (line_behind first before) (cares_announced is_restart pattern first before cares)
+
+abbrev pub Announces : Bool → Pattern → ℕ → ℕ → ExchangeState → List Care → ExchangeState → List Care → Type 0
+Announces is_restart pattern first lines was cares is kept =
+    (is ≡ exchange_announced is_restart pattern first lines was) × (kept ≡ cares_announced is_restart pattern first lines cares)
+
+-- those of this gateway that this name means; none where there is no such gateway, or the name means none of its lines
+abbrev pub AnnouncesBy : Bool → Result Pattern NameFault → ℕ → ℕ → Option (Box Office) → Option (Box Office) → Type 0
+AnnouncesBy is_restart (Ok pattern) first lines was is = OfOffice (Announces is_restart pattern first lines) was is
+AnnouncesBy is_restart (Err fault) first lines was is = is ≡ was
+
+abbrev pub AnnouncesTo : Bool → List ℕ → Option Gateway → Option (Box Office) → Option (Box Office) → Type 0
+AnnouncesTo is_restart name None was is = is ≡ was
+AnnouncesTo is_restart name (Some gateway) was is =
+    AnnouncesBy is_restart (name_of name gateway.domain gateway.lines) gateway.first gateway.lines was is
+
+-- What is settled
+
+-- the line of the exchange that is settled so many behind the first
+abbrev pub settled_in : ℕ → Option (Box Office) → Option ℕ
+settled_in index None = None
+settled_in index (Some office) = settled_at office.value.worklist.settled.items office.value.worklist.settles_all 0 index
+
+-- a line is sent what it is to be sent now; or that can't be issued, and counts as given up
+abbrev pub Issues : Bool → ℕ → Option (Box Office) → Option (Box Office) → Type 0
+Issues false line was is = OfOffice (Begins line) was is
+Issues true line was is = (begun : Option (Box Office)) × OfOffice (Begins line) was begun × OfOffice (Forgets line) begun is
+
+-- of the line that is settled, if one is
+abbrev pub IssuesAt : Option ℕ → Bool → Option (Box Office) → Option (Box Office) → Type 0
+IssuesAt None fails was is = is ≡ was
+IssuesAt (Some line) fails was is = Issues fails line was is
+
+abbrev pub ToldAt : Option ℕ → Option (Box Office) → Option (Box Office) → Type 0
+ToldAt None was is = is ≡ was
+ToldAt (Some line) was is = OfOffice (ToldOf line) was is
+
+-- What becomes of a gateway
+
+-- the gateway at this place becomes so, if there is that one
+abbrev pub AtPlace : ℕ → (Gateway → Gateway → Type 0) → List Gateway → List Gateway → Type 0
+AtPlace place Does were are = IfSome (slice_get were place) (λ was. IsSomeAnd (slice_get are place) (λ is. Does was is))
+
+-- its clock went on, or the tick was refused
+abbrev pub Ticks : Bool → ℕ → Gateway → Gateway → Type 0
+Ticks true moment was is = (is.ticked ≡ tick_to was.ticked moment) × (is.wakes.items ≡ was.wakes.items)
+Ticks false moment was is = (is.ticked ≡ was.ticked) × (is.wakes.items ≡ was.wakes.items)
+
+-- what is sent again by now of the next of its lines isn't put off any more
+abbrev pub Wakens : Gateway → Gateway → Type 0
+Wakens was is = (is.ticked ≡ was.ticked) × (is.wakes.items ≡ behind_woken was.ticked was.wakes.items)

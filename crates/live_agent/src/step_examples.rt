@@ -1,0 +1,81 @@
+//! Worked examples of what a step of a board does, as theorems.
+#![tactic(auto, unfolding(crate::proofs::Computing::on_examples))]
+
+ghost use Rattle.std.specs.Prelude.{◌≡◌, [], ◌∷◌, ℕ, Bool, true, false, Option, Some, None};
+ghost use Rattle.std.specs.Global.{Box};
+ghost use Rattle.call_routing.specs.Exchange.{ExchangeState, opening, sent_to, told, answered};
+ghost use Rattle.live_agent.specs.declared.gateway.Gateway.{Gateway};
+ghost use Rattle.live_agent.specs.declared.office.Office.{Office};
+ghost use Rattle.live_agent.specs.declared.care.Duty.TheVariants.{Audit};
+ghost use Rattle.live_agent.specs.Boards.{Answers};
+ghost use Rattle.live_agent.specs.Duties.{announced, begun, lost, new_care, outlived, owed, told_care, told_of};
+ghost use Rattle.live_agent.specs.Showing.{shown_in};
+ghost use Rattle.live_agent.specs.Steps.{Announces, AnnouncesTo, Begins, Forgets, Hears, IssuesAt, OfOffice, Ticks, ToldOf, Wakens, settled_in};
+ghost use Rattle.live_agent.specs.Example.{audited, cleared, creating, deleted_later, deleted_now, found_off, wake_at};
+
+use call_routing::{Outcome, Told};
+use endpoint_names::Pattern;
+
+/// What becomes of a line.
+pub fn steps_at_a_line_have_examples()
+    // What was given up is owed again; a command of the exchange's counts as given up.
+    ensures given_up { Forgets 1 creating (cleared ∷ begun cleared ∷ []) creating (cleared ∷ cleared ∷ []) }
+    ensures given_up_routed { Forgets 1 creating (cleared ∷ begun audited ∷ []) (answered creating 1 Outcome.GivenUp)
+        (cleared ∷ audited ∷ []) }
+    // What it told is told to the exchange; what an audit found before says nothing new; where that can't be read, its hook is asked for.
+    ensures told { Hears (Some Told.OffHook) 0 creating (audited ∷ cleared ∷ []) (told creating 0 Told.OffHook)
+        (told_care audited ∷ cleared ∷ []) }
+    ensures found_before { Hears (Some Told.OffHook) 0 creating (found_off ∷ []) (told creating 0 Told.Flash) (told_care found_off ∷ []) }
+    ensures says_nothing { Hears None 0 creating (audited ∷ []) creating (told_care audited ∷ []) }
+    ensures unread { Hears (Some Told.OffHook) 0 creating (audited ∷ []) creating (owed (told_care audited) Audit ∷ []) }
+    // How it stands is kept as that is told.
+    ensures stands { ToldOf 0 creating (audited ∷ []) creating (told_of (shown_in creating 0) audited ∷ []) }
+    // What is next begins: a duty beside the exchange, or the exchange's command. While the line is held nothing does, and where the
+    // exchange has nothing to be sent, nothing is in flight behind it.
+    ensures deletion { Begins 0 creating (new_care ∷ []) creating (begun new_care ∷ []) }
+    ensures held { Begins 0 creating (begun new_care ∷ []) creating (begun new_care ∷ []) }
+    ensures routed { Begins 1 (opening 2 0) (cleared ∷ audited ∷ []) (sent_to (opening 2 0) 1) (cleared ∷ begun audited ∷ []) }
+    ensures nothing_due { Begins 1 (sent_to (opening 2 0) 1) (cleared ∷ audited ∷ []) (sent_to (opening 2 0) 1)
+        (cleared ∷ audited ∷ []) }
+    ensures no_line { Begins 2 creating (new_care ∷ []) creating (new_care ∷ []) }
+{}
+
+/// What becomes of the lines of a gateway, of it, and of what is settled.
+pub fn steps_at_a_gateway_have_examples()
+    // The lines that a name means are announced, one after another, and no others.
+    ensures one_line { Announces false (Pattern.One 2) 0 2 creating (audited ∷ audited ∷ []) creating
+        (audited ∷ owed audited Audit ∷ []) }
+    ensures all_lines { Announces true Pattern.All 0 2 creating (new_care ∷ audited ∷ [])
+        (told (told creating 0 Told.Restarted) 1 Told.Restarted) (announced true new_care ∷ announced true audited ∷ []) }
+    ensures any_line { Announces false Pattern.Any 1 1 creating (audited ∷ audited ∷ []) creating (audited ∷ owed audited Audit ∷ []) }
+    ensures of_another { Announces true (Pattern.One 1) 1 1 creating (audited ∷ audited ∷ []) (told creating 1 Told.Restarted)
+        (audited ∷ announced true audited ∷ []) }
+    ensures no_gateway { (office : Option (Box Office)) → AnnouncesTo true [] None office office }
+    ensures no_lines { Announces true Pattern.All 1 0 creating (audited ∷ audited ∷ []) creating (audited ∷ audited ∷ []) }
+    // Its clock goes on by a second at most, or stands still.
+    ensures goes_on { (gateway : Gateway) → Ticks true 5000 (record gateway { ticked = 500 }) (record gateway { ticked = 1500 }) }
+    ensures stands_still { (gateway : Gateway) → Ticks false 5000 (record gateway { ticked = 500 }) (record gateway { ticked = 500 }) }
+    // The first of those whose moment has come isn't put off any more.
+    ensures woken { (was is : Gateway) → was.ticked ≡ 700 → was.wakes.items ≡ wake_at 700 0 ∷ wake_at 900 1 ∷ [] →
+        is.ticked ≡ 700 → is.wakes.items ≡ wake_at 900 1 ∷ [] → Wakens was is }
+    ensures none_woken { (was : Gateway) → was.wakes.items ≡ [] → Wakens was was }
+    // Where there is no exchange nothing becomes of it, and nothing is settled.
+    ensures no_exchange { OfOffice (Forgets 0) None None }
+    ensures nothing_settled { settled_in 0 None ≡ None }
+    ensures settled { (office : Box Office) → office.value.worklist.settles_all ≡ true → settled_in 4 (Some office) ≡ Some 4 }
+    ensures nothing_issued { (fails : Bool) (office : Option (Box Office)) → IssuesAt None fails office office }
+{}
+
+/// An answer puts a deletion off, which is kept, or sent again at once where memory is refused for that; or it deletes. To a command that
+/// the gateway has outlived it counts as given up.
+pub fn what_an_answer_does_has_examples()
+    ensures put_off { (gateway after : Gateway) (was is : Office) → gateway.ticked ≡ 500 → was.cares.items ≡ begun new_care ∷ [] →
+        gateway.wakes.items ≡ wake_at 700 1 ∷ [] → is.exchange ≡ was.exchange → is.cares.items ≡ deleted_later ∷ [] →
+        after.wakes.items ≡ wake_at 700 1 ∷ wake_at 1500 0 ∷ [] → Answers 0 400 [] gateway was after is }
+    ensures refused { (gateway after : Gateway) (was is : Office) → gateway.ticked ≡ 500 → was.cares.items ≡ begun new_care ∷ [] →
+        gateway.wakes.items ≡ wake_at 700 1 ∷ [] → is.exchange ≡ was.exchange → is.cares.items ≡ deleted_now ∷ [] →
+        after.wakes.items ≡ wake_at 700 1 ∷ [] → Answers 0 400 [] gateway was after is }
+    ensures outlived { (gateway after : Gateway) (was is : Office) → gateway.ticked ≡ 500 →
+        was.cares.items ≡ outlived (begun new_care) ∷ [] → gateway.wakes.items ≡ [] → is.exchange ≡ was.exchange →
+        is.cares.items ≡ lost (outlived (begun new_care)) ∷ [] → after.wakes.items ≡ [] → Answers 0 400 [] gateway was after is }
+{}
