@@ -4,3 +4,5 @@ mod DeskLaws
 mod Computing
 mod AnswerLemmas
 mod AnswerLaws
+mod StepLaws
+mod StepExampleLemmas

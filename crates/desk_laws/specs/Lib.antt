@@ -1,3 +1,5 @@
 pub mod Desk
+pub mod Steps
 pub mod Example
 pub mod HappeningExample
+pub mod StepExample

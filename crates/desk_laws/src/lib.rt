@@ -7,3 +7,5 @@
 pub mod examples;
 pub mod happening_examples;
 pub mod laws;
+pub mod step_examples;
+pub mod step_laws;

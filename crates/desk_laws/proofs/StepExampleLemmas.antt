@@ -1,0 +1,78 @@
+-- Desks of a gateway and an exchange of which so much is known.
+use Rattle.std.proofs.Common.{◌≡◌, ℕ, ◌<◌, ◌≤◌, Bool, true, false, if◌then◌else◌, List, [], ◌∷◌, Option, Some, None, refl, sym, ap, ◌∙◌, arith}
+use Rattle.std.specs.Prelude.{nat_le, slice_get}
+use Rattle.std.proofs.lemmas.Bool.{leb-true}
+use Rattle.call_routing.specs.declared.fate.PutOff.{PutOff}
+use Rattle.live_agent.specs.declared.care.Duty.{Duty}
+use Rattle.live_agent.specs.declared.care.Care.{Care}
+use Rattle.live_agent.specs.declared.gateway.Gateway.{Gateway}
+use Rattle.live_agent.specs.declared.gateway.Wake.{Wake}
+use Rattle.live_agent.specs.declared.office.Office.{Office}
+use Rattle.live_agent.specs.AgentClock.{tick_to}
+use Rattle.live_agent.specs.Orders.{again_of, flight_of}
+use Rattle.live_agent.specs.Wakes.{first_woken}
+use Rattle.desk_laws.specs.Desk.{Desk, DeskTurn, after_turn, after_turns, answered_for, answers, desk_of, happens, held_by, taken_at, ticks, wakes_next, woken_by}
+use Rattle.desk_laws.specs.StepExample.{AreSo}
+use Rattle.desk_laws.proofs.AnswerLemmas.{desk_at}
+
+desk_with : (now is : ℕ) (cares kept : List Care) (wakes held : List Wake) → is ≡ now → kept ≡ cares → held ≡ wakes
+    → desk_at is kept held ≡ desk_at now cares wakes
+desk_with now is cares kept wakes held now_so cares_so wakes_so =
+    ap (λ (n : ℕ). desk_at n kept held) now_so
+    ∙ ap (λ (list : List Care). desk_at now list held) cares_so
+    ∙ ap (λ (list : List Wake). desk_at now cares list) wakes_so
+
+pub desk_is : (gateway : Gateway) (office : Office) (now : ℕ) (cares : List Care) (wakes : List Wake) → AreSo gateway office now cares wakes
+    → desk_of gateway office ≡ desk_at now cares wakes
+desk_is gateway office now cares wakes so =
+    desk_with now gateway.ticked cares office.cares.items wakes gateway.wakes.items so.clock so.kept so.held
+
+pub leads : (turns : List DeskTurn) (gateway after : Gateway) (was is : Office) (now later : ℕ) (cares kept : List Care) (wakes held : List Wake)
+    → after_turns (desk_at now cares wakes) turns ≡ desk_at later kept held
+    → AreSo gateway was now cares wakes → AreSo after is later kept held
+    → after_turns (desk_of gateway was) turns ≡ desk_of after is
+leads turns gateway after was is now later cares kept wakes held so here there =
+    ap (λ (desk : Desk). after_turns desk turns) (desk_is gateway was now cares wakes here) ∙ so ∙ sym (desk_is after is later kept held there)
+
+-- No clock goes back
+
+held_now : (desk : Desk) (line : ℕ) (cares : List Care) (again : Option ℕ) (is_refused : Bool) → desk.now ≤ (held_by desk line cares again is_refused).now
+held_now desk line cares None is_refused = omega arith
+held_now desk line cares (Some moment) true = omega arith
+held_now desk line cares (Some moment) false = omega arith
+
+answered_now : (flight : Option Duty) (desk : Desk) (line code : ℕ) (off : Option PutOff) (is_refused : Bool)
+    → desk.now ≤ (answered_for flight desk line code off is_refused).now
+answered_now None desk line code off is_refused = omega arith
+answered_now (Some duty) desk line code off is_refused =
+    held_now desk line (taken_at desk line duty code off) (again_of (slice_get (taken_at desk line duty code off) line)) is_refused
+
+woken_now : (first : Option Wake) (desk : Desk) → desk.now ≤ (woken_by first desk).now
+woken_now None desk = omega arith
+woken_now (Some wake) desk = omega arith
+
+ticked_now : (desk : Desk) (moment : ℕ) (b : Bool) → nat_le desk.now (tick_to desk.now moment) ≡ b
+    → desk.now ≤ (if b then record desk { now = tick_to desk.now moment } else desk).now
+ticked_now desk moment true past = leb-true desk.now (tick_to desk.now moment) past
+ticked_now desk moment false back = omega arith
+
+now_on : (desk : Desk) (turn : DeskTurn) → desk.now ≤ (after_turn desk turn).now
+now_on desk (happens line one) = omega arith
+now_on desk (answers line code off is_refused) = answered_now (flight_of (slice_get desk.cares line)) desk line code off is_refused
+now_on desk wakes_next = woken_now (first_woken desk.now desk.wakes) desk
+now_on desk (ticks moment) = ticked_now desk moment (nat_le desk.now (tick_to desk.now moment)) refl
+
+all_now : (desk : Desk) (turns : List DeskTurn) → desk.now ≤ (after_turns desk turns).now
+unfolding after_turns
+all_now desk [] = omega arith
+all_now desk (turn ∷ turns) =
+    let first : desk.now ≤ (after_turn desk turn).now = now_on desk turn in
+    let later : (after_turn desk turn).now ≤ (after_turns (after_turn desk turn) turns).now = all_now (after_turn desk turn) turns in
+    omega (arith, first, later)
+
+pub not_back : (was is : Desk) → is.now < was.now → ((more : List DeskTurn) × (after_turns was more ≡ is)) → ⊥
+not_back was is back leads_to =
+    absurd
+    (let on : was.now ≤ (after_turns was leads_to.0).now = all_now was leads_to.0 in
+    let there : (after_turns was leads_to.0).now ≡ is.now = ap (λ (desk : Desk). desk.now) leads_to.1 in
+    omega (arith, on, there, back))

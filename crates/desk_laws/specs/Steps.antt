@@ -1,0 +1,53 @@
+-- What calls of live_agent do, one after another, to a gateway that has all lines of an exchange, and to the exchange: each as its clause
+-- says it of the program.
+use Rattle.std.specs.Prelude.{◌≡◌, ℕ, ◌≤◌, Bool, List, [], ◌∷◌, Some, slice_get}
+use Rattle.std.specs.Global.{Box}
+use Rattle.endpoint_names.specs.declared.name.Pattern.{Pattern}
+use Rattle.live_agent.specs.declared.care.Care.{Care}
+use Rattle.live_agent.specs.declared.care.Duty.{Duty}
+use Rattle.live_agent.specs.declared.gateway.Gateway.{Gateway}
+use Rattle.live_agent.specs.declared.office.Office.{Office}
+use Rattle.live_agent.specs.AgentClock.{tick_to}
+use Rattle.live_agent.specs.Boards.{Answers, SettlesIn, WakesIn, woken_at}
+use Rattle.live_agent.specs.Steps.{Announces, Forgets, HearsSome, Issues, OfOffice, Ticks, ToldOf, Wakens}
+
+-- A line's command is given up. Lines that a name means are announced. What a line told is taken. How a line stands is told. A line is sent
+-- what it is to be sent, or that can't be issued. Those that wait are settled from now on. What is in flight to a line is answered. What
+-- was put off of the next line is sent again by now. The clock goes on.
+pub data Step : Type 0 where
+  gives_up : (line : ℕ) → Step
+  announces_lines : (is_restart : Bool) (pattern : Pattern) (first lines : ℕ) → Step
+  hears_line : (line : ℕ) → Step
+  tells_of : (line : ℕ) → Step
+  issues_to : (fails : Bool) (line : ℕ) → Step
+  settles : Step
+  takes_answer : (line code : ℕ) (text : List ℕ) → Step
+  wakens : Step
+  goes_on_to : (done : Bool) (moment : ℕ) → Step
+
+-- its clock, and what it sends again, are as they were
+abbrev pub Stands : Gateway → Gateway → Type 0
+Stands was is = (is.ticked ≡ was.ticked) × (is.wakes.items ≡ was.wakes.items)
+
+-- something is in flight to the line
+abbrev pub Flies : ℕ → Office → Type 0
+Flies line office = (care : Care) × (duty : Duty) × (slice_get office.cares.items line ≡ Some care) × (care.flight ≡ Some duty)
+
+abbrev pub Does : Step → Gateway → Box Office → Gateway → Box Office → Type 0
+Does (gives_up line) gateway was after is = Stands gateway after × OfOffice (Forgets line) (Some was) (Some is)
+Does (announces_lines is_restart pattern first lines) gateway was after is =
+    Stands gateway after × OfOffice (Announces is_restart pattern first lines) (Some was) (Some is)
+Does (hears_line line) gateway was after is = Stands gateway after × OfOffice (HearsSome line) (Some was) (Some is)
+Does (tells_of line) gateway was after is = Stands gateway after × OfOffice (ToldOf line) (Some was) (Some is)
+Does (issues_to fails line) gateway was after is = Stands gateway after × Issues fails line (Some was) (Some is)
+Does settles gateway was after is = Stands gateway after × SettlesIn (Some was) (Some is)
+Does (takes_answer line code text) gateway was after is =
+    (after.ticked ≡ gateway.ticked) × Flies line was.value × Answers line code text gateway was.value after is.value
+Does wakens gateway was after is = WakesIn (woken_at (Some gateway)) (Some was) (Some is) × Wakens gateway after
+Does (goes_on_to done moment) gateway was after is =
+    (gateway.ticked ≤ tick_to gateway.ticked moment) × Ticks done moment gateway after × (is ≡ was)
+
+abbrev pub Runs : List Step → Gateway → Box Office → Gateway → Box Office → Type 0
+Runs [] gateway was after is = (after ≡ gateway) × (is ≡ was)
+Runs (step ∷ steps) gateway was after is =
+    (next : Gateway) × (between : Box Office) × Does step gateway was next between × Runs steps next between after is

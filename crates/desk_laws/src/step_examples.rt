@@ -1,0 +1,67 @@
+//! Worked examples of the turns that the calls of `live_agent` are, as theorems: a gateway and an exchange as a law has them, of which so
+//! much is known.
+#![tactic(auto, unfolding(crate::proofs::Computing::on_examples))]
+
+ghost use Rattle.std.specs.Prelude.{◌≡◌, [], ◌∷◌, List, true, false, Some, None};
+ghost use Rattle.std.specs.Global.{Box};
+ghost use Rattle.live_agent.specs.declared.care.Duty.TheVariants.{Audit};
+ghost use Rattle.live_agent.specs.declared.gateway.Gateway.{Gateway};
+ghost use Rattle.live_agent.specs.declared.office.Office.{Office};
+ghost use Rattle.live_agent.specs.Duties.{begun, lost, new_care, outlived, owed, told_care};
+ghost use Rattle.live_agent.specs.Example.{audited, deleted_later, deleted_now, wake_at};
+ghost use Rattle.live_agent.specs.Steps.{Begins, OfOffice, Ticks};
+ghost use Rattle.desk_laws.specs.Desk.{DeskTurn, after_turns, announces, answers, begins, desk_of, happens, lands, loses, opening_desk, owes_audit, tells, ticks, wakes_next};
+ghost use Rattle.desk_laws.specs.Steps.{Runs, Stands, issues_to};
+ghost use Rattle.desk_laws.specs.StepExample.{AreSo};
+
+/// An answer to a deletion that puts it off is one turn, whether that is kept or memory is refused for it; to what the gateway has outlived
+/// it counts as given up.
+pub fn an_answer_is_a_turn()
+    ensures before { (gateway : Gateway) (was : Office) → AreSo gateway was 500 (begun new_care ∷ []) [] →
+        after_turns (opening_desk 1) (ticks 500 ∷ happens 0 begins ∷ []) ≡ desk_of gateway was }
+    ensures put_off { (gateway after : Gateway) (was is : Office) → AreSo gateway was 500 (begun new_care ∷ []) [] →
+        AreSo after is 500 (deleted_later ∷ []) (wake_at 1500 0 ∷ []) →
+        after_turns (desk_of gateway was) (answers 0 400 None false ∷ []) ≡ desk_of after is }
+    ensures refused { (gateway after : Gateway) (was is : Office) → AreSo gateway was 500 (begun new_care ∷ []) [] →
+        AreSo after is 500 (deleted_now ∷ []) [] →
+        after_turns (desk_of gateway was) (answers 0 400 None true ∷ []) ≡ desk_of after is }
+    ensures outlived { (gateway after : Gateway) (was is : Office) → AreSo gateway was 500 (outlived (begun new_care) ∷ []) [] →
+        AreSo after is 500 (lost (outlived (begun new_care)) ∷ []) [] →
+        after_turns (desk_of gateway was) (happens 0 loses ∷ []) ≡ desk_of after is }
+{}
+
+/// So is each other call, or a few.
+pub fn each_call_is_turns()
+    ensures given_up { (gateway after : Gateway) (was is : Office) → AreSo gateway was 500 (begun new_care ∷ []) [] →
+        AreSo after is 500 (new_care ∷ []) [] → after_turns (desk_of gateway was) (happens 0 loses ∷ []) ≡ desk_of after is }
+    ensures announced { (gateway after : Gateway) (was is : Office) → AreSo gateway was 500 (audited ∷ audited ∷ []) [] →
+        AreSo after is 500 (owed audited Audit ∷ owed audited Audit ∷ []) [] →
+        after_turns (desk_of gateway was) (happens 0 (announces false) ∷ happens 1 (announces false) ∷ []) ≡ desk_of after is }
+    ensures told { (gateway after : Gateway) (was is : Office) → AreSo gateway was 500 (audited ∷ []) [] →
+        AreSo after is 500 (told_care audited ∷ []) [] → after_turns (desk_of gateway was) (happens 0 tells ∷ []) ≡ desk_of after is }
+    ensures unread { (gateway after : Gateway) (was is : Office) → AreSo gateway was 500 (audited ∷ []) [] →
+        AreSo after is 500 (owed (told_care audited) Audit ∷ []) [] →
+        after_turns (desk_of gateway was) (happens 0 tells ∷ happens 0 owes_audit ∷ []) ≡ desk_of after is }
+    ensures woken { (gateway after : Gateway) (was is : Office) → AreSo gateway was 1500 (deleted_later ∷ []) (wake_at 1500 0 ∷ []) →
+        AreSo after is 1500 (deleted_now ∷ []) [] → after_turns (desk_of gateway was) (wakes_next ∷ []) ≡ desk_of after is }
+    ensures ticked { (gateway after : Gateway) (was is : Office) → AreSo gateway was 500 (audited ∷ []) [] →
+        AreSo after is 1500 (audited ∷ []) [] → after_turns (desk_of gateway was) (ticks 5000 ∷ []) ≡ desk_of after is }
+    ensures issued { (gateway after : Gateway) (was is : Office) → AreSo gateway was 500 (new_care ∷ []) [] →
+        AreSo after is 500 (begun new_care ∷ []) [] → after_turns (desk_of gateway was) (happens 0 begins ∷ []) ≡ desk_of after is }
+    ensures nothing_issued { (gateway after : Gateway) (was is : Office) → AreSo gateway was 500 (audited ∷ []) [] →
+        AreSo after is 500 (audited ∷ []) [] →
+        after_turns (desk_of gateway was) (happens 0 begins ∷ happens 0 lands ∷ []) ≡ desk_of after is }
+    ensures not_issued { (gateway after : Gateway) (was is : Office) → AreSo gateway was 500 (new_care ∷ []) [] →
+        AreSo after is 500 (new_care ∷ []) [] →
+        after_turns (desk_of gateway was) (happens 0 begins ∷ happens 0 loses ∷ []) ≡ desk_of after is }
+{}
+
+/// Calls run one after another; and where a clock goes back, no turns lead there.
+pub fn calls_run_one_after_another()
+    ensures none { (gateway : Gateway) (office : Box Office) → Runs [] gateway office gateway office }
+    ensures one { (gateway after : Gateway) (was is : Box Office) → Stands gateway after → OfOffice (Begins 0) (Some was) (Some is) →
+        Runs (issues_to false 0 ∷ []) gateway was after is }
+    ensures goes_back { (gateway : Gateway) → Ticks true 100 (record gateway { ticked = 500 }) (record gateway { ticked = 100 }) }
+    ensures else_a_clock_goes_back { (gateway : Gateway) (office : Office) → ¬ ((more : List DeskTurn)
+        × (after_turns (desk_of (record gateway { ticked = 500 }) office) more ≡ desk_of (record gateway { ticked = 100 }) office)) }
+{}
