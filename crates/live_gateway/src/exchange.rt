@@ -547,8 +547,7 @@ impl<S: Surroundings + Drop> Outlet for Exchange<S> {
         ensures came { came_by S.traffic self.new ≡ came_by S.traffic self.old }
         ensures shown { GoesOn (HappenedWith self.old.now.clock OfSent to bytes.now (map sent_label messages.now))
             self.old.journal.board self.new.journal.board }
-        ensures counted { self.new.journal.tally.value
-            ≡ record self.old.journal.tally.value { datagrams_out = counted self.old.journal.tally.value.datagrams_out 1 } }
+        ensures counted { self.new.journal.tally.value.datagrams_out ≡ counted self.old.journal.tally.value.datagrams_out 1 }
         ensures faults { self.new.faults ≡ with_mark result self.old.faults }
     {
         self.journal.sent(self.now, to, bytes, messages);

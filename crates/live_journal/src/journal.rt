@@ -54,7 +54,8 @@ impl Drop for Journal {
 impl Journal {
     // Shows the page what happened, with whom on the network, or with nobody there.
     fn show(&mut self, moment: u64, kind: Kind, peer: SocketAddrV4, text: &[u8])
-        ensures { GoesOn (Happened moment kind peer text.now) self.old.board self.new.board }
+        ensures shown { GoesOn (Happened moment kind peer text.now) self.old.board self.new.board }
+        ensures rest { self.new ≡ record self.old { board = self.new.board } }
     {
         if let Some(board) = &mut self.board {
             show(board, moment, kind, peer, text);
@@ -78,7 +79,7 @@ impl Journal {
     /// A datagram comes for the gateway, so late, in ms.
     pub fn came(&mut self, now: Now, source: SocketAddrV4, bytes: &[u8], late: u64)
         ensures shown { GoesOn (Happened now.clock Received source bytes.now) self.old.board self.new.board }
-        ensures counted { self.new.tally.value ≡ record self.old.tally.value { datagrams_in = counted self.old.tally.value.datagrams_in 1 } }
+        ensures counted { self.new.tally.value.datagrams_in ≡ counted self.old.tally.value.datagrams_in 1 }
     {
         self.tally.received();
         self.log.receive(now, source, bytes, late);
@@ -125,8 +126,7 @@ impl Journal {
     /// A datagram is sent that has these messages.
     pub fn sent(&mut self, now: Now, to: SocketAddrV4, bytes: &[u8], messages: &[SentMessage])
         ensures shown { GoesOn (HappenedWith now.clock Sent to bytes.now (map sent_label messages.now)) self.old.board self.new.board }
-        ensures counted { self.new.tally.value
-            ≡ record self.old.tally.value { datagrams_out = counted self.old.tally.value.datagrams_out 1 } }
+        ensures counted { self.new.tally.value.datagrams_out ≡ counted self.old.tally.value.datagrams_out 1 }
     {
         self.tally.handed_out();
         self.log.send(now, to, bytes, messages);

@@ -77,7 +77,6 @@ impl MessageTally {
         ensures texts { self.new.texts ≡ self.old.texts }
         ensures sent { self.new.sent ≡ self.old.sent }
         ensures unanswered { self.new.unanswered_since ≡ self.old.unanswered_since }
-        ensures whole { self.new ≡ record self.old { datagrams_in = counted self.old.datagrams_in 1 } }
     {
         count(&mut self.datagrams_in);
     }
@@ -121,7 +120,6 @@ impl MessageTally {
         ensures texts { self.new.texts ≡ self.old.texts }
         ensures sent { self.new.sent ≡ self.old.sent }
         ensures unanswered { self.new.unanswered_since ≡ self.old.unanswered_since }
-        ensures whole { self.new ≡ record self.old { datagrams_out = counted self.old.datagrams_out 1 } }
     {
         count(&mut self.datagrams_out);
     }
