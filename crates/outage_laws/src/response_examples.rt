@@ -7,10 +7,11 @@ ghost use Rattle.plain_machine.specs.Example.{agent, naming_other, other_entity,
 ghost use Rattle.plain_machine.specs.Lists.{plain};
 ghost use Rattle.plain_machine.specs.Machine.{serves};
 ghost use Rattle.outage_laws.specs.Example.{own_due};
-ghost use Rattle.outage_laws.specs.ResponseExample.{announced_again, lifted_at_once, line_flies, line_reports_to};
+ghost use Rattle.outage_laws.specs.ResponseExample.{announced_again, lifted_at_once, line_flies, line_reports_to, line_sends};
 
 /// A provisional response puts off what is in flight, to 5,000 ms later; one with another id doesn't, nor does the answer, or one that
-/// comes with the answer in one datagram.
+/// comes with the answer in one datagram. What is in flight is sent when it is due, and no sooner; nor where the answer came, or where it
+/// is given up then.
 pub fn what_a_provisional_response_puts_off()
     ensures flies { line_flies lifted_at_once ≡ Some (10000000, 1500) }
     ensures put_off { line_flies (lifted_at_once ++ response 100 10000000 ∷ []) ≡ Some (10000000, 6000) }
@@ -20,6 +21,15 @@ pub fn what_a_provisional_response_puts_off()
         ++ datagram agent (codes "100 10000000 Pending\r\n.\r\n200 10000000 OK\r\n") ∷ []) ≡ None }
     ensures own { own_due (tick 1 ∷ response 100 1 ∷ []) ≡ Some 5001 }
     ensures own_of_another { own_due (tick 1 ∷ response 100 2 ∷ []) ≡ Some 501 }
+    ensures sent { line_sends lifted_at_once (tick 1500 ∷ []) ≡ 1500 ∷ [] }
+    ensures not_yet { line_sends lifted_at_once (tick 1499 ∷ []) ≡ [] }
+    ensures came { line_sends lifted_at_once (response 200 10000000 ∷ tick 1500 ∷ []) ≡ [] }
+    ensures last_due { line_flies (lifted_at_once ++ tick 20500 ∷ []) ≡ Some (10000000, 24500) }
+    ensures given_up { line_sends (lifted_at_once ++ tick 20500 ∷ []) (tick 24500 ∷ []) ≡ [] }
+    ensures sent_later { line_sends (lifted_at_once ++ response 100 10000000 ∷ []) (tick 6000 ∷ []) ≡ 6000 ∷ [] }
+    ensures no_sooner { line_sends (lifted_at_once ++ response 100 10000000 ∷ []) (tick 5999 ∷ []) ≡ [] }
+    ensures came_since { line_sends (lifted_at_once ++ response 100 10000000 ∷ [])
+        (response 200 10000000 ∷ tick 6000 ∷ []) ≡ [] }
 {}
 
 /// 521 that names another agent is announced to that one; where it names nobody it is the answer, and so it is to a notification. Behind the
