@@ -56,7 +56,7 @@ heard_flying : (event : Told) (found : Option Line) → is_flying (option_map (h
 heard_flying event None = refl
 heard_flying event (Some is) = ap is_some (heard_flight event is)
 
-landed_flying : (fate : Fate) (outcome : Outcome) (found : Option Line) → is_flying (option_map (landed fate outcome) found) ≡ false
+pub landed_flying : (fate : Fate) (outcome : Outcome) (found : Option Line) → is_flying (option_map (landed fate outcome) found) ≡ false
 landed_flying fate outcome None = refl
 landed_flying fate outcome (Some is) = ap is_some (landed_none fate outcome is)
 
@@ -70,7 +70,7 @@ unfolding cleared
 cleared_flying code None = refl
 cleared_flying code (Some is) = ap is_some (cleared_flight (is_deleted code) code is)
 
-sent_flying : (command : Command) (found : Option Line) → is_some found ≡ true → is_flying (option_map (sent command) found) ≡ true
+pub sent_flying : (command : Command) (found : Option Line) → is_some found ≡ true → is_flying (option_map (sent command) found) ≡ true
 sent_flying command None e = absurd (true≢false (sym e))
 sent_flying command (Some is) e = sent_flies command is
 
@@ -87,7 +87,7 @@ even line exchange turn none_sent none_answered same =
     ∙ ap (λ (b : Bool). count_if false + count_if b) (sym same)
     ∙ ap (λ (b : Bool). count_if b + count_if (is_in_flight (after_one exchange turn) line)) (sym none_answered)
 
-tell_by : (line of : ℕ) (exchange : ExchangeState) (event : Told) → ((of ≡ line) ⊎ (of ≡ line → ⊥))
+pub tell_by : (line of : ℕ) (exchange : ExchangeState) (event : Told) → ((of ≡ line) ⊎ (of ≡ line → ⊥))
     → is_in_flight (told exchange of event) line ≡ is_in_flight exchange line
 unfolding told
 tell_by line of exchange event (inl same) =
@@ -96,7 +96,7 @@ tell_by line of exchange event (inl same) =
     ∙ heard_flying event (slice_get exchange.lines line)
 tell_by line of exchange event (inr apart) = ap is_flying (changed_other (heard_on event) exchange.lines of line apart)
 
-clear_by : (line of code : ℕ) (exchange : ExchangeState) → ((of ≡ line) ⊎ (of ≡ line → ⊥))
+pub clear_by : (line of code : ℕ) (exchange : ExchangeState) → ((of ≡ line) ⊎ (of ≡ line → ⊥))
     → is_in_flight (cleared_at exchange of code) line ≡ is_in_flight exchange line
 unfolding cleared_at
 clear_by line of code exchange (inl same) =
@@ -132,7 +132,7 @@ send_here line exchange (Some command) e =
     ap count_if (ap is_flying (changed_here (sent command) exchange.lines line) ∙ sent_flying command (slice_get exchange.lines line) free.1) in
     omega (arith, none, flies)
 
-sent_far : (line of : ℕ) (exchange : ExchangeState) (command : Option Command) → of ≢ line
+pub sent_far : (line of : ℕ) (exchange : ExchangeState) (command : Option Command) → of ≢ line
     → is_in_flight (sent_by exchange of command) line ≡ is_in_flight exchange line
 sent_far line of exchange None apart = refl
 sent_far line of exchange (Some command) apart = ap is_flying (changed_other (sent command) exchange.lines of line apart)
@@ -171,7 +171,7 @@ balanced line exchange (turn ∷ turns) =
 
 -- at the opening
 
-new_free : (count line : ℕ) → is_flying (slice_get (replicate count new_line) line) ≡ false
+pub new_free : (count line : ℕ) → is_flying (slice_get (replicate count new_line) line) ≡ false
 new_free zero line = refl
 new_free (suc count) zero = refl
 new_free (suc count) (suc line) = new_free count line
