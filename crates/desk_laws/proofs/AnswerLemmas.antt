@@ -84,45 +84,57 @@ module _ (now line code : ℕ) (text : List ℕ) (cares kept : List Care) (wakes
       ap (λ (f : Option Duty). answered_for f desk line code off is_refused) flight
       ∙ ap (λ (a : Option ℕ). held_by desk line (taken_at desk line duty code off) a is_refused) put_off
 
-  answers_so : (off : Option PutOff) (mid : List Care) → mid ≡ taken_at desk line duty code off
-      → Holds (again_of (slice_get mid line)) line mid wakes kept held → Comes desk (desk_at now kept held)
-  answers_so off mid taken holds =
+  -- the answer is that turn
+  pub answers_as : (off : Option PutOff) (mid : List Care) → mid ≡ taken_at desk line duty code off
+      → Holds (again_of (slice_get mid line)) line mid wakes kept held
+      → (is_refused : Bool) × (after_turn desk (answers line code off is_refused) ≡ desk_at now kept held)
+  answers_as off mid taken holds =
       by_again (again_of (slice_get (taken_at desk line duty code off) line)) refl
       (subst (λ (list : List Care). Holds (again_of (slice_get list line)) line list wakes kept held) taken holds) where
         by_again : (again : Option ℕ) → again_of (slice_get (taken_at desk line duty code off) line) ≡ again
-            → Holds again line (taken_at desk line duty code off) wakes kept held → Comes desk (desk_at now kept held)
+            → Holds again line (taken_at desk line duty code off) wakes kept held
+            → (is_refused : Bool) × (after_turn desk (answers line code off is_refused) ≡ desk_at now kept held)
         by_again None none same =
-            by_one desk (desk_at now kept held) (answers line code off false)
-            (by_answer off false None none ∙ same_desk now (taken_at desk line duty code off) kept wakes held same.0 same.1)
-        by_again (Some moment) held_then (inl same) =
-            by_one desk (desk_at now kept held) (answers line code off false)
-            (by_answer off false (Some moment) held_then
-            ∙ same_desk now (taken_at desk line duty code off) kept (wakes ++ (record { moment = moment; line = line }) ∷ []) held same.0 same.1)
-        by_again (Some moment) held_then (inr same) =
-            by_one desk (desk_at now kept held) (answers line code off true)
-            (by_answer off true (Some moment) held_then
-            ∙ same_desk now (cared (woken moment) (taken_at desk line duty code off) line) kept wakes held same.0 same.1)
+            (false, by_answer off false None none ∙ same_desk now (taken_at desk line duty code off) kept wakes held same.0 same.1)
+        by_again (Some moment) held_then (inl same) = (
+          false,
+          by_answer off false (Some moment) held_then
+              ∙ same_desk now (taken_at desk line duty code off) kept (wakes ++ (record { moment = moment; line = line }) ∷ []) held same.0 same.1,
+        )
+        by_again (Some moment) held_then (inr same) = (
+          true,
+          by_answer off true (Some moment) held_then
+              ∙ same_desk now (cared (woken moment) (taken_at desk line duty code off) line) kept wakes held same.0 same.1,
+        )
+
+  answers_so : (off : Option PutOff) (mid : List Care) → mid ≡ taken_at desk line duty code off
+      → Holds (again_of (slice_get mid line)) line mid wakes kept held → Comes desk (desk_at now kept held)
+  answers_so off mid taken holds =
+      let one = answers_as off mid taken holds in by_one desk (desk_at now kept held) (answers line code off one.0) one.1
 
   nothing_held : (mid : List Care) → again_of (slice_get mid line) ≡ None → Holds (again_of (slice_get mid line)) line mid wakes kept held
       → (kept ≡ mid) × (held ≡ wakes)
   nothing_held mid none holds = subst (λ (again : Option ℕ). Holds again line mid wakes kept held) none holds
 
   -- the gateway has started again: the command counts as given up
-  given_up : (mid : List Care) → mid ≡ cared lost cares line → Holds (again_of (slice_get mid line)) line mid wakes kept held
-      → Comes desk (desk_at now kept held)
-  given_up mid taken holds =
+  pub given_up_as : (mid : List Care) → mid ≡ cared lost cares line → Holds (again_of (slice_get mid line)) line mid wakes kept held
+      → after_turn desk (happens line loses) ≡ desk_at now kept held
+  given_up_as mid taken holds =
       let none : again_of (slice_get mid line) ≡ None =
       ap (λ (list : List Care). again_of (slice_get list line)) taken
       ∙ none_after lost cares line (λ one at. keeps_free loses one (is_free one at)) in
       let same = nothing_held mid none holds in
-      by_one desk (desk_at now kept held) (happens line loses)
-      (same_desk now (cared lost cares line) kept wakes held (same.0 ∙ taken) same.1)
+      same_desk now (cared lost cares line) kept wakes held (same.0 ∙ taken) same.1
+
+  given_up : (mid : List Care) → mid ≡ cared lost cares line → Holds (again_of (slice_get mid line)) line mid wakes kept held
+      → Comes desk (desk_at now kept held)
+  given_up mid taken holds = by_one desk (desk_at now kept held) (happens line loses) (given_up_as mid taken holds)
 
   -- a line that isn't put off by its audit: that was one turn, and what it found is another
-  finds_so : (mid : List Care) (is_off : Bool) → duty ≡ Audit → is_put_off_in code (slice_get settled line) ≡ false
+  pub finds_as : (mid : List Care) (is_off : Bool) → duty ≡ Audit → is_put_off_in code (slice_get settled line) ≡ false
       → mid ≡ cared (found is_off) (taken_at desk line Audit code None) line → Holds (again_of (slice_get mid line)) line mid wakes kept held
-      → Comes desk (desk_at now kept held)
-  finds_so mid is_off audit goes_on taken holds =
+      → after_turn (after_turn desk (answers line code None false)) (happens line (finds is_off)) ≡ desk_at now kept held
+  finds_as mid is_off audit goes_on taken holds =
       let none_here : again_of (slice_get (taken_at desk line Audit code None) line) ≡ None =
       none_after (duty_answered now code Audit) settled line
       (λ one at. not_put_off (is_put_off code one) now one (sym (ap (is_put_off_in code) at) ∙ goes_on) (settled_free one at)) in
@@ -130,11 +142,17 @@ module _ (now line code : ℕ) (text : List ℕ) (cares kept : List Care) (wakes
       ap (λ (list : List Care). again_of (slice_get list line)) taken
       ∙ none_after (found is_off) (taken_at desk line Audit code None) line (λ one at. sym (ap again_of at) ∙ none_here) in
       let same = nothing_held mid none holds in
-      by_two desk (desk_at now (taken_at desk line duty code None) wakes) (desk_at now kept held) (answers line code None false)
-      (happens line (finds is_off))
+      ap (λ (one : Desk). after_turn one (happens line (finds is_off)))
       (by_answer None false None (ap (λ (d : Duty). again_of (slice_get (taken_at desk line d code None) line)) audit ∙ none_here))
-      (same_desk now (cared (found is_off) (taken_at desk line duty code None) line) kept wakes held
-      (same.0 ∙ taken ∙ ap (λ (d : Duty). cared (found is_off) (taken_at desk line d code None) line) (sym audit)) same.1)
+      ∙ same_desk now (cared (found is_off) (taken_at desk line duty code None) line) kept wakes held
+      (same.0 ∙ taken ∙ ap (λ (d : Duty). cared (found is_off) (taken_at desk line d code None) line) (sym audit)) same.1
+
+  finds_so : (mid : List Care) (is_off : Bool) → duty ≡ Audit → is_put_off_in code (slice_get settled line) ≡ false
+      → mid ≡ cared (found is_off) (taken_at desk line Audit code None) line → Holds (again_of (slice_get mid line)) line mid wakes kept held
+      → Comes desk (desk_at now kept held)
+  finds_so mid is_off audit goes_on taken holds =
+      by_two desk (after_turn desk (answers line code None false)) (desk_at now kept held) (answers line code None false)
+      (happens line (finds is_off)) refl (finds_as mid is_off audit goes_on taken holds)
 
   takes_of : (mid : List Care) (d : Duty) → duty ≡ d → TakesResponse (Some d) line now code text was settled is mid
       → Holds (again_of (slice_get mid line)) line mid wakes kept held → Comes desk (desk_at now kept held)

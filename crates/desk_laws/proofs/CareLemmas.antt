@@ -78,7 +78,7 @@ owed_same (Some Clear) care = refl
 owed_same (Some Audit) care = refl
 owed_same (Some Route) care = refl
 
-owed_flight : (duty : Option Duty) (care : Care) → (owed_again duty care).flight ≡ care.flight
+pub owed_flight : (duty : Option Duty) (care : Care) → (owed_again duty care).flight ≡ care.flight
 owed_flight None care = refl
 owed_flight (Some Clear) care = refl
 owed_flight (Some Audit) care = refl

@@ -6,3 +6,6 @@ mod AnswerLemmas
 mod AnswerLaws
 mod StepLaws
 mod StepExampleLemmas
+mod AttendedLemmas
+mod AttendedLaws
+mod AttendedCalls

@@ -4,6 +4,8 @@
 //! is: each is what a call of `live_agent` does, by its clauses.
 #![tactic(auto)]
 
+pub mod attended_examples;
+pub mod attended_laws;
 pub mod examples;
 pub mod happening_examples;
 pub mod laws;
