@@ -27,7 +27,7 @@ Comes was is = (turns : List DeskTurn) × (after_turns was turns ≡ is)
 abbrev pub desk_at : ℕ → List Care → List Wake → Desk
 desk_at now cares wakes = record { now = now; cares = cares; wakes = wakes }
 
-same_desk : (now : ℕ) (cares kept : List Care) (wakes held : List Wake) → kept ≡ cares → held ≡ wakes
+pub same_desk : (now : ℕ) (cares kept : List Care) (wakes held : List Wake) → kept ≡ cares → held ≡ wakes
     → desk_at now cares wakes ≡ desk_at now kept held
 same_desk now cares kept wakes held kept_so held_so = rw (kept_so, held_so) refl
 

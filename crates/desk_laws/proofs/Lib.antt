@@ -9,3 +9,4 @@ mod StepExampleLemmas
 mod AttendedLemmas
 mod AttendedLaws
 mod AttendedCalls
+mod AttendedRuns

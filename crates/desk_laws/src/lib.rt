@@ -9,5 +9,7 @@ pub mod attended_laws;
 pub mod examples;
 pub mod happening_examples;
 pub mod laws;
+pub mod program_examples;
+pub mod program_laws;
 pub mod step_examples;
 pub mod step_laws;

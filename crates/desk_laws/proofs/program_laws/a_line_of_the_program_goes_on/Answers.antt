@@ -1,0 +1,8 @@
+use Rattle.desk_laws.proofs.AttendedRuns.{flies_too, goes_on_then}
+use Rattle.desk_laws.proofs.program_laws.a_line_of_the_program_goes_on.Goals as goal
+
+pub returns-clause-in_flight : goal.returns-clause-in_flight
+returns-clause-in_flight c = flies_too
+
+pub returns-clause-goes_on : goal.returns-clause-goes_on
+returns-clause-goes_on c = goes_on_then

@@ -1,0 +1,33 @@
+//! Worked examples of the laws of the program's exchange and desk, as theorems: each premise missing alone, where the law fails.
+#![tactic(auto, unfolding(crate::proofs::Computing::on_examples))]
+
+ghost use Rattle.std.specs.Prelude.{◌≡◌, ◌∷◌, [], None, replicate, slice_get, true};
+ghost use Rattle.std.specs.Global.{Box};
+ghost use Rattle.call_routing.specs.Exchange.{opening};
+ghost use Rattle.call_laws.specs.Turns.{is_in_flight};
+ghost use Rattle.live_agent.specs.declared.gateway.Gateway.{Gateway};
+ghost use Rattle.live_agent.specs.declared.office.Office.{Office};
+ghost use Rattle.live_agent.specs.Duties.{new_care};
+ghost use Rattle.live_agent.specs.Orders.{flight_of};
+ghost use Rattle.desk_laws.specs.Desk.{GoesOn, desk_of};
+ghost use Rattle.desk_laws.specs.Example.{asked_meanwhile, held_care, routed_care};
+ghost use Rattle.desk_laws.specs.Steps.{Runs};
+
+use call_routing::Phase;
+
+/// Without a call all is as it was. So where the exchange, or what is kept of its lines, wasn't as at the start, or isn't where calls lead,
+/// the exchange may have in flight what the desk hasn't, and a line may not go on.
+pub fn else_a_line_of_the_program_may_not_go_on()
+    ensures no_call { (gateway : Gateway) (office : Box Office) → Runs [] gateway office gateway office }
+    ensures not_opened { (office : Box Office) → office.value.exchange ≡ asked_meanwhile →
+        is_in_flight office.value.exchange 0 ≡ true }
+    ensures not_opened_at_the_desk { (office : Box Office) → office.value.cares.items ≡ replicate 2 new_care →
+        flight_of (slice_get office.value.cares.items 0) ≡ None }
+    ensures not_new { (gateway : Gateway) (office : Box Office) → gateway.wakes.items ≡ [] → office.value.exchange ≡ opening 3 0 →
+        office.value.cares.items ≡ held_care 500 ∷ [] →
+        ¬ GoesOn (desk_of gateway office.value) 0 (held_care 500) office.value.exchange [] Phase.Resting None }
+    ensures not_run { (gateway : Gateway) (was is : Box Office) → was.value.exchange ≡ opening 3 0 →
+        was.value.cares.items ≡ replicate 2 new_care → is.value.exchange ≡ asked_meanwhile →
+        is.value.cares.items ≡ routed_care ∷ routed_care ∷ [] →
+        ¬ GoesOn (desk_of gateway is.value) 0 routed_care is.value.exchange [] Phase.Resting None }
+{}
