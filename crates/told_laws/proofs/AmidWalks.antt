@@ -13,20 +13,20 @@ use Rattle.quarantine.specs.Held.{most_lost}
 use Rattle.plain_machine.specs.declared.endpoint.Endpoint.{Endpoint}
 use Rattle.plain_machine.specs.declared.setup.Setup.{Setup}
 use Rattle.plain_machine.specs.Answering.{handled, took_all}
-use Rattle.plain_machine.specs.Event.{GatewayEvent, datagram}
+use Rattle.plain_machine.specs.Event.{GatewayEvent, datagram, phone, tick}
 use Rattle.plain_machine.specs.Happening.{effect}
 use Rattle.plain_machine.specs.Lists.{machine_after, plain}
 use Rattle.plain_machine.specs.Machine.{Machine, endpoint_at, opening, serves}
 use Rattle.plain_machine.proofs.ListLaws.{machine_on}
 use Rattle.machine_laws.specs.Belonging.{of_line}
 use Rattle.machine_laws.proofs.EachLemmas.{Each, each_back, each_from_all, each_front}
-use Rattle.delivery_laws.specs.Course.{CourseStep, accepted_at, accepts, course_from, course_in, notified_in, notifies}
+use Rattle.delivery_laws.specs.Course.{CourseStep, accepted_at, accepts, course_from, course_in, notified_in, notifies, course_at, course_of}
 use Rattle.delivery_laws.specs.Dialled.{done_in}
 use Rattle.delivery_laws.specs.Rounds.{of_telephone}
-use Rattle.told_laws.specs.Fronts.{course_amid, machine_amid}
-use Rattle.told_laws.specs.Walking.{left_by, AreActs, EmbedsNone, NoneLostSince, Place, TellsOfHeld, Walks, behind_request}
+use Rattle.told_laws.specs.Fronts.{course_amid, machine_amid, texts_apart, WalksAlong}
+use Rattle.told_laws.specs.Walking.{left_by, AreActs, EmbedsNone, NoneLostSince, Place, TellsOfHeld, Walks, behind_request, nothing_asked}
 use Rattle.told_laws.proofs.AskedCourses.{course_on}
-use Rattle.told_laws.proofs.FrontWalks.{StandsThen, walked_on}
+use Rattle.told_laws.proofs.FrontWalks.{StandsThen, walked_on, walks_along_all}
 use Rattle.told_laws.proofs.LineBounds.{who_is_there_stays}
 use Rattle.told_laws.proofs.RequestTurns.{BegunIn, request_begins, sent_told}
 use Rattle.told_laws.proofs.WalkCourses.{none_lost}
@@ -210,3 +210,42 @@ unfolding took_all course_from effect
 alone_course setup line before after source text part =
     ap (λ (texts : List (List ℕ)). course_in setup (plain setup before) line source texts
     ++ course_from setup (took_all setup (plain setup before) source texts).value line after) (sym part)
+
+-- Behind each text
+
+apart_machine : (setup : Setup) (m : Machine) (events : List GatewayEvent) → machine_after setup m (texts_apart events) ≡ machine_after setup m events
+unfolding machine_after effect
+apart_machine setup m [] = refl
+apart_machine setup m (datagram source bytes ∷ events) =
+    let texts : List (List ℕ) = texts_of bytes in
+    machine_on setup m (map (datagram source) texts) (texts_apart events)
+    ∙ ap (λ (n : Machine). machine_after setup n (texts_apart events)) (machine_apart setup m source texts (texts_are_parts bytes))
+    ∙ apart_machine setup (took_all setup m source texts).value events
+apart_machine setup m (phone line act ∷ events) = apart_machine setup (effect setup m (phone line act)).value events
+apart_machine setup m (tick moment ∷ events) = apart_machine setup (effect setup m (tick moment)).value events
+
+apart_course : (setup : Setup) (m : Machine) (line : ℕ) (events : List GatewayEvent) → course_from setup m line (texts_apart events) ≡ course_from setup m line events
+unfolding course_from effect
+apart_course setup m line [] = refl
+apart_course setup m line (datagram source bytes ∷ events) =
+    let texts : List (List ℕ) = texts_of bytes in
+    let more : List GatewayEvent = texts_apart events in
+    course_on setup m line (map (datagram source) texts) more
+    ∙ ap (λ (c : List CourseStep). c ++ course_from setup (machine_after setup m (map (datagram source) texts)) line more)
+    (course_apart setup m line source texts (texts_are_parts bytes))
+    ∙ ap (λ (n : Machine). course_in setup m line source texts ++ course_from setup n line more) (machine_apart setup m source texts (texts_are_parts bytes))
+    ∙ ap (λ (c : List CourseStep). course_in setup m line source texts ++ c) (apart_course setup (took_all setup m source texts).value line events)
+apart_course setup m line (phone other act ∷ events) =
+    ap (λ (c : List CourseStep). course_at setup m line (phone other act) ++ c) (apart_course setup (effect setup m (phone other act)).value line events)
+apart_course setup m line (tick moment ∷ events) =
+    ap (λ (c : List CourseStep). course_at setup m line (tick moment) ++ c) (apart_course setup (effect setup m (tick moment)).value line events)
+
+pub texts_are_apart : (setup : Setup) (line : ℕ) (events : List GatewayEvent)
+    → (plain setup (texts_apart events) ≡ plain setup events) × (course_of setup line (texts_apart events) ≡ course_of setup line events)
+texts_are_apart setup line events = (apart_machine setup (opening setup) events, apart_course setup (opening setup) line events)
+
+pub walks_each_text : (setup : Setup) (line : ℕ) (events : List GatewayEvent) (endpoint : Endpoint) → endpoint_at (plain setup events).endpoints line ≡ Some endpoint
+    → endpoint.line.quarantined.lost ≡ 0 → WalksAlong setup line (opening setup) (texts_apart events) nothing_asked []
+walks_each_text setup line events endpoint at none =
+    walks_along_all setup line (texts_apart events) endpoint
+    (ap (λ (m : Machine). endpoint_at m.endpoints line) (apart_machine setup (opening setup) events) ∙ at) none

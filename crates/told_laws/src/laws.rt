@@ -23,7 +23,7 @@ ghost use Rattle.delivery_laws.specs.Dialled.{done_in, told_along, latest_from, 
 ghost use Rattle.told_laws.specs.Fate.{IsTakenOf, fates_of, joined, kept_of};
 ghost use Rattle.told_laws.specs.Stretch.{AnnouncesNothing, IsWhole, course_meanwhile, outliving, taken_meanwhile};
 ghost use Rattle.told_laws.specs.Counting.{ends_lost, WalksAsCounted};
-ghost use Rattle.told_laws.specs.Fronts.{course_amid, machine_amid, WalksAlong};
+ghost use Rattle.told_laws.specs.Fronts.{course_amid, machine_amid, texts_apart, WalksAlong};
 ghost use Rattle.told_laws.specs.Walking.{nothing_asked, EmbedsNone, NoneLostSince, Walks, Stays, WalksButLost, AreActs};
 ghost use Rattle.told_laws.specs.Walking.{TellsAFront, TellsOfHeld, TellsWhatWasKept};
 
@@ -43,7 +43,7 @@ pub fn what_is_told_was_done_in_that_order()
 /// emptied the list in which it was; or a request emptied that list, in which R had none told at once, and which was empty where the line
 /// waited for that request, in step; or it discards what is quarantined. R, T and Q of that moment are the line's own: where none is lost one
 /// walk goes through all events, and behind each of them its place is where the line stands, with the request, or the embedded one, that is
-/// in force on the line.
+/// in force on the line. So it is behind each text of a datagram: a datagram does what its texts do, each in one of its own.
 pub fn each_act_is_walked_through()
     ensures but_lost { (setup : Setup) (line : ℕ) (events : List GatewayEvent) (endpoint : Endpoint) →
         endpoint_at (plain setup events).endpoints line ≡ Some endpoint → WalksButLost (course_of setup line events) endpoint.line }
@@ -56,6 +56,11 @@ pub fn each_act_is_walked_through()
     ensures at_each_event { (setup : Setup) (line : ℕ) (events : List GatewayEvent) (endpoint : Endpoint) →
         endpoint_at (plain setup events).endpoints line ≡ Some endpoint → endpoint.line.quarantined.lost ≡ 0 →
         WalksAlong setup line (opening setup) events nothing_asked [] }
+    ensures at_each_text { (setup : Setup) (line : ℕ) (events : List GatewayEvent) (endpoint : Endpoint) →
+        endpoint_at (plain setup events).endpoints line ≡ Some endpoint → endpoint.line.quarantined.lost ≡ 0 →
+        WalksAlong setup line (opening setup) (texts_apart events) nothing_asked [] }
+    ensures apart { (setup : Setup) (line : ℕ) (events : List GatewayEvent) → (plain setup (texts_apart events) ≡ plain setup events)
+        × (course_of setup line (texts_apart events) ≡ course_of setup line events) }
 {}
 
 /// So the first notification behind a request that embeds none, with a digit map too, tells in their order each event that R names, up to

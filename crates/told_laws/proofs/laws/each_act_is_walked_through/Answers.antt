@@ -1,3 +1,4 @@
+use Rattle.told_laws.proofs.AmidWalks.{texts_are_apart, walks_each_text}
 use Rattle.told_laws.proofs.CountedWalks.{walks_as_counted}
 use Rattle.told_laws.proofs.FrontWalks.{walks_along_all}
 use Rattle.told_laws.proofs.ToldCourses.{course_walks, course_walks_but_lost}
@@ -14,3 +15,9 @@ returns-clause-at_each_event c = walks_along_all
 
 pub returns-clause-as_counted : goal.returns-clause-as_counted
 returns-clause-as_counted c = walks_as_counted
+
+pub returns-clause-at_each_text : goal.returns-clause-at_each_text
+returns-clause-at_each_text c = walks_each_text
+
+pub returns-clause-apart : goal.returns-clause-apart
+returns-clause-apart c = texts_are_apart
