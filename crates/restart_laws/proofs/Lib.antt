@@ -14,7 +14,10 @@ pub mod LineWindow
 pub mod LivesWindow
 pub mod LivesLong
 pub mod LivesSlow
+pub mod LivesTold
+pub mod LivesCarried
 pub mod LivesFairExamples
+mod LivesPlaces
 mod OneLife
 mod StartedWorld
 mod RoomlessAnew

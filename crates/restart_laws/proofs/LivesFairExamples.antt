@@ -150,7 +150,7 @@ either_holds : (a b : Bool) → b ≡ true → (a || b) ≡ true
 either_holds true b is = refl
 either_holds false b is = is
 
-handed_there : (number : ℕ) (before later : List LivesStep) → hand_over number ((before ++ stepping (delivering number) ∷ []) ++ later) ≡ true
+pub handed_there : (number : ℕ) (before later : List LivesStep) → hand_over number ((before ++ stepping (delivering number) ∷ []) ++ later) ≡ true
 handed_there number [] later = ap (λ (b : Bool). b || hand_over number later) ((Decides-eqb number number).1 refl)
 handed_there number (step ∷ before) later =
     either_holds (hands number step) (hand_over number ((before ++ stepping (delivering number) ∷ []) ++ later)) (handed_there number before later)

@@ -32,7 +32,7 @@ use Rattle.restart_laws.proofs.LivesTaken.{IsYoungFirst, of_this_life}
 
 -- What came is there still
 
-comes_before : (setup : Setup) (P : TextArrival → Type 0) (before rest : List GatewayEvent) → OneOf P (arrivals_of before) → OneOf P (arrivals_of (before ++ rest))
+pub comes_before : (setup : Setup) (P : TextArrival → Type 0) (before rest : List GatewayEvent) → OneOf P (arrivals_of before) → OneOf P (arrivals_of (before ++ rest))
 comes_before setup P before rest one = by_events (λ (more : List GatewayEvent). OneOf P (arrivals_of (before ++ more))) first on rest where
   first : OneOf P (arrivals_of (before ++ []))
   first = subst (λ (some : List GatewayEvent). OneOf P (arrivals_of some)) (sym (append-nil before)) one

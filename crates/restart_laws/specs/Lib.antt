@@ -2,3 +2,5 @@ pub mod AfterRestart
 pub mod Example
 pub mod InFlightExample
 pub mod Roomless
+pub mod CarriedBack
+pub mod CarriedExample

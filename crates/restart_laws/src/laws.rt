@@ -1,23 +1,33 @@
 //! Laws of a network that was down and came back where the gateway started again.
-ghost use Rattle.std.specs.Prelude.{◌≡◌, ◌⊎◌, ◌<◌, ◌≤◌, ◌+◌, ◌*◌, ◌++◌, ℕ, List, [], Any, Some, length, true};
+ghost use Rattle.std.specs.Prelude.{◌≡◌, ◌⊎◌, ◌<◌, ◌≤◌, ◌+◌, ◌*◌, ◌++◌, ◌∷◌, ℕ, List, [], All, Any, Some, length, false, true};
+ghost use Rattle.history.specs.Arrival.{Arrival};
+ghost use Rattle.history.specs.Firsts.{young_of};
+ghost use Rattle.history.specs.Memory.{memory_time};
+ghost use Rattle.outbound.specs.Sends.{most_repeats};
 ghost use Rattle.plain_machine.specs.declared.setup.Setup.{Setup};
 ghost use Rattle.restart.specs.declared.restart.Restart.TheVariants.{Serving};
 ghost use Rattle.plain_machine.specs.declared.endpoint.Endpoint.{Endpoint};
 ghost use Rattle.plain_machine.specs.Event.{GatewayEvent};
-ghost use Rattle.plain_machine.specs.Lists.{plain};
+ghost use Rattle.plain_machine.specs.Lists.{plain, sent_from};
 ghost use Rattle.plain_machine.specs.Machine.{endpoint_at, serves};
 ghost use Rattle.agent_core.specs.World.{oldest_packet};
+ghost use Rattle.machine_laws.specs.Belonging.{of_line};
 ghost use Rattle.machine_laws.specs.Saying.{Begun};
 ghost use Rattle.delivery_laws.specs.Chances.{last_chance};
+ghost use Rattle.delivery_laws.specs.Copies.{HasRoom};
 ghost use Rattle.delivery_laws.specs.Course.{course_from};
 ghost use Rattle.delivery_laws.specs.Dialled.{done_in};
+ghost use Rattle.delivery_laws.specs.GivenUp.{has_given_up};
+ghost use Rattle.delivery_laws.specs.Keeping.{happened_in};
 ghost use Rattle.delivery_laws.specs.Rounds.{IsAnsweredWithin, IsAskedWithin, of_telephone, rounds_take};
 ghost use Rattle.outage_laws.specs.AfterOutage.{gap_of, longest_pause};
 ghost use Rattle.outage_laws.specs.Alone.{HasBegun, HasResponse};
-ghost use Rattle.life_laws.specs.Lives.{Brought, LivesStep, clock_of, gateway_of, lives_of, number_of, plain_lives};
+ghost use Rattle.outage_laws.specs.ToldSince.{IsAskedForAllSince};
+ghost use Rattle.life_laws.specs.Lives.{Brought, LivesStep, clock_of, gateway_of, lives_of, number_of, plain_lives, restarting};
 ghost use Rattle.life_laws.specs.Apart.{LieApart, firsts_of_lives};
 ghost use Rattle.restart_laws.specs.AfterRestart.{AgentHasRoomThen, IsRunOfLives, LifeGoesToAgent, LineReachesTheAgentSince};
-ghost use Rattle.restart_laws.specs.AfterRestart.{LivesAreFairFrom};
+ghost use Rattle.restart_laws.specs.AfterRestart.{IsToldByLife, LivesAreFairFrom, began_then, firsts_at};
+ghost use Rattle.restart_laws.specs.CarriedBack.{IsCarriedInLives, IsCopyOfLife};
 
 /// However often the gateway started before, and whatever its lives had sent, that of the life that goes on serves by then: behind the
 /// moment at which the network came back, or behind its start, where that was later, the time between the last send whose answer comes in
@@ -122,4 +132,73 @@ pub fn a_quarantine_of_a_new_life_is_out_after_an_outage()
         < (gateway_of w.life).now →
         done_in (course_from w.life.setup (plain w.life.setup before) line after) ≡ [] →
         of_telephone endpoint.line.quarantined.events ≡ [] }
+{}
+
+/// What was quarantined at some moment, and what the telephone of such a line of the life that goes on did since by a later one, that line
+/// tells as many rounds later as there were events in its quarantine; and the network's time behind that the agent took each of the
+/// commands that tell it, of those that began since the network came back, as a first of that life. So it is where the line is asked for
+/// all since, loses nothing more, gives nothing up, and waits for no answer and for no request for longer than so many ms each, and lives'
+/// ids lie apart. And that is all, where the telephone rests from that later moment on (RFC 3435, 3.5, 4.3 and 4.4.1).
+pub fn what_is_dialled_in_a_new_life_is_told_after_an_outage()
+    ensures told { (setup : Setup) (steps : List LivesStep) (since within line answering asking : ℕ)
+        (before front later rest : List GatewayEvent) (was there is : Endpoint) → IsRunOfLives setup steps →
+        LivesAreFairFrom setup steps since within → AgentHasRoomThen setup steps since → let w = plain_lives setup steps in
+        LineReachesTheAgentSince setup w line since → LieApart (lives_of w) → w.life.took ≡ ((before ++ front) ++ later) ++ rest →
+        endpoint_at (plain w.life.setup before).endpoints line ≡ Some was →
+        let some = before ++ front in endpoint_at (plain w.life.setup some).endpoints line ≡ Some there →
+        endpoint_at (plain w.life.setup (some ++ later)).endpoints line ≡ Some is →
+        IsAskedForAllSince was.line (course_from w.life.setup (plain w.life.setup before) line (front ++ later)) is.line →
+        has_given_up (of_line line (sent_from w.life.setup (plain w.life.setup some) later)) is.post ≡ false →
+        IsAnsweredWithin w.life.setup line some later answering → IsAskedWithin w.life.setup line some later asking →
+        (plain w.life.setup some).now + rounds_take (length there.line.quarantined.events) answering asking
+        < (plain w.life.setup (some ++ later)).now →
+        w.life.start + (plain w.life.setup (some ++ later)).now + within ≤ clock_of setup w →
+        IsToldByLife w since (began_then w line before (front ++ later))
+        (happened_in was.line.quarantined.events ++ done_in (course_from w.life.setup (plain w.life.setup before) line front)) }
+    ensures rests { (setup : Setup) (steps : List LivesStep) (since within line answering asking : ℕ)
+        (before front later rest : List GatewayEvent) (was there is : Endpoint) → IsRunOfLives setup steps →
+        LivesAreFairFrom setup steps since within → AgentHasRoomThen setup steps since → let w = plain_lives setup steps in
+        LineReachesTheAgentSince setup w line since → LieApart (lives_of w) → w.life.took ≡ ((before ++ front) ++ later) ++ rest →
+        endpoint_at (plain w.life.setup before).endpoints line ≡ Some was →
+        let some = before ++ front in endpoint_at (plain w.life.setup some).endpoints line ≡ Some there →
+        endpoint_at (plain w.life.setup (some ++ later)).endpoints line ≡ Some is →
+        IsAskedForAllSince was.line (course_from w.life.setup (plain w.life.setup before) line (front ++ later)) is.line →
+        has_given_up (of_line line (sent_from w.life.setup (plain w.life.setup some) later)) is.post ≡ false →
+        IsAnsweredWithin w.life.setup line some later answering → IsAskedWithin w.life.setup line some later asking →
+        (plain w.life.setup some).now + rounds_take (length there.line.quarantined.events) answering asking
+        < (plain w.life.setup (some ++ later)).now →
+        w.life.start + (plain w.life.setup (some ++ later)).now + within ≤ clock_of setup w →
+        done_in (course_from w.life.setup (plain w.life.setup some) line later) ≡ [] →
+        (told : IsToldByLife w since (began_then w line before (front ++ later))
+        (happened_in was.line.quarantined.events ++ done_in (course_from w.life.setup (plain w.life.setup before) line front)))
+        × (told.rest ≡ []) }
+{}
+
+/// A new life has taken nothing, so that its gateway takes commands at once, however full the history of the one before was; and where its
+/// own is full it takes one again as any gateway does, 30,000 ms behind the last of its firsts at the latest (RFC 3435, 3.5.1).
+pub fn a_new_life_takes_a_command_again()
+    ensures at_its_start { (setup : Setup) (steps : List LivesStep) (first : ℕ) →
+        let w = plain_lives setup (steps ++ restarting first ∷ []) in
+        (firsts_at w.life ≡ []) × ((gateway_of w.life).history ≡ []) }
+    ensures each { (setup : Setup) (steps : List LivesStep) (now later : ℕ) (first : Arrival) → let w = plain_lives setup steps in
+        now ≤ later → Any (λ (one : Arrival). one ≡ first) (young_of now (firsts_at w.life)) → first.moment + memory_time ≤ later →
+        length (young_of later (firsts_at w.life)) < length (young_of now (firsts_at w.life)) }
+    ensures room { (setup : Setup) (steps : List LivesStep) (now later : ℕ) → let w = plain_lives setup steps in
+        All (λ (first : Arrival). first.moment ≤ now) (firsts_at w.life) → now + memory_time ≤ later → HasRoom later (firsts_at w.life) }
+{}
+
+/// A command of the life that goes on of which at most seven copies are lost, each with its answer, is answered, whatever earlier lives had
+/// sent: a notification or an announcement of a line, where it goes to the agent, and an announcement of the gateway itself; the agent has
+/// room when a copy comes (RFC 3435, 2.3.4, 2.3.12 and 3.5.3).
+pub fn one_copy_of_eight_of_a_new_life_is_enough()
+    ensures line { (setup : Setup) (steps : List LivesStep) (line : ℕ) (b : Begun) (lost : List ℕ) → IsRunOfLives setup steps →
+        let w = plain_lives setup steps in HasBegun w.life.setup w.life.took line b → LifeGoesToAgent setup w b.text →
+        w.life.start + b.moment + last_chance ≤ clock_of setup w → length lost ≤ most_repeats →
+        ((number : ℕ) → IsCopyOfLife setup w (number_of w) b.text number → ¬ Any (λ (n : ℕ). n ≡ number) lost →
+        IsCarriedInLives setup steps b number) → HasResponse w.life.took b.id }
+    ensures own { (setup : Setup) (steps : List LivesStep) (b : Begun) (lost : List ℕ) → IsRunOfLives setup steps →
+        let w = plain_lives setup steps in HasBegun w.life.setup w.life.took 0 b →
+        w.life.start + b.moment + last_chance ≤ clock_of setup w → length lost ≤ most_repeats →
+        ((number : ℕ) → IsCopyOfLife setup w (number_of w) b.text number → ¬ Any (λ (n : ℕ). n ≡ number) lost →
+        IsCarriedInLives setup steps b number) → HasResponse w.life.took b.id }
 {}

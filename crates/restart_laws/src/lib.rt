@@ -6,6 +6,7 @@
 //! `specs/` says when a network is fair from a moment on in a world of lives, and when the agent has room then.
 #![tactic(auto)]
 
+pub mod carried_examples;
 pub mod examples;
 pub mod in_flight_examples;
 pub mod laws;

@@ -1,0 +1,61 @@
+//! Worked examples of the copies of what a new life sends: a world in which each premise of the law holds; and worlds in which one premise
+//! alone is missing, and no response comes.
+#![tactic(auto, unfolding(crate::proofs::Computing::on_examples))]
+
+ghost use Rattle.std.specs.Prelude.{◌≡◌, ◌<◌, ◌≤◌, ◌+◌, ℕ, ◌∷◌, [], Any, length, true};
+ghost use Rattle.outbound.specs.Sends.{most_repeats};
+ghost use Rattle.plain_machine.specs.Example.{two_lines};
+ghost use Rattle.plain_machine.specs.Setup.{IsSetUp};
+ghost use Rattle.delivery_laws.specs.Chances.{last_chance};
+ghost use Rattle.delivery_laws.specs.Example.{dotted};
+ghost use Rattle.outage_laws.specs.Alone.{HasBegun};
+ghost use Rattle.outage_laws.specs.Premises.{never_begun};
+ghost use Rattle.life_laws.specs.Example.{lives};
+ghost use Rattle.life_laws.specs.Lives.{clock_of, lives_are_taken, lives_opening, number_of, plain_lives};
+ghost use Rattle.restart_laws.specs.AfterRestart.{IsRunOfLives, LifeGoesToAgent};
+ghost use Rattle.restart_laws.specs.CarriedBack.{IsCarriedInLives, IsCopyOfLife};
+ghost use Rattle.restart_laws.specs.CarriedExample.{all_lost_anew, elsewhere_anew, notified_anew, parted_anew, parted_on, saved_anew};
+ghost use Rattle.restart_laws.specs.Example.{life_with, lifted_anew, reported_astray, responses_after};
+
+/// Seven copies of a notification of a new life are lost, packets 3 to 9, and each that isn't is carried: the last one is, and its answer.
+/// All that the law asks for holds at once, and a response comes.
+pub fn each_copy_of_a_new_life_but_seven_is_carried()
+    ensures run { IsRunOfLives two_lines saved_anew }
+    ensures begun { HasBegun (lives saved_anew).life.setup (lives saved_anew).life.took 1 lifted_anew }
+    ensures goes { LifeGoesToAgent two_lines (lives saved_anew) lifted_anew.text }
+    ensures late { (lives saved_anew).life.start + lifted_anew.moment + last_chance ≤ clock_of two_lines (lives saved_anew) }
+    ensures seven { length {A = ℕ} (3 ∷ 4 ∷ 5 ∷ 6 ∷ 7 ∷ 8 ∷ 9 ∷ []) ≡ most_repeats }
+    ensures carried { (number : ℕ) → IsCopyOfLife two_lines (lives saved_anew) (number_of (lives saved_anew)) lifted_anew.text number →
+        ¬ Any (λ (n : ℕ). n ≡ number) (3 ∷ 4 ∷ 5 ∷ 6 ∷ 7 ∷ 8 ∷ 9 ∷ []) → IsCarriedInLives two_lines saved_anew lifted_anew number }
+    ensures answered { responses_after saved_anew ≡ 21 ∷ 10000020 ∷ [] }
+{}
+
+/// No response comes where no packet tells the notification, as that of a gateway that isn't set up well, or that it never began; where it
+/// goes elsewhere; before all eight are sent; and where more than seven copies are lost, or one that isn't lost isn't carried.
+pub fn else_no_copy_of_a_new_life_is_carried()
+    ensures not_set_up { ¬ IsSetUp dotted }
+    ensures steps { lives_are_taken dotted (lives_opening dotted) parted_on ≡ true }
+    ensures begun { HasBegun (life_with dotted parted_on).setup (life_with dotted parted_on).took 1 parted_anew }
+    ensures goes { LifeGoesToAgent dotted (plain_lives dotted parted_on) parted_anew.text }
+    ensures late { (life_with dotted parted_on).start + parted_anew.moment + last_chance ≤ clock_of dotted (plain_lives dotted parted_on) }
+    ensures no_copy { (number : ℕ) → ¬ IsCopyOfLife dotted (plain_lives dotted parted_on) 1 parted_anew.text number }
+    ensures run_there { IsRunOfLives two_lines elsewhere_anew }
+    ensures begun_there { HasBegun (lives elsewhere_anew).life.setup (lives elsewhere_anew).life.took 1 reported_astray }
+    ensures goes_not { ¬ LifeGoesToAgent two_lines (lives elsewhere_anew) reported_astray.text }
+    ensures late_there { (lives elsewhere_anew).life.start + reported_astray.moment + last_chance
+        ≤ clock_of two_lines (lives elsewhere_anew) }
+    ensures no_copy_there { (number : ℕ) → ¬ IsCopyOfLife two_lines (lives elsewhere_anew) 1 reported_astray.text number }
+    ensures none_there { responses_after elsewhere_anew ≡ 21 ∷ [] }
+    ensures soon { clock_of two_lines (lives notified_anew) < (lives notified_anew).life.start + lifted_anew.moment + last_chance }
+    ensures one_lost { (number : ℕ) → IsCopyOfLife two_lines (lives notified_anew) 1 lifted_anew.text number →
+        Any (λ (n : ℕ). n ≡ number) (3 ∷ []) }
+    ensures none_yet { responses_after notified_anew ≡ 21 ∷ [] }
+    ensures run { IsRunOfLives two_lines all_lost_anew }
+    ensures eight_lost { (number : ℕ) → IsCopyOfLife two_lines (lives all_lost_anew) 1 lifted_anew.text number →
+        Any (λ (n : ℕ). n ≡ number) (3 ∷ 4 ∷ 5 ∷ 6 ∷ 7 ∷ 8 ∷ 9 ∷ 10 ∷ []) }
+    ensures too_many { length {A = ℕ} (3 ∷ 4 ∷ 5 ∷ 6 ∷ 7 ∷ 8 ∷ 9 ∷ 10 ∷ []) ≡ most_repeats + 1 }
+    ensures not_carried { ¬ IsCarriedInLives two_lines all_lost_anew lifted_anew 3 }
+    ensures not_begun { ¬ HasBegun (lives all_lost_anew).life.setup (lives all_lost_anew).life.took 1 never_begun }
+    ensures none_of_it { (number : ℕ) → ¬ IsCopyOfLife two_lines (lives all_lost_anew) 1 never_begun.text number }
+    ensures none_came { responses_after all_lost_anew ≡ 21 ∷ [] }
+{}
