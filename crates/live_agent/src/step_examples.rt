@@ -29,7 +29,7 @@ pub fn steps_at_a_line_have_examples()
     ensures says_nothing { Hears None 0 creating (audited ∷ []) creating (told_care audited ∷ []) }
     ensures unread { Hears (Some Told.OffHook) 0 creating (audited ∷ []) creating (owed (told_care audited) Audit ∷ []) }
     // How it stands is kept as that is told.
-    ensures stands { ToldOf 0 creating (audited ∷ []) creating (told_of (shown_in creating 0) audited ∷ []) }
+    ensures stands { ToldOf 1 creating (cleared ∷ audited ∷ []) creating (cleared ∷ told_of (shown_in creating 1) audited ∷ []) }
     // What is next begins: a duty beside the exchange, or the exchange's command. While the line is held nothing does, and where the
     // exchange has nothing to be sent, nothing is in flight behind it.
     ensures deletion { Begins 0 creating (new_care ∷ []) creating (begun new_care ∷ []) }
