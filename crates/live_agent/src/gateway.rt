@@ -163,6 +163,7 @@ impl Gateway {
         ensures flight { IfOk result (λ issued. (flight : Flight) × (flight.line ≡ line) × (flight.pending
             ≡ sent_first issued.id (routes.One issued.datagram.to) issued.datagram.bytes issued.datagram.moment)
             × (self.new.flights.items ≡ self.old.flights.items ++ flight ∷ [])) }
+        ensures others { self.new ≡ record self.old { agent = self.new.agent; flights = self.new.flights } }
     {
         let issued = self.agent.issue(verb, name, rest)?;
         let flight = Flight::begin(alloc, &issued, line)?;
