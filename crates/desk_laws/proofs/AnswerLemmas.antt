@@ -1,11 +1,8 @@
 -- What an answer does to what is kept of a line, and of its gateway, is turns of the desk.
 use Rattle.std.proofs.Common.{◌≡◌, ℕ, ◌+◌, Bool, true, false, if◌then◌else◌, List, [], ◌∷◌, ◌++◌, Option, Some, None, inl, inr, refl, sym, ap, subst, ◌∙◌}
 use Rattle.std.specs.Prelude.{◌⊎◌, slice_get}
-use Rattle.std.proofs.lemmas.Option.{none-some}
-use Rattle.call_routing.specs.declared.command.Outcome.{Outcome}
 use Rattle.call_routing.specs.declared.command.Outcome.TheVariants.{GivenUp}
 use Rattle.call_routing.specs.declared.fate.PutOff.{PutOff}
-use Rattle.call_routing.specs.declared.told.Told.{Told}
 use Rattle.call_routing.specs.declared.told.Told.TheVariants.{Flash}
 use Rattle.call_routing.specs.Exchange.{ExchangeState, put_off_at}
 use Rattle.live_agent.specs.declared.care.Duty.{Duty}
@@ -15,8 +12,8 @@ use Rattle.live_agent.specs.declared.gateway.Wake.{Wake}
 use Rattle.live_agent.specs.Boards.{Holds}
 use Rattle.live_agent.specs.Duties.{duty_answered, found, held_from, is_put_off, landed, lost, owed, woken}
 use Rattle.live_agent.specs.Hooks.{is_off_hook}
-use Rattle.live_agent.specs.Orders.{again_of, cared, flight_of, has_told, is_outlived, is_put_off_in}
-use Rattle.live_agent.specs.Turns.{AnswersAudit, Routes, TakesAnswer, TakesAudit, TakesResponse, TellsAudit, outcome_with, told_by_audit}
+use Rattle.live_agent.specs.Orders.{again_of, cared, flight_of, has_told, is_put_off_in}
+use Rattle.live_agent.specs.Turns.{AnswersAudit, Routes, TakesAnswer, TakesAudit, TakesResponse, outcome_with, told_by_audit}
 use Rattle.desk_laws.specs.Desk.{Desk, DeskTurn, Happening, after_turn, after_turns, answered_for, answers, behind, finds, happens, held_by, loses, taken_at}
 use Rattle.desk_laws.proofs.CareLemmas.{here_after, keeps_again, same_some}
 

@@ -327,7 +327,7 @@ unfolding after_turns
 turns_sound desk [] s = s
 turns_sound desk (turn ∷ turns) s = turns_sound (after_turn desk turn) turns (turn_sound desk turn s)
 
-sound : (lines : ℕ) (turns : List DeskTurn) → IsSound (after_turns (opening_desk lines) turns)
+pub sound : (lines : ℕ) (turns : List DeskTurn) → IsSound (after_turns (opening_desk lines) turns)
 sound lines turns = turns_sound (opening_desk lines) turns (opening_sound lines)
 
 -- What that comes to

@@ -1,6 +1,6 @@
 -- Desks of a gateway and an exchange of which so much is known.
-use Rattle.std.proofs.Common.{◌≡◌, ℕ, ◌<◌, ◌≤◌, Bool, true, false, if◌then◌else◌, List, [], ◌∷◌, Option, Some, None, refl, sym, ap, ◌∙◌, arith}
-use Rattle.std.specs.Prelude.{nat_le, slice_get}
+use Rattle.std.proofs.Common.{◌≡◌, ℕ, ◌<◌, ◌≤◌, Bool, true, false, if◌then◌else◌, List, [], ◌∷◌, Option, Some, None, refl, sym, ap, subst, ◌∙◌, arith}
+use Rattle.std.specs.Prelude.{◌-◌, ◌^◌, nat_le, slice_get}
 use Rattle.std.proofs.lemmas.Bool.{leb-true}
 use Rattle.call_routing.specs.declared.fate.PutOff.{PutOff}
 use Rattle.live_agent.specs.declared.care.Duty.{Duty}
@@ -9,11 +9,14 @@ use Rattle.live_agent.specs.declared.gateway.Gateway.{Gateway}
 use Rattle.live_agent.specs.declared.gateway.Wake.{Wake}
 use Rattle.live_agent.specs.declared.office.Office.{Office}
 use Rattle.live_agent.specs.AgentClock.{tick_to}
+use Rattle.live_agent.specs.Duties.{again_at}
 use Rattle.live_agent.specs.Orders.{again_of, flight_of}
 use Rattle.live_agent.specs.Wakes.{first_woken}
-use Rattle.desk_laws.specs.Desk.{Desk, DeskTurn, after_turn, after_turns, answered_for, answers, desk_of, happens, held_by, taken_at, ticks, wakes_next, woken_by}
+use Rattle.desk_laws.specs.Desk.{Desk, DeskTurn, after_turn, after_turns, answered_for, answers, desk_of, happens, held_by, opening_desk, taken_at, ticks, wakes_next, woken_by}
 use Rattle.desk_laws.specs.StepExample.{AreSo}
 use Rattle.desk_laws.proofs.AnswerLemmas.{desk_at}
+use Rattle.desk_laws.proofs.DeskLaws.{sound}
+use Rattle.desk_laws.proofs.WakeLemmas.{AllBy, InOrder}
 
 desk_with : (now is : ℕ) (cares kept : List Care) (wakes held : List Wake) → is ≡ now → kept ≡ cares → held ≡ wakes
     → desk_at is kept held ≡ desk_at now cares wakes
@@ -76,3 +79,58 @@ not_back was is back leads_to =
     (let on : was.now ≤ (after_turns was leads_to.0).now = all_now was leads_to.0 in
     let there : (after_turns was leads_to.0).now ≡ is.now = ap (λ (desk : Desk). desk.now) leads_to.1 in
     omega (arith, on, there, back))
+
+-- Where no turns lead from the start
+
+pub not_in_order : (lines : ℕ) (turns : List DeskTurn) (wakes : List Wake) → (InOrder wakes → ⊥)
+    → (after_turns (opening_desk lines) turns).wakes ≡ wakes → ⊥
+not_in_order lines turns wakes never is = never (subst InOrder is (sound lines turns).order)
+
+pub too_late : (lines : ℕ) (turns : List DeskTurn) (now : ℕ) (wakes : List Wake) → (AllBy (again_at now) wakes → ⊥)
+    → (after_turns (opening_desk lines) turns).now ≡ now → (after_turns (opening_desk lines) turns).wakes ≡ wakes → ⊥
+too_late lines turns now wakes never clock is =
+    never
+    (subst (λ (moment : ℕ). AllBy (again_at moment) wakes) clock
+    (subst (AllBy (again_at (after_turns (opening_desk lines) turns).now)) is (sound lines turns).by))
+
+-- the clock is one of 64 bits
+abbrev Within : Desk → Type 0
+Within desk = desk.now ≤ 2 ^ 64 - 1
+
+held_within : (desk : Desk) (line : ℕ) (cares : List Care) (again : Option ℕ) (is_refused : Bool) → Within desk
+    → Within (held_by desk line cares again is_refused)
+held_within desk line cares None is_refused low = low
+held_within desk line cares (Some moment) true low = low
+held_within desk line cares (Some moment) false low = low
+
+answered_within : (flight : Option Duty) (desk : Desk) (line code : ℕ) (off : Option PutOff) (is_refused : Bool) → Within desk
+    → Within (answered_for flight desk line code off is_refused)
+answered_within None desk line code off is_refused low = low
+answered_within (Some duty) desk line code off is_refused low =
+    held_within desk line (taken_at desk line duty code off) (again_of (slice_get (taken_at desk line duty code off) line)) is_refused low
+
+woken_within : (first : Option Wake) (desk : Desk) → Within desk → Within (woken_by first desk)
+woken_within None desk low = low
+woken_within (Some wake) desk low = low
+
+ticked_within : (desk : Desk) (moment : ℕ) (b : Bool) → Within desk
+    → Within (if b then record desk { now = tick_to desk.now moment } else desk)
+ticked_within desk moment true low = omega arith
+ticked_within desk moment false low = low
+
+turn_within : (desk : Desk) (turn : DeskTurn) → Within desk → Within (after_turn desk turn)
+turn_within desk (happens line one) low = low
+turn_within desk (answers line code off is_refused) low = answered_within (flight_of (slice_get desk.cares line)) desk line code off is_refused low
+turn_within desk wakes_next low = woken_within (first_woken desk.now desk.wakes) desk low
+turn_within desk (ticks moment) low = ticked_within desk moment (nat_le desk.now (tick_to desk.now moment)) low
+
+all_within : (desk : Desk) (turns : List DeskTurn) → Within desk → Within (after_turns desk turns)
+unfolding after_turns
+all_within desk [] low = low
+all_within desk (turn ∷ turns) low = all_within (after_turn desk turn) turns (turn_within desk turn low)
+
+pub not_past : (lines : ℕ) (turns : List DeskTurn) → (after_turns (opening_desk lines) turns).now ≡ 2 ^ 64 → ⊥
+not_past lines turns past =
+    absurd
+    (let low : (after_turns (opening_desk lines) turns).now ≤ 2 ^ 64 - 1 = all_within (opening_desk lines) turns (omega arith) in
+    omega (arith, low, past))

@@ -1,6 +1,6 @@
 -- What the calls of live_agent do to a desk is turns of it.
 use Rattle.std.proofs.Common.{◌≡◌, ℕ, zero, suc, ◌≤◌, Bool, true, false, if◌then◌else◌, List, [], ◌∷◌, ◌++◌, Option, Some, None, inl, inr, refl, sym, ap, subst, ◌∙◌}
-use Rattle.std.specs.Prelude.{◌⊎◌, is_none, nat_le, remove, replicate, slice_get}
+use Rattle.std.specs.Prelude.{is_none, nat_le, remove, replicate, slice_get}
 use Rattle.std.specs.Global.{Box}
 use Rattle.std.proofs.lemmas.Bool.{le-leb}
 use Rattle.std.proofs.lemmas.Option.{none-some}
@@ -26,7 +26,7 @@ use Rattle.desk_laws.proofs.AnswerLemmas.{Comes, desk_at}
 
 -- Turns behind others
 
-after_both : (desk : Desk) (some more : List DeskTurn) → after_turns desk (some ++ more) ≡ after_turns (after_turns desk some) more
+pub after_both : (desk : Desk) (some more : List DeskTurn) → after_turns desk (some ++ more) ≡ after_turns (after_turns desk some) more
 unfolding after_turns
 after_both desk [] more = refl
 after_both desk (turn ∷ some) more = after_both (after_turn desk turn) some more

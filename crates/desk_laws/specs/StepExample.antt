@@ -1,12 +1,23 @@
 -- What the worked examples of the calls of live_agent speak of.
-use Rattle.std.specs.Prelude.{◌≡◌, ℕ, List}
+use Rattle.std.specs.Prelude.{◌≡◌, ℕ, List, [], ◌∷◌, ◌++◌, Some}
 use Rattle.live_agent.specs.declared.care.Care.{Care}
 use Rattle.live_agent.specs.declared.gateway.Gateway.{Gateway}
 use Rattle.live_agent.specs.declared.gateway.Wake.{Wake}
 use Rattle.live_agent.specs.declared.office.Office.{Office}
+use Rattle.live_agent.specs.Example.{deleted_later, deleted_now, wake_at}
 
 -- a gateway at this moment with these to which a command is sent again, and an exchange of whose lines this is kept
 pub record AreSo (gateway : Gateway) (office : Office) (now : ℕ) (cares : List Care) (wakes : List Wake) : Type 0 where
   pub clock : gateway.ticked ≡ now
   pub kept : office.cares.items ≡ cares
   pub held : gateway.wakes.items ≡ wakes
+
+-- two lines whose deletions were put off, at 500 and at 700; when each is sent again; and with the first one once more, behind them
+abbrev pub both_later : List Care
+both_later = deleted_later ∷ record deleted_now { again = Some 1700 } ∷ []
+
+abbrev pub both_held : List Wake
+both_held = wake_at 1500 0 ∷ wake_at 1700 1 ∷ []
+
+abbrev pub held_once_more : List Wake
+held_once_more = both_held ++ wake_at 1500 0 ∷ []

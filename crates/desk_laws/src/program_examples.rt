@@ -1,15 +1,17 @@
 //! Worked examples of the laws of the program's exchange and desk, as theorems: each premise missing alone, where the law fails.
 #![tactic(auto, unfolding(crate::proofs::Computing::on_examples))]
 
-ghost use Rattle.std.specs.Prelude.{◌≡◌, ◌∷◌, [], None, replicate, slice_get, true};
+ghost use Rattle.std.specs.Prelude.{◌≡◌, ◌∷◌, ◌^◌, [], List, None, replicate, slice_get, true};
 ghost use Rattle.std.specs.Global.{Box};
 ghost use Rattle.call_routing.specs.Exchange.{opening};
 ghost use Rattle.call_laws.specs.Turns.{is_in_flight};
 ghost use Rattle.live_agent.specs.declared.gateway.Gateway.{Gateway};
 ghost use Rattle.live_agent.specs.declared.office.Office.{Office};
 ghost use Rattle.live_agent.specs.Duties.{new_care};
+ghost use Rattle.live_agent.specs.Example.{wake_at};
 ghost use Rattle.live_agent.specs.Orders.{flight_of};
-ghost use Rattle.desk_laws.specs.Desk.{GoesOn, desk_of};
+ghost use Rattle.desk_laws.specs.Attended.{AttendedTurn, attended_by, attended_of};
+ghost use Rattle.desk_laws.specs.Desk.{DeskTurn, GoesOn, after_turns, desk_of, opening_desk};
 ghost use Rattle.desk_laws.specs.Example.{asked_meanwhile, held_care, routed_care};
 ghost use Rattle.desk_laws.specs.Steps.{Runs};
 
@@ -30,4 +32,20 @@ pub fn else_a_line_of_the_program_may_not_go_on()
         was.value.cares.items ≡ replicate 2 new_care → is.value.exchange ≡ asked_meanwhile →
         is.value.cares.items ≡ routed_care ∷ routed_care ∷ [] →
         ¬ GoesOn (desk_of gateway is.value) 0 routed_care is.value.exchange [] Phase.Resting None }
+{}
+
+/// Nor do turns lead to a start at a moment that isn't one of 64 bits, or at which something is sent again 5,000 ms later already.
+pub fn else_no_turns_lead_to_the_start()
+    ensures past_the_clock { (gateway : Gateway) (office : Box Office) → gateway.ticked ≡ 2 ^ 64 → gateway.wakes.items ≡ [] →
+        office.value.cares.items ≡ replicate 2 new_care →
+        ¬ ((turns : List DeskTurn) × (after_turns (opening_desk 2) turns ≡ desk_of gateway office.value)) }
+    ensures put_off_already { (gateway : Gateway) (office : Box Office) → gateway.ticked ≡ 0 → gateway.wakes.items ≡ wake_at 5000 0 ∷ [] →
+        office.value.cares.items ≡ replicate 2 new_care →
+        ¬ ((turns : List DeskTurn) × (after_turns (opening_desk 2) turns ≡ desk_of gateway office.value)) }
+    ensures past_the_clock_of_both { (gateway : Gateway) (office : Box Office) → gateway.ticked ≡ 2 ^ 64 → gateway.wakes.items ≡ [] →
+        office.value.exchange ≡ opening 3 0 → office.value.cares.items ≡ replicate 2 new_care →
+        ¬ ((turns : List AttendedTurn) × (attended_by 3 0 2 turns ≡ attended_of gateway office.value)) }
+    ensures put_off_already_of_both { (gateway : Gateway) (office : Box Office) → gateway.ticked ≡ 0 →
+        gateway.wakes.items ≡ wake_at 5000 0 ∷ [] → office.value.exchange ≡ opening 3 0 → office.value.cares.items ≡ replicate 2 new_care →
+        ¬ ((turns : List AttendedTurn) × (attended_by 3 0 2 turns ≡ attended_of gateway office.value)) }
 {}

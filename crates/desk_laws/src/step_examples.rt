@@ -2,17 +2,20 @@
 //! much is known.
 #![tactic(auto, unfolding(crate::proofs::Computing::on_examples))]
 
-ghost use Rattle.std.specs.Prelude.{◌≡◌, [], ◌∷◌, List, true, false, Some, None};
+ghost use Rattle.std.specs.Prelude.{◌≡◌, [], ◌∷◌, ℕ, List, true, false, Some, None, slice_get};
 ghost use Rattle.std.specs.Global.{Box};
 ghost use Rattle.live_agent.specs.declared.care.Duty.TheVariants.{Audit};
 ghost use Rattle.live_agent.specs.declared.gateway.Gateway.{Gateway};
 ghost use Rattle.live_agent.specs.declared.office.Office.{Office};
+ghost use Rattle.live_agent.specs.Boards.{Answers};
 ghost use Rattle.live_agent.specs.Duties.{begun, lost, new_care, outlived, owed, told_care};
 ghost use Rattle.live_agent.specs.Example.{audited, deleted_later, deleted_now, wake_at};
+ghost use Rattle.live_agent.specs.Orders.{flight_of};
 ghost use Rattle.live_agent.specs.Steps.{Begins, OfOffice, Ticks};
 ghost use Rattle.desk_laws.specs.Desk.{DeskTurn, after_turns, announces, answers, begins, desk_of, happens, lands, loses, opening_desk, owes_audit, tells, ticks, wakes_next};
+ghost use Rattle.desk_laws.specs.Example.{both_put_off};
 ghost use Rattle.desk_laws.specs.Steps.{Runs, Stands, issues_to};
-ghost use Rattle.desk_laws.specs.StepExample.{AreSo};
+ghost use Rattle.desk_laws.specs.StepExample.{AreSo, both_held, both_later, held_once_more};
 
 /// An answer to a deletion that puts it off is one turn, whether that is kept or memory is refused for it; to what the gateway has outlived
 /// it counts as given up.
@@ -64,4 +67,19 @@ pub fn calls_run_one_after_another()
     ensures goes_back { (gateway : Gateway) → Ticks true 100 (record gateway { ticked = 500 }) (record gateway { ticked = 100 }) }
     ensures else_a_clock_goes_back { (gateway : Gateway) (office : Office) → ¬ ((more : List DeskTurn)
         × (after_turns (desk_of (record gateway { ticked = 500 }) office) more ≡ desk_of (record gateway { ticked = 100 }) office)) }
+{}
+
+/// Where nothing is in flight to a line an answer, whatever it is, would have what was put off of it sent again a second time, out of the
+/// order of the moments: no turns lead there, from where the desk is or from the start.
+pub fn else_what_isnt_in_flight_is_answered()
+    ensures before { (gateway : Gateway) (was : Office) → AreSo gateway was 700 both_later both_held →
+        after_turns (opening_desk 2) both_put_off ≡ desk_of gateway was }
+    ensures none { (office : Office) → office.cares.items ≡ both_later → flight_of (slice_get office.cares.items 0) ≡ None }
+    ensures answered { (code : ℕ) (text : List ℕ) (gateway after : Gateway) (was is : Office) → AreSo gateway was 700 both_later both_held →
+        AreSo after is 700 both_later held_once_more → is.exchange ≡ was.exchange → Answers 0 code text gateway was after is }
+    ensures else_not_turns { (gateway after : Gateway) (was is : Office) → AreSo gateway was 700 both_later both_held →
+        AreSo after is 700 both_later held_once_more → ¬ ((more : List DeskTurn) × (after_turns (desk_of gateway was) more
+        ≡ record { now = gateway.ticked; cares = is.cares.items; wakes = after.wakes.items })) }
+    ensures else_not_from_the_start { (after : Gateway) (is : Office) → AreSo after is 700 both_later held_once_more →
+        ¬ ((turns : List DeskTurn) × (after_turns (opening_desk 2) turns ≡ desk_of after is)) }
 {}
