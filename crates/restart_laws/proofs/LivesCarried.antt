@@ -171,7 +171,7 @@ module _ (setup : Setup) (steps : List LivesStep) (set_up : IsSetUp setup) (take
     by_life (inl both) = came both.1
     by_life (inr less) = absurd (no_other (number_of v) reply.letter.life (number_of w) few its_life less)
 
-    carried_back : HasResponse w.life.took b.id
+    pub carried_back : HasResponse w.life.took b.id
     carried_back = by_life on.life
 
   -- One of the eight is

@@ -1,10 +1,13 @@
 -- The worlds of the worked examples of the copies of what a new life sends: line 1 of a gateway that started again is lifted.
-use Rattle.std.specs.Prelude.{codes, List}
+use Rattle.std.specs.Prelude.{codes, List, [], ◌∷◌, ◌++◌}
 use Rattle.machine_laws.specs.Saying.{Begun}
+use Rattle.agent_core.specs.World.{delivering, ticking}
+use Rattle.world_laws.specs.Example.{seconds}
 use Rattle.delivery_laws.specs.Example.{notified}
 use Rattle.outage_laws.specs.Example.{all_lost, last_copy, saved}
-use Rattle.outage_laws.specs.Premises.{all_elsewhere, twenty_behind}
+use Rattle.outage_laws.specs.Premises.{all_elsewhere, own_all_lost, twenty_behind}
 use Rattle.life_laws.specs.Lives.{LivesStep}
+use Rattle.life_laws.specs.Example.{in_one_life}
 use Rattle.restart_laws.specs.Example.{behind_a_start}
 
 -- its notification has been sent eight times, packets 3 to 10; the last copy is handed over, and its answer, packet 11
@@ -31,3 +34,29 @@ parted_on = behind_a_start twenty_behind
 
 abbrev pub parted_anew : Begun
 parted_anew = record { id = 10000020; moment = 1; text = codes "NTFY 10000020 aaln/1@x\r\n.\r\n MGCP 1.0\r\nX: 0\r\nO: L/hd\r\n" }
+
+-- Of the announcement of the gateway that started again
+
+abbrev pub its_announcement : Begun
+its_announcement = record { id = 21; moment = 1; text = codes "RSIP 21 *@rgw.example.net MGCP 1.0\r\nRM: restart\r\n" }
+
+-- it has been sent eight times, packets 1 to 8; the last copy is handed over, and its answer, packet 9
+abbrev pub own_last_copy_anew : List LivesStep
+own_last_copy_anew = behind_a_start (seconds 20 ++ ticking 19501 ∷ [])
+
+abbrev pub own_saved_anew : List LivesStep
+own_saved_anew = own_last_copy_anew ++ in_one_life (delivering 8 ∷ delivering 9 ∷ [])
+
+-- none of them is; or it was sent just now
+abbrev pub own_all_lost_anew : List LivesStep
+own_all_lost_anew = behind_a_start own_all_lost
+
+abbrev pub announced_just_now : List LivesStep
+announced_just_now = behind_a_start (ticking 1 ∷ [])
+
+-- that of a gateway that isn't set up well is parted by a line with a dot alone
+abbrev pub own_parted_on : List LivesStep
+own_parted_on = behind_a_start (seconds 21)
+
+abbrev pub its_parted_announcement : Begun
+its_parted_announcement = record { id = 21; moment = 1; text = codes "RSIP 21 *@x\r\n.\r\n MGCP 1.0\r\nRM: restart\r\n" }

@@ -15,7 +15,10 @@ ghost use Rattle.life_laws.specs.Lives.{clock_of, lives_are_taken, lives_opening
 ghost use Rattle.restart_laws.specs.AfterRestart.{IsRunOfLives, LifeGoesToAgent};
 ghost use Rattle.restart_laws.specs.CarriedBack.{IsCarriedInLives, IsCopyOfLife};
 ghost use Rattle.restart_laws.specs.CarriedExample.{all_lost_anew, elsewhere_anew, notified_anew, parted_anew, parted_on, saved_anew};
+ghost use Rattle.restart_laws.specs.CarriedExample.{announced_just_now, its_announcement, its_parted_announcement, own_all_lost_anew};
+ghost use Rattle.restart_laws.specs.CarriedExample.{own_parted_on, own_saved_anew};
 ghost use Rattle.restart_laws.specs.Example.{life_with, lifted_anew, reported_astray, responses_after};
+ghost use Rattle.restart_laws.specs.InFlightExample.{responses_with};
 
 /// Seven copies of a notification of a new life are lost, packets 3 to 9, and each that isn't is carried: the last one is, and its answer.
 /// All that the law asks for holds at once, and a response comes.
@@ -58,4 +61,45 @@ pub fn else_no_copy_of_a_new_life_is_carried()
     ensures not_begun { ¬ HasBegun (lives all_lost_anew).life.setup (lives all_lost_anew).life.took 1 never_begun }
     ensures none_of_it { (number : ℕ) → ¬ IsCopyOfLife two_lines (lives all_lost_anew) 1 never_begun.text number }
     ensures none_came { responses_after all_lost_anew ≡ 21 ∷ [] }
+{}
+
+/// So it is of the announcement of the gateway itself: seven copies are lost, packets 1 to 7, the last one is carried, and its answer.
+pub fn each_copy_of_its_announcement_but_seven_is_carried()
+    ensures run { IsRunOfLives two_lines own_saved_anew }
+    ensures begun { HasBegun (lives own_saved_anew).life.setup (lives own_saved_anew).life.took 0 its_announcement }
+    ensures late { (lives own_saved_anew).life.start + its_announcement.moment + last_chance ≤ clock_of two_lines (lives own_saved_anew) }
+    ensures seven { length {A = ℕ} (1 ∷ 2 ∷ 3 ∷ 4 ∷ 5 ∷ 6 ∷ 7 ∷ []) ≡ most_repeats }
+    ensures carried { (number : ℕ) →
+        IsCopyOfLife two_lines (lives own_saved_anew) (number_of (lives own_saved_anew)) its_announcement.text number →
+        ¬ Any (λ (n : ℕ). n ≡ number) (1 ∷ 2 ∷ 3 ∷ 4 ∷ 5 ∷ 6 ∷ 7 ∷ []) → IsCarriedInLives two_lines own_saved_anew its_announcement number }
+    ensures answered { responses_after own_saved_anew ≡ 21 ∷ [] }
+{}
+
+/// No response to it comes where no packet tells it, as that of a gateway that isn't set up well, or that it never began; before all eight
+/// are sent; and where more than seven copies are lost, or one that isn't lost isn't carried.
+pub fn else_no_copy_of_its_announcement_is_carried()
+    ensures not_set_up { ¬ IsSetUp dotted }
+    ensures steps { lives_are_taken dotted (lives_opening dotted) own_parted_on ≡ true }
+    ensures begun { HasBegun (life_with dotted own_parted_on).setup (life_with dotted own_parted_on).took 0 its_parted_announcement }
+    ensures late { (life_with dotted own_parted_on).start + its_parted_announcement.moment + last_chance
+        ≤ clock_of dotted (plain_lives dotted own_parted_on) }
+    ensures no_copy { (number : ℕ) → ¬ IsCopyOfLife dotted (plain_lives dotted own_parted_on) 1 its_parted_announcement.text number }
+    ensures none_there { responses_with dotted own_parted_on ≡ [] }
+    ensures run_soon { IsRunOfLives two_lines announced_just_now }
+    ensures begun_soon { HasBegun (lives announced_just_now).life.setup (lives announced_just_now).life.took 0 its_announcement }
+    ensures soon { clock_of two_lines (lives announced_just_now)
+        < (lives announced_just_now).life.start + its_announcement.moment + last_chance }
+    ensures one_lost { (number : ℕ) → IsCopyOfLife two_lines (lives announced_just_now) 1 its_announcement.text number →
+        Any (λ (n : ℕ). n ≡ number) (1 ∷ []) }
+    ensures none_yet { responses_after announced_just_now ≡ [] }
+    ensures run { IsRunOfLives two_lines own_all_lost_anew }
+    ensures begun_then { HasBegun (lives own_all_lost_anew).life.setup (lives own_all_lost_anew).life.took 0 its_announcement }
+    ensures late_then { (lives own_all_lost_anew).life.start + its_announcement.moment + last_chance
+        ≤ clock_of two_lines (lives own_all_lost_anew) }
+    ensures eight_lost { (number : ℕ) → IsCopyOfLife two_lines (lives own_all_lost_anew) 1 its_announcement.text number →
+        Any (λ (n : ℕ). n ≡ number) (1 ∷ 2 ∷ 3 ∷ 4 ∷ 5 ∷ 6 ∷ 7 ∷ 8 ∷ []) }
+    ensures not_carried { ¬ IsCarriedInLives two_lines own_all_lost_anew its_announcement 1 }
+    ensures not_begun { ¬ HasBegun (lives own_all_lost_anew).life.setup (lives own_all_lost_anew).life.took 0 never_begun }
+    ensures none_of_it { (number : ℕ) → ¬ IsCopyOfLife two_lines (lives own_all_lost_anew) 1 never_begun.text number }
+    ensures none_came { responses_after own_all_lost_anew ≡ [] }
 {}

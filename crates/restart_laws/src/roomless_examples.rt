@@ -1,7 +1,7 @@
 //! Worked examples of an agent that has no room, in lives: all else is as the laws ask, 4,096 commands are young at the agent, and what the
 //! laws say isn't so.
 
-ghost use Rattle.std.specs.Prelude.{◌≡◌, ◌≤◌, ◌<◌, ◌+◌, ◌*◌, ◌++◌, [], Any, Some, true, false};
+ghost use Rattle.std.specs.Prelude.{◌≡◌, ◌≤◌, ◌<◌, ◌+◌, ◌*◌, ◌++◌, ℕ, [], Any, Some, true, false};
 ghost use Rattle.restart.specs.declared.restart.Restart.TheVariants.{Waiting};
 ghost use Rattle.plain_machine.specs.Example.{two_lines};
 ghost use Rattle.plain_machine.specs.Lists.{plain};
@@ -20,6 +20,7 @@ ghost use Rattle.life_laws.specs.Lives.{Brought, clock_of, gateway_of, lives_of,
 ghost use Rattle.life_laws.specs.Apart.{LieApart, firsts_of_lives};
 ghost use Rattle.life_laws.specs.Example.{lives};
 ghost use Rattle.restart_laws.specs.AfterRestart.{AgentHasRoomThen, IsRunOfLives, LifeGoesToAgent, LivesAreFairFrom};
+ghost use Rattle.restart_laws.specs.CarriedBack.{IsCarriedInLives, IsCopyOfLife, IsHandedThen};
 ghost use Rattle.restart_laws.specs.Example.{restart_after};
 ghost use Rattle.restart_laws.specs.Roomless.{announced_anew, roomless_anew, starting};
 
@@ -65,6 +66,21 @@ pub fn else_a_line_of_a_new_life_has_no_room()
     ensures now_given_up { clock_of two_lines (lives (starting roomless_given_up)) ≡ 23501 }
     ensures late_given_up { 0 + gap_of 0 + two_lines.disconnected_wait + 2 * 0 ≤ 23501 + 1 }
     ensures waits { restart_after (starting roomless_given_up) ≡ Some (Waiting 28501) }
+{}
+
+/// Each copy of that notification is handed over, and so would be each answer, at once; but none of them is carried, for want of room alone.
+pub fn else_no_copy_of_a_new_life_finds_room()
+    ensures run { IsRunOfLives two_lines (starting roomless) }
+    ensures begun { HasBegun (lives (starting roomless)).life.setup (lives (starting roomless)).life.took 1 (key_begun 1 4095) }
+    ensures goes { LifeGoesToAgent two_lines (lives (starting roomless)) (key_begun 1 4095).text }
+    ensures late { (lives (starting roomless)).life.start + (key_begun 1 4095).moment + last_chance ≤ 22501 }
+    ensures now { clock_of two_lines (lives (starting roomless)) ≡ 22501 }
+    ensures handed { (number : ℕ) →
+        IsCopyOfLife two_lines (lives (starting roomless)) (number_of (lives (starting roomless))) (key_begun 1 4095).text number →
+        IsHandedThen (starting roomless) number }
+    ensures at_once { LivesAreFairFrom two_lines (starting roomless) 0 0 }
+    ensures not_carried { (number : ℕ) → ¬ IsCarriedInLives two_lines (starting roomless) (key_begun 1 4095) number }
+    ensures none_came { ¬ HasResponse (lives (starting roomless)).life.took (key_begun 1 4095).id }
 {}
 
 /// Before that it waits for its answer for longer than twice the network's time, and what was quarantined is quarantined yet.
