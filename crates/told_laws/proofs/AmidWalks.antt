@@ -1,5 +1,5 @@
 -- What the first notification behind a request tells of what was quarantined at it, wherever in a datagram it comes.
-use Rattle.std.proofs.Common.{◌≡◌, ℕ, ◌+◌, ◌<◌, ◌≤◌, min, Bool, true, false, List, [], ◌∷◌, ◌++◌, length, Some, refl, sym, ap, subst, ◌∙◌, if◌then◌else◌, append-nil, append_assoc, arith}
+use Rattle.std.proofs.Common.{◌≡◌, ℕ, ◌<◌, ◌≤◌, Bool, true, false, List, [], ◌∷◌, ◌++◌, length, Some, refl, sym, ap, subst, ◌∙◌, if◌then◌else◌, append-nil, append_assoc, arith}
 use Rattle.std.specs.Prelude.{map, nat_lt}
 use Rattle.std.proofs.lemmas.Bool.{ltb-true, ltb-false, true≢false}
 use Rattle.std.specs.declared.net.socket_addr.SocketAddrV4.{SocketAddrV4}
@@ -9,7 +9,6 @@ use Rattle.transmission.specs.Texts.{texts_of, largest_datagram}
 use Rattle.mgcp_text.specs.Reading.{read_text}
 use Rattle.event_values.specs.declared.observed.Observed.{Observed}
 use Rattle.event_requests.specs.declared.request.Request.{Request}
-use Rattle.quarantine.specs.Held.{most_lost}
 use Rattle.plain_machine.specs.declared.endpoint.Endpoint.{Endpoint}
 use Rattle.plain_machine.specs.declared.setup.Setup.{Setup}
 use Rattle.plain_machine.specs.Answering.{handled, took_all}
@@ -23,13 +22,14 @@ use Rattle.machine_laws.proofs.EachLemmas.{Each, each_back, each_from_all, each_
 use Rattle.delivery_laws.specs.Course.{CourseStep, accepted_at, accepts, course_from, course_in, notified_in, notifies, course_at, course_of}
 use Rattle.delivery_laws.specs.Dialled.{done_in}
 use Rattle.delivery_laws.specs.Rounds.{of_telephone}
+use Rattle.told_laws.specs.Counting.{TellsButLost}
 use Rattle.told_laws.specs.Fronts.{course_amid, machine_amid, texts_apart, WalksAlong}
-use Rattle.told_laws.specs.Walking.{left_by, AreActs, EmbedsNone, NoneLostSince, Place, TellsOfHeld, Walks, behind_request, nothing_asked}
+use Rattle.told_laws.specs.Walking.{left_by, AllButLost, AreActs, EmbedsNone, NoneLostSince, Place, TellsOfHeld, Walks, behind_request, nothing_asked}
 use Rattle.told_laws.proofs.AskedCourses.{course_on}
+use Rattle.told_laws.proofs.ButLost.{GoesButLost, behind_all, counted_so, goes_so, none_lost_tells, parted_at}
 use Rattle.told_laws.proofs.FrontWalks.{StandsThen, walked_on, walks_along_all}
 use Rattle.told_laws.proofs.LineBounds.{who_is_there_stays}
 use Rattle.told_laws.proofs.RequestTurns.{BegunIn, request_begins, sent_told}
-use Rattle.told_laws.proofs.WalkCourses.{none_lost}
 use Rattle.told_laws.proofs.WalkFrontLemmas.{front_told}
 use Rattle.told_laws.proofs.WalkLemmas.{At, walks_both, walks_map}
 
@@ -100,21 +100,18 @@ text_course setup m line source text part =
 
 -- At a front of the events, by a text of its own
 
-none_lost_since : (base n was last : ℕ) → min most_lost (base + n) ≤ last → last ≤ was → last < most_lost → was ≤ base → n ≡ 0
-none_lost_since base n was last counted few room grown = omega (arith, counted, few, room, grown)
-
 rest_of : (request : Request) (one other : List CourseStep) → accepts request ∷ one ≡ accepts request ∷ other → one ≡ other
 rest_of request one other same = cc
 
-told_by_text : (setup : Setup) (line : ℕ) (before after : List GatewayEvent) (source : SocketAddrV4) (text : List ℕ) (request : Request)
+but_lost_by_text : (setup : Setup) (line : ℕ) (before after : List GatewayEvent) (source : SocketAddrV4) (text : List ℕ) (request : Request)
     (endpoint last : Endpoint) (between behind : List CourseStep) (identifier : List ℕ) (observed : List Observed) → IsPart text
     → endpoint_at (plain setup before).endpoints line ≡ Some endpoint
     → endpoint_at (plain setup (before ++ datagram source text ∷ after)).endpoints line ≡ Some last
     → accepted_at setup (plain setup before) line (read_text text) ≡ accepts request ∷ []
-    → EmbedsNone request.events → NoneLostSince endpoint.line last.line
+    → EmbedsNone request.events
     → course_from setup (plain setup before) line (datagram source text ∷ after) ≡ accepts request ∷ (between ++ notifies identifier observed ∷ behind)
-    → AreActs between → TellsOfHeld request (of_telephone endpoint.line.quarantined.events) (done_in between) observed
-told_by_text setup line before after source text request endpoint last between behind identifier observed part at then_at is bare none order only =
+    → AreActs between → TellsButLost request endpoint.line last.line between observed
+but_lost_by_text setup line before after source text request endpoint last between behind identifier observed part at then_at is bare order only =
     let one : List GatewayEvent = datagram source text ∷ [] in
     let now : List GatewayEvent = before ++ one in
     let held : List Observed = of_telephone endpoint.line.quarantined.events in
@@ -131,41 +128,49 @@ told_by_text setup line before after source text request endpoint last between b
     subst (λ (c : List CourseStep). BegunIn held endpoint.line.quarantined.lost (serves (plain setup now).endpoints) c next.0.line) here b in
     let last_at : endpoint_at (plain setup (now ++ after)).endpoints line ≡ Some last =
     ap (λ (es : List GatewayEvent). endpoint_at (plain setup es).endpoints line) (append_assoc before one after) ∙ then_at in
-    let goes : (p : Place) (w : List Observed) → At next.0.line p w → Walks p w course (At last.line) =
+    let base : ℕ = next.0.line.quarantined.lost in
+    let count : ℕ = last.line.quarantined.lost in
+    let goes : (p : Place) (w : List Observed) → At next.0.line p w → GoesButLost base count course (At last.line) p w =
     λ p w stands.
     (let v = walked_on setup line now after next.0 last next.1 last_at p w (stands, λ closed. absurd (true≢false (sym begun.served ∙ closed))) in
-    let whole : v.left ≡ course =
-    none_lost v.lost v.left course v.others
-    (none_lost_since next.0.line.quarantined.lost v.lost endpoint.line.quarantined.lost last.line.quarantined.lost v.counted none.0 none.1 begun.grown) in
-    subst (λ (c : List CourseStep). Walks p w c (At last.line)) whole
-    (walks_map v.left (StandsThen setup (now ++ after) last.line) (At last.line) p w (λ q x s. s.0) v.walk)) in
-    let walk : Walks place left (told ++ course) (At last.line) =
-    walks_both told course (At last.line) place left
-    (walks_map told (At next.0.line) (λ (p : Place) (w : List Observed). Walks p w course (At last.line)) place left goes (begun.begun (sent_told (of_line line (handled setup m source (read_text text)).sent)))) in
+    (v.lost, v.left, v.others, v.counted,
+    walks_map v.left (StandsThen setup (now ++ after) last.line) (At last.line) p w (λ q x s. s.0) v.walk)) in
+    let so =
+    goes_so base count course (At last.line) told place left
+    (walks_map told (At next.0.line) (GoesButLost base count course (At last.line)) place left goes (begun.begun (sent_told (of_line line (handled setup m source (read_text text)).sent)))) in
     let all : course_from setup m line (datagram source text ∷ after) ≡ accepts request ∷ (told ++ course) =
     course_on setup m line one after
     ∙ ap (λ (c : List CourseStep). c ++ course_from setup (machine_after setup m one) line after) here
     ∙ ap (λ (n : Machine). (accepts request ∷ told) ++ course_from setup n line after) (sym (machine_on setup (opening setup) before one)) in
     let same : told ++ course ≡ between ++ notifies identifier observed ∷ behind =
     rest_of request (told ++ course) (between ++ notifies identifier observed ∷ behind) (sym all ∙ order) in
+    let parts =
+    parted_at between behind identifier observed so.0 (told ++ so.1) only
+    (subst (λ (c : List CourseStep). AllButLost so.0 (told ++ so.1) c) same (behind_all told so.0 so.1 course so.2)) in
     let front =
-    front_told between behind request identifier observed (At last.line) left only bare
-    (subst (λ (c : List CourseStep). Walks place left c (At last.line)) same walk) in
-    record { front = front.0; rest = front.1; order = front.2; told_so = front.3 }
+    front_told parts.front parts.back request identifier observed (At last.line) left parts.only bare
+    (subst (λ (c : List CourseStep). Walks place left c (At last.line)) parts.whole (walks_both told so.1 (At last.line) place left so.4)) in
+    record {
+      lost = parts.lost;
+      left = parts.front;
+      others = parts.others;
+      counted = counted_so endpoint.line.quarantined.lost base so.0 parts.lost count so.3 begun.grown parts.few;
+      told = record { front = front.0; rest = front.1; order = front.2; told_so = front.3 };
+    }
 
 -- And amid a datagram
 
-pub told_amid : (setup : Setup) (line : ℕ) (before after : List GatewayEvent) (source : SocketAddrV4) (bytes text : List ℕ) (first texts : List (List ℕ))
+pub but_lost_amid : (setup : Setup) (line : ℕ) (before after : List GatewayEvent) (source : SocketAddrV4) (bytes text : List ℕ) (first texts : List (List ℕ))
     (request : Request) (endpoint last : Endpoint) (between behind : List CourseStep) (identifier : List ℕ) (observed : List Observed)
     → texts_of bytes ≡ first ++ text ∷ texts
     → endpoint_at (machine_amid setup before source first).endpoints line ≡ Some endpoint
     → endpoint_at (plain setup (before ++ datagram source bytes ∷ after)).endpoints line ≡ Some last
     → accepted_at setup (machine_amid setup before source first) line (read_text text) ≡ accepts request ∷ []
-    → EmbedsNone request.events → NoneLostSince endpoint.line last.line
+    → EmbedsNone request.events
     → course_amid setup (machine_amid setup before source first) line source (text ∷ texts) after
     ≡ accepts request ∷ (between ++ notifies identifier observed ∷ behind)
-    → AreActs between → TellsOfHeld request (of_telephone endpoint.line.quarantined.events) (done_in between) observed
-told_amid setup line before after source bytes text first texts request endpoint last between behind identifier observed split at then_at is bare none order only =
+    → AreActs between → TellsButLost request endpoint.line last.line between observed
+but_lost_amid setup line before after source bytes text first texts request endpoint last between behind identifier observed split at then_at is bare order only =
     let parts : Each IsPart (first ++ text ∷ texts) = subst (Each IsPart) split (texts_are_parts bytes) in
     let front_parts : Each IsPart first = each_front IsPart first (text ∷ texts) parts in
     let back_parts : Each IsPart (text ∷ texts) = each_back IsPart first (text ∷ texts) parts in
@@ -192,10 +197,25 @@ told_amid setup line before after source bytes text first texts request endpoint
     ∙ ap (λ (n : Machine). course_in setup m line source (text ∷ texts) ++ course_from setup n line after)
     (machine_apart setup m source (text ∷ texts) back_parts)
     ∙ order in
-    told_by_text setup line now (back ++ after) source text request endpoint last between behind identifier observed back_parts.0
+    but_lost_by_text setup line now (back ++ after) source text request endpoint last between behind identifier observed back_parts.0
     (ap (λ (n : Machine). endpoint_at n.endpoints line) there ∙ at)
     (ap (λ (n : Machine). endpoint_at n.endpoints line) end ∙ then_at)
-    (ap (λ (n : Machine). accepted_at setup n line (read_text text)) there ∙ is) bare none course only
+    (ap (λ (n : Machine). accepted_at setup n line (read_text text)) there ∙ is) bare course only
+
+-- where none is lost, all of the acts since
+pub told_amid : (setup : Setup) (line : ℕ) (before after : List GatewayEvent) (source : SocketAddrV4) (bytes text : List ℕ) (first texts : List (List ℕ))
+    (request : Request) (endpoint last : Endpoint) (between behind : List CourseStep) (identifier : List ℕ) (observed : List Observed)
+    → texts_of bytes ≡ first ++ text ∷ texts
+    → endpoint_at (machine_amid setup before source first).endpoints line ≡ Some endpoint
+    → endpoint_at (plain setup (before ++ datagram source bytes ∷ after)).endpoints line ≡ Some last
+    → accepted_at setup (machine_amid setup before source first) line (read_text text) ≡ accepts request ∷ []
+    → EmbedsNone request.events → NoneLostSince endpoint.line last.line
+    → course_amid setup (machine_amid setup before source first) line source (text ∷ texts) after
+    ≡ accepts request ∷ (between ++ notifies identifier observed ∷ behind)
+    → AreActs between → TellsOfHeld request (of_telephone endpoint.line.quarantined.events) (done_in between) observed
+told_amid setup line before after source bytes text first texts request endpoint last between behind identifier observed split at then_at is bare none order only =
+    none_lost_tells request endpoint.line last.line between observed none
+    (but_lost_amid setup line before after source bytes text first texts request endpoint last between behind identifier observed split at then_at is bare order only)
 
 -- A text alone in its datagram
 

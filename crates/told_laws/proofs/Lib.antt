@@ -9,6 +9,7 @@ pub mod WalkCourses
 pub mod WalkFrontLemmas
 pub mod FrontWalks
 pub mod RequestTurns
+pub mod ButLost
 pub mod AmidWalks
 pub mod CountedWalks
 pub mod AskedLemmas

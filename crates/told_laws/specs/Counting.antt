@@ -1,5 +1,7 @@
 -- How often a line loses what finds no room in its quarantine: acts of its telephone, and ends of signals and of timer T.
-use Rattle.std.specs.Prelude.{◌≡◌, ℕ, ◌+◌, ◌-◌, ◌==◌, min, Bool, false, if◌then◌else◌, List, [], ◌∷◌, Option, Some, None}
+use Rattle.std.specs.Prelude.{◌≡◌, ℕ, ◌+◌, ◌-◌, ◌≤◌, ◌==◌, min, Bool, false, if◌then◌else◌, List, [], ◌∷◌, Option, Some, None}
+use Rattle.event_values.specs.declared.observed.Observed.{Observed}
+use Rattle.event_requests.specs.declared.request.Request.{Request}
 use Rattle.quarantine.specs.Held.{most_lost}
 use Rattle.mg_line.specs.Line.{LineState}
 use Rattle.plain_machine.specs.declared.setup.Setup.{Setup}
@@ -8,7 +10,9 @@ use Rattle.plain_machine.specs.Event.{GatewayEvent, datagram, phone, tick}
 use Rattle.plain_machine.specs.Happening.{effect}
 use Rattle.plain_machine.specs.Machine.{Machine, endpoint_at}
 use Rattle.delivery_laws.specs.Course.{CourseStep}
-use Rattle.told_laws.specs.Walking.{WalksButLost}
+use Rattle.delivery_laws.specs.Dialled.{done_in}
+use Rattle.delivery_laws.specs.Rounds.{of_telephone}
+use Rattle.told_laws.specs.Walking.{AllButLost, TellsOfHeld, WalksButLost}
 
 -- what a line counts as lost
 abbrev pub lost_on : Option Endpoint → ℕ
@@ -37,3 +41,12 @@ ends_lost setup line m (event ∷ events) =
 pub record WalksAsCounted (ends : ℕ) (course : List CourseStep) (line : LineState) : Type 0 where
   pub walks : WalksButLost course line
   pub exact : line.quarantined.lost ≡ min most_lost (walks.lost + ends)
+
+-- The first notification behind a request, whatever is lost since: it tells of what the line had quarantined at the request, and of all the
+-- acts since but those that are lost, each of which the line counts on from what it had counted then, up to the greatest count.
+pub record TellsButLost (request : Request) (was is : LineState) (since : List CourseStep) (observed : List Observed) : Type 0 where
+  pub lost : ℕ
+  pub left : List CourseStep
+  pub others : AllButLost lost left since
+  pub counted : min most_lost (was.quarantined.lost + lost) ≤ is.quarantined.lost
+  pub told : TellsOfHeld request (of_telephone was.quarantined.events) (done_in left) observed

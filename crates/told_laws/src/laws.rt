@@ -22,7 +22,7 @@ ghost use Rattle.told_laws.specs.Among.{AreAmong, IsToldInOrder};
 ghost use Rattle.delivery_laws.specs.Dialled.{done_in, told_along, latest_from, IsAskedForAll, IsToldOnce};
 ghost use Rattle.told_laws.specs.Fate.{IsTakenOf, fates_of, joined, kept_of};
 ghost use Rattle.told_laws.specs.Stretch.{AnnouncesNothing, IsWhole, course_meanwhile, outliving, taken_meanwhile};
-ghost use Rattle.told_laws.specs.Counting.{ends_lost, WalksAsCounted};
+ghost use Rattle.told_laws.specs.Counting.{ends_lost, TellsButLost, WalksAsCounted};
 ghost use Rattle.told_laws.specs.Fronts.{course_amid, machine_amid, texts_apart, WalksAlong};
 ghost use Rattle.told_laws.specs.Walking.{nothing_asked, EmbedsNone, NoneLostSince, Walks, Stays, WalksButLost, AreActs};
 ghost use Rattle.told_laws.specs.Walking.{TellsAFront, TellsOfHeld, TellsWhatWasKept};
@@ -113,9 +113,10 @@ pub fn what_is_quarantined_is_told_behind_the_next_request()
 
 /// So it is at any request that a line accepts, in step and in loop, whatever was before, amid a datagram too: what the line has quarantined
 /// just then is what the request leaves, or discards; and of that, and of what was done since, the first notification behind it tells, in
-/// their order, each event that its R names, up to it, where it embeds no request, and none is lost since.
+/// their order, each event that its R names, up to it, where it embeds no request, and none is lost since. Where some are lost since, however
+/// many were before, it is so of all the others: it skips lost acts alone, and the line counts each, up to the greatest count.
 pub fn what_is_quarantined_at_a_request_is_told_behind_it()
-    ensures { (setup : Setup) (line : ℕ) (before after : List GatewayEvent) (source : SocketAddrV4) (bytes text : List ℕ)
+    ensures told { (setup : Setup) (line : ℕ) (before after : List GatewayEvent) (source : SocketAddrV4) (bytes text : List ℕ)
         (first texts : List (List ℕ)) (request : Request) (endpoint last : Endpoint) (between behind : List CourseStep)
         (identifier : List ℕ) (observed : List Observed) → texts_of bytes ≡ first ++ text ∷ texts →
         endpoint_at (machine_amid setup before source first).endpoints line ≡ Some endpoint →
@@ -126,6 +127,16 @@ pub fn what_is_quarantined_at_a_request_is_told_behind_it()
         ≡ accepts request ∷ (between ++ notifies identifier observed ∷ behind) →
         AreActs between →
         TellsOfHeld request (of_telephone endpoint.line.quarantined.events) (done_in between) observed }
+    ensures but_lost { (setup : Setup) (line : ℕ) (before after : List GatewayEvent) (source : SocketAddrV4) (bytes text : List ℕ)
+        (first texts : List (List ℕ)) (request : Request) (endpoint last : Endpoint) (between behind : List CourseStep)
+        (identifier : List ℕ) (observed : List Observed) → texts_of bytes ≡ first ++ text ∷ texts →
+        endpoint_at (machine_amid setup before source first).endpoints line ≡ Some endpoint →
+        endpoint_at (plain setup (before ++ datagram source bytes ∷ after)).endpoints line ≡ Some last →
+        accepted_at setup (machine_amid setup before source first) line (read_text text) ≡ accepts request ∷ [] →
+        EmbedsNone request.events →
+        course_amid setup (machine_amid setup before source first) line source (text ∷ texts) after
+        ≡ accepts request ∷ (between ++ notifies identifier observed ∷ behind) →
+        AreActs between → TellsButLost request endpoint.line last.line between observed }
 {}
 
 /// And where a line is asked for all that its telephone does before that does anything, and so at each request since, and nothing is lost
