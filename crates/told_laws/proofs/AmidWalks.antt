@@ -132,9 +132,13 @@ but_lost_by_text setup line before after source text request endpoint last betwe
     let count : ℕ = last.line.quarantined.lost in
     let goes : (p : Place) (w : List Observed) → At next.0.line p w → GoesButLost base count course (At last.line) p w =
     λ p w stands.
-    (let v = walked_on setup line now after next.0 last next.1 last_at p w (stands, λ closed. absurd (true≢false (sym begun.served ∙ closed))) in
-    (v.lost, v.left, v.others, v.counted,
-    walks_map v.left (StandsThen setup (now ++ after) last.line) (At last.line) p w (λ q x s. s.0) v.walk)) in
+    (let v = walked_on setup line now after next.0 last next.1 last_at p w (stands, λ closed. absurd (true≢false (sym begun.served ∙ closed))) in (
+      v.lost,
+      v.left,
+      v.others,
+      v.counted,
+      walks_map v.left (StandsThen setup (now ++ after) last.line) (At last.line) p w (λ q x s. s.0) v.walk,
+    )) in
     let so =
     goes_so base count course (At last.line) told place left
     (walks_map told (At next.0.line) (GoesButLost base count course (At last.line)) place left goes (begun.begun (sent_told (of_line line (handled setup m source (read_text text)).sent)))) in
