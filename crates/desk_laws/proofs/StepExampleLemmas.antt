@@ -15,7 +15,7 @@ use Rattle.live_agent.specs.Wakes.{first_woken}
 use Rattle.desk_laws.specs.Desk.{Desk, DeskTurn, after_turn, after_turns, answered_for, answers, desk_of, happens, held_by, opening_desk, taken_at, ticks, wakes_next, woken_by}
 use Rattle.desk_laws.specs.StepExample.{AreSo}
 use Rattle.desk_laws.proofs.AnswerLemmas.{desk_at}
-use Rattle.desk_laws.proofs.DeskLaws.{sound}
+use Rattle.desk_laws.proofs.DeskLaws.{ordered_wakes}
 use Rattle.desk_laws.proofs.WakeLemmas.{AllBy, InOrder}
 
 desk_with : (now is : ℕ) (cares kept : List Care) (wakes held : List Wake) → is ≡ now → kept ≡ cares → held ≡ wakes
@@ -84,14 +84,14 @@ not_back was is back leads_to =
 
 pub not_in_order : (lines : ℕ) (turns : List DeskTurn) (wakes : List Wake) → (InOrder wakes → ⊥)
     → (after_turns (opening_desk lines) turns).wakes ≡ wakes → ⊥
-not_in_order lines turns wakes never is = never (subst InOrder is (sound lines turns).order)
+not_in_order lines turns wakes never is = never (subst InOrder is (ordered_wakes lines turns).order)
 
 pub too_late : (lines : ℕ) (turns : List DeskTurn) (now : ℕ) (wakes : List Wake) → (AllBy (again_at now) wakes → ⊥)
     → (after_turns (opening_desk lines) turns).now ≡ now → (after_turns (opening_desk lines) turns).wakes ≡ wakes → ⊥
 too_late lines turns now wakes never clock is =
     never
     (subst (λ (moment : ℕ). AllBy (again_at moment) wakes) clock
-    (subst (AllBy (again_at (after_turns (opening_desk lines) turns).now)) is (sound lines turns).by))
+    (subst (AllBy (again_at (after_turns (opening_desk lines) turns).now)) is (ordered_wakes lines turns).by))
 
 -- the clock is one of 64 bits
 abbrev Within : Desk → Type 0
