@@ -1,6 +1,6 @@
 -- Each turn of an exchange and its desk is what a call of `live_agent` leaves.
 use Rattle.std.proofs.Common.{◌≡◌, ℕ, Bool, true, false, ◌||◌, if◌then◌else◌, List, [], ◌∷◌, Option, Some, None, inl, inr, refl, sym, ap, subst, ◌∙◌}
-use Rattle.std.specs.Prelude.{◌⊎◌, ◌+◌, option_map, slice_get}
+use Rattle.std.specs.Prelude.{◌+◌, option_map, slice_get}
 use Rattle.call_routing.specs.declared.command.Command.{Command}
 use Rattle.call_routing.specs.declared.command.Outcome.{Outcome}
 use Rattle.call_routing.specs.declared.command.Outcome.TheVariants.{GivenUp}
@@ -23,11 +23,11 @@ use Rattle.live_agent.specs.Showing.{shown_in}
 use Rattle.live_agent.specs.Turns.{AnswersAudit, Routes, TakesAnswer, TakesAudit, TakesResponse, TellsAudit, announced_by, cleared_by, forsaken, heard_by, outcome_with, told_by_audit}
 use Rattle.live_agent.specs.Wakes.{behind_woken, first_woken}
 use Rattle.desk_laws.specs.Attended.{Attended, AttendedTurn, announced_for, attended_by, attended_of, attended_one, attended_with, audited_for, begun_for, believed_for, cleared_for, displays, ended_for, forsaken_for, found_for, gives_up, heard_for, hears_announced, hears_answer, hears_told, is_passed_over, lets_pass, lost_or_taken, misses_told, sent_for, sent_or_landed, settles, told_for, wakes_line}
-use Rattle.desk_laws.specs.Desk.{Desk, DeskTurn, after_turn, after_turns, answers, begins, finds, happens, loses, opening_desk, taken_at, ticks, woken_by}
+use Rattle.desk_laws.specs.Desk.{Desk, DeskTurn, after_turn, after_turns, answers, begins, desk_of, finds, happens, loses, taken_at, ticks, woken_by}
 use Rattle.desk_laws.proofs.AnswerLemmas.{answers_as, desk_at, finds_as, given_up_as}
 use Rattle.desk_laws.proofs.AttendedLaws.{is_of_the_desk}
 use Rattle.desk_laws.proofs.AttendedLemmas.{care_here}
-use Rattle.desk_laws.proofs.DeskLaws.{is_alone}
+use Rattle.desk_laws.proofs.DeskLaws.{IsSound, sound}
 use Rattle.std.proofs.lemmas.Option.{none-some}
 
 -- The exchange's turns are what clauses call so
@@ -326,28 +326,29 @@ module _ (now line code : ℕ) (text : List ℕ) (cares kept : List Care) (wakes
   one_both mid false believed takes holds =
       taken_both mid duty refl believed (subst (λ (f : Option Duty). TakesResponse f line now code text was settled is mid) flight takes) holds
 
-pub is_one_turn : (count last lines line code : ℕ) (text : List ℕ) (turns : List AttendedTurn) (care : Care) (duty : Duty) (gateway then_is : Gateway)
-    (was is : Office) → attended_by count last lines turns ≡ attended_of gateway was → slice_get was.cares.items line ≡ Some care
-    → care.flight ≡ Some duty → Answers line code text gateway was then_is is
-    → (outcome : Outcome)
+-- what it leaves is one turn of both
+abbrev pub LeavesOneTurn : ℕ → ℕ → Gateway → Gateway → Office → Office → Type 0
+LeavesOneTurn line code gateway then_is was is =
+    (outcome : Outcome)
     × ((hook : Told)
     × ((is_refused : Bool)
     × (attended_one (attended_of gateway was) (hears_answer line code outcome hook is_refused)
     ≡ attended_with is.exchange (record { now = gateway.ticked; cares = is.cares.items; wakes = then_is.wakes.items }))))
-is_one_turn count last lines line code text turns care duty gateway then_is was is same there flies answered =
+
+pub one_turn_at : (line code : ℕ) (text : List ℕ) (care : Care) (duty : Duty) (gateway then_is : Gateway) (was is : Office) → IsSound (desk_of gateway was)
+    → slice_get was.cares.items line ≡ Some care → care.flight ≡ Some duty → Answers line code text gateway was then_is is
+    → LeavesOneTurn line code gateway then_is was is
+one_turn_at line code text care duty gateway then_is was is s there flies answered =
     one_both gateway.ticked line code text was.cares.items is.cares.items gateway.wakes.items then_is.wakes.items was.exchange is.exchange care duty
     there flies (free care.again refl) answered.0 (is_outlived (slice_get was.cares.items line)) refl answered.1 answered.2 where
-      desk_then : (more : List DeskTurn) → (attended_by count last lines turns).desk ≡ after_turns (opening_desk lines) more
-          → (moment : ℕ) → care.again ≡ Some moment → care.again ≡ None
-      desk_then more so moment held =
-          absurd
-          (none-some duty
-          (sym
-          (is_alone lines line more care moment
-          (ap (λ (desk : Desk). slice_get desk.cares line) (sym so ∙ ap (λ (attended : Attended). attended.desk) same) ∙ there) held)
-          ∙ flies))
-
       free : (again : Option ℕ) → care.again ≡ again → care.again ≡ None
       free None none = none
-      free (Some moment) held =
-          let of_desk = is_of_the_desk count last lines turns in desk_then of_desk.0 of_desk.1 moment held
+      free (Some moment) held = absurd (none-some duty (sym (s.alone line care there moment held) ∙ flies))
+
+pub is_one_turn : (count last lines line code : ℕ) (text : List ℕ) (turns : List AttendedTurn) (care : Care) (duty : Duty) (gateway then_is : Gateway)
+    (was is : Office) → attended_by count last lines turns ≡ attended_of gateway was → slice_get was.cares.items line ≡ Some care
+    → care.flight ≡ Some duty → Answers line code text gateway was then_is is → LeavesOneTurn line code gateway then_is was is
+is_one_turn count last lines line code text turns care duty gateway then_is was is same there flies answered =
+    let of_desk = is_of_the_desk count last lines turns in
+    one_turn_at line code text care duty gateway then_is was is
+    (subst IsSound (sym of_desk.1 ∙ ap (λ (attended : Attended). attended.desk) same) (sound lines of_desk.0)) there flies answered

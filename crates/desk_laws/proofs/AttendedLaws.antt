@@ -1,7 +1,7 @@
 -- What the exchange has in flight at a line of a gateway the desk of that gateway has too, and no more: turn after turn of both. So a line
 -- goes on, whatever is in flight.
 use Rattle.std.proofs.Common.{◌≡◌, ◌≢◌, ℕ, Bool, true, false, if◌then◌else◌, List, [], ◌∷◌, ◌++◌, Option, Some, None, inl, inr, refl, sym, ap, subst, ◌∙◌}
-use Rattle.std.specs.Prelude.{◌⊎◌, ◌&&◌, nat_le, not, option_map, slice_get}
+use Rattle.std.specs.Prelude.{◌⊎◌, ◌&&◌, nat_le, not, option_map, replicate, slice_get}
 use Rattle.std.specs.List.{list_all}
 use Rattle.std.proofs.lemmas.Bool.{and_parts, cases_eq, not-true, true≢false}
 use Rattle.std.proofs.lemmas.List.Folds.{list_all-append}
@@ -21,8 +21,9 @@ use Rattle.call_laws.proofs.FlightLaws.{clear_by, new_free, tell_by}
 use Rattle.live_agent.specs.declared.care.Duty.{Duty}
 use Rattle.live_agent.specs.declared.care.Duty.TheVariants.{Clear, Audit, Route}
 use Rattle.live_agent.specs.declared.care.Care.{Care}
+use Rattle.live_agent.specs.declared.gateway.Wake.{Wake}
 use Rattle.live_agent.specs.AgentClock.{tick_to}
-use Rattle.live_agent.specs.Duties.{announced, begun, found, is_held, landed, next_behind, owed, told_care, told_of, told_still}
+use Rattle.live_agent.specs.Duties.{announced, begun, found, is_held, landed, new_care, next_behind, owed, told_care, told_of, told_still}
 use Rattle.live_agent.specs.Hooks.{is_off_hook, notified}
 use Rattle.live_agent.specs.Orders.{cared, duty_of, flight_of, is_outlived, is_put_off_in, ordered, ordered_by, routed, routed_by, was_found_off}
 use Rattle.live_agent.specs.Showing.{shown_in}
@@ -31,17 +32,17 @@ use Rattle.desk_laws.specs.Attended.{AreApart, Attended, AttendedTurn, WaitsFor,
 use Rattle.desk_laws.specs.Desk.{Desk, DeskTurn, GoesOn, after_turn, after_turns, answers, begins, happens, loses, opening_desk}
 use Rattle.desk_laws.proofs.AttendedLemmas.{AreElsewhere, AreOfOthers, announced_keeps, answered_here, answers_here, begins_here, care_here, desk_of_others, flight_at, flight_kept, free_before, lands_here, lost_here, new_idle, sent_here, ticks_keep, turn_elsewhere, turns_elsewhere, wakes_keep}
 use Rattle.desk_laws.proofs.CareLemmas.{same_some}
-use Rattle.desk_laws.proofs.DeskLaws.{goes_on}
+use Rattle.desk_laws.proofs.DeskLaws.{IsSound, goes_on_at, sound}
 
 -- what is in flight at the desk is a command of the exchange's
-abbrev is_routed : Option Duty → Bool
+abbrev pub is_routed : Option Duty → Bool
 is_routed None = false
 is_routed (Some Clear) = false
 is_routed (Some Audit) = false
 is_routed (Some Route) = true
 
 -- the exchange has something in flight at a line where the desk has a command of the exchange's in flight to it, and there alone
-abbrev Agree : ExchangeState → Desk → ℕ → Type 0
+abbrev pub Agree : ExchangeState → Desk → ℕ → Type 0
 Agree exchange desk line = is_in_flight exchange line ≡ is_routed (flight_at desk.cares line)
 
 -- A line is settled
@@ -297,7 +298,7 @@ turn_agrees own attended (elsewhere turn) line apart mine agree =
 
 -- All turns
 
-all_agree : (own : ℕ → Bool) (attended : Attended) (turns : List AttendedTurn) (line : ℕ) → AreApart own turns → own line ≡ true
+pub all_agree : (own : ℕ → Bool) (attended : Attended) (turns : List AttendedTurn) (line : ℕ) → AreApart own turns → own line ≡ true
     → Agree attended.exchange attended.desk line → Agree (attended_all attended turns).exchange (attended_all attended turns).desk line
 unfolding attended_all
 all_agree own attended [] line apart mine agree = agree
@@ -305,12 +306,17 @@ all_agree own attended (turn ∷ turns) line apart mine agree =
     let parts = and_parts (is_apart own turn) (list_all (is_apart own) turns) apart in
     all_agree own (attended_one attended turn) turns line parts.1 mine (turn_agrees own attended turn line parts.0 mine agree)
 
+-- an exchange that opens, and a desk of lines of which nothing is known yet, whatever its clock is, and whatever it sends again
+pub opening_agrees : (count last lines line now : ℕ) (wakes : List Wake)
+    → Agree (opening count last) (record { now = now; cares = replicate lines new_care; wakes = wakes }) line
+opening_agrees count last lines line now wakes = new_free count line ∙ sym (ap is_routed (new_idle lines line))
+
 always_agree : (own : ℕ → Bool) (count last lines line : ℕ) (turns : List AttendedTurn) → AreApart own turns → own line ≡ true
     → Agree (attended_by count last lines turns).exchange (attended_by count last lines turns).desk line
 always_agree own count last lines line turns apart mine =
-    all_agree own (opening_attended count last lines) turns line apart mine (new_free count line ∙ sym (ap is_routed (new_idle lines line)))
+    all_agree own (opening_attended count last lines) turns line apart mine (opening_agrees count last lines line 0 [])
 
-routed_flight : (flight : Option Duty) → is_routed flight ≡ true → flight ≡ Some Route
+pub routed_flight : (flight : Option Duty) → is_routed flight ≡ true → flight ≡ Some Route
 routed_flight None routed = absurd (true≢false (sym routed))
 routed_flight (Some Clear) routed = absurd (true≢false (sym routed))
 routed_flight (Some Audit) routed = absurd (true≢false (sym routed))
@@ -339,7 +345,7 @@ unfolding after
 exchange_behind exchange [] more = refl
 exchange_behind exchange (turn ∷ some) more = exchange_behind (after_one exchange turn) some more
 
-desk_all : (attended : Attended) (turns : List AttendedTurn) → (more : List DeskTurn) × ((attended_all attended turns).desk ≡ after_turns attended.desk more)
+pub desk_all : (attended : Attended) (turns : List AttendedTurn) → (more : List DeskTurn) × ((attended_all attended turns).desk ≡ after_turns attended.desk more)
 unfolding attended_all after_turns
 desk_all attended [] = ([], refl)
 desk_all attended (turn ∷ turns) =
@@ -363,25 +369,22 @@ is_of_the_exchange count last lines turns = exchange_all (opening_attended count
 
 -- A line goes on, whatever is in flight
 
+pub goes_on_at_both : (attended : Attended) (line : ℕ) (care : Care) (map : List ℕ) (phase : Phase) (is : Line) → IsSound attended.desk
+    → Agree attended.exchange attended.desk line → care_in attended line ≡ Some care → phase_of attended.exchange line ≡ Some phase
+    → line_of attended.exchange line ≡ Some is → GoesOn attended.desk line care attended.exchange map phase is.asked
+goes_on_at_both attended line care map phase is s agree there here known = by_flight (is_in_flight attended.exchange line) refl where
+  by_flight : (b : Bool) → is_in_flight attended.exchange line ≡ b → GoesOn attended.desk line care attended.exchange map phase is.asked
+  by_flight true flies = inl (Route, sym (ap flight_of there) ∙ routed_flight (flight_of (care_in attended line)) (sym agree ∙ flies))
+  by_flight false idle = goes_on_at attended.desk line care attended.exchange map phase is s there here known idle
+
 pub goes_on_attended : (own : ℕ → Bool) (count last lines line : ℕ) (turns : List AttendedTurn) (care : Care) (map : List ℕ) (phase : Phase) (is : Line)
     → AreApart own turns → own line ≡ true → care_in (attended_by count last lines turns) line ≡ Some care
     → phase_of (attended_by count last lines turns).exchange line ≡ Some phase → line_of (attended_by count last lines turns).exchange line ≡ Some is
     → GoesOn (attended_by count last lines turns).desk line care (attended_by count last lines turns).exchange map phase is.asked
 goes_on_attended own count last lines line turns care map phase is apart mine there here known =
-    by_flight (is_in_flight (attended_by count last lines turns).exchange line) refl where
-      desk_there : (more : List DeskTurn) → (attended_by count last lines turns).desk ≡ after_turns (opening_desk lines) more
-          → is_in_flight (attended_by count last lines turns).exchange line ≡ false
-          → GoesOn (attended_by count last lines turns).desk line care (attended_by count last lines turns).exchange map phase is.asked
-      desk_there more same idle =
-          subst (λ (desk : Desk). GoesOn desk line care (attended_by count last lines turns).exchange map phase is.asked) (sym same)
-          (goes_on lines line more care (attended_by count last lines turns).exchange map phase is
-          (sym (ap (λ (desk : Desk). slice_get desk.cares line) same) ∙ there) here known idle)
-
-      by_flight : (b : Bool) → is_in_flight (attended_by count last lines turns).exchange line ≡ b
-          → GoesOn (attended_by count last lines turns).desk line care (attended_by count last lines turns).exchange map phase is.asked
-      by_flight true flies = inl (Route, sym (ap flight_of there) ∙ has_it_too own count last lines line turns apart mine flies)
-      by_flight false idle =
-          let of_desk = is_of_the_desk count last lines turns in desk_there of_desk.0 of_desk.1 idle
+    let of_desk = is_of_the_desk count last lines turns in
+    goes_on_at_both (attended_by count last lines turns) line care map phase is (subst IsSound (sym of_desk.1) (sound lines of_desk.0))
+    (always_agree own count last lines line turns apart mine) there here known
 
 -- A line that was just settled is sent nothing
 

@@ -1,6 +1,6 @@
 -- What the calls of live_agent do to an exchange and to the desk of its gateway is turns of both; so a line of the program's goes on.
 use Rattle.std.proofs.Common.{◌≡◌, ℕ, zero, suc, ◌≤◌, Bool, true, false, if◌then◌else◌, List, [], ◌∷◌, ◌++◌, Option, Some, None, inl, inr, refl, sym, ap, subst, ◌∙◌}
-use Rattle.std.specs.Prelude.{◌⊎◌, ◌&&◌, is_none, nat_le, remove, replicate, slice_get, slice_set}
+use Rattle.std.specs.Prelude.{◌&&◌, is_none, nat_le, remove, replicate, slice_get, slice_set}
 use Rattle.std.specs.Global.{Box}
 use Rattle.std.specs.List.{list_all}
 use Rattle.std.proofs.lemmas.Bool.{le-leb}
@@ -28,14 +28,15 @@ use Rattle.live_agent.specs.Showing.{shown_in}
 use Rattle.live_agent.specs.Steps.{Announces, Begins, BeginsBy, Forgets, Hears, Issues, OfOffice, Ticks, ToldOf, Wakens, cares_announced, cares_if, exchange_announced, exchange_if, is_meant, landed_if, line_behind}
 use Rattle.live_agent.specs.Turns.{forsaken, heard_by}
 use Rattle.live_agent.specs.Wakes.{behind_by, behind_woken, first_woken, woken_by as woken_first}
-use Rattle.desk_laws.specs.Attended.{AreApart, Attended, AttendedTurn, attended_all, attended_by, attended_of, attended_one, attended_with, care_in, displays, gives_up, hears_announced, hears_answer, hears_told, is_apart, lets_pass, misses_told, settles, wakes_line}
+use Rattle.desk_laws.specs.Attended.{AreApart, Attended, AttendedTurn, attended_all, attended_by, attended_of, attended_one, attended_with, displays, gives_up, hears_announced, hears_answer, hears_told, is_apart, lets_pass, misses_told, settles, wakes_line}
 use Rattle.desk_laws.specs.Desk.{GoesOn, desk_of, opening_desk}
 use Rattle.desk_laws.specs.Steps as calls
 use Rattle.desk_laws.specs.Steps.{Does, Runs, Stands, Step}
 use Rattle.desk_laws.proofs.AnswerLemmas.{desk_at, same_desk}
-use Rattle.desk_laws.proofs.AttendedCalls.{announced_so, gives_up_so, is_one_turn, lets_pass_so, refused_so, same_both, settled_audited, settled_cleared, settled_held, settled_nothing, settled_routed, shown_so, told_so, woken_so}
-use Rattle.desk_laws.proofs.AttendedLaws.{goes_on_attended, has_it_too}
+use Rattle.desk_laws.proofs.AttendedCalls.{announced_so, gives_up_so, lets_pass_so, one_turn_at, refused_so, same_both, settled_audited, settled_cleared, settled_held, settled_nothing, settled_routed, shown_so, told_so, woken_so}
+use Rattle.desk_laws.proofs.AttendedLaws.{Agree, all_agree, desk_all, goes_on_at_both, is_routed, opening_agrees, routed_flight}
 use Rattle.desk_laws.proofs.CareLemmas.{same_some}
+use Rattle.desk_laws.proofs.DeskLaws.{IsSound, new_sound, turns_sound}
 
 -- all lines are the gateway's
 abbrev anyone : ℕ → Bool
@@ -293,93 +294,103 @@ settled_so gateway was is stays =
     (same_at was.value.exchange is.value.exchange gateway.ticked was.value.cares.items is.value.cares.items gateway.wakes.items gateway.wakes.items
     (ap (λ (office : Office). office.exchange) stays.1) (ap (λ (office : Office). office.cares.items) stays.1) refl)
 
-module _ (count last lines : ℕ) (turns : List AttendedTurn) (gateway after : Gateway) where
+module _ (gateway after : Gateway) where
   answered_so : (line code : ℕ) (text : List ℕ) (care : Care) (duty : Duty) (was is : Office)
-      → attended_by count last lines turns ≡ attended_of gateway was → after.ticked ≡ gateway.ticked → slice_get was.cares.items line ≡ Some care
+      → IsSound (desk_of gateway was) → after.ticked ≡ gateway.ticked → slice_get was.cares.items line ≡ Some care
       → care.flight ≡ Some duty → Answers line code text gateway was after is → Leads (attended_of gateway was) (attended_of after is)
-  answered_so line code text care duty was is before clock here flies answers =
-      let one = is_one_turn count last lines line code text turns care duty gateway after was is before here flies answers in
+  answered_so line code text care duty was is s clock here flies answers =
+      let one = one_turn_at line code text care duty gateway after was is s here flies answers in
       leads_one (attended_of gateway was) (attended_of after is) (hears_answer line code one.0 one.1.0 one.1.1.0) refl
       (one.1.1.1 ∙ ap (λ (now : ℕ). both_at is.exchange now is.cares.items after.wakes.items) (sym clock))
 
-  does_lead : (step : Step) (was is : Box Office) → attended_by count last lines turns ≡ attended_of gateway was.value
-      → Does step gateway was after is → Leads (attended_of gateway was.value) (attended_of after is.value)
-  does_lead (calls.gives_up line) was is before does =
+  does_lead : (step : Step) (was is : Box Office) → IsSound (desk_of gateway was.value) → Does step gateway was after is → Leads (attended_of gateway was.value) (attended_of after is.value)
+  does_lead (calls.gives_up line) was is s does =
       stood gateway after was.value is.value does.0
       (given_up line gateway.ticked was.value.exchange is.value.exchange was.value.cares.items is.value.cares.items gateway.wakes.items does.1)
-  does_lead (calls.announces_lines is_restart pattern first many) was is before does =
+  does_lead (calls.announces_lines is_restart pattern first many) was is s does =
       stood gateway after was.value is.value does.0
       (announced_all is_restart pattern first many gateway.ticked was.value.exchange is.value.exchange was.value.cares.items is.value.cares.items
       gateway.wakes.items does.1)
-  does_lead (calls.hears_line line) was is before does =
+  does_lead (calls.hears_line line) was is s does =
       let hears = does.1 in
       stood gateway after was.value is.value does.0
       (heard hears.0 line gateway.ticked was.value.exchange is.value.exchange was.value.cares.items is.value.cares.items gateway.wakes.items hears.1)
-  does_lead (calls.tells_of line) was is before does =
+  does_lead (calls.tells_of line) was is s does =
       stood gateway after was.value is.value does.0
       (told_of_it line gateway.ticked was.value.exchange is.value.exchange was.value.cares.items is.value.cares.items gateway.wakes.items does.1)
-  does_lead (calls.issues_to fails line) was is before does =
+  does_lead (calls.issues_to fails line) was is s does =
       stood gateway after was.value is.value does.0 (issued fails line gateway was is does.1)
-  does_lead calls.settles was is before does = stood gateway after was.value is.value does.0 (settled_so gateway was is does.1)
-  does_lead (calls.takes_answer line code text) was is before does =
+  does_lead calls.settles was is s does = stood gateway after was.value is.value does.0 (settled_so gateway was is does.1)
+  does_lead (calls.takes_answer line code text) was is s does =
       let flies = does.1 in
-      answered_so line code text flies.0 flies.1 was.value is.value before does.0 flies.2 flies.3 does.2
-  does_lead calls.wakens was is before does = woken_next gateway after was is does.0 does.1
-  does_lead (calls.goes_on_to done moment) was is before does =
+      answered_so line code text flies.0 flies.1 was.value is.value s does.0 flies.2 flies.3 does.2
+  does_lead calls.wakens was is s does = woken_next gateway after was is does.0 does.1
+  does_lead (calls.goes_on_to done moment) was is s does =
       subst (λ (office : Box Office). Leads (attended_of gateway was.value) (attended_of after office.value)) (sym does.2)
       (ticked done moment gateway after was.value does.0 does.1)
 
-runs_lead : (steps : List Step) (count last lines : ℕ) (gateway after : Gateway) (was is : Box Office)
-    → Leads (attended_with (opening count last) (opening_desk lines)) (attended_of gateway was.value) → Runs steps gateway was after is
-    → Leads (attended_with (opening count last) (opening_desk lines)) (attended_of after is.value)
-runs_lead [] count last lines gateway after was is before ends =
-    leads_both (attended_with (opening count last) (opening_desk lines)) (attended_of gateway was.value) (attended_of after is.value) before
+-- a desk that turns led to
+sound_then : (start is : Attended) → IsSound start.desk → Leads start is → IsSound is.desk
+sound_then start is s leads =
+    let of_desk = desk_all start leads.0 in
+    subst IsSound (sym of_desk.1 ∙ ap (λ (attended : Attended). attended.desk) leads.2) (turns_sound start.desk of_desk.0 s)
+
+runs_lead : (steps : List Step) (start : Attended) (gateway after : Gateway) (was is : Box Office) → IsSound start.desk
+    → Leads start (attended_of gateway was.value) → Runs steps gateway was after is → Leads start (attended_of after is.value)
+runs_lead [] start gateway after was is s before ends =
+    leads_both start (attended_of gateway was.value) (attended_of after is.value) before
     (leads_none (attended_of gateway was.value) (attended_of after is.value)
     (ap (λ (one : Gateway). attended_of one was.value) (sym ends.0) ∙ ap (λ (office : Box Office). attended_of after office.value) (sym ends.1)))
-runs_lead (step ∷ steps) count last lines gateway after was is before runs =
+runs_lead (step ∷ steps) start gateway after was is s before runs =
     let next = runs.0 in
     let mid = runs.1 in
-    runs_lead steps count last lines next after mid is
-    (leads_both (attended_with (opening count last) (opening_desk lines)) (attended_of gateway was.value) (attended_of next mid.value) before
-    (does_lead count last lines before.0 gateway next step was mid before.2 runs.2))
+    runs_lead steps start next after mid is s
+    (leads_both start (attended_of gateway was.value) (attended_of next mid.value) before
+    (does_lead gateway next step was mid (sound_then start (attended_of gateway was.value) s before) runs.2))
     runs.3
 
 -- a gateway and an office as they are at the start
-pub all_lead : (count last lines : ℕ) (steps : List Step) (gateway after : Gateway) (was is : Box Office) → gateway.ticked ≡ 0
-    → gateway.wakes.items ≡ [] → was.value.exchange ≡ opening count last → was.value.cares.items ≡ replicate lines new_care
-    → Runs steps gateway was after is → Leads (attended_with (opening count last) (opening_desk lines)) (attended_of after is.value)
-all_lead count last lines steps gateway after was is clock none opens cares runs =
-    runs_lead steps count last lines gateway after was is
-    (leads_none (attended_with (opening count last) (opening_desk lines)) (attended_of gateway was.value)
-    (ap (attended_with (opening count last)) (same_clock 0 gateway.ticked (replicate lines new_care) [] gateway.wakes.items clock none)
-    ∙ same_at (opening count last) was.value.exchange gateway.ticked (replicate lines new_care) was.value.cares.items gateway.wakes.items
-    gateway.wakes.items opens cares refl))
-    runs
-
 pub are_turns : (count last lines : ℕ) (steps : List Step) (gateway after : Gateway) (was is : Box Office) → gateway.ticked ≡ 0
     → gateway.wakes.items ≡ [] → was.value.exchange ≡ opening count last → was.value.cares.items ≡ replicate lines new_care
     → Runs steps gateway was after is → (turns : List AttendedTurn) × (attended_by count last lines turns ≡ attended_of after is.value)
 are_turns count last lines steps gateway after was is clock none opens cares runs =
-    let all = all_lead count last lines steps gateway after was is clock none opens cares runs in (all.0, all.2)
+    let all = runs_lead steps (attended_with (opening count last) (opening_desk lines)) gateway after was is (new_sound lines 0 [])
+    (leads_none (attended_with (opening count last) (opening_desk lines)) (attended_of gateway was.value)
+    (ap (attended_with (opening count last)) (same_clock 0 gateway.ticked (replicate lines new_care) [] gateway.wakes.items clock none)
+    ∙ same_at (opening count last) was.value.exchange gateway.ticked (replicate lines new_care) was.value.cares.items gateway.wakes.items
+    gateway.wakes.items opens cares refl))
+    runs in (all.0, all.2)
 
-pub flies_too : (count last lines line : ℕ) (steps : List Step) (gateway after : Gateway) (was is : Box Office) → gateway.ticked ≡ 0
-    → gateway.wakes.items ≡ [] → was.value.exchange ≡ opening count last → was.value.cares.items ≡ replicate lines new_care
-    → Runs steps gateway was after is → is_in_flight is.value.exchange line ≡ true → flight_of (slice_get is.value.cares.items line) ≡ Some Route
-flies_too count last lines line steps gateway after was is clock none opens cares runs flies =
-    let all = all_lead count last lines steps gateway after was is clock none opens cares runs in
-    sym (ap (λ (attended : Attended). flight_of (care_in attended line)) all.2)
-    ∙ has_it_too anyone count last lines line all.0 all.1 refl
-    (ap (λ (attended : Attended). is_in_flight attended.exchange line) all.2 ∙ flies)
+-- an exchange and lines as they are at the start, whatever the clock is, and whatever is sent again
+module _ (count last lines line : ℕ) (steps : List Step) (gateway after : Gateway) (was is : Box Office)
+    (opens : was.value.exchange ≡ opening count last) (cares : was.value.cares.items ≡ replicate lines new_care) (runs : Runs steps gateway was after is) where
+  start_sound : IsSound (desk_of gateway was.value)
+  start_sound =
+      subst (λ (kept : List Care). IsSound (desk_at gateway.ticked kept gateway.wakes.items)) (sym cares)
+      (new_sound lines gateway.ticked gateway.wakes.items)
 
-pub goes_on_then : (count last lines line : ℕ) (steps : List Step) (gateway after : Gateway) (was is : Box Office) (care : Care) (map : List ℕ)
-    (phase : Phase) (of : Line) → gateway.ticked ≡ 0 → gateway.wakes.items ≡ [] → was.value.exchange ≡ opening count last
-    → was.value.cares.items ≡ replicate lines new_care → Runs steps gateway was after is → slice_get is.value.cares.items line ≡ Some care
-    → phase_of is.value.exchange line ≡ Some phase → line_of is.value.exchange line ≡ Some of
-    → GoesOn (desk_of after is.value) line care is.value.exchange map phase of.asked
-goes_on_then count last lines line steps gateway after was is care map phase of clock none opens cares runs there here known =
-    let all = all_lead count last lines steps gateway after was is clock none opens cares runs in
-    subst (λ (attended : Attended). GoesOn attended.desk line care attended.exchange map phase of.asked) all.2
-    (goes_on_attended anyone count last lines line all.0 care map phase of all.1 refl
-    (ap (λ (attended : Attended). care_in attended line) all.2 ∙ there)
-    (ap (λ (attended : Attended). phase_of attended.exchange line) all.2 ∙ here)
-    (ap (λ (attended : Attended). line_of attended.exchange line) all.2 ∙ known))
+  start_agrees : Agree was.value.exchange (desk_of gateway was.value) line
+  start_agrees =
+      ap (λ (exchange : ExchangeState). is_in_flight exchange line) opens
+      ∙ (opening_agrees count last lines line gateway.ticked gateway.wakes.items
+      ∙ ap (λ (kept : List Care). is_routed (flight_of (slice_get kept line))) (sym cares))
+
+  leads_on : Leads (attended_of gateway was.value) (attended_of after is.value)
+  leads_on =
+      runs_lead steps (attended_of gateway was.value) gateway after was is start_sound
+      (leads_none (attended_of gateway was.value) (attended_of gateway was.value) refl) runs
+
+  agrees_then : Agree is.value.exchange (desk_of after is.value) line
+  agrees_then =
+      subst (λ (attended : Attended). Agree attended.exchange attended.desk line) leads_on.2
+      (all_agree anyone (attended_of gateway was.value) leads_on.0 line leads_on.1 refl start_agrees)
+
+  pub flies_too : is_in_flight is.value.exchange line ≡ true → flight_of (slice_get is.value.cares.items line) ≡ Some Route
+  flies_too flies = routed_flight (flight_of (slice_get is.value.cares.items line)) (sym agrees_then ∙ flies)
+
+  pub goes_on_then : (care : Care) (map : List ℕ) (phase : Phase) (of : Line) → slice_get is.value.cares.items line ≡ Some care
+      → phase_of is.value.exchange line ≡ Some phase → line_of is.value.exchange line ≡ Some of
+      → GoesOn (desk_of after is.value) line care is.value.exchange map phase of.asked
+  goes_on_then care map phase of there here known =
+      goes_on_at_both (attended_of after is.value) line care map phase of
+      (sound_then (attended_of gateway was.value) (attended_of after is.value) start_sound leads_on) agrees_then there here known

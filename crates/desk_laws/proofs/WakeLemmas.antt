@@ -49,12 +49,6 @@ pub order_last : (wakes : List Wake) (wake : Wake) → AllBy wake.moment wakes �
 order_last [] wake all order = (tt, tt)
 order_last (one ∷ wakes) wake all order = (from_last one.moment wakes wake all.0 order.0, order_last wakes wake all.1 order.1)
 
-pub stands_by : (most : ℕ) (wakes : List Wake) (wake : Wake) → AllBy most wakes → StandsAmong wake wakes → wake.moment ≤ most
-stands_by most [] wake all stands = absurd stands
-stands_by most (one ∷ wakes) wake all (inl is) =
-    (let low : one.moment ≤ most = all.0 in let same : one.moment ≡ wake.moment = ap (λ (w : Wake). w.moment) is in omega (arith, low, same))
-stands_by most (one ∷ wakes) wake all (inr there) = stands_by most wakes wake all.1 there
-
 stands_from : (least : ℕ) (wakes : List Wake) (wake : Wake) → AllFrom least wakes → StandsAmong wake wakes → least ≤ wake.moment
 stands_from least [] wake all stands = absurd stands
 stands_from least (one ∷ wakes) wake all (inl is) =
