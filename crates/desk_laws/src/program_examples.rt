@@ -8,17 +8,19 @@ ghost use Rattle.call_laws.specs.Turns.{is_in_flight};
 ghost use Rattle.live_agent.specs.declared.gateway.Gateway.{Gateway};
 ghost use Rattle.live_agent.specs.declared.office.Office.{Office};
 ghost use Rattle.live_agent.specs.Duties.{new_care};
-ghost use Rattle.live_agent.specs.Example.{wake_at};
+ghost use Rattle.live_agent.specs.Example.{deleted_later, wake_at};
 ghost use Rattle.live_agent.specs.Orders.{flight_of};
 ghost use Rattle.desk_laws.specs.Attended.{AttendedTurn, attended_by, attended_of};
 ghost use Rattle.desk_laws.specs.Desk.{DeskTurn, GoesOn, after_turns, desk_of, opening_desk};
 ghost use Rattle.desk_laws.specs.Example.{asked_meanwhile, held_care, routed_care};
+ghost use Rattle.desk_laws.specs.StepExample.{AreSo};
 ghost use Rattle.desk_laws.specs.Steps.{Runs};
 
 use call_routing::Phase;
 
 /// Without a call all is as it was. So where the exchange, or what is kept of its lines, wasn't as at the start, or isn't where calls lead,
-/// the exchange may have in flight what the desk hasn't, and a line may not go on.
+/// the exchange may have in flight what the desk hasn't, and a line may not go on. Nor does it where what was put off at 500 is to be sent
+/// again at 1,500, and the clock has gone back to 100: that is further off than 1,000 ms.
 pub fn else_a_line_of_the_program_may_not_go_on()
     ensures no_call { (gateway : Gateway) (office : Box Office) → Runs [] gateway office gateway office }
     ensures not_opened { (office : Box Office) → office.value.exchange ≡ asked_meanwhile →
@@ -32,6 +34,9 @@ pub fn else_a_line_of_the_program_may_not_go_on()
         was.value.cares.items ≡ replicate 2 new_care → is.value.exchange ≡ asked_meanwhile →
         is.value.cares.items ≡ routed_care ∷ routed_care ∷ [] →
         ¬ GoesOn (desk_of gateway is.value) 0 routed_care is.value.exchange [] Phase.Resting None }
+    ensures goes_back { (gateway : Gateway) (office : Box Office) → office.value.exchange ≡ opening 3 0 →
+        AreSo gateway office.value 100 (deleted_later ∷ []) (wake_at 1500 0 ∷ []) →
+        ¬ GoesOn (desk_of gateway office.value) 0 deleted_later office.value.exchange [] Phase.Resting None }
 {}
 
 /// Nor do turns lead to a start at a moment that isn't one of 64 bits, or at which something is sent again 5,000 ms later already.

@@ -1,4 +1,4 @@
-use Rattle.std.proofs.Common.{◌≡◌, List, [], None, inl, inr, refl, ap, subst}
+use Rattle.std.proofs.Common.{◌≡◌, ℕ, ◌≤◌, List, [], None, inl, inr, refl, ap, subst, arith}
 use Rattle.std.specs.Prelude.{slice_get}
 use Rattle.std.proofs.lemmas.Option.{none-some}
 use Rattle.call_routing.specs.declared.phase.Phase.TheVariants.{Resting}
@@ -6,9 +6,12 @@ use Rattle.call_routing.specs.Exchange.{ExchangeState}
 use Rattle.call_laws.specs.Turns.{is_in_flight}
 use Rattle.live_agent.specs.declared.care.Care.{Care}
 use Rattle.live_agent.specs.declared.gateway.Wake.{Wake}
+use Rattle.live_agent.specs.Duties.{again_at}
+use Rattle.live_agent.specs.Example.{deleted_later}
 use Rattle.live_agent.specs.Orders.{flight_of}
 use Rattle.desk_laws.specs.Desk.{Desk, GoesOn, StandsAmong, desk_of}
 use Rattle.desk_laws.specs.Example.{asked_meanwhile, held_care, routed_care}
+use Rattle.desk_laws.proofs.CareLemmas.{same_some}
 use Rattle.desk_laws.proofs.Computing.{on_examples}
 use Rattle.desk_laws.proofs.program_examples.else_a_line_of_the_program_may_not_go_on.Goals as goal
 
@@ -25,6 +28,15 @@ asked_in_vain desk (inl flies) = none-some flies.0 flies.1
 asked_in_vain desk (inr (inl h)) = none-some h.0 h.1.again
 asked_in_vain desk (inr (inr (inl sends))) = none-some sends.0 sends.1
 asked_in_vain desk (inr (inr (inr asked))) = absurd cc
+
+held_too_long : (exchange : ExchangeState) (desk : Desk) → desk.now ≡ 100 → GoesOn desk 0 deleted_later exchange [] Resting None → ⊥
+held_too_long exchange desk clock (inl flies) = none-some flies.0 flies.1
+held_too_long exchange desk clock (inr (inl h)) =
+    absurd
+    (let soon : h.0 ≤ again_at 100 = subst (λ (now : ℕ). h.0 ≤ again_at now) clock h.1.soon in
+    let same : 1500 ≡ h.0 = same_some 1500 h.0 h.1.again in omega (arith, soon, same))
+held_too_long exchange desk clock (inr (inr (inl sends))) = none-some sends.0 sends.1
+held_too_long exchange desk clock (inr (inr (inr asked))) = absurd cc
 
 pub returns-clause-no_call : goal.returns-clause-no_call
 returns-clause-no_call c = λ gateway office. (refl, refl)
@@ -43,3 +55,7 @@ pub returns-clause-not_run : goal.returns-clause-not_run
 returns-clause-not_run c = λ gateway was is opens new then_is kept goes_on.
     asked_in_vain (desk_of gateway is.value)
     (subst (λ (exchange : ExchangeState). GoesOn (desk_of gateway is.value) 0 routed_care exchange [] Resting None) then_is goes_on)
+
+pub returns-clause-goes_back : goal.returns-clause-goes_back
+returns-clause-goes_back c = λ gateway office opens so goes_on.
+    held_too_long office.value.exchange (desk_of gateway office.value) so.clock goes_on
