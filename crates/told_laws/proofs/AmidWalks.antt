@@ -24,14 +24,13 @@ use Rattle.delivery_laws.specs.Dialled.{done_in}
 use Rattle.delivery_laws.specs.Rounds.{of_telephone}
 use Rattle.told_laws.specs.Counting.{TellsButLost}
 use Rattle.told_laws.specs.Fronts.{course_amid, machine_amid, texts_apart, WalksAlong}
-use Rattle.told_laws.specs.Walking.{left_by, AllButLost, AreActs, EmbedsNone, NoneLostSince, Place, TellsOfHeld, Walks, behind_request, nothing_asked}
+use Rattle.told_laws.specs.Walking.{left_by, AreActs, EmbedsNone, NoneLostSince, Place, TellsOfHeld, behind_request, nothing_asked}
 use Rattle.told_laws.proofs.AskedCourses.{course_on}
-use Rattle.told_laws.proofs.ButLost.{GoesButLost, behind_all, counted_so, goes_so, none_lost_tells, parted_at}
+use Rattle.told_laws.proofs.ButLost.{GoesButLost, but_lost_told, goes_so, none_lost_tells}
 use Rattle.told_laws.proofs.FrontWalks.{StandsThen, walked_on, walks_along_all}
 use Rattle.told_laws.proofs.LineBounds.{who_is_there_stays}
 use Rattle.told_laws.proofs.RequestTurns.{BegunIn, request_begins, sent_told}
-use Rattle.told_laws.proofs.WalkFrontLemmas.{front_told}
-use Rattle.told_laws.proofs.WalkLemmas.{At, walks_both, walks_map}
+use Rattle.told_laws.proofs.WalkLemmas.{At, walks_map}
 
 -- A datagram is as its texts are, each in a datagram of its own
 
@@ -148,19 +147,7 @@ but_lost_by_text setup line before after source text request endpoint last betwe
     ∙ ap (λ (n : Machine). (accepts request ∷ told) ++ course_from setup n line after) (sym (machine_on setup (opening setup) before one)) in
     let same : told ++ course ≡ between ++ notifies identifier observed ∷ behind =
     rest_of request (told ++ course) (between ++ notifies identifier observed ∷ behind) (sym all ∙ order) in
-    let parts =
-    parted_at between behind identifier observed so.0 (told ++ so.1) only
-    (subst (λ (c : List CourseStep). AllButLost so.0 (told ++ so.1) c) same (behind_all told so.0 so.1 course so.2)) in
-    let front =
-    front_told parts.front parts.back request identifier observed (At last.line) left parts.only bare
-    (subst (λ (c : List CourseStep). Walks place left c (At last.line)) parts.whole (walks_both told so.1 (At last.line) place left so.4)) in
-    record {
-      lost = parts.lost;
-      left = parts.front;
-      others = parts.others;
-      counted = counted_so endpoint.line.quarantined.lost base so.0 parts.lost count so.3 begun.grown parts.few;
-      told = record { front = front.0; rest = front.1; order = front.2; told_so = front.3 };
-    }
+    but_lost_told request endpoint.line last.line base told course between behind identifier observed (At last.line) same only bare begun.grown so
 
 -- And amid a datagram
 

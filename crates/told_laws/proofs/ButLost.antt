@@ -9,8 +9,10 @@ use Rattle.delivery_laws.specs.Course.{CourseStep, accepts, acts, notifies}
 use Rattle.delivery_laws.specs.Dialled.{done_in}
 use Rattle.delivery_laws.specs.Rounds.{of_telephone}
 use Rattle.told_laws.specs.Counting.{TellsButLost}
-use Rattle.told_laws.specs.Walking.{left_by, with_act, AllButLost, AreActs, End, NoneLostSince, Place, TellsOfHeld, Walks, a_lost_act, a_step, behind_notification, behind_request, no_step}
+use Rattle.told_laws.specs.Walking.{left_by, with_act, AllButLost, AreActs, EmbedsNone, End, NoneLostSince, Place, TellsOfHeld, Walks, a_lost_act, a_step, behind_notification, behind_request, no_step}
 use Rattle.told_laws.proofs.WalkCourses.{none_lost}
+use Rattle.told_laws.proofs.WalkFrontLemmas.{front_told}
+use Rattle.told_laws.proofs.WalkLemmas.{walks_both}
 
 -- So many acts of a course are lost, and counted; from a place on the walk goes through what is left of it.
 abbrev pub GoesButLost : ℕ → ℕ → List CourseStep → End → End
@@ -37,19 +39,19 @@ goes_so base count course end (notifies identifier observed ∷ told) place wait
     let r = goes_so base count course end told (behind_notification next) held walk in
     (r.0, r.1, r.2, r.3, (next, there, moves, (front, held, order, tells, r.4)))
 
-pub behind_all : (told : List CourseStep) (n : ℕ) (left course : List CourseStep) → AllButLost n left course → AllButLost n (told ++ left) (told ++ course)
+behind_all : (told : List CourseStep) (n : ℕ) (left course : List CourseStep) → AllButLost n left course → AllButLost n (told ++ left) (told ++ course)
 behind_all [] n left course so = so
 behind_all (step ∷ told) n left course so = a_step n step (told ++ left) (told ++ course) (behind_all told n left course so)
 
 -- A notification is no act: of acts up to it some are lost, and of what is behind it.
-pub record PartedAt (n : ℕ) (all between : List CourseStep) (identifier : List ℕ) (observed : List Observed) : Type 0 where
-  pub lost : ℕ
-  pub front : List CourseStep
-  pub back : List CourseStep
-  pub whole : all ≡ front ++ notifies identifier observed ∷ back
-  pub others : AllButLost lost front between
-  pub few : lost ≤ n
-  pub only : AreActs front
+record PartedAt (n : ℕ) (all between : List CourseStep) (identifier : List ℕ) (observed : List Observed) : Type 0 where
+  lost : ℕ
+  front : List CourseStep
+  back : List CourseStep
+  whole : all ≡ front ++ notifies identifier observed ∷ back
+  others : AllButLost lost front between
+  few : lost ≤ n
+  only : AreActs front
 
 one_more_few : (lost n : ℕ) → lost ≤ n → suc lost ≤ suc n
 one_more_few lost n few = omega (arith, few)
@@ -57,7 +59,7 @@ one_more_few lost n few = omega (arith, few)
 none_few : (n : ℕ) → 0 ≤ n
 none_few n = omega arith
 
-pub parted_at : (between behind : List CourseStep) (identifier : List ℕ) (observed : List Observed) (n : ℕ) (all : List CourseStep) → AreActs between
+parted_at : (between behind : List CourseStep) (identifier : List ℕ) (observed : List Observed) (n : ℕ) (all : List CourseStep) → AreActs between
     → AllButLost n all (between ++ notifies identifier observed ∷ behind) → PartedAt n all between identifier observed
 parted_at [] behind identifier observed n all only (a_step m step left course so) =
     record { lost = 0; front = []; back = left; whole = refl; others = no_step; few = none_few n; only = tt }
@@ -86,8 +88,31 @@ parted_at (acts act ∷ between) behind identifier observed n all only (a_lost_a
 parted_at (accepts request ∷ between) behind identifier observed n all only so = absurd only
 parted_at (notifies other told ∷ between) behind identifier observed n all only so = absurd only
 
-pub counted_so : (was base n lost is : ℕ) → min most_lost (base + n) ≤ is → was ≤ base → lost ≤ n → min most_lost (was + lost) ≤ is
+counted_so : (was base n lost is : ℕ) → min most_lost (base + n) ≤ is → was ≤ base → lost ≤ n → min most_lost (was + lost) ≤ is
 counted_so was base n lost is counted grown few = omega (arith, counted, grown, few)
+
+pub but_lost_told : (request : Request) (was is : LineState) (base : ℕ) (told course between behind : List CourseStep) (identifier : List ℕ)
+    (observed : List Observed) (end : End) → told ++ course ≡ between ++ notifies identifier observed ∷ behind → AreActs between
+    → EmbedsNone request.events → was.quarantined.lost ≤ base
+    → GoesSo base is.quarantined.lost course end told (behind_request request)
+    (left_by request.handling.quarantined (of_telephone was.quarantined.events))
+    → TellsButLost request was is between observed
+but_lost_told request was is base told course between behind identifier observed end same only bare grown (n, left, others, counted, walk) =
+    let waiting : List Observed = left_by request.handling.quarantined (of_telephone was.quarantined.events) in
+    let parts =
+    parted_at between behind identifier observed n (told ++ left) only
+    (subst (λ (c : List CourseStep). AllButLost n (told ++ left) c) same (behind_all told n left course others)) in
+    let front =
+    front_told parts.front parts.back request identifier observed end waiting parts.only bare
+    (subst (λ (c : List CourseStep). Walks (behind_request request) waiting c end) parts.whole
+    (walks_both told left end (behind_request request) waiting walk)) in
+    record {
+      lost = parts.lost;
+      left = parts.front;
+      others = parts.others;
+      counted = counted_so was.quarantined.lost base n parts.lost is.quarantined.lost counted grown parts.few;
+      told = record { front = front.0; rest = front.1; order = front.2; told_so = front.3 };
+    }
 
 -- Where the count is the same, and below the greatest, none of them is lost.
 

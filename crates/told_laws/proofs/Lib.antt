@@ -43,3 +43,4 @@ pub mod FateCourses
 pub mod FateExampleLemmas
 pub mod Computing
 pub mod WorldComputing
+pub mod FullLine

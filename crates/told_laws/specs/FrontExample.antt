@@ -1,6 +1,6 @@
 -- What the worked examples speak of where a walk stands, and amid datagrams.
 use Rattle.std.specs.Option.{unwrap_or}
-use Rattle.std.specs.Prelude.{ℕ, true, List, [], ◌∷◌, ◌++◌, codes, option_map, Some}
+use Rattle.std.specs.Prelude.{ℕ, true, List, [], ◌∷◌, ◌++◌, codes, option_map, replicate, Some}
 use Rattle.event_syntax.specs.declared.request.EmbeddedRequest.{EmbeddedRequest}
 use Rattle.event_requests.specs.Example.{embedded_by}
 use Rattle.event_requests.specs.Requests.{with_embedded}
@@ -17,7 +17,7 @@ use Rattle.plain_machine.specs.Lists.{machine_after}
 use Rattle.plain_machine.specs.Machine.{Machine, endpoint_at}
 use Rattle.delivery_laws.specs.Course.{CourseStep}
 use Rattle.told_laws.specs.Counting.{ends_lost, lost_in}
-use Rattle.told_laws.specs.Example.{flash_drops, flashed}
+use Rattle.told_laws.specs.Example.{filled, flash_drops, flashed}
 use Rattle.told_laws.specs.Fronts.{course_amid, machine_amid}
 use Rattle.told_laws.specs.Premises.{asks}
 use Rattle.told_laws.specs.WalkExample.{keeping}
@@ -88,3 +88,7 @@ lost_by events = lost_in 1 (machine_after two_lines roomless events)
 
 abbrev pub ends_by : List GatewayEvent → ℕ
 ends_by events = ends_lost two_lines 1 roomless events
+
+-- the quarantine of line 1 is full, and key 5 is pressed so often again: each is lost
+abbrev pub filled_and_more : ℕ → List GatewayEvent
+filled_and_more n = filled ++ replicate n (phone 1 (Key Five))

@@ -1,29 +1,30 @@
 //! Worked examples of where a walk stands, and of what is quarantined at a request, as theorems.
 #![tactic(auto, unfolding(crate::proofs::Computing::on_examples))]
 
-ghost use Rattle.std.specs.Prelude.{◌≡◌, ℕ, codes, List, [], ◌∷◌, ◌++◌};
+ghost use Rattle.std.specs.Prelude.{◌≡◌, ◌≤◌, ℕ, codes, replicate, List, [], ◌∷◌, ◌++◌};
 ghost use Rattle.std.specs.declared.net.socket_addr.SocketAddrV4.{SocketAddrV4};
 ghost use Rattle.mgcp_text.specs.Reading.{read_text};
 ghost use Rattle.transmission.specs.Texts.{texts_of};
 ghost use Rattle.quarantine.specs.Held.{most_lost};
 ghost use Rattle.mg_line.specs.declared.phone.Act.TheVariants as acts;
 ghost use Rattle.mg_line.specs.declared.phone.Key.TheVariants as keys;
-ghost use Rattle.mg_line.specs.Line.{opening_line};
+ghost use Rattle.mg_line.specs.Line.{most_quarantined, opening_line};
 ghost use Rattle.plain_machine.specs.declared.setup.Setup.{Setup};
 ghost use Rattle.plain_machine.specs.Event.{GatewayEvent, datagram, phone, tick};
 ghost use Rattle.plain_machine.specs.Example.{from_agent, ready, response, two_lines};
 ghost use Rattle.plain_machine.specs.Lists.{plain};
 ghost use Rattle.plain_machine.specs.Machine.{opening};
 ghost use Rattle.delivery_laws.specs.Course.{acts as does, accepted_at, accepts, course_from, notifies};
-ghost use Rattle.delivery_laws.specs.OnceExample.{five, line_then, six};
+ghost use Rattle.delivery_laws.specs.OnceExample.{five, hung_up, line_then, six};
 ghost use Rattle.delivery_laws.specs.Rounds.{of_telephone};
+ghost use Rattle.told_laws.specs.Counting.{TellsButLost};
 ghost use Rattle.told_laws.specs.Example.{counts, flash_drops, flashes_and_dials, has_all_told, has_all_told_in_loop};
-ghost use Rattle.told_laws.specs.Example.{has_keys_collected, has_lifting_told};
+ghost use Rattle.told_laws.specs.Example.{has_keys_collected, has_lifting_told, has_return_told, return_asked};
 ghost use Rattle.told_laws.specs.FrontExample.{answer_and_keys, answer_text, answered_by, course_by, ends_by, keys_text, line_by};
-ghost use Rattle.told_laws.specs.FrontExample.{lost_by, machine_by};
+ghost use Rattle.told_laws.specs.FrontExample.{filled_and_more, lost_by, machine_by};
 ghost use Rattle.told_laws.specs.FrontExample.{notified_by, presses_six, pressed_at_once, renewed_by, return_embedded, turned_by_flash};
 ghost use Rattle.told_laws.specs.Fronts.{course_amid, machine_amid, WalksAlong};
-ghost use Rattle.told_laws.specs.Premises.{has_each_key_told, pressed_in_loop};
+ghost use Rattle.told_laws.specs.Premises.{course_behind, has_each_key_told, pressed_in_loop};
 ghost use Rattle.told_laws.specs.WalkExample.{keeping};
 ghost use Rattle.told_laws.specs.Walking.{behind_embedded, behind_notification, behind_request, nothing_asked};
 ghost use Rattle.told_laws.specs.Walking.{EmbedsNone, NoneLostSince, Stays, TellsOfHeld};
@@ -99,4 +100,30 @@ pub fn what_is_lost_is_an_act_or_an_end()
     ensures not_named { lost_by (phone 1 (acts.Key keys.Star) ∷ []) ≡ 0 }
     ensures all { lost_by (phone 1 (acts.Key keys.Five) ∷ tick 2000 ∷ phone 1 (acts.Key keys.Five) ∷ []) ≡ 3 }
     ensures ends { ends_by (phone 1 (acts.Key keys.Five) ∷ tick 2000 ∷ phone 1 (acts.Key keys.Five) ∷ []) ≡ 1 }
+{}
+
+/// A line whose quarantine is full counts each act that is lost, up to the greatest count, however many acts that takes. Behind these one more
+/// is lost, key 6, and the count is the same: the first notification behind the request skips it.
+pub fn else_what_is_lost_at_the_greatest_count_is_skipped()
+    ensures greatest { (n : ℕ) → most_lost ≤ n → (line_then (filled_and_more n)).quarantined.lost ≡ most_lost }
+    ensures the_same { (n : ℕ) → most_lost ≤ n → (line_then (filled_and_more n ++ return_asked)).quarantined.lost ≡ most_lost }
+    ensures held { (n : ℕ) → most_lost ≤ n →
+        of_telephone (line_then (filled_and_more n)).quarantined.events ≡ replicate most_quarantined five }
+    ensures course { (n : ℕ) → most_lost ≤ n → course_behind (filled_and_more n) return_asked
+        ≡ accepts has_return_told ∷ (does (acts.Key keys.Six) ∷ does acts.OnHook ∷ notifies (codes "A2") (hung_up ∷ []) ∷ []) }
+    ensures embeds_none { EmbedsNone has_return_told.events }
+    ensures skipped { ¬ TellsOfHeld has_return_told (replicate most_quarantined five) (six ∷ hung_up ∷ []) (hung_up ∷ []) }
+{}
+
+/// A notification skips lost acts alone. Each is counted, on from what was counted before, but at the greatest count; all others are told in
+/// their order.
+pub fn a_notification_skips_lost_acts_alone()
+    ensures one { TellsButLost has_return_told (counts has_lifting_told 1) (counts has_lifting_told 2)
+        (does (acts.Key keys.Six) ∷ does acts.OnHook ∷ []) (hung_up ∷ []) }
+    ensures none { ¬ TellsButLost has_return_told (counts has_lifting_told 1) (counts has_lifting_told 1)
+        (does (acts.Key keys.Six) ∷ does acts.OnHook ∷ []) (hung_up ∷ []) }
+    ensures greatest { TellsButLost has_return_told (counts has_lifting_told most_lost) (counts has_lifting_told most_lost)
+        (does (acts.Key keys.Six) ∷ does acts.OnHook ∷ []) (hung_up ∷ []) }
+    ensures never_done { ¬ TellsButLost has_return_told (counts has_lifting_told 0) (counts has_lifting_told most_lost)
+        (does (acts.Key keys.Six) ∷ []) (five ∷ []) }
 {}
