@@ -68,7 +68,7 @@ flight_ends : (change : Care → Care) (cares : List Care) (line : ℕ) → ((ca
     → flight_at (cared change cares line) line ≡ None
 flight_ends change cares line ends = ap flight_of (care_here change cares line) ∙ ends_by change (slice_get cares line) ends
 
-none_by : (change : Care → Care) (found : Option Care) → ((care : Care) → care.flight ≡ None → (change care).flight ≡ None) → flight_of found ≡ None
+pub none_by : (change : Care → Care) (found : Option Care) → ((care : Care) → care.flight ≡ None → (change care).flight ≡ None) → flight_of found ≡ None
     → flight_of (option_map change found) ≡ None
 none_by change None stays none = refl
 none_by change (Some care) stays none = stays care none
@@ -84,7 +84,7 @@ lost_here cares line = flight_ends lost cares line lost_ends
 pub lands_here : (cares : List Care) (line : ℕ) → flight_at (cared landed cares line) line ≡ None
 lands_here cares line = flight_ends landed cares line (λ care. refl)
 
-woken_keeps : (moment : ℕ) (care : Care) → (woken moment care).flight ≡ care.flight
+pub woken_keeps : (moment : ℕ) (care : Care) → (woken moment care).flight ≡ care.flight
 woken_keeps moment care = by_test (is_due_at care.again moment) where
   by_test : (b : Bool) → (if b then record care { again = None } else care).flight ≡ care.flight
   by_test true = refl

@@ -1,4 +1,4 @@
--- What the calls of live_agent do to an exchange and to the desk of its gateway is turns of both; so a line of the program's goes on.
+-- What the calls of live_agent do to an exchange and to the desk of its gateway is turns of both.
 use Rattle.std.proofs.Common.{◌≡◌, ℕ, zero, suc, ◌≤◌, Bool, true, false, if◌then◌else◌, List, [], ◌∷◌, ◌++◌, Option, Some, None, inl, inr, refl, sym, ap, subst, ◌∙◌}
 use Rattle.std.specs.Prelude.{◌&&◌, is_none, nat_le, remove, replicate, slice_get, slice_set}
 use Rattle.std.specs.Global.{Box}
@@ -8,11 +8,8 @@ use Rattle.std.proofs.lemmas.List.Folds.{list_all-append}
 use Rattle.std.proofs.lemmas.Option.{none-some}
 use Rattle.endpoint_names.specs.declared.name.Pattern.{Pattern}
 use Rattle.call_routing.specs.declared.command.Command.{Command}
-use Rattle.call_routing.specs.declared.line.Line.{Line}
-use Rattle.call_routing.specs.declared.phase.Phase.{Phase}
 use Rattle.call_routing.specs.declared.told.Told.{Told}
-use Rattle.call_routing.specs.Exchange.{ExchangeState, due, line_of, opening, phase_of, sent_by, sent_to}
-use Rattle.call_laws.specs.Turns.{is_in_flight}
+use Rattle.call_routing.specs.Exchange.{ExchangeState, due, opening, sent_by, sent_to}
 use Rattle.live_agent.specs.declared.care.Duty.{Duty}
 use Rattle.live_agent.specs.declared.care.Duty.TheVariants.{Clear, Audit, Route}
 use Rattle.live_agent.specs.declared.care.Care.{Care}
@@ -29,17 +26,17 @@ use Rattle.live_agent.specs.Steps.{Announces, Begins, BeginsBy, Forgets, Hears, 
 use Rattle.live_agent.specs.Turns.{forsaken, heard_by}
 use Rattle.live_agent.specs.Wakes.{behind_by, behind_woken, first_woken, woken_by as woken_first}
 use Rattle.desk_laws.specs.Attended.{AreApart, Attended, AttendedTurn, attended_all, attended_by, attended_of, attended_one, attended_with, displays, gives_up, hears_announced, hears_answer, hears_told, is_apart, lets_pass, misses_told, settles, wakes_line}
-use Rattle.desk_laws.specs.Desk.{GoesOn, desk_of, opening_desk}
+use Rattle.desk_laws.specs.Desk.{desk_of, opening_desk}
 use Rattle.desk_laws.specs.Steps as calls
 use Rattle.desk_laws.specs.Steps.{Does, Runs, Stands, Step}
 use Rattle.desk_laws.proofs.AnswerLemmas.{desk_at, same_desk}
 use Rattle.desk_laws.proofs.AttendedCalls.{announced_so, gives_up_so, lets_pass_so, one_turn_at, refused_so, same_both, settled_audited, settled_cleared, settled_held, settled_nothing, settled_routed, shown_so, told_so, woken_so}
-use Rattle.desk_laws.proofs.AttendedLaws.{Agree, all_agree, desk_all, goes_on_at_both, is_routed, opening_agrees, routed_flight}
+use Rattle.desk_laws.proofs.AttendedLaws.{desk_all}
 use Rattle.desk_laws.proofs.CareLemmas.{same_some}
 use Rattle.desk_laws.proofs.DeskLaws.{IsSound, new_sound, turns_sound}
 
 -- all lines are the gateway's
-abbrev anyone : ℕ → Bool
+abbrev pub anyone : ℕ → Bool
 anyone line = true
 
 -- both come there by turns, none of which is elsewhere
@@ -89,7 +86,7 @@ leads_to was to is now cares mid kept wakes turn own so is_so kept_so =
 
 -- Given up
 
-given_up : (line now : ℕ) (was is : ExchangeState) (cares kept : List Care) (wakes : List Wake) → Forgets line was cares is kept
+pub given_up : (line now : ℕ) (was is : ExchangeState) (cares kept : List Care) (wakes : List Wake) → Forgets line was cares is kept
     → Leads (both_at was now cares wakes) (both_at is now kept wakes)
 given_up line now was is cares kept wakes forgets =
     leads_to was (forsaken was line (flight_of (slice_get cares line))) is now cares (cared lost cares line) kept wakes (gives_up line) refl
@@ -121,7 +118,7 @@ announced_lines is_restart pattern first (suc before) now was cares wakes =
     (announced_one (is_meant pattern before) is_restart (line_behind first before) now (exchange_announced is_restart pattern first before was)
     (cares_announced is_restart pattern first before cares) wakes)
 
-announced_all : (is_restart : Bool) (pattern : Pattern) (first lines now : ℕ) (was is : ExchangeState) (cares kept : List Care) (wakes : List Wake)
+pub announced_all : (is_restart : Bool) (pattern : Pattern) (first lines now : ℕ) (was is : ExchangeState) (cares kept : List Care) (wakes : List Wake)
     → Announces is_restart pattern first lines was cares is kept → Leads (both_at was now cares wakes) (both_at is now kept wakes)
 announced_all is_restart pattern first lines now was is cares kept wakes announces =
     leads_both (both_at was now cares wakes)
@@ -135,7 +132,7 @@ announced_all is_restart pattern first lines now was is cares kept wakes announc
 
 -- Told
 
-heard : (event : Option Told) (line now : ℕ) (was is : ExchangeState) (cares kept : List Care) (wakes : List Wake)
+pub heard : (event : Option Told) (line now : ℕ) (was is : ExchangeState) (cares kept : List Care) (wakes : List Wake)
     → Hears event line was cares is kept → Leads (both_at was now cares wakes) (both_at is now kept wakes)
 heard event line now was is cares kept wakes (inl told) =
     leads_to was (heard_by was line (notified (was_found_off (slice_get cares line)) event)) is now cares (cared told_care cares line) kept wakes
@@ -144,7 +141,7 @@ heard event line now was is cares kept wakes (inr unread) =
     leads_to was was is now cares (cared (λ (care : Care). owed care Audit) (cared told_care cares line) line) kept wakes (misses_told line) refl
     (refused_so was (desk_at now cares wakes) line) unread.0 unread.1
 
-told_of_it : (line now : ℕ) (was is : ExchangeState) (cares kept : List Care) (wakes : List Wake) → ToldOf line was cares is kept
+pub told_of_it : (line now : ℕ) (was is : ExchangeState) (cares kept : List Care) (wakes : List Wake) → ToldOf line was cares is kept
     → Leads (both_at was now cares wakes) (both_at is now kept wakes)
 told_of_it line now was is cares kept wakes told =
     leads_to was was is now cares (cared (told_of (shown_in was line)) cares line) kept wakes (displays line) refl
@@ -152,7 +149,7 @@ told_of_it line now was is cares kept wakes told =
 
 -- Issued
 
-set_same : (cares : List Care) (line : ℕ) (care : Care) → slice_get cares line ≡ Some care → slice_set cares line care ≡ cares
+pub set_same : (cares : List Care) (line : ℕ) (care : Care) → slice_get cares line ≡ Some care → slice_set cares line care ≡ cares
 set_same [] line care there = refl
 set_same (first ∷ cares) zero care there = ap (λ (one : Care). one ∷ cares) (same_some care first (sym there))
 set_same (first ∷ cares) (suc line) care there = ap (λ (all : List Care). first ∷ all) (set_same cares line care there)
@@ -213,7 +210,7 @@ failed_by line gateway was is (Some mid) begun_so forgets =
     (begun_at line gateway.ticked was.value.exchange mid.value.exchange was.value.cares.items mid.value.cares.items gateway.wakes.items begun_so)
     (given_up line gateway.ticked mid.value.exchange is.value.exchange mid.value.cares.items is.value.cares.items gateway.wakes.items forgets)
 
-issued : (fails : Bool) (line : ℕ) (gateway : Gateway) (was is : Box Office) → Issues fails line (Some was) (Some is)
+pub issued : (fails : Bool) (line : ℕ) (gateway : Gateway) (was is : Box Office) → Issues fails line (Some was) (Some is)
     → Leads (attended_of gateway was.value) (attended_of gateway is.value)
 issued false line gateway was is begun_so =
     begun_at line gateway.ticked was.value.exchange is.value.exchange was.value.cares.items is.value.cares.items gateway.wakes.items begun_so
@@ -253,7 +250,7 @@ woken_by (Some wake) now was is wakes held first wakens left =
     ∙ same_at was.value.exchange is.value.exchange now (cared (woken wake.moment) was.value.cares.items wake.line) is.value.cares.items
     (behind_woken now wakes) held wakens.0 wakens.1.0 left)
 
-woken_next : (gateway after : Gateway) (was is : Box Office) → WakesIn (woken_at (Some gateway)) (Some was) (Some is) → Wakens gateway after
+pub woken_next : (gateway after : Gateway) (was is : Box Office) → WakesIn (woken_at (Some gateway)) (Some was) (Some is) → Wakens gateway after
     → Leads (attended_of gateway was.value) (attended_of after is.value)
 woken_next gateway after was is wakes wakens =
     subst (λ (now : ℕ). Leads (attended_of gateway was.value) (both_at is.value.exchange now is.value.cares.items after.wakes.items)) (sym wakens.0)
@@ -280,7 +277,7 @@ ticked false moment gateway after office past stood =
 
 -- All of them, one after another
 
-stood : (gateway after : Gateway) (was is : Office) → Stands gateway after → Leads (attended_of gateway was) (attended_of gateway is)
+pub stood : (gateway after : Gateway) (was is : Office) → Stands gateway after → Leads (attended_of gateway was) (attended_of gateway is)
     → Leads (attended_of gateway was) (attended_of after is)
 stood gateway after was is stands leads =
     leads_both (attended_of gateway was) (attended_of gateway is) (attended_of after is) leads
@@ -288,7 +285,7 @@ stood gateway after was is stands leads =
     (ap (attended_with is.exchange)
     (same_clock gateway.ticked after.ticked is.cares.items gateway.wakes.items after.wakes.items stands.0 stands.1)))
 
-settled_so : (gateway : Gateway) (was is : Box Office) → SettlesIn (Some was) (Some is) → Leads (attended_of gateway was.value) (attended_of gateway is.value)
+pub settled_so : (gateway : Gateway) (was is : Box Office) → SettlesIn (Some was) (Some is) → Leads (attended_of gateway was.value) (attended_of gateway is.value)
 settled_so gateway was is stays =
     leads_none (attended_of gateway was.value) (attended_of gateway is.value)
     (same_at was.value.exchange is.value.exchange gateway.ticked was.value.cares.items is.value.cares.items gateway.wakes.items gateway.wakes.items
@@ -303,7 +300,7 @@ module _ (gateway after : Gateway) where
       leads_one (attended_of gateway was) (attended_of after is) (hears_answer line code one.0 one.1.0 one.1.1.0) refl
       (one.1.1.1 ∙ ap (λ (now : ℕ). both_at is.exchange now is.cares.items after.wakes.items) (sym clock))
 
-  does_lead : (step : Step) (was is : Box Office) → IsSound (desk_of gateway was.value) → Does step gateway was after is → Leads (attended_of gateway was.value) (attended_of after is.value)
+  pub does_lead : (step : Step) (was is : Box Office) → IsSound (desk_of gateway was.value) → Does step gateway was after is → Leads (attended_of gateway was.value) (attended_of after is.value)
   does_lead (calls.gives_up line) was is s does =
       stood gateway after was.value is.value does.0
       (given_up line gateway.ticked was.value.exchange is.value.exchange was.value.cares.items is.value.cares.items gateway.wakes.items does.1)
@@ -330,7 +327,7 @@ module _ (gateway after : Gateway) where
       (ticked done moment gateway after was.value does.0 does.1)
 
 -- a desk that turns led to
-sound_then : (start is : Attended) → IsSound start.desk → Leads start is → IsSound is.desk
+pub sound_then : (start is : Attended) → IsSound start.desk → Leads start is → IsSound is.desk
 sound_then start is s leads =
     let of_desk = desk_all start leads.0 in
     subst IsSound (sym of_desk.1 ∙ ap (λ (attended : Attended). attended.desk) leads.2) (turns_sound start.desk of_desk.0 s)
@@ -360,37 +357,3 @@ are_turns count last lines steps gateway after was is clock none opens cares run
     ∙ same_at (opening count last) was.value.exchange gateway.ticked (replicate lines new_care) was.value.cares.items gateway.wakes.items
     gateway.wakes.items opens cares refl))
     runs in (all.0, all.2)
-
--- an exchange and lines as they are at the start, whatever the clock is, and whatever is sent again
-module _ (count last lines line : ℕ) (steps : List Step) (gateway after : Gateway) (was is : Box Office)
-    (opens : was.value.exchange ≡ opening count last) (cares : was.value.cares.items ≡ replicate lines new_care) (runs : Runs steps gateway was after is) where
-  start_sound : IsSound (desk_of gateway was.value)
-  start_sound =
-      subst (λ (kept : List Care). IsSound (desk_at gateway.ticked kept gateway.wakes.items)) (sym cares)
-      (new_sound lines gateway.ticked gateway.wakes.items)
-
-  start_agrees : Agree was.value.exchange (desk_of gateway was.value) line
-  start_agrees =
-      ap (λ (exchange : ExchangeState). is_in_flight exchange line) opens
-      ∙ (opening_agrees count last lines line gateway.ticked gateway.wakes.items
-      ∙ ap (λ (kept : List Care). is_routed (flight_of (slice_get kept line))) (sym cares))
-
-  leads_on : Leads (attended_of gateway was.value) (attended_of after is.value)
-  leads_on =
-      runs_lead steps (attended_of gateway was.value) gateway after was is start_sound
-      (leads_none (attended_of gateway was.value) (attended_of gateway was.value) refl) runs
-
-  agrees_then : Agree is.value.exchange (desk_of after is.value) line
-  agrees_then =
-      subst (λ (attended : Attended). Agree attended.exchange attended.desk line) leads_on.2
-      (all_agree anyone (attended_of gateway was.value) leads_on.0 line leads_on.1 refl start_agrees)
-
-  pub flies_too : is_in_flight is.value.exchange line ≡ true → flight_of (slice_get is.value.cares.items line) ≡ Some Route
-  flies_too flies = routed_flight (flight_of (slice_get is.value.cares.items line)) (sym agrees_then ∙ flies)
-
-  pub goes_on_then : (care : Care) (map : List ℕ) (phase : Phase) (of : Line) → slice_get is.value.cares.items line ≡ Some care
-      → phase_of is.value.exchange line ≡ Some phase → line_of is.value.exchange line ≡ Some of
-      → GoesOn (desk_of after is.value) line care is.value.exchange map phase of.asked
-  goes_on_then care map phase of there here known =
-      goes_on_at_both (attended_of after is.value) line care map phase of
-      (sound_then (attended_of gateway was.value) (attended_of after is.value) start_sound leads_on) agrees_then there here known

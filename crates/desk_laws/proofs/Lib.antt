@@ -10,3 +10,4 @@ mod AttendedLemmas
 mod AttendedLaws
 mod AttendedCalls
 mod AttendedRuns
+mod AnyhowRuns

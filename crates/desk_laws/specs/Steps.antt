@@ -47,7 +47,34 @@ Does wakens gateway was after is = WakesIn (woken_at (Some gateway)) (Some was) 
 Does (goes_on_to done moment) gateway was after is =
     (gateway.ticked ≤ tick_to gateway.ticked moment) × Ticks done moment gateway after × (is ≡ was)
 
+-- the same, whatever is in flight to the line that is answered, and wherever the clock goes
+abbrev pub DoesAnyhow : Step → Gateway → Box Office → Gateway → Box Office → Type 0
+DoesAnyhow (gives_up line) gateway was after is = Does (gives_up line) gateway was after is
+DoesAnyhow (announces_lines is_restart pattern first lines) gateway was after is =
+    Does (announces_lines is_restart pattern first lines) gateway was after is
+DoesAnyhow (hears_line line) gateway was after is = Does (hears_line line) gateway was after is
+DoesAnyhow (tells_of line) gateway was after is = Does (tells_of line) gateway was after is
+DoesAnyhow (issues_to fails line) gateway was after is = Does (issues_to fails line) gateway was after is
+DoesAnyhow settles gateway was after is = Does settles gateway was after is
+DoesAnyhow (takes_answer line code text) gateway was after is =
+    (after.ticked ≡ gateway.ticked) × Answers line code text gateway was.value after is.value
+DoesAnyhow wakens gateway was after is = Does wakens gateway was after is
+DoesAnyhow (goes_on_to done moment) gateway was after is = Ticks done moment gateway after × (is ≡ was)
+
 abbrev pub Runs : List Step → Gateway → Box Office → Gateway → Box Office → Type 0
 Runs [] gateway was after is = (after ≡ gateway) × (is ≡ was)
 Runs (step ∷ steps) gateway was after is =
     (next : Gateway) × (between : Box Office) × Does step gateway was next between × Runs steps next between after is
+
+-- whatever is in flight to a line that is answered, and wherever the clock goes
+abbrev pub RunsAnyhow : List Step → Gateway → Box Office → Gateway → Box Office → Type 0
+RunsAnyhow [] gateway was after is = (after ≡ gateway) × (is ≡ was)
+RunsAnyhow (step ∷ steps) gateway was after is =
+    (next : Gateway) × (between : Box Office) × DoesAnyhow step gateway was next between × RunsAnyhow steps next between after is
+
+-- the same, where the clock never goes back
+abbrev pub RunsForward : List Step → Gateway → Box Office → Gateway → Box Office → Type 0
+RunsForward [] gateway was after is = (after ≡ gateway) × (is ≡ was)
+RunsForward (step ∷ steps) gateway was after is =
+    (next : Gateway) × (between : Box Office) × (gateway.ticked ≤ next.ticked) × DoesAnyhow step gateway was next between
+    × RunsForward steps next between after is

@@ -1,12 +1,13 @@
 //! Worked examples of the laws of the program's exchange and desk, as theorems: each premise missing alone, where the law fails.
 #![tactic(auto, unfolding(crate::proofs::Computing::on_examples))]
 
-ghost use Rattle.std.specs.Prelude.{◌≡◌, ◌∷◌, ◌^◌, [], List, None, replicate, slice_get, true};
+ghost use Rattle.std.specs.Prelude.{◌≡◌, ◌∷◌, ◌^◌, [], ℕ, List, None, replicate, slice_get, true};
 ghost use Rattle.std.specs.Global.{Box};
 ghost use Rattle.call_routing.specs.Exchange.{opening};
 ghost use Rattle.call_laws.specs.Turns.{is_in_flight};
 ghost use Rattle.live_agent.specs.declared.gateway.Gateway.{Gateway};
 ghost use Rattle.live_agent.specs.declared.office.Office.{Office};
+ghost use Rattle.live_agent.specs.AgentClock.{tick_to};
 ghost use Rattle.live_agent.specs.Duties.{new_care};
 ghost use Rattle.live_agent.specs.Example.{deleted_later, wake_at};
 ghost use Rattle.live_agent.specs.Orders.{flight_of};
@@ -14,7 +15,7 @@ ghost use Rattle.desk_laws.specs.Attended.{AttendedTurn, attended_by, attended_o
 ghost use Rattle.desk_laws.specs.Desk.{DeskTurn, GoesOn, after_turns, desk_of, opening_desk};
 ghost use Rattle.desk_laws.specs.Example.{asked_meanwhile, held_care, routed_care};
 ghost use Rattle.desk_laws.specs.StepExample.{AreSo};
-ghost use Rattle.desk_laws.specs.Steps.{Runs};
+ghost use Rattle.desk_laws.specs.Steps.{Flies, Runs, RunsAnyhow, RunsForward, Step, goes_on_to, takes_answer};
 
 use call_routing::Phase;
 
@@ -22,7 +23,8 @@ use call_routing::Phase;
 /// the exchange may have in flight what the desk hasn't, and a line may not go on. Nor does it where what was put off at 500 is to be sent
 /// again at 1,500, and the clock has gone back to 100: that is further off than 1,000 ms.
 pub fn else_a_line_of_the_program_may_not_go_on()
-    ensures no_call { (gateway : Gateway) (office : Box Office) → Runs [] gateway office gateway office }
+    ensures no_call { (gateway : Gateway) (office : Box Office) → RunsForward [] gateway office gateway office }
+    ensures no_call_anyhow { (gateway : Gateway) (office : Box Office) → RunsAnyhow [] gateway office gateway office }
     ensures not_opened { (office : Box Office) → office.value.exchange ≡ asked_meanwhile →
         is_in_flight office.value.exchange 0 ≡ true }
     ensures not_opened_at_the_desk { (office : Box Office) → office.value.cares.items ≡ replicate 2 new_care →
@@ -37,6 +39,20 @@ pub fn else_a_line_of_the_program_may_not_go_on()
     ensures goes_back { (gateway : Gateway) (office : Box Office) → office.value.exchange ≡ opening 3 0 →
         AreSo gateway office.value 100 (deleted_later ∷ []) (wake_at 1500 0 ∷ []) →
         ¬ GoesOn (desk_of gateway office.value) 0 deleted_later office.value.exchange [] Phase.Resting None }
+{}
+
+/// With calls that are turns of both a line goes on; and with more: an answer may come to a line to which nothing is in flight. For what is
+/// in flight to be the same at both the clock may go back, too, from 1,500 to 100.
+pub fn more_calls_are_meant_than_those_that_are_turns()
+    ensures turns { (steps : List Step) (gateway after : Gateway) (was is : Box Office) → Runs steps gateway was after is →
+        RunsForward steps gateway was after is }
+    ensures forward { (steps : List Step) (gateway after : Gateway) (was is : Box Office) → RunsForward steps gateway was after is →
+        RunsAnyhow steps gateway was after is }
+    ensures answered_in_vain { (text : List ℕ) (gateway : Gateway) (office : Box Office) →
+        office.value.cares.items ≡ replicate 2 new_care → RunsForward (takes_answer 0 200 text ∷ []) gateway office gateway office }
+    ensures not_flying { (office : Box Office) → office.value.cares.items ≡ replicate 2 new_care → ¬ Flies 0 office.value }
+    ensures back { (gateway after : Gateway) (office : Box Office) → gateway.ticked ≡ 1500 → after.ticked ≡ tick_to 1500 100 →
+        after.wakes.items ≡ gateway.wakes.items → RunsAnyhow (goes_on_to true 100 ∷ []) gateway office after office }
 {}
 
 /// Nor do turns lead to a start at a moment that isn't one of 64 bits, or at which something is sent again 5,000 ms later already.

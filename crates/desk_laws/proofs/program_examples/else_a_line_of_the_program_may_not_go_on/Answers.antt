@@ -41,6 +41,9 @@ held_too_long exchange desk clock (inr (inr (inr asked))) = absurd cc
 pub returns-clause-no_call : goal.returns-clause-no_call
 returns-clause-no_call c = λ gateway office. (refl, refl)
 
+pub returns-clause-no_call_anyhow : goal.returns-clause-no_call_anyhow
+returns-clause-no_call_anyhow c = λ gateway office. (refl, refl)
+
 pub returns-clause-not_opened : goal.returns-clause-not_opened
 unfolding on_examples
 returns-clause-not_opened c = λ office is. ap (λ (exchange : ExchangeState). is_in_flight exchange 0) is
