@@ -17,6 +17,8 @@ pub mod LivesSlow
 pub mod LivesTold
 pub mod LivesCarried
 pub mod LivesFairExamples
+mod LivesApart
+mod ToldWorld
 mod LivesPlaces
 mod OneLife
 mod StartedWorld

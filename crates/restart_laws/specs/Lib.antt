@@ -4,3 +4,4 @@ pub mod InFlightExample
 pub mod Roomless
 pub mod CarriedBack
 pub mod CarriedExample
+pub mod ToldExample

@@ -12,4 +12,5 @@ pub mod in_flight_examples;
 pub mod laws;
 pub mod quarantine_examples;
 pub mod roomless_examples;
+pub mod told_examples;
 pub mod word_examples;
