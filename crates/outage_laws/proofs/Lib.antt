@@ -86,4 +86,5 @@ mod RoomlessCopies
 mod CrowdedMachine
 mod CrowdedRounds
 mod CrowdedWorld
+mod CrowdedTracks
 mod CrowdedTold
