@@ -1,13 +1,10 @@
 -- A line counts each act that is lost, and beside these ends of signals and of timer T alone.
-use Rattle.std.proofs.Common.{◌≡◌, ℕ, suc, ◌+◌, ◌-◌, ◌≤◌, ◌==◌, min, Bool, true, false, List, [], ◌∷◌, ◌++◌, Option, Some, None, Result, Ok, Err, inl, inr, ◌⊎◌, refl, sym, ap, subst, ◌∙◌, if◌then◌else◌, append-nil, append_assoc, arith}
-use Rattle.std.specs.Prelude.{◌&&◌, is_none, option_map, unwrap_or}
+use Rattle.std.proofs.Common.{◌≡◌, ℕ, suc, ◌+◌, ◌-◌, ◌≤◌, ◌==◌, min, Bool, true, false, List, [], ◌∷◌, ◌++◌, Option, Some, None, Result, Ok, Err, inl, inr, refl, sym, ap, subst, ◌∙◌, if◌then◌else◌, append-nil, append_assoc, arith}
+use Rattle.std.specs.Prelude.{option_map, unwrap_or}
 use Rattle.std.specs.declared.net.socket_addr.SocketAddrV4.{SocketAddrV4}
 use Rattle.mgcp_text.specs.Confirmation.{k_of}
 use Rattle.mgcp_text.specs.Reading.{Outcome, message, no_header, bad_version, bad_body, read_text}
 use Rattle.mgcp_text.specs.declared.message.Message.TheVariants as messages
-use Rattle.mgcp_text.specs.declared.message.Param.{Param}
-use Rattle.mgcp_text.specs.declared.message.Verb.{Verb}
-use Rattle.event_values.specs.declared.observed.Observed.{Observed}
 use Rattle.event_requests.specs.declared.request.Request.{Request}
 use Rattle.history.specs.Looking.{look_of}
 use Rattle.history.specs.Memory.{most_firsts}
@@ -31,7 +28,7 @@ use Rattle.mg_line.proofs.LoseLemmas.{lost_only_grows}
 use Rattle.plain_machine.specs.declared.endpoint.Endpoint.{Endpoint}
 use Rattle.plain_machine.specs.declared.setup.Setup.{Setup}
 use Rattle.plain_machine.specs.Acting.{acted, acted_on}
-use Rattle.plain_machine.specs.Answering.{handled, took_all}
+use Rattle.plain_machine.specs.Answering.{handled}
 use Rattle.plain_machine.specs.Effect.{Effect}
 use Rattle.plain_machine.specs.Event.{GatewayEvent, datagram, phone, tick}
 use Rattle.plain_machine.specs.Happening.{effect}
@@ -48,7 +45,7 @@ use Rattle.delivery_laws.proofs.EndpointLemmas.{noted_goes, steps_in, steps_of}
 use Rattle.delivery_laws.proofs.OverLists.{always}
 use Rattle.delivery_laws.proofs.ReadingLemmas.{phoned_readable}
 use Rattle.told_laws.specs.Counting.{WalksAsCounted, ends_lost, is_its_act, lost_in, lost_on}
-use Rattle.told_laws.specs.Walking.{Place, Stays, nothing_asked}
+use Rattle.told_laws.specs.Walking.{Stays, nothing_asked}
 use Rattle.told_laws.proofs.AskedCourses.{course_on}
 use Rattle.told_laws.proofs.FrontWalks.{next_machine, one_event, there_at_first}
 use Rattle.told_laws.proofs.InTurn.{AnyLine, CallsInTurn, any_calls, from_front, opens}

@@ -8,13 +8,13 @@ ghost use Rattle.plain_machine.specs.Setup.{IsSetUp};
 ghost use Rattle.agent_core.specs.World.{steps_are_taken, world_opening};
 ghost use Rattle.delivery_laws.specs.Course.{course_of};
 ghost use Rattle.delivery_laws.specs.Dialled.{done_in, told_along};
-ghost use Rattle.delivery_laws.specs.DialledExample.{told_then, world, endpoint_then};
+ghost use Rattle.delivery_laws.specs.DialledExample.{told_then, endpoint_then};
 ghost use Rattle.delivery_laws.specs.OnceExample.{five, hung_up, lifted as off_hook};
 ghost use Rattle.told_laws.specs.Among.{AreAmong};
 ghost use Rattle.told_laws.specs.Fate.{IsTakenOf, fates_from, joined, kept_of, waits_to_announce};
 ghost use Rattle.told_laws.specs.FateExample.{fates_then, fates_with, is_back, key, key_flies, lifting, tells_five, tells_lifting};
 ghost use Rattle.told_laws.specs.FateExample.{doubled, fates_there, lifted_there, line_there, what_told, which_given_up};
-ghost use Rattle.told_laws.specs.WorldExample.{gives_up, rests, taken_late};
+ghost use Rattle.told_laws.specs.WorldExample.{taken_late};
 ghost use Rattle.told_laws.specs.WorldPremises.{asked_for_its_agent, line_in, lying, observed_in, rested, taken_out_of_order};
 
 /// Who announces itself next gave up what it began before that, and so did who waits to announce itself what it began last.

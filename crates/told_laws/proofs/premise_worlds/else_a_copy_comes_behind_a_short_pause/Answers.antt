@@ -1,4 +1,4 @@
-use Rattle.std.proofs.Common.{ℕ, ◌+◌, ◌≤◌, refl, arith}
+use Rattle.std.proofs.Common.{◌+◌, ◌≤◌, refl, arith}
 use Rattle.delivery_laws.specs.OnceExample.{lifted}
 use Rattle.told_laws.proofs.ExampleLemmas.{never_told}
 use Rattle.told_laws.proofs.WorldComputing.{on_examples}
