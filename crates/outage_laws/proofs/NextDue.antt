@@ -34,7 +34,6 @@ use Rattle.plain_machine.specs.Commanding.{done_by}
 use Rattle.plain_machine.specs.Done.{Done}
 use Rattle.plain_machine.specs.Effect.{Effect}
 use Rattle.plain_machine.specs.Event.{datagram, phone, tick}
-use Rattle.plain_machine.specs.Falling.{post_due}
 use Rattle.plain_machine.specs.Happening.{effect}
 use Rattle.plain_machine.specs.Machine.{Endpoints, Machine, on_line, on_own, serves}
 use Rattle.plain_machine.specs.Posting.{line_of_id}

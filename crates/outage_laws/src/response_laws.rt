@@ -1,5 +1,5 @@
 //! Laws of a response that comes to a gateway, behind whatever events.
-ghost use Rattle.std.specs.Prelude.{◌≡◌, ◌≤◌, ◌+◌, ◌++◌, ◌∷◌, [], ℕ, List, None, Some};
+ghost use Rattle.std.specs.Prelude.{◌≡◌, ◌≤◌, ◌+◌, ◌++◌, ◌∷◌, [], ℕ, List, Some};
 ghost use Rattle.std.specs.declared.net.socket_addr.SocketAddrV4.{SocketAddrV4};
 ghost use Rattle.mgcp_text.specs.declared.message.Message.TheVariants as messages;
 ghost use Rattle.mgcp_text.specs.declared.message.Param.{Param};
