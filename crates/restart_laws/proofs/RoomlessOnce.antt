@@ -1,6 +1,6 @@
 -- The life of a gateway that started again before anything else, where its agent has no room: it is the gateway of the world, and what is so
 -- there is so of it.
-use Rattle.std.proofs.Common.{◌≡◌, ℕ, ◌+◌, List, [], ◌∷◌, ◌++◌, Some, true, refl, sym, ap, ◌∙◌, subst, arith}
+use Rattle.std.proofs.Common.{◌≡◌, ℕ, List, [], ◌∷◌, ◌++◌, Some, true, refl, sym, ap, ◌∙◌, subst, arith}
 use Rattle.std.specs.Prelude.{All, Any, length, option_map}
 use Rattle.restart.specs.declared.restart.Restart.TheVariants.{Waiting}
 use Rattle.plain_machine.specs.declared.endpoint.Endpoint.{Endpoint}

@@ -8,7 +8,7 @@ use Rattle.delivery_laws.proofs.ExampleLemmas.{two_lines_set_up}
 use Rattle.outage_laws.specs.Roomless.{key_begun, roomless}
 use Rattle.life_laws.specs.Example.{lives}
 use Rattle.life_laws.specs.Lives.{Life, clock_of, number_of}
-use Rattle.restart_laws.specs.CarriedBack.{IsCarriedInLives, IsCopyOfLife, IsHandedThen}
+use Rattle.restart_laws.specs.CarriedBack.{IsCopyOfLife, IsHandedThen}
 use Rattle.restart_laws.specs.Roomless.{starting}
 use Rattle.restart_laws.proofs.Computing.{on_examples}
 use Rattle.restart_laws.proofs.LivesCarried.{carried_back}

@@ -1,20 +1,12 @@
-use Rattle.std.proofs.Common.{◌≡◌, ℕ, ◌<◌, [], ◌∷◌, ◌++◌, codes, refl, sym, ◌∙◌, subst, arith}
-use Rattle.std.proofs.lemmas.Bool.{leb-true, ltb-true}
+use Rattle.std.proofs.Common.{◌≡◌, ℕ, ◌<◌, ◌++◌, refl, sym, ◌∙◌, subst, arith}
+use Rattle.std.proofs.lemmas.Bool.{ltb-true}
 use Rattle.quarantine.specs.Held.{most_lost}
-use Rattle.plain_machine.specs.Example.{two_lines}
-use Rattle.machine_laws.specs.Saying.{Begun}
-use Rattle.agent_core.specs.World.{ticking}
 use Rattle.delivery_laws.proofs.AskingLemmas.{notifies_each}
-use Rattle.delivery_laws.proofs.ExampleLemmas.{two_lines_set_up}
 use Rattle.delivery_laws.proofs.FrontLemmas.{answered_within, asked_within}
 use Rattle.outage_laws.specs.ToldSince.{IsAskedForAllSince}
-use Rattle.life_laws.specs.Example.{lives}
-use Rattle.life_laws.specs.Lives.{stepping}
 use Rattle.restart_laws.specs.Example.{life_took, took_since}
 use Rattle.restart_laws.specs.ToldExample.{asked_anew, course_behind, from_twenty, line_behind, told_anew, took_both}
 use Rattle.restart_laws.proofs.Computing.{on_examples}
-use Rattle.restart_laws.proofs.LivesApart.{first_apart}
-use Rattle.restart_laws.proofs.LivesFairExamples.{life_goes, lives_fair, lives_roomy}
 use Rattle.restart_laws.proofs.told_examples.else_a_telephone_of_a_new_life_does_not_rest.Goals as goal
 
 lost_then : (line_behind (took_both asked_anew asked_anew ++ took_since asked_anew told_anew)).line.quarantined.lost ≡ 0
