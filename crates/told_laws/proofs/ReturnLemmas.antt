@@ -4,12 +4,13 @@ use Rattle.std.proofs.Common.{◌≡◌, ◌≢◌, ℕ, zero, suc, ◌+◌, ◌
 use Rattle.std.specs.Prelude.{◌⊎◌, filter, flat_map, fold, nat_le, nat_lt}
 use Rattle.std.proofs.lemmas.Bool.{and_from, le-leb, leb-false, leb-true, lt-ltb, ltb-false, ltb-true}
 use Rattle.std.proofs.lemmas.List.{length-append, length-map}
-use Rattle.history.specs.Memory.{memory_time}
+use Rattle.history.specs.Memory.{memory_time, most_firsts}
 use Rattle.outbound.specs.Flight.{InFlight}
 use Rattle.plain_machine.specs.declared.endpoint.Endpoint.{Endpoint}
 use Rattle.plain_machine.specs.declared.setup.Setup.{Setup}
 use Rattle.plain_machine.specs.Arriving.{arrivals_of}
 use Rattle.plain_machine.specs.Machine.{endpoint_at}
+use Rattle.plain_machine.specs.Posting.{numbers}
 use Rattle.plain_machine.specs.Setup.{IsSetUp}
 use Rattle.machine_laws.specs.Saying.{Begun, OneOf}
 use Rattle.machine_laws.proofs.EachLemmas.{Each, each_back, each_mapped, each_weaker, one_before, one_behind, one_weaker}
@@ -86,7 +87,7 @@ numbered_to : (number : ℕ) (b : Begun) (between : List Begun) (y : Begun) (aft
 numbered_to number b between y after begun free n is =
     numbered_front number (b ∷ between ++ y ∷ []) after free (subst (λ (z : List Begun). Numbered number (b ∷ z) free) (is ∙ sym (append_assoc between (y ∷ []) after)) n)
 
-near_apart : (number : ℕ) (begun : List Begun) (free : ℕ) → Numbered number begun free → length begun < 9999999 → Apart (begun_ids begun)
+near_apart : (number : ℕ) (begun : List Begun) (free : ℕ) → Numbered number begun free → length begun < numbers - 1 → Apart (begun_ids begun)
 near_apart number [] free n few = tt
 near_apart number (b ∷ begun) free n few = (
   each_mapped (λ (id : ℕ). b.id ≢ id) (λ (x : Begun). x.id) begun (each_parted (λ (c : Begun). b.id ≢ c.id) begun (λ between y after is same. clash between y after is same)),
@@ -95,7 +96,7 @@ near_apart number (b ∷ begun) free n few = (
   clash : (between : List Begun) (y : Begun) (after : List Begun) → begun ≡ between ++ y ∷ after → b.id ≡ y.id → ⊥
   clash between y after is same =
       let f = numbered_to number b between y after begun free n is in
-      let far : 9999998 ≤ length between = far_apart number b between y f.0 f.1 same in
+      let far : numbers - 2 ≤ length between = far_apart number b between y f.0 f.1 same in
       let long : length between < length (between ++ y ∷ after) = some_behind between y after in
       let all : length begun ≡ length (between ++ y ∷ after) = ap (λ (z : List Begun). length z) is in
       absurd (omega (arith, few, far, long, all))
@@ -164,10 +165,10 @@ within_so since one low high =
     (lt-ltb one.asked.moment (since + memory_time) high)
 
 abbrev two_times : ℕ → List Reached → List Reached
-two_times from taken = those_within from taken ++ those_within (from + 30000) taken
+two_times from taken = those_within from taken ++ those_within (from + memory_time) taken
 
 abbrev four_times : ℕ → List Reached → List Reached
-four_times from taken = two_times from taken ++ two_times (from + 60000) taken
+four_times from taken = two_times from taken ++ two_times (from + 2 * memory_time) taken
 
 abbrev HasId : ℕ → Reached → Type 0
 HasId id one = one.asked.id ≡ id
@@ -181,41 +182,41 @@ halves id from middle until one is = by_test (nat_lt one.asked.moment middle) re
   by_test true low = inl (is.0, (is.1.0, ltb-true one.asked.moment middle low))
   by_test false high = inr (is.0, (ltb-false one.asked.moment middle high, is.1.1))
 
-in_one : (id from until : ℕ) (taken : List Reached) → until ≡ from + 30000 → OneOf (CameIn id from until) taken → OneOf (HasId id) (those_within from taken)
+in_one : (id from until : ℕ) (taken : List Reached) → until ≡ from + memory_time → OneOf (CameIn id from until) taken → OneOf (HasId id) (those_within from taken)
 in_one id from until taken at one =
     one_kept (HasId id) (is_within from) taken
     (one_weaker (CameIn id from until) (λ (x : Reached). HasId id x × (is_within from x ≡ true))
     (λ x is. (is.0, within_so from x is.1.0 (let high : x.asked.moment < until = is.1.1 in omega (arith, high, at)))) taken one)
 
-in_two : (id from until : ℕ) (taken : List Reached) → until ≡ from + 60000 → OneOf (CameIn id from until) taken → OneOf (HasId id) (two_times from taken)
+in_two : (id from until : ℕ) (taken : List Reached) → until ≡ from + 2 * memory_time → OneOf (CameIn id from until) taken → OneOf (HasId id) (two_times from taken)
 in_two id from until taken at one =
-    by_half (one_either (CameIn id from (from + 30000)) (CameIn id (from + 30000) until) taken
-    (one_weaker (CameIn id from until) (λ (x : Reached). CameIn id from (from + 30000) x ⊎ CameIn id (from + 30000) until x) (λ x is. halves id from (from + 30000) until x is) taken one)) where
-      by_half : OneOf (CameIn id from (from + 30000)) taken ⊎ OneOf (CameIn id (from + 30000) until) taken → OneOf (HasId id) (two_times from taken)
-      by_half (inl early) = one_before (HasId id) (those_within from taken) (those_within (from + 30000) taken) (in_one id from (from + 30000) taken refl early)
+    by_half (one_either (CameIn id from (from + memory_time)) (CameIn id (from + memory_time) until) taken
+    (one_weaker (CameIn id from until) (λ (x : Reached). CameIn id from (from + memory_time) x ⊎ CameIn id (from + memory_time) until x) (λ x is. halves id from (from + memory_time) until x is) taken one)) where
+      by_half : OneOf (CameIn id from (from + memory_time)) taken ⊎ OneOf (CameIn id (from + memory_time) until) taken → OneOf (HasId id) (two_times from taken)
+      by_half (inl early) = one_before (HasId id) (those_within from taken) (those_within (from + memory_time) taken) (in_one id from (from + memory_time) taken refl early)
       by_half (inr late) =
-          one_behind (HasId id) (those_within from taken) (those_within (from + 30000) taken) (in_one id (from + 30000) until taken (omega (arith, at)) late)
+          one_behind (HasId id) (those_within from taken) (those_within (from + memory_time) taken) (in_one id (from + memory_time) until taken (omega (arith, at)) late)
 
-in_four : (id from until : ℕ) (taken : List Reached) → until ≡ from + 120000 → OneOf (CameIn id from until) taken → OneOf (HasId id) (four_times from taken)
+in_four : (id from until : ℕ) (taken : List Reached) → until ≡ from + 4 * memory_time → OneOf (CameIn id from until) taken → OneOf (HasId id) (four_times from taken)
 in_four id from until taken at one =
-    by_half (one_either (CameIn id from (from + 60000)) (CameIn id (from + 60000) until) taken
-    (one_weaker (CameIn id from until) (λ (x : Reached). CameIn id from (from + 60000) x ⊎ CameIn id (from + 60000) until x) (λ x is. halves id from (from + 60000) until x is) taken one)) where
-      by_half : OneOf (CameIn id from (from + 60000)) taken ⊎ OneOf (CameIn id (from + 60000) until) taken → OneOf (HasId id) (four_times from taken)
-      by_half (inl early) = one_before (HasId id) (two_times from taken) (two_times (from + 60000) taken) (in_two id from (from + 60000) taken refl early)
+    by_half (one_either (CameIn id from (from + 2 * memory_time)) (CameIn id (from + 2 * memory_time) until) taken
+    (one_weaker (CameIn id from until) (λ (x : Reached). CameIn id from (from + 2 * memory_time) x ⊎ CameIn id (from + 2 * memory_time) until x) (λ x is. halves id from (from + 2 * memory_time) until x is) taken one)) where
+      by_half : OneOf (CameIn id from (from + 2 * memory_time)) taken ⊎ OneOf (CameIn id (from + 2 * memory_time) until) taken → OneOf (HasId id) (four_times from taken)
+      by_half (inl early) = one_before (HasId id) (two_times from taken) (two_times (from + 2 * memory_time) taken) (in_two id from (from + 2 * memory_time) taken refl early)
       by_half (inr late) =
-          one_behind (HasId id) (two_times from taken) (two_times (from + 60000) taken) (in_two id (from + 60000) until taken (omega (arith, at)) late)
+          one_behind (HasId id) (two_times from taken) (two_times (from + 2 * memory_time) taken) (in_two id (from + 2 * memory_time) until taken (omega (arith, at)) late)
 
-few_in_four : (arrived : List Reached) (from : ℕ) → length (four_times from (fold executed_with [] arrived)) ≤ 16384
+few_in_four : (arrived : List Reached) (from : ℕ) → length (four_times from (fold executed_with [] arrived)) ≤ 4 * most_firsts
 few_in_four arrived from =
     omega (
       arith,
       few_within from arrived,
-      few_within (from + 30000) arrived,
-      few_within (from + 60000) arrived,
-      few_within (from + 60000 + 30000) arrived,
-      length-append (those_within from taken) (those_within (from + 30000) taken),
-      length-append (those_within (from + 60000) taken) (those_within (from + 60000 + 30000) taken),
-      length-append (two_times from taken) (two_times (from + 60000) taken),
+      few_within (from + memory_time) arrived,
+      few_within (from + 2 * memory_time) arrived,
+      few_within (from + 2 * memory_time + memory_time) arrived,
+      length-append (those_within from taken) (those_within (from + memory_time) taken),
+      length-append (those_within (from + 2 * memory_time) taken) (those_within (from + 2 * memory_time + memory_time) taken),
+      length-append (two_times from taken) (two_times (from + 2 * memory_time) taken),
     ) where
       taken : List Reached
       taken = fold executed_with [] arrived
@@ -238,11 +239,11 @@ module _ (taken : List Reached) (now from high : ℕ) where
   abbrev SoLate : ℕ → Begun → Type 0
   SoLate low c = low ≤ c.moment
 
-  was_in : (id at low moment : ℕ) → from ≤ low - 41000 → high < from + 120000 → low ≤ moment → moment ≤ at + 1000 → at ≤ high → IsLately at taken id → In id ids
+  was_in : (id at low moment : ℕ) → from ≤ low - 41000 → high < from + 4 * memory_time → low ≤ moment → moment ≤ at + 1000 → at ≤ high → IsLately at taken id → In id ids
   was_in id at low moment early late since rises by one =
       in_mapped (λ (x : Reached). x.asked.id) id (four_times from taken)
-      (in_four id from (from + 120000) taken refl
-      (one_weaker (λ (x : Reached). (x.asked.id ≡ id) × ((at < x.asked.moment + 40000) × (x.asked.moment ≤ at))) (CameIn id from (from + 120000))
+      (in_four id from (from + 4 * memory_time) taken refl
+      (one_weaker (λ (x : Reached). (x.asked.id ≡ id) × ((at < x.asked.moment + 40000) × (x.asked.moment ≤ at))) (CameIn id from (from + 4 * memory_time))
       (λ x is. (
         is.0,
         (
@@ -251,7 +252,7 @@ module _ (taken : List Reached) (now from high : ℕ) where
         ),
       )) taken one))
 
-  parts : (done tail : List Begun) (low : ℕ) → ((at : ℕ) → Each (SoLate at) tail → at ≤ high) → from ≤ low - 41000 → high < from + 120000 → AllSettled taken now done tail
+  parts : (done tail : List Begun) (low : ℕ) → ((at : ℕ) → Each (SoLate at) tail → at ≤ high) → from ≤ low - 41000 → high < from + 4 * memory_time → AllSettled taken now done tail
       → Each (SoLate low) (done ++ tail) → Parts ids low high done
   parts [] tail low ends early late all since = record {
     answered = [];
@@ -356,7 +357,7 @@ module _ (arrived : List Reached) (now : ℕ) where
       clash : ⊥
       clash =
           let all_ids : length (ids taken now from y.moment) ≡ length (four_times from taken) = length-map (four_times from taken) (λ (x : Reached). x.asked.id) in
-          let limit : length (four_times from taken) ≤ 16384 = few_in_four arrived from in
+          let limit : length (four_times from taken) ≤ 4 * most_firsts = few_in_four arrived from in
           let count : length (b ∷ front) ≤ length p.answered + p.up = p.count in
           let time : low + 18500 * p.up ≤ y.moment = p.time in
           absurd (omega (arith, all_ids, limit, count, time, few, many, soon))
@@ -372,7 +373,7 @@ module _ (arrived : List Reached) (now : ℕ) where
     clash : (between : List Begun) (y : Begun) (after : List Begun) → done ++ tail ≡ between ++ y ∷ after → b.id ≡ y.id → y.moment < b.moment + return_time → ⊥
     clash between y after is same soon =
         let n = numbered_to number b between y after (done ++ tail) free numbered is in
-        let many : 9999998 ≤ length between = far_apart number b between y n.0 n.1 same in
+        let many : numbers - 2 ≤ length between = far_apart number b between y n.0 n.1 same in
         let p = prefix done tail between y after one is in
         let c = cut_at 30000 between (omega (arith, many)) in
         let whole : done ≡ c.front ++ (c.back ++ p.more) = p.is ∙ ap (λ (z : List Begun). z ++ p.more) c.is ∙ append_assoc c.front c.back p.more in
