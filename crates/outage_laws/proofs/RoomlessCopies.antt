@@ -20,7 +20,7 @@ use Rattle.delivery_laws.specs.Taking.{IsTaken}
 use Rattle.outage_laws.specs.Carrying.{IsHandedBack}
 use Rattle.outage_laws.specs.Example.{announcement}
 use Rattle.outage_laws.specs.Premises.{announced_anew}
-use Rattle.outage_laws.specs.Roomless.{asked_late, key_message, keyed, own_filled, own_roomless, own_roomless_then, own_ticks}
+use Rattle.outage_laws.specs.Roomless.{asked_late, key_message, keyed, keys_that_fill, own_filled, own_roomless, own_roomless_then, own_ticks}
 use Rattle.outage_laws.proofs.Computing.{on_examples}
 use Rattle.outage_laws.proofs.RoomlessAnew.{all_copies}
 use Rattle.outage_laws.proofs.RoomlessLate.{at_late, done, from_late, is_16, late_is, late_ready, lifted_text, request_text}
@@ -92,7 +92,7 @@ foreign_late = subst Foreign late_is (record {
   each = ((λ from. foreign_by announced_anew.text one_two two_apart), ((λ from any. absurd cc), ((λ from. foreign_by lifted_text one_lifted lifted_apart), ((λ from any. absurd cc), ((λ from any. absurd cc), ((λ from. foreign_by (done 1) one_done done_apart), tt))))));
 })
 
-foreign_next : (k : ℕ) → suc k ≤ 4094 → Foreign (keyed asked_late 14 k) → Foreign (keyed asked_late 14 (suc k))
+foreign_next : (k : ℕ) → suc k ≤ keys_that_fill → Foreign (keyed asked_late 14 k) → Foreign (keyed asked_late 14 (suc k))
 foreign_next k low was =
     subst Foreign (keyed_more asked_late at_late 23502 2 from_late 2 14 (omega arith) (tells 23502 3) late_ready k) (record {
       rest = (was.rest ++ post_of 23502 (k + 1) ∷ []) ++ answer_post 23502 (k + 1) ∷ [];
@@ -111,7 +111,7 @@ foreign_next k low was =
       reads_so : read_text (written (key_message (k + 1))) ≡ message (key_message (k + 1))
       reads_so = read_again (key_message (k + 1)) (writable at_late 23502 2 from_late 2 (omega arith) (tells 23502 3) (keyed asked_late 14 k) (k + 1) (14 + 2 * k) (few_on k low) r)
 
-foreign_keys : (k : ℕ) → k ≤ 4094 → Foreign (keyed asked_late 14 k)
+foreign_keys : (k : ℕ) → k ≤ keys_that_fill → Foreign (keyed asked_late 14 k)
 foreign_keys zero low = subst Foreign (keyed_none asked_late at_late 23502 2 from_late 2 14 (omega arith) (tells 23502 3) late_ready) foreign_late
 foreign_keys (suc k) low = foreign_next k low (foreign_keys k (low_before k low))
 
@@ -129,7 +129,7 @@ past rest (suc (suc (suc (suc (suc (suc (suc zero))))))) post is = inl (omega ar
 past rest (suc (suc (suc (suc (suc (suc (suc (suc place)))))))) post is = inr (place, is)
 
 all_foreign : Foreign front
-all_foreign = foreign_keys 4094 (omega arith)
+all_foreign = foreign_keys keys_that_fill (omega arith)
 
 pub copies : (number : ℕ) → IsCopy two_lines (world own_roomless) gateway_end announcement.text number → number ≤ 7
 copies number c = by_place (past all_foreign.rest number c.post (ap (λ (x : List Posted). slice_get x number) (sym (ends.posts ∙ all_foreign.posts)) ∙ c.found)) where

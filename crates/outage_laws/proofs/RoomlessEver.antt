@@ -1,15 +1,17 @@
 -- Line 1 never gave anything up, and the agent was told no more than was done before the key: so that key isn't told.
-use Rattle.std.proofs.Common.{◌≡◌, ◌++◌, ◌<◌, ◌≤◌, ◌||◌, ℕ, ◌+◌, Bool, false, [], ◌∷◌, List, Option, Some, None, refl, ap, sym, ◌∙◌, append-nil, arith, subst}
+use Rattle.std.proofs.Common.{◌≡◌, ◌++◌, ◌<◌, ◌≤◌, ◌||◌, ℕ, ◌+◌, ◌-◌, Bool, false, [], ◌∷◌, List, Option, Some, None, refl, ap, sym, ◌∙◌, append-nil, arith, subst}
 use Rattle.std.specs.Prelude.{IfSome, length, not}
 use Rattle.std.proofs.lemmas.List.{length-append}
 use Rattle.event_values.specs.declared.observed.Observed.{Observed}
 use Rattle.outbound.specs.Flight.{InFlight}
 use Rattle.restart.specs.Restarting.{is_serving}
+use Rattle.history.specs.Memory.{most_firsts}
 use Rattle.plain_machine.specs.Event.{GatewayEvent}
 use Rattle.plain_machine.specs.Example.{two_lines}
 use Rattle.plain_machine.specs.Lists.{sent_from, sent_of}
 use Rattle.plain_machine.specs.Machine.{Machine, opening}
 use Rattle.plain_machine.specs.Message.{Sent}
+use Rattle.plain_machine.specs.Posting.{numbers}
 use Rattle.machine_laws.specs.Belonging.{of_line}
 use Rattle.machine_laws.specs.Saying.{Begun, HasNumbersLeft, begun_in}
 use Rattle.call_agent.specs.Agent.{observed_on}
@@ -28,7 +30,7 @@ use Rattle.delivery_laws.proofs.ExampleLemmas.{two_lines_set_up}
 use Rattle.delivery_laws.proofs.RestLemmas.{begun_both}
 use Rattle.delivery_laws.proofs.RoundLaws.{sent_on}
 use Rattle.outage_laws.specs.HadTime.{FlightGoesToAgent}
-use Rattle.outage_laws.specs.Roomless.{asked_at_once, asked_first, key_only, rested, untold}
+use Rattle.outage_laws.specs.Roomless.{asked_at_once, asked_first, key_only, keys_that_fill, next_key_number, rested, untold}
 use Rattle.outage_laws.proofs.Computing.{on_examples}
 use Rattle.outage_laws.proofs.RoomlessLine.{goes, is_fair, r, w_0}
 use Rattle.outage_laws.proofs.RoomlessMachine.{numbered, tells}
@@ -43,17 +45,17 @@ unfolding on_examples
 quiet_first = refl
 
 quiet_front : has_announced (sent_of two_lines w_0.gateway_took) ≡ false
-quiet_front = quiet_ready asked_at_once at_once 1 1 from_first 1 6 (omega arith) (tells 1 2) first_ready quiet_first 4094 (omega arith)
+quiet_front = quiet_ready asked_at_once at_once 1 1 from_first 1 6 (omega arith) (tells 1 2) first_ready quiet_first keys_that_fill (omega arith)
 
-quiet_ticks : has_announced (sent_from two_lines (numbered at_once 4095) ticks) ≡ false
+quiet_ticks : has_announced (sent_from two_lines (numbered at_once next_key_number) ticks) ≡ false
 unfolding on_examples
 quiet_ticks = refl
 
-quiet_later : has_announced (sent_from two_lines (numbered at_once 4095) e_21002) ≡ false
+quiet_later : has_announced (sent_from two_lines (numbered at_once next_key_number) e_21002) ≡ false
 unfolding on_examples
 quiet_later = refl
 
-quiet_behind : (events : List GatewayEvent) → has_announced (sent_from two_lines (numbered at_once 4095) events) ≡ false → has_announced (sent_of two_lines (w_0.gateway_took ++ events)) ≡ false
+quiet_behind : (events : List GatewayEvent) → has_announced (sent_from two_lines (numbered at_once next_key_number) events) ≡ false → has_announced (sent_of two_lines (w_0.gateway_took ++ events)) ≡ false
 quiet_behind events quiet =
     ap has_announced (sent_on two_lines (opening two_lines) w_0.gateway_took events)
     ∙ announced_both (sent_of two_lines w_0.gateway_took) (sent_from two_lines (gateway_in two_lines w_0) events) quiet_front
@@ -102,11 +104,11 @@ flies = flies_so (line_with two_lines (took_first untold)).post.pending
 
 -- What the agent was told is no more than was done before
 
-none_begun : begun_in (sent_from two_lines (numbered at_once 4095) ticks) ≡ []
+none_begun : begun_in (sent_from two_lines (numbered at_once next_key_number) ticks) ≡ []
 unfolding on_examples
 none_begun = refl
 
-began_so : length (own_in two_lines (world rested)) ≡ 4096
+began_so : length (own_in two_lines (world rested)) ≡ most_firsts
 began_so =
     ap (λ (x : List GatewayEvent). length (begun_in (sent_of two_lines x))) rested_stays.took
     ∙ ap (λ (x : List Sent). length (begun_in x)) (sent_on two_lines (opening two_lines) w_0.gateway_took ticks)
@@ -115,7 +117,7 @@ began_so =
     ∙ ap (λ (x : List Begun). length (begun_in (sent_of two_lines w_0.gateway_took) ++ x)) none_begun ∙ ap length (append-nil (begun_in (sent_of two_lines w_0.gateway_took))) ∙ r.began
 
 few : HasNumbersLeft (own_in two_lines (world rested))
-few = few_are_begun (own_in two_lines (world rested)) (subst (λ (n : ℕ). n < 9999999) (sym began_so) (omega arith))
+few = few_are_begun (own_in two_lines (world rested)) (subst (λ (n : ℕ). n < numbers - 1) (sym began_so) (omega arith))
 
 abbrev taken : List Observed
 taken = happened_in (observed_on 1 (agent_in two_lines (world rested)))

@@ -2,7 +2,7 @@
 use Rattle.std.proofs.Common.{◌≡◌, ℕ, ◌+◌, ◌<◌, ◌≤◌, true, List, [], ◌++◌, length, sym, ap, ◌∙◌, subst, arith, append-nil}
 use Rattle.history.specs.Entry.{Entry}
 use Rattle.history.specs.Kept.{young_firsts}
-use Rattle.history.specs.Memory.{most_firsts}
+use Rattle.history.specs.Memory.{memory_time, most_firsts}
 use Rattle.plain_machine.specs.Example.{two_lines}
 use Rattle.plain_machine.specs.Machine.{Machine}
 use Rattle.plain_machine.specs.Posting.{id_on}
@@ -10,16 +10,16 @@ use Rattle.agent_core.specs.World.{WorldStep, agent_in, now_in, plain_world, ste
 use Rattle.delivery_laws.specs.Taking.{AgentHasRoom}
 use Rattle.delivery_laws.proofs.ClockLemmas.{front_forward}
 use Rattle.outage_laws.specs.AfterOutage.{AgentHasRoomFrom}
-use Rattle.outage_laws.specs.Roomless.{asked_at_once, keyed, roomless}
+use Rattle.outage_laws.specs.Roomless.{asked_at_once, keyed, keys_that_fill, next_key_number, roomless}
 use Rattle.outage_laws.proofs.RoomlessLine.{roomless_stays}
 use Rattle.outage_laws.proofs.RoomlessRounds.{filled, young_all}
 
 -- what the agent remembers behind the last key that was taken
 abbrev kept_then : List Entry
-kept_then = (agent_in two_lines (plain_world two_lines (keyed asked_at_once 6 4094))).history
+kept_then = (agent_in two_lines (plain_world two_lines (keyed asked_at_once 6 keys_that_fill))).history
 
-all_young : (now : ℕ) → now < 1 + 30000 → length (young_firsts now kept_then) ≡ most_firsts
-all_young now soon = young_all 1 (id_on 1 4095) 1 now kept_then soon filled.low ∙ filled.count
+all_young : (now : ℕ) → now < 1 + memory_time → length (young_firsts now kept_then) ≡ most_firsts
+all_young now soon = young_all 1 (id_on 1 next_key_number) 1 now kept_then soon filled.low ∙ filled.count
 
 not_below : (n : ℕ) → n < n → ⊥
 not_below n less = omega (arith, less)

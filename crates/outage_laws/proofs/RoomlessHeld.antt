@@ -25,7 +25,7 @@ use Rattle.delivery_laws.specs.Rounds.{IsAnsweredWithin, IsAskedWithin, of_telep
 use Rattle.delivery_laws.proofs.FrontLemmas.{front_holds, on_fronts}
 use Rattle.outage_laws.specs.AfterOutage.{IsWell, gap_of, well_by}
 use Rattle.outage_laws.specs.LinePremises.{held_with, restart_with}
-use Rattle.outage_laws.specs.Roomless.{key_begun, roomless, roomless_given_up, roomless_soon, ticks_on, ticks_then}
+use Rattle.outage_laws.specs.Roomless.{key_begun, next_key_number, roomless, roomless_given_up, roomless_soon, ticks_on, ticks_then}
 use Rattle.outage_laws.proofs.Computing.{on_examples}
 use Rattle.outage_laws.proofs.RoomlessLine.{e_22501, e_9501, given_up_stays, is_of_line, not_taken, roomless_soon_stays, roomless_stays, w_0}
 use Rattle.outage_laws.proofs.RoomlessTicks.{at_22501, at_23501, at_9501}
@@ -183,7 +183,7 @@ so_long_ago now is = omega (arith, is)
 pub not_well : IsWell two_lines (world roomless) 0 0 → ⊥
 not_well well =
     not_taken roomless at_end 22501 8202 e_22501 roomless_stays
-    (well.commands 1 (line_in at_end) (key_begun 1 4095) (ap (λ (m : Machine). endpoint_at m.endpoints 1) end_is ∙ line_end) is_of_line (omega arith)
+    (well.commands 1 (line_in at_end) (key_begun 1 next_key_number) (ap (λ (m : Machine). endpoint_at m.endpoints 1) end_is ∙ line_end) is_of_line (omega arith)
     (so_long_ago (now_in two_lines (world roomless)) now_end)).0
 
 -- It gives up at last

@@ -17,7 +17,7 @@ use Rattle.history.specs.Entry.{Entry}
 use Rattle.history.specs.Entry.TheVariants.{First, Confirmation}
 use Rattle.history.specs.Kept.{firsts_in}
 use Rattle.history.specs.Looking.{full, look_of}
-use Rattle.history.specs.Memory.{most_firsts}
+use Rattle.history.specs.Memory.{memory_time, most_firsts}
 use Rattle.outbound.specs.Flight.{InFlight}
 use Rattle.plain_machine.specs.Event.{GatewayEvent, datagram, phone, tick}
 use Rattle.plain_machine.specs.Example.{two_lines}
@@ -52,7 +52,7 @@ use Rattle.delivery_laws.proofs.RestLemmas.{begun_both}
 use Rattle.delivery_laws.proofs.StepLemmas.{agent_more, step_more}
 use Rattle.delivery_laws.proofs.WellLemmas.{IsWell, sent_well}
 use Rattle.outage_laws.specs.AfterOutage.{IsFairFrom}
-use Rattle.outage_laws.specs.Roomless.{asked_at_once, full_at_once, key_begun, key_message, keyed, roomless, roomless_given_up, roomless_later, roomless_soon, two_more, untaken_first, untaken_on, untaken_then}
+use Rattle.outage_laws.specs.Roomless.{asked_at_once, full_at_once, key_begun, key_message, keyed, keys_that_fill, next_key_number, roomless, roomless_given_up, roomless_later, roomless_soon, two_more, untaken_first, untaken_on, untaken_then}
 use Rattle.outage_laws.proofs.OldestServes.{of_stays}
 use Rattle.outage_laws.proofs.PlainArrivals.{come_taken}
 use Rattle.outage_laws.proofs.RoomlessMachine.{key_sent, pressed, tells}
@@ -62,7 +62,7 @@ use Rattle.outage_laws.proofs.RoomlessTicks.{text, post_at, posts_of, TickIs, at
 -- The world there
 
 abbrev pub front : List WorldStep
-front = keyed asked_at_once 6 4094
+front = keyed asked_at_once 6 keys_that_fill
 
 abbrev pub w_0 : World
 w_0 = plain_world two_lines front
@@ -70,7 +70,7 @@ w_0 = plain_world two_lines front
 abbrev pub a_0 : AgentMachine
 a_0 = agent_in two_lines w_0
 
-abbrev pub r : Ready at_once 1 1 from_first 1 front 4095 8194
+abbrev pub r : Ready at_once 1 1 from_first 1 front next_key_number 8194
 r = filled
 
 abbrev GoneBelow : ℕ → List WorldStep → Type 0
@@ -165,8 +165,8 @@ s_1 = front ++ dialling 1 (Key Five) ∷ []
 one_is : plain_world two_lines s_1 ≡ to_gateway two_lines w_0 key
 one_is = step_more two_lines front (dialling 1 (Key Five)) ∙ dialled_is w_0
 
-sent_one : (effect two_lines (gateway_in two_lines w_0) key).sent ≡ key_sent 1 4095 ∷ []
-sent_one = ap (λ (m : Machine). (effect two_lines m key).sent) r.gateway ∙ (tells 1 2).sends 4095
+sent_one : (effect two_lines (gateway_in two_lines w_0) key).sent ≡ key_sent 1 next_key_number ∷ []
+sent_one = ap (λ (m : Machine). (effect two_lines m key).sent) r.gateway ∙ (tells 1 2).sends next_key_number
 
 linked : Linked two_lines w_0
 linked = world_linked two_lines front two_lines_set_up r.taken
@@ -174,13 +174,13 @@ linked = world_linked two_lines front two_lines_set_up r.taken
 wells : Each (IsWell two_lines) (sent_of two_lines (w_0.gateway_took ++ key ∷ []))
 wells = each_from_all (IsWell two_lines) (sent_of two_lines (w_0.gateway_took ++ key ∷ [])) (sent_well two_lines two_lines_set_up (w_0.gateway_took ++ key ∷ []))
 
-well_here : Each (IsWell two_lines) (key_sent 1 4095 ∷ [])
+well_here : Each (IsWell two_lines) (key_sent 1 next_key_number ∷ [])
 well_here =
     subst (Each (IsWell two_lines)) sent_one
     (each_back (IsWell two_lines) (sent_of two_lines w_0.gateway_took) (effect two_lines (gateway_in two_lines w_0) key).sent
     (subst (Each (IsWell two_lines)) (sent_more two_lines (opening two_lines) w_0.gateway_took key) wells))
 
-writable : is_writable (key_message 4095) ≡ true
+writable : is_writable (key_message next_key_number) ≡ true
 writable = well_here.0.writable
 
 goes_out : is_joinable largest_datagram text ≡ true
@@ -192,21 +192,21 @@ goes_out =
 one_text : texts_of text ≡ text ∷ []
 one_text = alone text goes_out
 
-reads : read_text text ≡ message (key_message 4095)
-reads = read_again (key_message 4095) writable
+reads : read_text text ≡ message (key_message next_key_number)
+reads = read_again (key_message next_key_number) writable
 
-others : Each (IsOther (id_on 1 4095)) a_0.history
-others = each_weaker (IsLow 1 (id_on 1 4095) 1) (IsOther (id_on 1 4095)) (low_other 1 (id_on 1 4095) 1) a_0.history r.low
+others : Each (IsOther (id_on 1 next_key_number)) a_0.history
+others = each_weaker (IsLow 1 (id_on 1 next_key_number) 1) (IsOther (id_on 1 next_key_number)) (low_other 1 (id_on 1 next_key_number) 1) a_0.history r.low
 
-looks_at : (now : ℕ) → now < 1 + 30000 → look_of most_firsts a_0.history (id_on 1 4095) now ≡ full
-looks_at now soon = looks_full 1 (id_on 1 4095) 1 (id_on 1 4095) now a_0.history soon r.low others r.count
+looks_at : (now : ℕ) → now < 1 + memory_time → look_of most_firsts a_0.history (id_on 1 next_key_number) now ≡ full
+looks_at now soon = looks_full 1 (id_on 1 next_key_number) 1 (id_on 1 next_key_number) now a_0.history soon r.low others r.count
 
 this_or_before : (number place : ℕ) → number < place + 1 → (place < suc number) → number ≡ place
 this_or_before number place less more = omega (arith, less, more)
 
 -- the last packet is handed over as it was sent, and isn't taken
 pub deliver_on : (steps : List WorldStep) (g : Machine) (t place : ℕ) (events : List GatewayEvent) → Stays steps g t (place + 1) place events
-    → slice_get (plain_world two_lines steps).posted place ≡ Some (post_at t) → t < 1 + 30000 → Stays (steps ++ delivering place ∷ []) g t (place + 1) (place + 1) events
+    → slice_get (plain_world two_lines steps).posted place ≡ Some (post_at t) → t < 1 + memory_time → Stays (steps ++ delivering place ∷ []) g t (place + 1) (place + 1) events
 deliver_on steps g t place events s last soon = record {
   taken = taken_on steps (delivering place) s.taken (delivery_taken w place (post_at t) t last clock_is (none_old t));
   gateway = ap (gateway_in two_lines) w_is ∙ s.gateway;
@@ -232,12 +232,12 @@ deliver_on steps g t place events s last soon = record {
 
   w_is : plain_world two_lines (steps ++ delivering place ∷ []) ≡ to_agent two_lines w (hears (datagram (gateway_address two_lines) text))
   w_is = step_more two_lines steps (delivering place) ∙ delivered_is w place (post_at t) last
-      ∙ ap (λ (b : Bool). if b then to_agent two_lines w (hears (datagram (gateway_address two_lines) text)) else w) (goes_there 1 4095)
+      ∙ ap (λ (b : Bool). if b then to_agent two_lines w (hears (datagram (gateway_address two_lines) text)) else w) (goes_there 1 next_key_number)
 
   does : agent_effect (agent_of two_lines) a (hears (datagram (gateway_address two_lines) text)) ≡ after (idle a) (λ (next : AgentMachine). idle next)
   does =
-      heard a (gateway_address two_lines) text (message (key_message 4095)) (key_command 4095) full one_text reads (command_is 4095)
-      (ap (λ (h : List Entry). look_of most_firsts h (id_on 1 4095) a.now) s.kept ∙ ap (look_of most_firsts a_0.history (id_on 1 4095)) s.agent_now ∙ looks_at t soon)
+      heard a (gateway_address two_lines) text (message (key_message next_key_number)) (key_command next_key_number) full one_text reads (command_is next_key_number)
+      (ap (λ (h : List Entry). look_of most_firsts h (id_on 1 next_key_number) a.now) s.kept ∙ ap (look_of most_firsts a_0.history (id_on 1 next_key_number)) s.agent_now ∙ looks_at t soon)
 
   agent_is : agent_in two_lines (plain_world two_lines (steps ++ delivering place ∷ [])) ≡ a
   agent_is = ap (agent_in two_lines) w_is ∙ agent_more two_lines w (hears (datagram (gateway_address two_lines) text)) ∙ ap (λ (e : AgentEffect). e.machine) does
@@ -275,11 +275,11 @@ silent steps g now t place events s may is = subst (λ (p : ℕ). Stays (steps +
   none_more x = omega arith
 
 told_again : (steps : List WorldStep) (g : Machine) (now t place : ℕ) (events : List GatewayEvent) → Stays steps g now place place events → tick_refusal now t ≡ None
-    → TickIs g t (post_at t ∷ []) → t < 1 + 30000 → Stays ((steps ++ ticking t ∷ []) ++ delivering place ∷ []) (effect two_lines g (tick t)).value t (place + 1) (place + 1) (events ++ tick t ∷ [])
+    → TickIs g t (post_at t ∷ []) → t < 1 + memory_time → Stays ((steps ++ ticking t ∷ []) ++ delivering place ∷ []) (effect two_lines g (tick t)).value t (place + 1) (place + 1) (events ++ tick t ∷ [])
 told_again steps g now t place events s may is soon =
     deliver_on (steps ++ ticking t ∷ []) (effect two_lines g (tick t)).value t place (events ++ tick t ∷ []) there last soon where
       there : Stays (steps ++ ticking t ∷ []) (effect two_lines g (tick t)).value t (place + 1) place (events ++ tick t ∷ [])
-      there = tick_on steps g now t place place events (post_at t ∷ []) s may ((λ from. goes_there 1 4095), tt) is
+      there = tick_on steps g now t place place events (post_at t ∷ []) s may ((λ from. goes_there 1 next_key_number), tt) is
 
       w : World
       w = plain_world two_lines steps
@@ -307,21 +307,21 @@ posted_one : (plain_world two_lines s_1).posted ≡ w_0.posted ++ post_at 1 ∷ 
 posted_one =
     ap (λ (x : World). x.posted) one_is
     ∙ ap (λ (sent : List Sent). w_0.posted ++ map (posted_as gateway_end (gateway_address two_lines)) (put_out sent)) sent_one
-    ∙ ap (λ (posts : List Posted). w_0.posted ++ posts) (posted_is 1 4095) ∙ ap (λ (post : Posted). w_0.posted ++ post ∷ []) post_is
+    ∙ ap (λ (posts : List Posted). w_0.posted ++ posts) (posted_is 1 next_key_number) ∙ ap (λ (post : Posted). w_0.posted ++ post ∷ []) post_is
 
-stays_1 : Stays s_1 (pressed at_once 4095).value 1 8195 8194 (key ∷ [])
+stays_1 : Stays s_1 (pressed at_once next_key_number).value 1 8195 8194 (key ∷ [])
 stays_1 = record {
   taken = taken_on front (dialling 1 (Key Five)) r.taken
-      (dial_refusal w_0 ∙ ap (λ (m : Machine). gateway_refused (refusal_of m key)) r.gateway ∙ ap gateway_refused ((tells 1 2).may 4095));
+      (dial_refusal w_0 ∙ ap (λ (m : Machine). gateway_refused (refusal_of m key)) r.gateway ∙ ap gateway_refused ((tells 1 2).may next_key_number));
   gateway = ap (gateway_in two_lines) one_is ∙ gateway_then w_0 key ∙ ap (λ (m : Machine). (effect two_lines m key).value) r.gateway;
-  clock = (tells 1 2).clock 4095;
+  clock = (tells 1 2).clock next_key_number;
   agent_now = ap (λ (x : World). (agent_in two_lines x).now) one_is ∙ r.now;
   flights = ap (λ (x : World). (agent_in two_lines x).flights) one_is ∙ r.flights;
   kept = ap (λ (x : World). (agent_in two_lines x).history) one_is;
   told = ap (λ (x : World). (agent_in two_lines x).taken) one_is;
   posts = ap length posted_one ∙ length-append w_0.posted (post_at 1 ∷ []) ∙ ap (λ (x : ℕ). x + 1) r.posts;
   low = omega arith;
-  going = subst (Each IsGoing) (sym posted_one) (each_both IsGoing w_0.posted (post_at 1 ∷ []) r.going ((λ from. goes_there 1 4095), tt));
+  going = subst (Each IsGoing) (sym posted_one) (each_both IsGoing w_0.posted (post_at 1 ∷ []) r.going ((λ from. goes_there 1 next_key_number), tt));
   gone = λ number post found less.
       gone_on front (dialling 1 (Key Five) ∷ []) number post
       (r.gone number post
@@ -330,8 +330,8 @@ stays_1 = record {
   took = ap (λ (x : World). x.gateway_took) one_is;
 }
 
-stays_2 : Stays (s_1 ++ delivering 8194 ∷ []) (pressed at_once 4095).value 1 8195 8195 (key ∷ [])
-stays_2 = deliver_on s_1 (pressed at_once 4095).value 1 8194 (key ∷ []) stays_1 (ap (λ (x : List Posted). slice_get x 8194) posted_one ∙ found_last w_0.posted (post_at 1) 8194 r.posts) (omega arith)
+stays_2 : Stays (s_1 ++ delivering 8194 ∷ []) (pressed at_once next_key_number).value 1 8195 8195 (key ∷ [])
+stays_2 = deliver_on s_1 (pressed at_once next_key_number).value 1 8194 (key ∷ []) stays_1 (ap (λ (x : List Posted). slice_get x 8194) posted_one ∙ found_last w_0.posted (post_at 1) 8194 r.posts) (omega arith)
 
 abbrev s_2 : List WorldStep
 s_2 = s_1 ++ delivering 8194 ∷ []
@@ -617,63 +617,63 @@ pub goes : (steps : List WorldStep) (g : Machine) (t place : ℕ) (events : List
 goes steps g t place events s said = λ number post found from inside.
     (subst (λ (o : Option Posted). IfSome o IsGoing) found (each_at IsGoing (plain_world two_lines steps).posted number s.going)) from
 
-begun_here : begun_in (of_line 1 (key_sent 1 4095 ∷ [])) ≡ key_begun 1 4095 ∷ []
+begun_here : begun_in (of_line 1 (key_sent 1 next_key_number ∷ [])) ≡ key_begun 1 next_key_number ∷ []
 begun_here = refl
 
-of_first : IsOfLine two_lines (plain_world two_lines s_1) 1 (key_begun 1 4095)
+of_first : IsOfLine two_lines (plain_world two_lines s_1) 1 (key_begun 1 next_key_number)
 of_first =
-    any_from_one (λ (one : Begun). one ≡ key_begun 1 4095) (begun_in (of_line 1 (sent_of two_lines (plain_world two_lines s_1).gateway_took)))
-    (subst (OneOf (λ (one : Begun). one ≡ key_begun 1 4095)) (sym is) (one_behind (λ (one : Begun). one ≡ key_begun 1 4095) (begun_in sent) (key_begun 1 4095 ∷ []) (inl refl))) where
+    any_from_one (λ (one : Begun). one ≡ key_begun 1 next_key_number) (begun_in (of_line 1 (sent_of two_lines (plain_world two_lines s_1).gateway_took)))
+    (subst (OneOf (λ (one : Begun). one ≡ key_begun 1 next_key_number)) (sym is) (one_behind (λ (one : Begun). one ≡ key_begun 1 next_key_number) (begun_in sent) (key_begun 1 next_key_number ∷ []) (inl refl))) where
       sent : List Sent
       sent = of_line 1 (sent_of two_lines w_0.gateway_took)
 
-      is : begun_in (of_line 1 (sent_of two_lines (plain_world two_lines s_1).gateway_took)) ≡ begun_in sent ++ key_begun 1 4095 ∷ []
+      is : begun_in (of_line 1 (sent_of two_lines (plain_world two_lines s_1).gateway_took)) ≡ begun_in sent ++ key_begun 1 next_key_number ∷ []
       is =
           ap (λ (x : World). begun_in (of_line 1 (sent_of two_lines x.gateway_took))) one_is
           ∙ ap (λ (x : List Sent). begun_in (of_line 1 x)) (sent_more two_lines (opening two_lines) w_0.gateway_took key)
           ∙ ap (λ (x : List Sent). begun_in (of_line 1 (sent_of two_lines w_0.gateway_took ++ x))) sent_one
-          ∙ ap begun_in (of_both 1 (sent_of two_lines w_0.gateway_took) (key_sent 1 4095 ∷ []))
-          ∙ begun_both sent (of_line 1 (key_sent 1 4095 ∷ []))
+          ∙ ap begun_in (of_both 1 (sent_of two_lines w_0.gateway_took) (key_sent 1 next_key_number ∷ []))
+          ∙ begun_both sent (of_line 1 (key_sent 1 next_key_number ∷ []))
           ∙ ap (λ (x : List Begun). begun_in sent ++ x) begun_here
 
-of_full : IsOfLine two_lines (plain_world two_lines full_at_once) 1 (key_begun 1 4095)
+of_full : IsOfLine two_lines (plain_world two_lines full_at_once) 1 (key_begun 1 next_key_number)
 of_full =
-    subst (λ (s : List WorldStep). IsOfLine two_lines (plain_world two_lines s) 1 (key_begun 1 4095))
+    subst (λ (s : List WorldStep). IsOfLine two_lines (plain_world two_lines s) 1 (key_begun 1 next_key_number))
     (append_assoc s_1 (delivering 8194 ∷ []) (dialling 1 (Key Five) ∷ []) ∙ append_assoc front (dialling 1 (Key Five) ∷ []) (delivering 8194 ∷ dialling 1 (Key Five) ∷ []))
-    (of_stays two_lines (s_1 ++ delivering 8194 ∷ []) (dialling 1 (Key Five) ∷ []) 1 (key_begun 1 4095) (of_stays two_lines s_1 (delivering 8194 ∷ []) 1 (key_begun 1 4095) of_first))
+    (of_stays two_lines (s_1 ++ delivering 8194 ∷ []) (dialling 1 (Key Five) ∷ []) 1 (key_begun 1 next_key_number) (of_stays two_lines s_1 (delivering 8194 ∷ []) 1 (key_begun 1 next_key_number) of_first))
 
-pub is_of_line : IsOfLine two_lines (plain_world two_lines roomless) 1 (key_begun 1 4095)
+pub is_of_line : IsOfLine two_lines (plain_world two_lines roomless) 1 (key_begun 1 next_key_number)
 is_of_line =
-    of_stays two_lines roomless_later untaken_on 1 (key_begun 1 4095)
-    (of_stays two_lines roomless_soon untaken_then 1 (key_begun 1 4095) (of_stays two_lines full_at_once untaken_first 1 (key_begun 1 4095) of_full))
+    of_stays two_lines roomless_later untaken_on 1 (key_begun 1 next_key_number)
+    (of_stays two_lines roomless_soon untaken_then 1 (key_begun 1 next_key_number) (of_stays two_lines full_at_once untaken_first 1 (key_begun 1 next_key_number) of_full))
 
-firsts_low : (entries : List Entry) → Each (IsLow 1 (id_on 1 4095) 1) entries → Each (λ (first : KeptFirst). first.id < id_on 1 4095) (firsts_in entries)
+firsts_low : (entries : List Entry) → Each (IsLow 1 (id_on 1 next_key_number) 1) entries → Each (λ (first : KeptFirst). first.id < id_on 1 next_key_number) (firsts_in entries)
 firsts_low [] low = tt
 firsts_low (First first ∷ entries) low = (low.0.1, firsts_low entries low.1)
 firsts_low (Confirmation spans ∷ entries) low = firsts_low entries low.1
 
 pub not_taken : (steps : List WorldStep) (g : Machine) (t place : ℕ) (events : List GatewayEvent) → Stays steps g t place place events
-    → Any (λ (one : Reached). one.asked.id ≡ id_on 1 4095) (taken_in (plain_world two_lines steps)) → ⊥
+    → Any (λ (one : Reached). one.asked.id ≡ id_on 1 next_key_number) (taken_in (plain_world two_lines steps)) → ⊥
 not_taken steps g t place events s any =
-    one_to (λ (one : Reached). (one.asked.id < id_on 1 4095) × (one.asked.id ≡ id_on 1 4095)) ⊥ (λ one both. clash one.asked.id (id_on 1 4095) both.0 both.1) (taken_in w)
-    (one_of_each (λ (one : Reached). one.asked.id < id_on 1 4095) (λ (one : Reached). one.asked.id ≡ id_on 1 4095) (taken_in w) low
-    (one_from_any (λ (one : Reached). one.asked.id ≡ id_on 1 4095) (taken_in w) any)) where
+    one_to (λ (one : Reached). (one.asked.id < id_on 1 next_key_number) × (one.asked.id ≡ id_on 1 next_key_number)) ⊥ (λ one both. clash one.asked.id (id_on 1 next_key_number) both.0 both.1) (taken_in w)
+    (one_of_each (λ (one : Reached). one.asked.id < id_on 1 next_key_number) (λ (one : Reached). one.asked.id ≡ id_on 1 next_key_number) (taken_in w) low
+    (one_from_any (λ (one : Reached). one.asked.id ≡ id_on 1 next_key_number) (taken_in w) any)) where
       w : World
       w = plain_world two_lines steps
 
       clash : (a b : ℕ) → a < b → a ≡ b → ⊥
       clash a b less same = absurd (omega (arith, less, same))
 
-      keys_low : Each (λ (k : ℕ × ℕ). k.0 < id_on 1 4095) (map key_kept (firsts_in (agent_in two_lines w).history))
+      keys_low : Each (λ (k : ℕ × ℕ). k.0 < id_on 1 next_key_number) (map key_kept (firsts_in (agent_in two_lines w).history))
       keys_low =
-          each_mapped (λ (k : ℕ × ℕ). k.0 < id_on 1 4095) key_kept (firsts_in (agent_in two_lines w).history)
-          (subst (λ (h : List Entry). Each (λ (first : KeptFirst). first.id < id_on 1 4095) (firsts_in h)) (sym s.kept) (firsts_low a_0.history r.low))
+          each_mapped (λ (k : ℕ × ℕ). k.0 < id_on 1 next_key_number) key_kept (firsts_in (agent_in two_lines w).history)
+          (subst (λ (h : List Entry). Each (λ (first : KeptFirst). first.id < id_on 1 next_key_number) (firsts_in h)) (sym s.kept) (firsts_low a_0.history r.low))
 
-      low : Each (λ (one : Reached). one.asked.id < id_on 1 4095) (taken_in w)
+      low : Each (λ (one : Reached). one.asked.id < id_on 1 next_key_number) (taken_in w)
       low =
-          each_unmapped (λ (k : ℕ × ℕ). k.0 < id_on 1 4095) key_reached (taken_in w)
-          (subst (Each (λ (k : ℕ × ℕ). k.0 < id_on 1 4095)) (agent_keys two_lines steps two_lines_set_up s.taken) keys_low)
+          each_unmapped (λ (k : ℕ × ℕ). k.0 < id_on 1 next_key_number) key_reached (taken_in w)
+          (subst (Each (λ (k : ℕ × ℕ). k.0 < id_on 1 next_key_number)) (agent_keys two_lines steps two_lines_set_up s.taken) keys_low)
 
-pub not_answered : HasCome (plain_world two_lines roomless) (id_on 1 4095) → ⊥
+pub not_answered : HasCome (plain_world two_lines roomless) (id_on 1 next_key_number) → ⊥
 not_answered come =
-    not_taken roomless at_22501 22501 8202 e_22501 roomless_stays (come_taken two_lines two_lines_set_up roomless (id_on 1 4095) roomless_stays.taken come)
+    not_taken roomless at_22501 22501 8202 e_22501 roomless_stays (come_taken two_lines two_lines_set_up roomless (id_on 1 next_key_number) roomless_stays.taken come)

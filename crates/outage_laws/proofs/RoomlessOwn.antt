@@ -42,7 +42,7 @@ use Rattle.outage_laws.specs.Example.{announcement}
 use Rattle.outage_laws.proofs.Computing.{on_examples}
 use Rattle.outage_laws.proofs.OldestServes.{of_stays}
 use Rattle.outage_laws.proofs.PlainArrivals.{come_taken}
-use Rattle.outage_laws.specs.Roomless.{asked_late, keyed, keys, own_roomless, own_roomless_then}
+use Rattle.outage_laws.specs.Roomless.{asked_late, keyed, keys, keys_that_fill, next_key_number, own_roomless, own_roomless_then}
 use Rattle.outage_laws.proofs.RoomlessLate.{at_late, copy_sent, from_late, late_ready, of_late}
 use Rattle.outage_laws.proofs.RoomlessAnew.{copy_at}
 use Rattle.outage_laws.proofs.RoomlessLine.{agent_ticks, snoc_is, tick_may, ticked_is}
@@ -51,11 +51,11 @@ use Rattle.outage_laws.proofs.RoomlessRounds.{IsGone, IsLow, IsOther, Ready, del
 
 -- 4,096 commands are taken, those of the second announcement and of line 1
 
-filled_late : Ready at_late 23502 2 from_late 2 (keyed asked_late 14 4094) 4095 8202
-filled_late = ready asked_late at_late 23502 2 from_late 2 14 (omega arith) (tells 23502 3) late_ready 4094 (omega arith)
+filled_late : Ready at_late 23502 2 from_late 2 (keyed asked_late 14 keys_that_fill) next_key_number 8202
+filled_late = ready asked_late at_late 23502 2 from_late 2 14 (omega arith) (tells 23502 3) late_ready keys_that_fill (omega arith)
 
 abbrev pub front : List WorldStep
-front = keyed asked_late 14 4094
+front = keyed asked_late 14 keys_that_fill
 
 abbrev pub w_0 : World
 w_0 = plain_world two_lines front
@@ -63,7 +63,7 @@ w_0 = plain_world two_lines front
 abbrev a_0 : AgentMachine
 a_0 = agent_in two_lines w_0
 
-abbrev r : Ready at_late 23502 2 from_late 2 front 4095 8202
+abbrev r : Ready at_late 23502 2 from_late 2 front next_key_number 8202
 r = filled_late
 
 -- The copy
@@ -72,7 +72,7 @@ abbrev pub copy : Posted
 copy = copy_at 19501
 
 pub found : slice_get w_0.posted 7 ≡ Some copy
-found = stays_found two_lines 0 asked_late (keys 14 4094) 7 copy copy_sent
+found = stays_found two_lines 0 asked_late (keys 14 keys_that_fill) 7 copy copy_sent
 
 pub one_text : texts_of announcement.text ≡ announcement.text ∷ []
 unfolding on_examples
@@ -93,15 +93,15 @@ unfolding on_examples
 command_is = refl
 
 others : Each (IsOther 1) a_0.history
-others = each_weaker (IsLow 2 (id_on 1 4095) 23502) (IsOther 1) (high_other 2 (id_on 1 4095) 23502 1 (omega arith)) a_0.history r.low
+others = each_weaker (IsLow 2 (id_on 1 next_key_number) 23502) (IsOther 1) (high_other 2 (id_on 1 next_key_number) 23502 1 (omega arith)) a_0.history r.low
 
 looks : look_of most_firsts a_0.history 1 a_0.now ≡ full
-looks = ap (look_of most_firsts a_0.history 1) r.now ∙ looks_full 2 (id_on 1 4095) 23502 1 23502 a_0.history (omega arith) r.low others r.count
+looks = ap (look_of most_firsts a_0.history 1) r.now ∙ looks_full 2 (id_on 1 next_key_number) 23502 1 23502 a_0.history (omega arith) r.low others r.count
 
 -- The world then
 
 abbrev at_23502 : Machine
-at_23502 = numbered at_late 4095
+at_23502 = numbered at_late next_key_number
 
 pub record Rests (steps : List WorldStep) (g : Machine) (t : ℕ) : Type 0 where
   taken : steps_are_taken two_lines world_opening steps ≡ true
@@ -122,7 +122,7 @@ clock_0 = ap (λ (m : Machine). m.now) r.gateway ∙ late_clock
 then_is : plain_world two_lines own_roomless_then ≡ to_agent two_lines w_0 (hears (datagram (gateway_address two_lines) announcement.text))
 then_is =
     step_more two_lines front (delivering 7) ∙ delivered_is w_0 7 copy found
-    ∙ ap (λ (b : Bool). if b then to_agent two_lines w_0 (hears (datagram (gateway_address two_lines) announcement.text)) else w_0) (goes_there 1 4095)
+    ∙ ap (λ (b : Bool). if b then to_agent two_lines w_0 (hears (datagram (gateway_address two_lines) announcement.text)) else w_0) (goes_there 1 next_key_number)
 
 does : agent_effect (agent_of two_lines) a_0 (hears (datagram (gateway_address two_lines) announcement.text)) ≡ after (idle a_0) (λ (next : AgentMachine). idle next)
 does = heard a_0 (gateway_address two_lines) announcement.text (message own_message) own_command full one_text reads command_is looks
@@ -332,9 +332,9 @@ is_fair number post there past old = by_test (number == 7) refl where
 pub is_of_line : IsOfLine two_lines (plain_world two_lines own_roomless) 0 announcement
 is_of_line =
     of_stays two_lines own_roomless_then ticks 0 announcement
-    (of_stays two_lines front (delivering 7 ∷ []) 0 announcement (of_stays two_lines asked_late (keys 14 4094) 0 announcement of_late))
+    (of_stays two_lines front (delivering 7 ∷ []) 0 announcement (of_stays two_lines asked_late (keys 14 keys_that_fill) 0 announcement of_late))
 
-firsts_high : (entries : List Entry) → Each (IsLow 2 (id_on 1 4095) 23502) entries → Each (λ (first : KeptFirst). 2 ≤ first.id) (firsts_in entries)
+firsts_high : (entries : List Entry) → Each (IsLow 2 (id_on 1 next_key_number) 23502) entries → Each (λ (first : KeptFirst). 2 ≤ first.id) (firsts_in entries)
 firsts_high [] low = tt
 firsts_high (First first ∷ entries) low = (low.0.0, firsts_high entries low.1)
 firsts_high (Confirmation spans ∷ entries) low = firsts_high entries low.1

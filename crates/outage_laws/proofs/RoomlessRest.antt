@@ -41,7 +41,7 @@ use Rattle.delivery_laws.proofs.StepLemmas.{step_more}
 use Rattle.told_laws.specs.Stretch.{AnnouncesNothing, outliving, taken_meanwhile}
 use Rattle.told_laws.proofs.StretchLemmas.{meanwhile_is}
 use Rattle.outage_laws.specs.AfterOutage.{well_by}
-use Rattle.outage_laws.specs.Roomless.{key_only, rest_first, rest_then, rested, rested_soon, tick_only, untold, untold_then}
+use Rattle.outage_laws.specs.Roomless.{key_only, next_key_number, rest_first, rest_then, rested, rested_soon, tick_only, untold, untold_then}
 use Rattle.outage_laws.specs.ToldSince.{FlightBeganSince, FlightsBeganSince, IsAskedForAllSince, IsToldFrom}
 use Rattle.outage_laws.proofs.Computing.{on_examples}
 use Rattle.outage_laws.proofs.RoomlessLine.{Stays, below_length, deliver_on, found_front, front, goes, key, r, silent, snoc_is, w_0}
@@ -52,7 +52,7 @@ use Rattle.outage_laws.proofs.RoomlessTicks.{TickIs, post_at}
 -- The rest
 
 abbrev pub rest_at : ℕ → Machine
-rest_at t = record (numbered at_once 4095) { now = t }
+rest_at t = record (numbered at_once next_key_number) { now = t }
 
 stays_front : Stays front (rest_at 1) 1 8194 8194 []
 stays_front = record {
@@ -309,7 +309,7 @@ rested_stays = subst (λ (s : List WorldStep). Stays s (rest_at 21001) 21001 819
 abbrev told : Machine
 told = (effect two_lines (rest_at 21001) key).value
 
-told_sent : (effect two_lines (rest_at 21001) key).sent ≡ key_sent 21001 4095 ∷ []
+told_sent : (effect two_lines (rest_at 21001) key).sent ≡ key_sent 21001 next_key_number ∷ []
 unfolding on_examples
 told_sent = refl
 
@@ -321,7 +321,7 @@ told_now : told.now ≡ 21001
 unfolding on_examples
 told_now = refl
 
-post_is : post_of 21001 4095 ≡ post_at 21001
+post_is : post_of 21001 next_key_number ≡ post_at 21001
 unfolding on_examples
 post_is = refl
 
@@ -334,14 +334,14 @@ s_1 = rested ++ dialling 1 (Key Five) ∷ []
 one_is : plain_world two_lines s_1 ≡ to_gateway two_lines v key
 one_is = step_more two_lines rested (dialling 1 (Key Five)) ∙ dialled_is v
 
-sent_one : (effect two_lines (gateway_in two_lines v) key).sent ≡ key_sent 21001 4095 ∷ []
+sent_one : (effect two_lines (gateway_in two_lines v) key).sent ≡ key_sent 21001 next_key_number ∷ []
 sent_one = ap (λ (m : Machine). (effect two_lines m key).sent) rested_stays.gateway ∙ told_sent
 
 posted_one : (plain_world two_lines s_1).posted ≡ v.posted ++ post_at 21001 ∷ []
 posted_one =
     ap (λ (x : World). x.posted) one_is
     ∙ ap (λ (sent : List Sent). v.posted ++ map (posted_as gateway_end (gateway_address two_lines)) (put_out sent)) sent_one
-    ∙ ap (λ (posts : List Posted). v.posted ++ posts) (posted_is 21001 4095) ∙ ap (λ (post : Posted). v.posted ++ post ∷ []) post_is
+    ∙ ap (λ (posts : List Posted). v.posted ++ posts) (posted_is 21001 next_key_number) ∙ ap (λ (post : Posted). v.posted ++ post ∷ []) post_is
 
 stays_1 : Stays s_1 told 21001 8195 8194 (ticks ++ key ∷ [])
 stays_1 = record {
@@ -355,7 +355,7 @@ stays_1 = record {
   told = ap (λ (x : World). (agent_in two_lines x).taken) one_is ∙ rested_stays.told;
   posts = ap length posted_one ∙ length-append v.posted (post_at 21001 ∷ []) ∙ ap (λ (x : ℕ). x + 1) rested_stays.posts;
   low = omega arith;
-  going = subst (Each IsGoing) (sym posted_one) (each_both IsGoing v.posted (post_at 21001 ∷ []) rested_stays.going ((λ from. goes_there 1 4095), tt));
+  going = subst (Each IsGoing) (sym posted_one) (each_both IsGoing v.posted (post_at 21001 ∷ []) rested_stays.going ((λ from. goes_there 1 next_key_number), tt));
   gone = λ number post found less.
       gone_on rested (dialling 1 (Key Five) ∷ []) number post
       (rested_stays.gone number post

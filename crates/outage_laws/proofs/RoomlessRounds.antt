@@ -28,7 +28,7 @@ use Rattle.machine_laws.proofs.EachLemmas.{Each, each_at}
 use Rattle.call_agent.specs.Taking.{command_of, read_command}
 use Rattle.agent_core.specs.declared.packet.End.TheVariants.{GatewayEnd as gateway_end}
 use Rattle.agent_core.specs.World.{agent_of, gateway_address, is_among, posted_as}
-use Rattle.outage_laws.specs.Roomless.{asked_at_once, key_begun, key_message, keyed, keys}
+use Rattle.outage_laws.specs.Roomless.{asked_at_once, key_begun, key_message, keyed, keys, keys_that_fill, next_key_number}
 use Rattle.mgcp_text.specs.Reading.{Outcome, read_text}
 use Rattle.history.specs.Looking.{Looked, new, full, look_of, recalled_from, told_by}
 use Rattle.history.specs.Memory.{most_firsts}
@@ -77,7 +77,7 @@ use Rattle.plain_machine.specs.Machine.{Machine}
 use Rattle.plain_machine.specs.Example.{two_lines}
 use Rattle.plain_machine.specs.Lists.{plain}
 use Rattle.plain_machine.specs.Packing.{put_out}
-use Rattle.plain_machine.specs.Posting.{id_on}
+use Rattle.plain_machine.specs.Posting.{id_on, numbers}
 use Rattle.transmission.specs.declared.output.OutDatagram.{OutDatagram}
 use Rattle.outage_laws.proofs.Computing.{on_examples}
 use Rattle.outage_laws.proofs.RoomlessMachine.{Tells, answered_as, asked_machine, key_sent, numbered, pressed, tells}
@@ -156,10 +156,10 @@ latest_none id now (First first ∷ entries) other =
 latest_none id now (Confirmation spans ∷ entries) other =
     ap (λ (rest : Option Found). option_or rest None) (latest_none id now entries other.1)
 
-young_then : (now moment first : ℕ) → first ≡ moment → now < moment + 30000 → is_young now first ≡ true
+young_then : (now moment first : ℕ) → first ≡ moment → now < moment + memory_time → is_young now first ≡ true
 young_then now moment first is soon = lt-ltb (now - first) memory_time (omega (arith, is, soon))
 
-pub young_all : (least id moment now : ℕ) (entries : List Entry) → now < moment + 30000 → Each (IsLow least id moment) entries → length (young_firsts now entries) ≡ length (firsts_in entries)
+pub young_all : (least id moment now : ℕ) (entries : List Entry) → now < moment + memory_time → Each (IsLow least id moment) entries → length (young_firsts now entries) ≡ length (firsts_in entries)
 young_all least id moment now [] soon low = refl
 young_all least id moment now (First first ∷ entries) soon low =
     ap (λ (b : Bool). length (if b then First first ∷ young_firsts now entries else young_firsts now entries)) (young_then now moment first.moment low.0.2 soon)
@@ -175,8 +175,8 @@ looks_new least id moment count entries low same few =
     ∙ ap (λ (b : Bool). told_by None b)
     (lt-ltb (length (young_firsts moment entries)) most_firsts (let all = young_all least id moment moment entries (omega arith) low in omega (arith, all, same, few)))
 
-pub looks_full : (least id moment other now : ℕ) (entries : List Entry) → now < moment + 30000 → Each (IsLow least id moment) entries → Each (IsOther other) entries
-    → length (firsts_in entries) ≡ 4096 → look_of most_firsts entries other now ≡ full
+pub looks_full : (least id moment other now : ℕ) (entries : List Entry) → now < moment + memory_time → Each (IsLow least id moment) entries → Each (IsOther other) entries
+    → length (firsts_in entries) ≡ most_firsts → look_of most_firsts entries other now ≡ full
 unfolding look_of
 looks_full least id moment other now entries soon low strange same =
     ap (λ (f : Option Found). told_by (option_map (recalled_from other) f) (nat_lt (length (young_firsts now entries)) most_firsts)) (latest_none other now entries strange)
@@ -315,7 +315,7 @@ low_on least id next moment more (Confirmation spans) low = tt
 pub at_now : (now moment : ℕ) → now ≡ moment → now ≤ moment + 0
 at_now now moment same = omega (arith, same)
 
-least_low : (least n : ℕ) → least ≤ 10000000 → least ≤ id_on 1 n
+least_low : (least n : ℕ) → least ≤ numbers → least ≤ id_on 1 n
 least_low least n low = omega (arith, low)
 
 by_now : (moment now clock : ℕ) → moment ≤ now → clock ≡ now → moment + 0 ≤ clock
@@ -397,7 +397,7 @@ none_announces : has_announced [] ≡ false
 unfolding on_examples
 none_announces = refl
 
-module _ (machine : Machine) (moment least : ℕ) (from : ℕ → ℕ) (more : ℕ) (low_least : least ≤ 10000000) (t : Tells machine moment) (steps : List WorldStep) (n place : ℕ) (few : n + 1 < most_firsts)
+module _ (machine : Machine) (moment least : ℕ) (from : ℕ → ℕ) (more : ℕ) (low_least : least ≤ numbers) (t : Tells machine moment) (steps : List WorldStep) (n place : ℕ) (few : n + 1 < most_firsts)
     (r : Ready machine moment least from more steps n place) where
   abbrev w : World
   w = plain_world two_lines steps
@@ -732,13 +732,13 @@ place_on place k = omega arith
 place_first : (place : ℕ) → place ≡ place + 2 * 0
 place_first place = omega arith
 
-pub few_on : (k : ℕ) → suc k ≤ 4094 → k + 1 + 1 < most_firsts
+pub few_on : (k : ℕ) → suc k ≤ keys_that_fill → k + 1 + 1 < most_firsts
 few_on k low = omega (arith, low)
 
-pub low_before : (k : ℕ) → suc k ≤ 4094 → k ≤ 4094
+pub low_before : (k : ℕ) → suc k ≤ keys_that_fill → k ≤ keys_that_fill
 low_before k low = omega (arith, low)
 
-module _ (front : List WorldStep) (machine : Machine) (moment least : ℕ) (from : ℕ → ℕ) (more place : ℕ) (low_least : least ≤ 10000000) (t : Tells machine moment)
+module _ (front : List WorldStep) (machine : Machine) (moment least : ℕ) (from : ℕ → ℕ) (more place : ℕ) (low_least : least ≤ numbers) (t : Tells machine moment)
     (opens : Ready machine moment least from more front 1 place) where
   pub keyed_more : (k : ℕ) → (((front ++ keys place k) ++ dialling 1 (Key Five) ∷ []) ++ delivering (place + 2 * k) ∷ []) ++ delivering (place + 2 * k + 1) ∷ [] ≡ keyed front place (suc k)
   unfolding keys
@@ -754,7 +754,7 @@ module _ (front : List WorldStep) (machine : Machine) (moment least : ℕ) (from
   unfolding keys
   keyed_none = sym (append-nil front)
 
-  pub ready : (k : ℕ) → k ≤ 4094 → Ready machine moment least from more (keyed front place k) (k + 1) (place + 2 * k)
+  pub ready : (k : ℕ) → k ≤ keys_that_fill → Ready machine moment least from more (keyed front place k) (k + 1) (place + 2 * k)
   ready zero low =
       subst (λ (p : ℕ). Ready machine moment least from more (keyed front place 0) 1 p) (place_first place)
       (subst (λ (s : List WorldStep). Ready machine moment least from more s 1 place) keyed_none opens)
@@ -765,7 +765,7 @@ module _ (front : List WorldStep) (machine : Machine) (moment least : ℕ) (from
       (next_key machine moment least from more low_least t (keyed front place k) (k + 1) (place + 2 * k) (few_on k low) (ready k (low_before k low)))))
 
   pub asks_ready : AskForAll (course_of two_lines 1 (plain_world two_lines front).gateway_took)
-      → ((n : ℕ) → AskForAll (course_from two_lines (numbered machine n) 1 (phone 1 (Key Five) ∷ []))) → (k : ℕ) → k ≤ 4094
+      → ((n : ℕ) → AskForAll (course_from two_lines (numbered machine n) 1 (phone 1 (Key Five) ∷ []))) → (k : ℕ) → k ≤ keys_that_fill
       → AskForAll (course_of two_lines 1 (plain_world two_lines (keyed front place k)).gateway_took)
   asks_ready first each zero low = subst (λ (s : List WorldStep). AskForAll (course_of two_lines 1 (plain_world two_lines s).gateway_took)) keyed_none first
   asks_ready first each (suc k) low =
@@ -773,7 +773,7 @@ module _ (front : List WorldStep) (machine : Machine) (moment least : ℕ) (from
       (asks_then machine moment least from more low_least t (keyed front place k) (k + 1) (place + 2 * k) (few_on k low) (ready k (low_before k low))
       (asks_ready first each k (low_before k low)) (each (k + 1)))
 
-  pub quiet_ready : has_announced (sent_of two_lines (plain_world two_lines front).gateway_took) ≡ false → (k : ℕ) → k ≤ 4094
+  pub quiet_ready : has_announced (sent_of two_lines (plain_world two_lines front).gateway_took) ≡ false → (k : ℕ) → k ≤ keys_that_fill
       → has_announced (sent_of two_lines (plain_world two_lines (keyed front place k)).gateway_took) ≡ false
   quiet_ready first zero low = subst (λ (s : List WorldStep). has_announced (sent_of two_lines (plain_world two_lines s).gateway_took) ≡ false) keyed_none first
   quiet_ready first (suc k) low =
@@ -782,5 +782,5 @@ module _ (front : List WorldStep) (machine : Machine) (moment least : ℕ) (from
 
 -- 4,096 commands are taken
 
-pub filled : Ready at_once 1 1 from_first 1 (keyed asked_at_once 6 4094) 4095 8194
-filled = ready asked_at_once at_once 1 1 from_first 1 6 (omega arith) (tells 1 2) first_ready 4094 (omega arith)
+pub filled : Ready at_once 1 1 from_first 1 (keyed asked_at_once 6 keys_that_fill) next_key_number 8194
+filled = ready asked_at_once at_once 1 1 from_first 1 6 (omega arith) (tells 1 2) first_ready keys_that_fill (omega arith)

@@ -14,13 +14,13 @@ use Rattle.plain_machine.specs.Refusing.{refusal_of}
 use Rattle.agent_core.specs.declared.packet.End.TheVariants.{GatewayEnd as gateway_end}
 use Rattle.agent_core.specs.declared.packet.Posted.{Posted}
 use Rattle.agent_core.specs.World.{gateway_address, posted_as}
-use Rattle.outage_laws.specs.Roomless.{key_message}
+use Rattle.outage_laws.specs.Roomless.{key_message, next_key_number}
 use Rattle.outage_laws.proofs.Computing.{on_examples}
 use Rattle.outage_laws.proofs.RoomlessMachine.{pressed}
 use Rattle.outage_laws.proofs.RoomlessRounds.{at_once, post_of}
 
 abbrev pub text : List ℕ
-text = written (key_message 4095)
+text = written (key_message next_key_number)
 
 abbrev pub post_at : ℕ → Posted
 post_at t = record { end = gateway_end; packet = record { moment = t; sender = gateway_address two_lines; to = at two_lines.agent.route 0; bytes = text } }
@@ -34,7 +34,7 @@ pub record TickIs (m : Machine) (t : ℕ) (posts : List Posted) : Type 0 where
 
 -- behind both keys
 abbrev pub at_1 : Machine
-at_1 = (effect two_lines (pressed at_once 4095).value (phone 1 (Key Five))).value
+at_1 = (effect two_lines (pressed at_once next_key_number).value (phone 1 (Key Five))).value
 
 abbrev pub at_501 : Machine
 at_501 = (effect two_lines at_1 (tick 501)).value
@@ -204,7 +204,7 @@ pub tick_23501 : TickIs at_22501 23501 []
 unfolding on_examples
 tick_23501 = record { posted = refl; clock = refl }
 
-pub quiet_twice : (effect two_lines (pressed at_once 4095).value (phone 1 (Key Five))).sent ≡ []
+pub quiet_twice : (effect two_lines (pressed at_once next_key_number).value (phone 1 (Key Five))).sent ≡ []
 unfolding on_examples
 quiet_twice = refl
 
@@ -212,7 +212,7 @@ pub none_posted : map (posted_as gateway_end (gateway_address two_lines)) (put_o
 unfolding on_examples
 none_posted = refl
 
-pub may_twice : refusal_of (pressed at_once 4095).value (phone 1 (Key Five)) ≡ None
+pub may_twice : refusal_of (pressed at_once next_key_number).value (phone 1 (Key Five)) ≡ None
 unfolding on_examples
 may_twice = refl
 
@@ -220,6 +220,6 @@ pub clock_twice : at_1.now ≡ 1
 unfolding on_examples
 clock_twice = refl
 
-pub post_is : post_of 1 4095 ≡ post_at 1
+pub post_is : post_of 1 next_key_number ≡ post_at 1
 unfolding on_examples
 post_is = refl

@@ -25,7 +25,7 @@ use Rattle.delivery_laws.proofs.ExampleLemmas.{took_split}
 use Rattle.delivery_laws.proofs.OverLists.{course_told}
 use Rattle.told_laws.specs.Stretch.{taken_meanwhile}
 use Rattle.told_laws.proofs.AskedCourses.{course_on}
-use Rattle.outage_laws.specs.Roomless.{asked_at_once, asked_first, key_only, rested, untold}
+use Rattle.outage_laws.specs.Roomless.{asked_at_once, asked_first, key_only, keys_that_fill, next_key_number, rested, untold}
 use Rattle.outage_laws.specs.ToldSince.{IsToldSince}
 use Rattle.outage_laws.proofs.Computing.{on_examples}
 use Rattle.outage_laws.proofs.RoomlessLine.{r, w_0}
@@ -44,13 +44,13 @@ unfolding on_examples
 asks_first = (record { requested = notifies_each _ refl refl; quarantined = refl }, tt)
 
 asks_front : AskForAll (course_of two_lines 1 w_0.gateway_took)
-asks_front = asks_ready asked_at_once at_once 1 1 from_first 1 6 (omega arith) (tells 1 2) first_ready asks_first asks_key 4094 (omega arith)
+asks_front = asks_ready asked_at_once at_once 1 1 from_first 1 6 (omega arith) (tells 1 2) first_ready asks_first asks_key keys_that_fill (omega arith)
 
-asks_then : AskForAll (course_from two_lines (numbered at_once 4095) 1 ticks)
+asks_then : AskForAll (course_from two_lines (numbered at_once next_key_number) 1 ticks)
 unfolding on_examples
 asks_then = tt
 
-asks_later : AskForAll (course_from two_lines (numbered at_once 4095) 1 e_21002)
+asks_later : AskForAll (course_from two_lines (numbered at_once next_key_number) 1 e_21002)
 unfolding on_examples
 asks_later = tt
 

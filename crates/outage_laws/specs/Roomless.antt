@@ -1,9 +1,10 @@
 -- Worlds whose agent has no room: line 1 tells each key that is pressed at once, 4,096 commands are taken within 30 s, and the next isn't.
-use Rattle.std.specs.Prelude.{ℕ, zero, suc, ◌+◌, ◌*◌, codes, List, [], ◌∷◌, ◌++◌}
+use Rattle.std.specs.Prelude.{ℕ, zero, suc, ◌+◌, ◌-◌, ◌*◌, codes, List, [], ◌∷◌, ◌++◌}
 use Rattle.mgcp_text.specs.declared.message.Message.{Message}
 use Rattle.mgcp_text.specs.declared.message.Message.TheVariants as messages
 use Rattle.mgcp_text.specs.declared.message.Verb.TheVariants.{Ntfy}
 use Rattle.mgcp_text.specs.Writing.{written}
+use Rattle.history.specs.Memory.{most_firsts}
 use Rattle.mg_line.specs.declared.phone.Act.TheVariants.{Key, OffHook}
 use Rattle.mg_line.specs.declared.phone.Key.TheVariants.{Five}
 use Rattle.plain_machine.specs.Event.{GatewayEvent, phone, tick}
@@ -34,6 +35,14 @@ keys place (suc k) = keys place k ++ dialling 1 (Key Five) ∷ delivering (place
 abbrev pub keyed : List WorldStep → ℕ → ℕ → List WorldStep
 keyed front place k = front ++ keys place k
 
+-- so many keys fill the agent's history behind the two commands that it took before; the next key's notification has this number
+
+abbrev pub keys_that_fill : ℕ
+keys_that_fill = most_firsts - 2
+
+abbrev pub next_key_number : ℕ
+next_key_number = most_firsts - 1
+
 -- the notification of one key, under this number
 abbrev pub key_message : ℕ → Message
 key_message number =
@@ -50,7 +59,7 @@ abbrev pub two_more : List WorldStep
 two_more = dialling 1 (Key Five) ∷ delivering 8194 ∷ dialling 1 (Key Five) ∷ []
 
 abbrev pub full_at_once : List WorldStep
-full_at_once = keyed asked_at_once 6 4094 ++ two_more
+full_at_once = keyed asked_at_once 6 keys_that_fill ++ two_more
 
 -- the clock goes on; each copy, packets 8,195 to 8,201, is handed over as it is sent, and none is taken
 abbrev pub untaken_first : List WorldStep
@@ -97,7 +106,7 @@ asked_late =
 
 -- 4,094 keys are told, so that the agent has taken 4,096 commands
 abbrev pub own_filled : List WorldStep
-own_filled = keyed asked_late 14 4094
+own_filled = keyed asked_late 14 keys_that_fill
 
 -- the last copy of the first announcement comes, 4,001 ms behind its send, and isn't taken
 abbrev pub own_roomless_then : List WorldStep
@@ -125,7 +134,7 @@ rest_then =
     ∷ ticking 18001 ∷ ticking 19001 ∷ ticking 20001 ∷ ticking 21001 ∷ []
 
 abbrev pub rested_soon : List WorldStep
-rested_soon = keyed asked_at_once 6 4094 ++ rest_first
+rested_soon = keyed asked_at_once 6 keys_that_fill ++ rest_first
 
 abbrev pub rested : List WorldStep
 rested = rested_soon ++ rest_then

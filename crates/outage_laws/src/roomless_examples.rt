@@ -32,7 +32,8 @@ ghost use Rattle.outage_laws.specs.Carrying.{IsHandedBack};
 ghost use Rattle.outage_laws.specs.Example.{announcement};
 ghost use Rattle.outage_laws.specs.HadTime.{FlightGoesToAgent};
 ghost use Rattle.outage_laws.specs.LinePremises.{held_with, restart_with};
-ghost use Rattle.outage_laws.specs.Roomless.{asked_first, key_begun, key_only, own_filled, own_roomless, own_roomless_then, own_ticks};
+ghost use Rattle.outage_laws.specs.Roomless.{asked_first, key_begun, key_only, next_key_number, own_filled, own_roomless};
+ghost use Rattle.outage_laws.specs.Roomless.{own_roomless_then, own_ticks};
 ghost use Rattle.outage_laws.specs.Roomless.{rested, rested_soon, roomless};
 ghost use Rattle.outage_laws.specs.Roomless.{roomless_given_up, roomless_soon, tick_only, ticks_on, ticks_then, untold};
 ghost use Rattle.outage_laws.specs.ToldSince.{FlightBeganSince, FlightsBeganSince, IsAskedForAllSince, IsToldFrom, IsToldSince};
@@ -45,12 +46,12 @@ ghost use Rattle.outage_laws.specs.ToldSince.{FlightBeganSince, FlightsBeganSinc
 pub fn else_an_agent_has_no_room()
     ensures run { IsRun two_lines roomless }
     ensures fair { IsFairFrom two_lines roomless 0 0 }
-    ensures of_line { IsOfLine two_lines (world roomless) 1 (key_begun 1 4095) }
-    ensures goes { GoesToAgent two_lines (world roomless) (key_begun 1 4095).text }
+    ensures of_line { IsOfLine two_lines (world roomless) 1 (key_begun 1 next_key_number) }
+    ensures goes { GoesToAgent two_lines (world roomless) (key_begun 1 next_key_number).text }
     ensures now { now_in two_lines (world roomless) ≡ 22501 }
     ensures late { 0 + longest_pause + 2 * 0 ≤ 22501 + 1 }
-    ensures not_taken { ¬ Any (λ (one : Reached). one.asked.id ≡ (key_begun 1 4095).id) (taken_in (world roomless)) }
-    ensures none_came { ¬ HasCome (world roomless) (key_begun 1 4095).id }
+    ensures not_taken { ¬ Any (λ (one : Reached). one.asked.id ≡ (key_begun 1 next_key_number).id) (taken_in (world roomless)) }
+    ensures none_came { ¬ HasCome (world roomless) (key_begun 1 next_key_number).id }
     ensures run_given_up { IsRun two_lines roomless_given_up }
     ensures fair_given_up { IsFairFrom two_lines roomless_given_up 0 0 }
     ensures goes_given_up { (b : Begun) → IsOfLine two_lines (world roomless_given_up) 1 b →

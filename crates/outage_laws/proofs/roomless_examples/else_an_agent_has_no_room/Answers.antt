@@ -1,7 +1,7 @@
 use Rattle.std.proofs.Common.{arith, ap, ◌∙◌, inl, inr, refl, ◌≡◌, ℕ, ◌++◌, ◌∷◌, []}
 use Rattle.plain_machine.specs.Machine.{Machine}
 use Rattle.delivery_laws.proofs.ExampleLemmas.{two_lines_set_up}
-use Rattle.outage_laws.specs.Roomless.{key_begun, roomless, roomless_given_up}
+use Rattle.outage_laws.specs.Roomless.{key_begun, next_key_number, roomless, roomless_given_up}
 use Rattle.outage_laws.proofs.RoomlessLine.{e_22501, goes, is_fair, is_of_line, not_answered, not_taken, roomless_stays, given_up_stays}
 use Rattle.outage_laws.proofs.RoomlessTicks.{at_22501, at_23501}
 use Rattle.machine_laws.proofs.EachLemmas.{any_from_one}
@@ -23,7 +23,7 @@ pub returns-clause-of_line : goal.returns-clause-of_line
 returns-clause-of_line c = is_of_line
 
 pub returns-clause-goes : goal.returns-clause-goes
-returns-clause-goes c = goes roomless at_22501 22501 8202 e_22501 roomless_stays (key_begun 1 4095).text
+returns-clause-goes c = goes roomless at_22501 22501 8202 e_22501 roomless_stays (key_begun 1 next_key_number).text
 
 pub returns-clause-now : goal.returns-clause-now
 returns-clause-now c = ap (λ (m : Machine). m.now) roomless_stays.gateway ∙ roomless_stays.clock
