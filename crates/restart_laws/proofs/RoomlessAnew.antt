@@ -14,7 +14,7 @@ use Rattle.history.specs.Entry.{Entry}
 use Rattle.history.specs.Entry.TheVariants.{First, Confirmation}
 use Rattle.history.specs.Kept.{firsts_in, young_firsts}
 use Rattle.history.specs.Looking.{full, look_of}
-use Rattle.history.specs.Memory.{most_firsts}
+use Rattle.history.specs.Memory.{memory_time, most_firsts}
 use Rattle.outbound.specs.Flight.{InFlight}
 use Rattle.plain_machine.specs.Event.{GatewayEvent, datagram, tick}
 use Rattle.plain_machine.specs.Example.{two_lines}
@@ -22,7 +22,7 @@ use Rattle.plain_machine.specs.Happening.{effect}
 use Rattle.plain_machine.specs.Lists.{plain, sent_of}
 use Rattle.plain_machine.specs.Machine.{serves}
 use Rattle.plain_machine.specs.Packing.{put_out}
-use Rattle.plain_machine.specs.Posting.{id_on, line_of_id}
+use Rattle.plain_machine.specs.Posting.{id_on, line_of_id, numbers}
 use Rattle.plain_machine.specs.Refusing.{tick_refusal}
 use Rattle.machine_laws.specs.Belonging.{of_line}
 use Rattle.machine_laws.specs.Numbering.{IsBehind, IsInTurn, start_on}
@@ -46,6 +46,7 @@ use Rattle.delivery_laws.proofs.ExampleLemmas.{two_lines_set_up}
 use Rattle.delivery_laws.proofs.StepLemmas.{agent_more}
 use Rattle.outage_laws.specs.AfterOutage.{gap_of}
 use Rattle.outage_laws.specs.Alone.{HasBegun, HasResponse}
+use Rattle.outage_laws.specs.Roomless.{next_key_number}
 use Rattle.outage_laws.proofs.RoomlessRounds.{IsOther, at_now, filled, heard, last_place, looks_full, none_old, young_all}
 use Rattle.life_laws.specs.Lives.{Brought, Letter, Life, LivesStep, LivesWorld, agent_side, agent_then, clock_of, gateway_of, lived, lived_refusal, lives_are_taken, lives_of, lives_opening, new_life, number_of, plain_lives, restarted, restarting, said_to, sent_by, step_refused, stepping, to_agent_of, to_life}
 use Rattle.life_laws.specs.Apart.{AreApart, BeginsLater, LieApart, begun_of, firsts_of_lives, moved, own_of}
@@ -100,17 +101,17 @@ starts_at : start_on two_lines 0 ≡ 1
 starts_at = refl
 
 -- it would be behind 5,000 others
-too_many : (start count number some all : ℕ) → start ≡ 1 → IsBehind 0 start count number → 5001 ≡ id_on 0 number → count ≤ some → some < all → all ≡ 4096 → ⊥
-too_many start count number some all one (inl behind) is few less same = absurd (let own : 5001 ≡ 0 * 10000000 + number = is in omega (arith, one, behind, own, few, less, same))
+too_many : (start count number some all : ℕ) → start ≡ 1 → IsBehind 0 start count number → 5001 ≡ id_on 0 number → count ≤ some → some < all → all ≡ most_firsts → ⊥
+too_many start count number some all one (inl behind) is few less same = absurd (let own : 5001 ≡ 0 * numbers + number = is in omega (arith, one, behind, own, few, less, same))
 too_many start count number some all one (inr behind) is few less same =
     absurd (
-    let own : 5001 ≡ 0 * 10000000 + number = is in
-    let round : start + count + 1 ≡ number + 10000000 = behind in omega (arith, one, round, own, few, less, same))
+    let own : 5001 ≡ 0 * numbers + number = is in
+    let round : start + count + 1 ≡ number + numbers = behind in omega (arith, one, round, own, few, less, same))
 
 shorter : (some more : List Begun) (one : Begun) → length some < length (some ++ one ∷ more)
 shorter some more one = let sum = length-append some (one ∷ more) in omega (arith, sum)
 
-not_begun : (begun : List Begun) → EachAfter (IsInTurn two_lines) [] begun → length begun ≡ 4096 → OneOf (λ (one : Begun). one.id ≡ 5001) begun → ⊥
+not_begun : (begun : List Begun) → EachAfter (IsInTurn two_lines) [] begun → length begun ≡ most_firsts → OneOf (λ (one : Begun). one.id ≡ 5001) begun → ⊥
 not_begun begun turns many one =
     too_many (start_on two_lines 0) (count_of 0 p.some) turn.number (length p.some) (length begun) starts_at
     (subst (λ (line : ℕ). IsBehind line (start_on two_lines line) (count_of line p.some) turn.number) of_gateway turn.behind)
@@ -128,7 +129,7 @@ not_begun begun turns many one =
 own_0 : OneOf (λ (one : Begun). one.id ≡ 5001) (own_in two_lines w_0) → ⊥
 own_0 =
     not_begun (own_in two_lines w_0)
-    (all_in_turn two_lines w_0.gateway_took (few_are_begun (own_in two_lines w_0) (subst (λ (n : ℕ). n < 9999999) (sym filled.began) (omega arith)))) filled.began
+    (all_in_turn two_lines w_0.gateway_took (few_are_begun (own_in two_lines w_0) (subst (λ (n : ℕ). n < numbers - 1) (sym filled.began) (omega arith)))) filled.began
 
 other_entries : (id : ℕ) (entries : List Entry) → Each (λ (first : KeptFirst). (first.id == id) ≡ false) (firsts_in entries) → Each (IsOther id) entries
 other_entries id [] others = tt
@@ -146,8 +147,8 @@ others_0 =
     ne_eqb one.asked.id 5001 (λ same. own_0 (one_weaker (Comes one) (λ (b : Begun). b.id ≡ 5001) (λ b comes. comes.id ∙ same) (own_in two_lines w_0) came))) (taken_in w_0)
     (executed_each (Came (own_in two_lines w_0)) _ (world_linked two_lines full_front two_lines_set_up filled.taken).links.came)))))
 
-looks_at : (now : ℕ) → now < 1 + 30000 → look_of most_firsts a_0.history 5001 now ≡ full
-looks_at now soon = looks_full 1 (id_on 1 4095) 1 5001 now a_0.history soon filled.low others_0 filled.count
+looks_at : (now : ℕ) → now < 1 + memory_time → look_of most_firsts a_0.history 5001 now ≡ full
+looks_at now soon = looks_full 1 (id_on 1 next_key_number) 1 5001 now a_0.history soon filled.low others_0 filled.count
 
 -- The life that goes on
 
@@ -327,7 +328,7 @@ delivery_may w place t found clock =
     ∙ ap (λ (b : Bool). step_refused (if b then Some packet_too_old else None)) (none_old t)
 
 module _ (steps : List LivesStep) (t place : ℕ) (events : List GatewayEvent) (s : Stays steps t (place + 1) place events)
-    (last : slice_get (plain_lives two_lines steps).letters place ≡ Some (letter_at t)) (soon : t < 1 + 30000) where
+    (last : slice_get (plain_lives two_lines steps).letters place ≡ Some (letter_at t)) (soon : t < 1 + memory_time) where
   abbrev x : LivesWorld
   x = plain_lives two_lines steps
 
@@ -389,7 +390,7 @@ silent steps now t place events s may is =
     subst (λ (n : ℕ). Stays (steps ++ stepping (ticking t) ∷ []) t n place (events ++ tick (t - 1) ∷ [])) (none_more place) (tick_on steps now t place place events [] s is may)
 
 told_again : (steps : List LivesStep) (now t place : ℕ) (events : List GatewayEvent) → Stays steps now place place events → tick_refusal now t ≡ None
-    → letters_at events t ≡ letter_at t ∷ [] → t < 1 + 30000
+    → letters_at events t ≡ letter_at t ∷ [] → t < 1 + memory_time
     → Stays ((steps ++ stepping (ticking t) ∷ []) ++ stepping (delivering place) ∷ []) t (place + 1) (place + 1) (events ++ tick (t - 1) ∷ [])
 told_again steps now t place events s may is soon =
     deliver_on (steps ++ stepping (ticking t) ∷ []) t place (events ++ tick (t - 1) ∷ []) (tick_on steps now t place place events (letter_at t ∷ []) s is may) last soon where
@@ -505,13 +506,13 @@ fair = λ number letter found past old.
     (at_most (length (plain_lives two_lines roomless_anew).letters) 8198 stays.posts) refl)
 
 -- the agent has no room: as many firsts are young as there may be
-fewer_young : (young all : ℕ) → young ≡ all → all ≡ 4096 → young < 4096 → ⊥
+fewer_young : (young all : ℕ) → young ≡ all → all ≡ most_firsts → young < most_firsts → ⊥
 fewer_young young all same many less = absurd (omega (arith, same, many, less))
 
-pub no_room : (steps : List LivesStep) (since t : ℕ) → clock_of two_lines (plain_lives two_lines steps) ≡ t → since ≤ t → t < 1 + 30000
+pub no_room : (steps : List LivesStep) (since t : ℕ) → clock_of two_lines (plain_lives two_lines steps) ≡ t → since ≤ t → t < 1 + memory_time
     → (agent_then two_lines (plain_lives two_lines steps)).history ≡ a_0.history → AgentHasRoomThen two_lines steps since → ⊥
 no_room steps since t clock past soon kept room =
-    fewer_young (length (young_firsts t a_0.history)) (length (firsts_in a_0.history)) (young_all 1 (id_on 1 4095) 1 t a_0.history soon filled.low) filled.count
+    fewer_young (length (young_firsts t a_0.history)) (length (firsts_in a_0.history)) (young_all 1 (id_on 1 next_key_number) 1 t a_0.history soon filled.low) filled.count
     (subst (λ (h : List Entry). length (young_firsts t h) < most_firsts) kept
     (subst (λ (n : ℕ). length (young_firsts n (agent_then two_lines (plain_lives two_lines steps)).history) < most_firsts) clock
     (room steps [] (sym (append-nil steps)) (subst (λ (n : ℕ). since ≤ n) (sym clock) past))))

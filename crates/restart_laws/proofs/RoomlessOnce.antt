@@ -13,7 +13,7 @@ use Rattle.machine_laws.proofs.EachLemmas.{Each, all_from_each, each_weaker}
 use Rattle.call_agent.specs.Hearing.{AgentEvent, plain_agent}
 use Rattle.agent_core.specs.World.{agent_in, agent_of, plain_world}
 use Rattle.outage_laws.specs.Alone.{HasBegun, HasResponse}
-use Rattle.outage_laws.specs.Roomless.{key_begun, roomless, roomless_given_up}
+use Rattle.outage_laws.specs.Roomless.{key_begun, next_key_number, roomless, roomless_given_up}
 use Rattle.outage_laws.proofs.RoomlessHeld.{now_end, now_given_up}
 use Rattle.outage_laws.proofs.RoomlessLine.{e_22501, given_up_stays, goes, is_fair, is_of_line, not_answered, roomless_stays}
 use Rattle.outage_laws.proofs.RoomlessRounds.{IsLow, IsOther, filled, low_other}
@@ -58,22 +58,22 @@ full_then = no_room (starting roomless) 0 22501 clock (omega arith) (omega arith
 pub life : w.life ≡ record { setup = two_lines; start = 0; took = (plain_world two_lines roomless).gateway_took }
 life = started_life roomless
 
-pub begun : HasBegun w.life.setup w.life.took 1 (key_begun 1 4095)
-begun = subst (λ (one : Life). HasBegun one.setup one.took 1 (key_begun 1 4095)) (sym life) is_of_line
+pub begun : HasBegun w.life.setup w.life.took 1 (key_begun 1 next_key_number)
+begun = subst (λ (one : Life). HasBegun one.setup one.took 1 (key_begun 1 next_key_number)) (sym life) is_of_line
 
 pub goes_there : (text : List ℕ) → LifeGoesToAgent two_lines w text
 goes_there text = goes_in_one two_lines (restarting 0 ∷ []) as_world roomless text (goes roomless at_22501 22501 8202 e_22501 roomless_stays text)
 
-others : Each (IsOther (id_on 1 4095)) (agent_then two_lines w).history
+others : Each (IsOther (id_on 1 next_key_number)) (agent_then two_lines w).history
 others =
-    subst (Each (IsOther (id_on 1 4095))) (sym kept)
-    (each_weaker (IsLow 1 (id_on 1 4095) 1) (IsOther (id_on 1 4095)) (low_other 1 (id_on 1 4095) 1) (agent_in two_lines (plain_world two_lines full_front)).history filled.low)
+    subst (Each (IsOther (id_on 1 next_key_number))) (sym kept)
+    (each_weaker (IsLow 1 (id_on 1 next_key_number) 1) (IsOther (id_on 1 next_key_number)) (low_other 1 (id_on 1 next_key_number) 1) (agent_in two_lines (plain_world two_lines full_front)).history filled.low)
 
-pub none_taken : Any (λ (one : Brought). one.reached.asked.id ≡ (key_begun 1 4095).id) (firsts_of_lives w) → ⊥
-none_taken = not_among two_lines (starting roomless) (id_on 1 4095) others
+pub none_taken : Any (λ (one : Brought). one.reached.asked.id ≡ (key_begun 1 next_key_number).id) (firsts_of_lives w) → ⊥
+none_taken = not_among two_lines (starting roomless) (id_on 1 next_key_number) others
 
-pub none_came : HasResponse w.life.took (key_begun 1 4095).id → ⊥
-none_came any = not_answered (subst (λ (one : Life). HasResponse one.took (id_on 1 4095)) life any)
+pub none_came : HasResponse w.life.took (key_begun 1 next_key_number).id → ⊥
+none_came any = not_answered (subst (λ (one : Life). HasResponse one.took (id_on 1 next_key_number)) life any)
 
 none_begun : begun_of before ≡ []
 unfolding on_examples

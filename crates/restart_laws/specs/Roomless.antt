@@ -5,13 +5,13 @@ use Rattle.plain_machine.specs.declared.setup.Setup.{Setup}
 use Rattle.plain_machine.specs.Example.{two_lines}
 use Rattle.machine_laws.specs.Saying.{Begun}
 use Rattle.agent_core.specs.World.{WorldStep, delivering, ticking}
-use Rattle.outage_laws.specs.Roomless.{asked_at_once, keyed}
+use Rattle.outage_laws.specs.Roomless.{asked_at_once, keyed, keys_that_fill}
 use Rattle.life_laws.specs.Lives.{LivesStep, restarting}
 use Rattle.life_laws.specs.Example.{in_one_life}
 
 -- its first life, up to the last command that is taken
 abbrev pub full_front : List WorldStep
-full_front = keyed asked_at_once 6 4094
+full_front = keyed asked_at_once 6 keys_that_fill
 
 -- it starts again, with a number that its first life was far from
 abbrev pub started_full : List LivesStep

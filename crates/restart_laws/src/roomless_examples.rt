@@ -15,7 +15,7 @@ ghost use Rattle.delivery_laws.specs.Rounds.{IsAnsweredWithin, IsAskedWithin, ro
 ghost use Rattle.outage_laws.specs.AfterOutage.{gap_of, longest_pause};
 ghost use Rattle.outage_laws.specs.Alone.{HasBegun, HasResponse};
 ghost use Rattle.outage_laws.specs.LinePremises.{held_with};
-ghost use Rattle.outage_laws.specs.Roomless.{key_begun, roomless, roomless_given_up, roomless_soon, ticks_on, ticks_then};
+ghost use Rattle.outage_laws.specs.Roomless.{key_begun, next_key_number, roomless, roomless_given_up, roomless_soon, ticks_on, ticks_then};
 ghost use Rattle.life_laws.specs.Lives.{Brought, clock_of, gateway_of, lives_of, number_of};
 ghost use Rattle.life_laws.specs.Apart.{LieApart, firsts_of_lives};
 ghost use Rattle.life_laws.specs.Example.{lives};
@@ -51,14 +51,14 @@ pub fn else_a_line_of_a_new_life_has_no_room()
     ensures fair { LivesAreFairFrom two_lines (starting roomless) 0 0 }
     ensures no_room { ¬ AgentHasRoomThen two_lines (starting roomless) 0 }
     ensures second_life { number_of (lives (starting roomless)) ≡ 1 }
-    ensures begun { HasBegun (lives (starting roomless)).life.setup (lives (starting roomless)).life.took 1 (key_begun 1 4095) }
-    ensures goes { LifeGoesToAgent two_lines (lives (starting roomless)) (key_begun 1 4095).text }
+    ensures begun { HasBegun (lives (starting roomless)).life.setup (lives (starting roomless)).life.took 1 (key_begun 1 next_key_number) }
+    ensures goes { LifeGoesToAgent two_lines (lives (starting roomless)) (key_begun 1 next_key_number).text }
     ensures apart { LieApart (lives_of (lives (starting roomless))) }
     ensures now { clock_of two_lines (lives (starting roomless)) ≡ 22501 }
     ensures late { 0 + longest_pause + 2 * 0 ≤ 22501 + 1 }
-    ensures none_taken { ¬ Any (λ (one : Brought). one.reached.asked.id ≡ (key_begun 1 4095).id)
+    ensures none_taken { ¬ Any (λ (one : Brought). one.reached.asked.id ≡ (key_begun 1 next_key_number).id)
         (firsts_of_lives (lives (starting roomless))) }
-    ensures none_came { ¬ HasResponse (lives (starting roomless)).life.took (key_begun 1 4095).id }
+    ensures none_came { ¬ HasResponse (lives (starting roomless)).life.took (key_begun 1 next_key_number).id }
     ensures run_given_up { IsRunOfLives two_lines (starting roomless_given_up) }
     ensures fair_given_up { LivesAreFairFrom two_lines (starting roomless_given_up) 0 0 }
     ensures goes_given_up { (b : Begun) → HasBegun (lives (starting roomless_given_up)).life.setup
@@ -71,16 +71,16 @@ pub fn else_a_line_of_a_new_life_has_no_room()
 /// Each copy of that notification is handed over, and so would be each answer, at once; but none of them is carried, for want of room alone.
 pub fn else_no_copy_of_a_new_life_finds_room()
     ensures run { IsRunOfLives two_lines (starting roomless) }
-    ensures begun { HasBegun (lives (starting roomless)).life.setup (lives (starting roomless)).life.took 1 (key_begun 1 4095) }
-    ensures goes { LifeGoesToAgent two_lines (lives (starting roomless)) (key_begun 1 4095).text }
-    ensures late { (lives (starting roomless)).life.start + (key_begun 1 4095).moment + last_chance ≤ 22501 }
+    ensures begun { HasBegun (lives (starting roomless)).life.setup (lives (starting roomless)).life.took 1 (key_begun 1 next_key_number) }
+    ensures goes { LifeGoesToAgent two_lines (lives (starting roomless)) (key_begun 1 next_key_number).text }
+    ensures late { (lives (starting roomless)).life.start + (key_begun 1 next_key_number).moment + last_chance ≤ 22501 }
     ensures now { clock_of two_lines (lives (starting roomless)) ≡ 22501 }
     ensures handed { (number : ℕ) →
-        IsCopyOfLife two_lines (lives (starting roomless)) (number_of (lives (starting roomless))) (key_begun 1 4095).text number →
+        IsCopyOfLife two_lines (lives (starting roomless)) (number_of (lives (starting roomless))) (key_begun 1 next_key_number).text number →
         IsHandedThen (starting roomless) number }
     ensures at_once { LivesAreFairFrom two_lines (starting roomless) 0 0 }
-    ensures not_carried { (number : ℕ) → ¬ IsCarriedInLives two_lines (starting roomless) (key_begun 1 4095) number }
-    ensures none_came { ¬ HasResponse (lives (starting roomless)).life.took (key_begun 1 4095).id }
+    ensures not_carried { (number : ℕ) → ¬ IsCarriedInLives two_lines (starting roomless) (key_begun 1 next_key_number) number }
+    ensures none_came { ¬ HasResponse (lives (starting roomless)).life.took (key_begun 1 next_key_number).id }
 {}
 
 /// Before that it waits for its answer for longer than twice the network's time, and what was quarantined is quarantined yet.

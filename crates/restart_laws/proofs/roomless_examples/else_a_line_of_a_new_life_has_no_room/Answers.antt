@@ -1,6 +1,6 @@
 use Rattle.std.proofs.Common.{arith}
 use Rattle.delivery_laws.proofs.ExampleLemmas.{two_lines_set_up}
-use Rattle.outage_laws.specs.Roomless.{key_begun}
+use Rattle.outage_laws.specs.Roomless.{key_begun, next_key_number}
 use Rattle.outage_laws.proofs.RoomlessHeld.{late_given_up}
 use Rattle.restart_laws.proofs.RoomlessOnce.{apart, begun, clock, clock_given_up, fair, fair_given_up, full_then, goes_given_up, goes_there, none_came, none_taken, run, run_given_up, second_life, waits}
 use Rattle.restart_laws.proofs.roomless_examples.else_a_line_of_a_new_life_has_no_room.Goals as goal
@@ -21,7 +21,7 @@ pub returns-clause-begun : goal.returns-clause-begun
 returns-clause-begun c = begun
 
 pub returns-clause-goes : goal.returns-clause-goes
-returns-clause-goes c = goes_there (key_begun 1 4095).text
+returns-clause-goes c = goes_there (key_begun 1 next_key_number).text
 
 pub returns-clause-apart : goal.returns-clause-apart
 returns-clause-apart c = apart
