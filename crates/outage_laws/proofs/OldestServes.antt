@@ -131,23 +131,23 @@ of_stays setup some more line b of =
 
 -- The moments
 
-then_late : (moment within now limit front : ℕ) → limit + within ≡ now + 10000 → moment + 10001 ≤ front → front ≤ limit → moment + within ≤ now
+then_late : (moment within now limit front : ℕ) → limit + within ≡ now + oldest_packet → moment + (oldest_packet + 1) ≤ front → front ≤ limit → moment + within ≤ now
 then_late moment within now limit front is late low = omega (arith, is, late, low)
 
-young_so : (moment back : ℕ) → back ≤ moment + oldest_packet → back ≤ moment + 10001
+young_so : (moment back : ℕ) → back ≤ moment + oldest_packet → back ≤ moment + (oldest_packet + 1)
 young_so moment back young = omega (arith, young)
 
-not_behind : (moment front back on : ℕ) → back ≤ moment + oldest_packet → moment + 10001 ≤ front → front ≤ on → on ≡ back → ⊥
+not_behind : (moment front back on : ℕ) → back ≤ moment + oldest_packet → moment + (oldest_packet + 1) ≤ front → front ≤ on → on ≡ back → ⊥
 not_behind moment front back on young late past same = absurd (omega (arith, young, late, past, same))
 
-limit_is : (since within restart now : ℕ) → since + 22000 + restart + 2 * within ≤ now → (now - within + 10000) + within ≡ now + 10000
+limit_is : (since within restart now : ℕ) → since + 22000 + restart + 2 * within ≤ now → (now - within + oldest_packet) + within ≡ now + oldest_packet
 limit_is since within restart now late = omega (arith, late)
 
-limit_low : (since within restart now : ℕ) → since + 22000 + restart + 2 * within ≤ now → 11500 ≤ within → now - within + 10000 ≤ now
+limit_low : (since within restart now : ℕ) → since + 22000 + restart + 2 * within ≤ now → 11500 ≤ within → now - within + oldest_packet ≤ now
 limit_low since within restart now late long = omega (arith, late, long)
 
-front_late : (since within restart now front : ℕ) → since + 22000 + restart + 2 * within ≤ now → 11500 ≤ within → now - within + 10000 ≤ front + 1000
-    → since + answer_wait + restart + 2 * 10001 ≤ front + 1 + 1500
+front_late : (since within restart now front : ℕ) → since + 22000 + restart + 2 * within ≤ now → 11500 ≤ within → now - within + oldest_packet ≤ front + 1000
+    → since + answer_wait + restart + 2 * (oldest_packet + 1) ≤ front + 1 + 1500
 front_late since within restart now front late long near = omega (arith, late, long, near)
 
 module _ (setup : Setup) (steps : List WorldStep) (since within : ℕ) (set_up : IsSetUp setup) (taken : steps_are_taken setup world_opening steps ≡ true) (some : 1 ≤ since)
@@ -158,7 +158,7 @@ module _ (setup : Setup) (steps : List WorldStep) (since within : ℕ) (set_up :
   now = now_in setup (plain_world setup steps)
 
   abbrev limit : ℕ
-  limit = now - within + 10000
+  limit = now - within + oldest_packet
 
   cut : Cut setup steps limit
   cut = cut_from setup limit [] steps taken (opening_now setup limit) (limit_low since within setup.restart_wait now late long)
@@ -166,10 +166,10 @@ module _ (setup : Setup) (steps : List WorldStep) (since within : ℕ) (set_up :
   taken_so : steps_are_taken setup world_opening (cut.front ++ cut.later) ≡ true
   taken_so = subst (λ (s : List WorldStep). steps_are_taken setup world_opening s ≡ true) cut.order taken
 
-  fair_so : IsFairFrom setup cut.front since 10001
+  fair_so : IsFairFrom setup cut.front since (oldest_packet + 1)
   fair_so = λ number post found past old. handed number post found past old where
     handed : (number : ℕ) (post : Posted) → slice_get (plain_world setup cut.front).posted number ≡ Some post → since ≤ post.packet.moment
-        → post.packet.moment + 10001 ≤ now_in setup (plain_world setup cut.front) → IsHandedOver setup cut.front 10001 number post
+        → post.packet.moment + (oldest_packet + 1) ≤ now_in setup (plain_world setup cut.front) → IsHandedOver setup cut.front (oldest_packet + 1) number post
     handed number post found past old = by_front (one_first (t.before ++ delivering number ∷ []) cut.front t.later cut.later (sym t.order ∙ cut.order)) where
       t : IsHandedOver setup steps within number post
       t =
@@ -184,7 +184,7 @@ module _ (setup : Setup) (steps : List WorldStep) (since within : ℕ) (set_up :
       young : now_in setup (plain_world setup t.before) ≤ post.packet.moment + oldest_packet
       young = handed_young setup t.before number post t_taken t.sent
 
-      by_front : IsBefore (t.before ++ delivering number ∷ []) cut.front ⊎ IsBefore cut.front (t.before ++ delivering number ∷ []) → IsHandedOver setup cut.front 10001 number post
+      by_front : IsBefore (t.before ++ delivering number ∷ []) cut.front ⊎ IsBefore cut.front (t.before ++ delivering number ∷ []) → IsHandedOver setup cut.front (oldest_packet + 1) number post
       by_front (inl before) = record {
         before = t.before;
         later = before.0;
@@ -208,7 +208,7 @@ module _ (setup : Setup) (steps : List WorldStep) (since within : ℕ) (set_up :
 
   front_serves : serves (gateway_in setup (plain_world setup cut.front)).endpoints ≡ true
   front_serves =
-      serves_by setup cut.front since 10001 1500 set_up (taken_front setup world_opening cut.front cut.later taken_so) some fair_so roomy_so reach_so (any_from_one (λ (one : ℕ). one ≡ 1500) chances (inr (inr (inl refl)))) (omega arith)
+      serves_by setup cut.front since (oldest_packet + 1) 1500 set_up (taken_front setup world_opening cut.front cut.later taken_so) some fair_so roomy_so reach_so (any_from_one (λ (one : ℕ). one ≡ 1500) chances (inr (inr (inl refl)))) (omega arith)
       (front_late since within setup.restart_wait now (now_in setup (plain_world setup cut.front)) late long cut.near)
 
   by_test : (b : Bool) → serves (gateway_in setup (plain_world setup steps)).endpoints ≡ b → serves (gateway_in setup (plain_world setup steps)).endpoints ≡ true

@@ -8,7 +8,7 @@ use Rattle.plain_machine.specs.Lists.{plain}
 use Rattle.machine_laws.specs.Saying.{Begun}
 use Rattle.agent_core.specs.declared.packet.Posted.{Posted}
 use Rattle.agent_core.specs.World.{World, WorldStep, delivering, now_in, oldest_packet, plain_world, steps_are_taken, world_after, world_opening}
-use Rattle.delivery_laws.specs.Chances.{chances}
+use Rattle.delivery_laws.specs.Chances.{chances, last_chance}
 use Rattle.delivery_laws.specs.Copies.{answer_wait}
 use Rattle.delivery_laws.specs.Fairness.{GoesToAgent, IsHandedOver}
 use Rattle.delivery_laws.specs.OwnChances.{IsOfLine}
@@ -60,7 +60,7 @@ not_later before other front early past same = absurd (omega (arith, early, past
 -- where an answer to the second send doesn't come in time, a command is given up 23,500 ms behind the last send whose answer does
 
 abbrev last_behind : ℕ → ℕ
-last_behind within = last_in_time within 500 (1500 ∷ 3500 ∷ 7500 ∷ 11500 ∷ 15500 ∷ 19500 ∷ [])
+last_behind within = last_in_time within 500 (1500 ∷ 3500 ∷ 7500 ∷ 11500 ∷ 15500 ∷ last_chance ∷ [])
 
 none_in_time : (within : ℕ) → nat_lt (500 + 2 * within) answer_wait ≡ false → last_in_time within 0 chances ≡ 0
 none_in_time within many = by_test (nat_lt (0 + 2 * within) answer_wait) where

@@ -97,4 +97,4 @@ module _ (setup : Setup) (steps : List WorldStep) (within : ℕ) (set_up : IsSet
         (gap_late since within now setup.restart_wait last in_it.few late)
     by_test false is =
         long_since since fair roomy (longer within (ltb-false (0 + 2 * within) answer_wait is)) last
-        (none_of within 0 0 (500 ∷ 1500 ∷ 3500 ∷ 7500 ∷ 11500 ∷ 15500 ∷ 19500 ∷ []) is) late
+        (none_of within 0 0 (500 ∷ 1500 ∷ 3500 ∷ 7500 ∷ 11500 ∷ 15500 ∷ last_chance ∷ []) is) late
