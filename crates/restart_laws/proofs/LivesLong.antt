@@ -19,7 +19,7 @@ use Rattle.agent_core.specs.declared.packet.End.TheVariants.{AgentEnd as agent_e
 use Rattle.agent_core.specs.declared.packet.Packet.{Packet}
 use Rattle.agent_core.specs.World.{delivering, delivery_refusal, dialling, gateway_address, is_among, issuing, oldest_packet, ticking}
 use Rattle.world_laws.proofs.WorldLaws.{agent_taken, not_late}
-use Rattle.delivery_laws.specs.Chances.{chances}
+use Rattle.delivery_laws.specs.Chances.{chances, last_chance}
 use Rattle.delivery_laws.specs.Copies.{answer_wait}
 use Rattle.outage_laws.specs.AfterOutage.{gap_of, last_in_time}
 use Rattle.life_laws.specs.Lives.{Letter, LivesStep, LivesWorld, agent_then, clock_of, gateway_of, handed, handed_from, lived, lived_refusal, lives_after, lives_are_taken, lives_opening, number_of, plain_lives, restarting, stepping, to_agent_of, to_life}
@@ -404,10 +404,10 @@ module _ (setup : Setup) (steps : List LivesStep) (since within : ℕ) (set_up :
 -- where an answer to the second send doesn't come in time, none to a later one does
 last_long : (within : ℕ) → nat_lt (500 + 2 * within) answer_wait ≡ false → last_in_time within 0 chances ≡ 0
 last_long within many = by_test (nat_lt (0 + 2 * within) answer_wait) where
-  inner : (if nat_lt (500 + 2 * within) answer_wait then last_in_time within 500 (1500 ∷ 3500 ∷ 7500 ∷ 11500 ∷ 15500 ∷ 19500 ∷ []) else 0) ≡ 0
-  inner = ap (λ (b : Bool). if b then last_in_time within 500 (1500 ∷ 3500 ∷ 7500 ∷ 11500 ∷ 15500 ∷ 19500 ∷ []) else 0) many
+  inner : (if nat_lt (500 + 2 * within) answer_wait then last_in_time within 500 (1500 ∷ 3500 ∷ 7500 ∷ 11500 ∷ 15500 ∷ last_chance ∷ []) else 0) ≡ 0
+  inner = ap (λ (b : Bool). if b then last_in_time within 500 (1500 ∷ 3500 ∷ 7500 ∷ 11500 ∷ 15500 ∷ last_chance ∷ []) else 0) many
 
-  by_test : (b : Bool) → (if b then last_in_time within 0 (500 ∷ 1500 ∷ 3500 ∷ 7500 ∷ 11500 ∷ 15500 ∷ 19500 ∷ []) else 0) ≡ 0
+  by_test : (b : Bool) → (if b then last_in_time within 0 (500 ∷ 1500 ∷ 3500 ∷ 7500 ∷ 11500 ∷ 15500 ∷ last_chance ∷ []) else 0) ≡ 0
   by_test true = inner
   by_test false = refl
 
