@@ -28,8 +28,8 @@ is_its_act line (datagram source bytes) = false
 is_its_act line (phone other act) = other == line
 is_its_act line (tick moment) = false
 
--- By how much the count grows at these events, but for acts at its telephone: what is lost at all others is no act, but the end of a signal or
--- of timer T.
+-- By how much the count grows at these events, but for acts at its telephone: what is lost at all others is no act, but the end of a signal
+-- or of timer T.
 abbrev pub ends_lost : Setup → ℕ → Machine → List GatewayEvent → ℕ
 ends_lost setup line m [] = 0
 ends_lost setup line m (event ∷ events) =

@@ -1,5 +1,6 @@
 -- What became of the commands that a line began: which of them it gave up, and which its agent took (RFC 3435, 4.3 and 4.4.7).
-use Rattle.std.specs.Prelude.{◌≡◌, ◌≢◌, ◌⊎◌, ℕ, Bool, true, false, not, List, [], ◌∷◌, ◌++◌, filter, flat_map, All, AllPairs, Any, Option, None, Some}
+use Rattle.std.specs.Prelude.{◌≡◌, ◌≢◌, ◌⊎◌, ℕ, Bool, true, false, not, List, [], ◌∷◌, ◌++◌}
+use Rattle.std.specs.Prelude.{filter, flat_map, All, AllPairs, Any, Option, None, Some}
 use Rattle.event_values.specs.declared.observed.Observed.{Observed}
 use Rattle.mgcp_text.specs.declared.message.Message.TheVariants as messages
 use Rattle.mgcp_text.specs.Reading.{Outcome, message, no_header, bad_version, bad_body, read_text}

@@ -50,8 +50,8 @@ pub fn a_walk_stands_where_the_line_stands()
     ensures along { WalksAlong two_lines 1 (opening two_lines) (ready ++ flashes_and_dials) nothing_asked [] }
 {}
 
-/// In loop too what is quarantined at a request is told behind it: key 5. Where an answer stands before the request in its datagram, what was
-/// collected is processed before it, so that none is quarantined at the request; that it was before the datagram says nothing.
+/// In loop too what is quarantined at a request is told behind it: key 5. Where an answer stands before the request in its datagram, what
+/// was collected is processed before it, so that none is quarantined at the request; that it was before the datagram says nothing.
 pub fn what_is_quarantined_just_before_a_request_is_told()
     ensures alone { texts_of keys_text ≡ [] ++ keys_text ∷ [] }
     ensures held { of_telephone (line_by pressed_at_once []).quarantined.events ≡ five ∷ [] }
@@ -102,8 +102,8 @@ pub fn what_is_lost_is_an_act_or_an_end()
     ensures ends { ends_by (phone 1 (acts.Key keys.Five) ∷ tick 2000 ∷ phone 1 (acts.Key keys.Five) ∷ []) ≡ 1 }
 {}
 
-/// A line whose quarantine is full counts each act that is lost, up to the greatest count, however many acts that takes. Behind these one more
-/// is lost, key 6, and the count is the same: the first notification behind the request skips it.
+/// A line whose quarantine is full counts each act that is lost, up to the greatest count, however many acts that takes. Behind these one
+/// more is lost, key 6, and the count is the same: the first notification behind the request skips it.
 pub fn else_what_is_lost_at_the_greatest_count_is_skipped()
     ensures greatest { (n : ℕ) → most_lost ≤ n → (line_then (filled_and_more n)).quarantined.lost ≡ most_lost }
     ensures the_same { (n : ℕ) → most_lost ≤ n → (line_then (filled_and_more n ++ return_asked)).quarantined.lost ≡ most_lost }
@@ -115,8 +115,8 @@ pub fn else_what_is_lost_at_the_greatest_count_is_skipped()
     ensures skipped { ¬ TellsOfHeld has_return_told (replicate most_quarantined five) (six ∷ hung_up ∷ []) (hung_up ∷ []) }
 {}
 
-/// A notification skips lost acts alone. Each is counted, on from what was counted before, but at the greatest count; all others are told in
-/// their order.
+/// A notification skips lost acts alone. Each is counted, on from what was counted before, but at the greatest count; all others are told
+/// in their order.
 pub fn a_notification_skips_lost_acts_alone()
     ensures one { TellsButLost has_return_told (counts has_lifting_told 1) (counts has_lifting_told 2)
         (does (acts.Key keys.Six) ∷ does acts.OnHook ∷ []) (hung_up ∷ []) }

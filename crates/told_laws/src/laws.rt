@@ -38,12 +38,13 @@ pub fn what_is_told_was_done_in_that_order()
 {}
 
 /// Each act is walked through by what the line tells: it is told, in its order, by a notification that tells all that R has told of a front
-/// of what waits; or it waits, accumulated or quarantined; or it was lost for want of room, and the line counts each, beside ends of signals
-/// and of timer T alone, so none where it counts none; or it was dropped: neither R nor T named it, and it isn't persistent; R gave it nothing, or I; E without A took it, or
-/// emptied the list in which it was; or a request emptied that list, in which R had none told at once, and which was empty where the line
-/// waited for that request, in step; or it discards what is quarantined. R, T and Q of that moment are the line's own: where none is lost one
-/// walk goes through all events, and behind each of them its place is where the line stands, with the request, or the embedded one, that is
-/// in force on the line. So it is behind each text of a datagram: a datagram does what its texts do, each in one of its own.
+/// of what waits; or it waits, accumulated or quarantined; or it was lost for want of room, and the line counts each, beside ends of
+/// signals and of timer T alone, so none where it counts none; or it was dropped: neither R nor T named it, and it isn't persistent; R gave
+/// it nothing, or I; E without A took it, or emptied the list in which it was; or a request emptied that list, in which R had none told at
+/// once, and which was empty where the line waited for that request, in step; or it discards what is quarantined. R, T and Q of that moment
+/// are the line's own: where none is lost one walk goes through all events, and behind each of them its place is where the line stands,
+/// with the request, or the embedded one, that is in force on the line. So it is behind each text of a datagram: a datagram does what its
+/// texts do, each in one of its own.
 pub fn each_act_is_walked_through()
     ensures but_lost { (setup : Setup) (line : ℕ) (events : List GatewayEvent) (endpoint : Endpoint) →
         endpoint_at (plain setup events).endpoints line ≡ Some endpoint → WalksButLost (course_of setup line events) endpoint.line }
@@ -90,9 +91,9 @@ pub fn what_is_done_meanwhile_is_told_behind_the_next_request()
         (done_in between) observed }
 {}
 
-/// So nothing that is quarantined is forgotten: behind a notification, in step, and the acts since, what the line has quarantined is what the
-/// next request leaves, or discards; and of that, and of what was done since, the first notification behind it tells, in their order, each
-/// event that its R names, up to it. And the walk passes, at each front of the events, where the line stands.
+/// So nothing that is quarantined is forgotten: behind a notification, in step, and the acts since, what the line has quarantined is what
+/// the next request leaves, or discards; and of that, and of what was done since, the first notification behind it tells, in their order,
+/// each event that its R names, up to it. And the walk passes, at each front of the events, where the line stands.
 pub fn what_is_quarantined_is_told_behind_the_next_request()
     ensures told { (setup : Setup) (line : ℕ) (before after : List GatewayEvent) (endpoint last : Endpoint)
         (course some between behind : List CourseStep) (latest request : Request) (first second : List ℕ)
@@ -111,10 +112,11 @@ pub fn what_is_quarantined_is_told_behind_the_next_request()
         × Walks place waiting (course_from setup (plain setup before) line after) (Stays last.line)) }
 {}
 
-/// So it is at any request that a line accepts, in step and in loop, whatever was before, amid a datagram too: what the line has quarantined
-/// just then is what the request leaves, or discards; and of that, and of what was done since, the first notification behind it tells, in
-/// their order, each event that its R names, up to it, where it embeds no request, and none is lost since. Where some are lost since, however
-/// many were before, it is so of all the others: it skips lost acts alone, and the line counts each, up to the greatest count.
+/// So it is at any request that a line accepts, in step and in loop, whatever was before, amid a datagram too: what the line has
+/// quarantined just then is what the request leaves, or discards; and of that, and of what was done since, the first notification behind it
+/// tells, in their order, each event that its R names, up to it, where it embeds no request, and none is lost since. Where some are lost
+/// since, however many were before, it is so of all the others: it skips lost acts alone, and the line counts each, up to the greatest
+/// count.
 pub fn what_is_quarantined_at_a_request_is_told_behind_it()
     ensures told { (setup : Setup) (line : ℕ) (before after : List GatewayEvent) (source : SocketAddrV4) (bytes text : List ℕ)
         (first texts : List (List ℕ)) (request : Request) (endpoint last : Endpoint) (between behind : List CourseStep)
@@ -183,8 +185,8 @@ pub fn what_the_agent_took_over_a_stretch_is_whole()
 
 /// And whatever a line gave up: what the agent took of it is what some of its commands told, each of them once. Those that the line didn't
 /// give up were taken in the order in which it began them, all but what is in flight: so what they told was done at its telephone, in that
-/// order, and nothing of it twice, but for the ends of signals and of timer T. One that it gave up, behind which it announces itself, may be
-/// taken late, behind later ones, or never. No numbers need be left.
+/// order, and nothing of it twice, but for the ends of signals and of timer T. One that it gave up, behind which it announces itself, may
+/// be taken late, behind later ones, or never. No numbers need be left.
 pub fn what_the_agent_took_was_told_once()
     ensures taken { (setup : Setup) (steps : List WorldStep) (line : ℕ) (endpoint : Endpoint) →
         IsSetUp setup → steps_are_taken setup world_opening steps ≡ true →

@@ -18,7 +18,8 @@ ghost use Rattle.told_laws.specs.Premises.{asked_between, asked_late, flash_embe
 ghost use Rattle.told_laws.specs.Premises.{has_keys_in_loop, has_lifting_first, has_return_then, latest_embeds, lifting_embeds};
 ghost use Rattle.told_laws.specs.Premises.{asked_for_all, first_sent, next_embeds, told_between};
 ghost use Rattle.told_laws.specs.Premises.{asked_for_keys, asked_meanwhile, asked_to_embed, collects_keys, course_behind};
-ghost use Rattle.told_laws.specs.Premises.{has_keys_collected_in_loop, keys_told_in_loop, lifted_and_answered, pressed_in_loop, pressed_meanwhile};
+ghost use Rattle.told_laws.specs.Premises.{has_keys_collected_in_loop, keys_told_in_loop, lifted_and_answered, pressed_in_loop};
+ghost use Rattle.told_laws.specs.Premises.{pressed_meanwhile};
 ghost use Rattle.told_laws.specs.Walking.{EmbedsNone, TellsOfHeld, TellsWhatWasKept, WalksButLost};
 
 /// What a line keeps isn't that of another: line 2 did nothing, and tells nothing, while line 1 keeps two events.
