@@ -1,6 +1,6 @@
--- A world in which one act alone is lost: line 1, asked again and again for all that its telephone does, rests, and then 258 keys are pressed
--- at once: the first is told, 256 are quarantined, and there is no room for the last. Each notification is handed over as it is sent, and so
--- is its answer, behind which the next key is told.
+-- A world in which one act alone is lost: line 1, asked again and again for all that its telephone does, rests, and then 258 keys are
+-- pressed at once: the first is told, 256 are quarantined, and there is no room for the last. Each notification is handed over as it is
+-- sent, and so is its answer, behind which the next key is told.
 use Rattle.std.specs.Prelude.{ℕ, zero, suc, ◌+◌, ◌*◌, List, [], ◌∷◌, ◌++◌}
 use Rattle.mg_line.specs.declared.phone.Act.TheVariants.{Key}
 use Rattle.mg_line.specs.declared.phone.Key.TheVariants.{Five}

@@ -32,8 +32,8 @@ pub fn what_a_provisional_response_puts_off()
         (response 200 10000000 ∷ tick 6000 ∷ []) ≡ [] }
 {}
 
-/// 521 that names another agent is announced to that one; where it names nobody it is the answer, and so it is to a notification. Behind the
-/// answer in one datagram, or with another id, it does nothing. So it is of a line that announces itself.
+/// 521 that names another agent is announced to that one; where it names nobody it is the answer, and so it is to a notification. Behind
+/// the answer in one datagram, or with another id, it does nothing. So it is of a line that announces itself.
 pub fn what_521_redirects()
     ensures redirected { (plain two_lines (tick 1 ∷ naming_other 521 1 ∷ [])).endpoints.own.entity ≡ other_entity }
     ensures announced_anew { own_due (tick 1 ∷ naming_other 521 1 ∷ []) ≡ Some 501 }

@@ -161,9 +161,9 @@ pub fn a_network_that_is_fair_since_answers_in_time()
         IsAnsweredWithin setup line some later (2 * within) }
 {}
 
-/// So, over a stretch like that, or one at whose beginning the line serves, whatever it gives up: where the line waits for no request longer
-/// than so many ms, what was quarantined at the beginning is out after as many rounds as events were: no more of it than the telephone did
-/// since, and none where that rests (RFC 3435, 4.3 and 4.4.1).
+/// So, over a stretch like that, or one at whose beginning the line serves, whatever it gives up: where the line waits for no request
+/// longer than so many ms, what was quarantined at the beginning is out after as many rounds as events were: no more of it than the
+/// telephone did since, and none where that rests (RFC 3435, 4.3 and 4.4.1).
 pub fn what_is_quarantined_goes_out_once_the_network_is_fair()
     ensures out { (setup : Setup) (steps : List WorldStep) (since within asking line : ℕ) (some later : List GatewayEvent)
         (was is : Endpoint) → IsRun setup steps → IsFairFrom setup steps since within → AgentHasRoomFrom setup steps since →
