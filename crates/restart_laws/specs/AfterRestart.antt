@@ -21,7 +21,8 @@ use Rattle.delivery_laws.specs.Keeping.{happened_in}
 use Rattle.delivery_laws.specs.Telling.{told_as}
 use Rattle.outage_laws.specs.Alone.{HasBegun}
 use Rattle.life_laws.specs.Apart.{firsts_of_lives}
-use Rattle.life_laws.specs.Lives.{Brought, Letter, Life, LivesStep, LivesWorld, agent_then, clock_of, lives_are_taken, lives_opening, number_of, plain_lives, stepping}
+use Rattle.life_laws.specs.Lives.{Brought, Letter, Life, LivesStep, LivesWorld, agent_then, clock_of}
+use Rattle.life_laws.specs.Lives.{lives_are_taken, lives_opening, number_of, plain_lives, stepping}
 
 -- these steps are a run: the first life is set up, and none of them is refused
 abbrev pub IsRunOfLives : Setup → List LivesStep → Type 0

@@ -16,7 +16,9 @@ use Rattle.world_laws.specs.Example.{announced, seconds}
 use Rattle.delivery_laws.specs.Example.{up_to}
 use Rattle.delivery_laws.specs.Rounds.{of_telephone}
 use Rattle.outage_laws.specs.Example.{all_lost, connected_in_step, given_up_elsewhere, sent_elsewhere}
-use Rattle.outage_laws.specs.LinePremises.{announced_unheard, announced_unheard_yet, answered_before, answered_before_yet, back_yet, hung_up, hung_up_elsewhere, hung_up_elsewhere_yet, hung_up_unserved, hung_up_unserved_yet, hung_up_yet, pressed_again}
+use Rattle.outage_laws.specs.LinePremises.{announced_unheard, announced_unheard_yet, answered_before, answered_before_yet}
+use Rattle.outage_laws.specs.LinePremises.{back_yet, hung_up, hung_up_elsewhere, hung_up_elsewhere_yet, hung_up_unserved}
+use Rattle.outage_laws.specs.LinePremises.{hung_up_unserved_yet, hung_up_yet, pressed_again}
 use Rattle.outage_laws.specs.Premises.{announced_four_times}
 use Rattle.life_laws.specs.Lives.{Life, LivesStep, gateway_of, plain_lives, restarting, stepping}
 use Rattle.life_laws.specs.Example.{in_one_life, lives}
@@ -140,7 +142,8 @@ abbrev pub restart_after : List LivesStep → Option Restart
 restart_after steps = option_map (λ endpoint. endpoint.post.restart) (endpoint_at (gateway_of (lives steps).life).endpoints 1)
 
 abbrev pub restart_with : Setup → List LivesStep → Option Restart
-restart_with setup steps = option_map (λ endpoint. endpoint.post.restart) (endpoint_at (gateway_of (plain_lives setup steps).life).endpoints 1)
+restart_with setup steps =
+    option_map (λ endpoint. endpoint.post.restart) (endpoint_at (gateway_of (plain_lives setup steps).life).endpoints 1)
 
 -- A quarantine
 

@@ -1,5 +1,5 @@
--- The worlds of the worked examples in which one premise alone is missing of the law of what a new life has in flight; those of one life are
--- worlds of laws that know no other.
+-- The worlds of the worked examples in which one premise alone is missing of the law of what a new life has in flight; those of one life
+-- are worlds of laws that know no other.
 use Rattle.std.specs.Prelude.{ℕ, codes, List, [], ◌∷◌, ◌++◌, flat_map, map, replicate}
 use Rattle.mg_line.specs.declared.phone.Act.TheVariants.{OffHook}
 use Rattle.plain_machine.specs.declared.setup.Setup.{Setup}
@@ -9,7 +9,8 @@ use Rattle.agent_core.specs.World.{delivering, dialling, ticking}
 use Rattle.world_laws.specs.Example.{announced}
 use Rattle.delivery_laws.specs.Example.{notified}
 use Rattle.outage_laws.specs.Example.{answered_late, lost_at_first}
-use Rattle.outage_laws.specs.Premises.{answer_on_its_way, notified_four_times, on_its_way, own_all_lost, own_answered_late, own_lost_at_first, own_on_its_way, own_put_back, put_back}
+use Rattle.outage_laws.specs.Premises.{answer_on_its_way, notified_four_times, on_its_way, own_all_lost, own_answered_late}
+use Rattle.outage_laws.specs.Premises.{own_lost_at_first, own_on_its_way, own_put_back, put_back}
 use Rattle.life_laws.specs.Apart.{firsts_of_lives}
 use Rattle.life_laws.specs.Lives.{LivesStep, plain_lives, restarting}
 use Rattle.life_laws.specs.Example.{brought_key, in_one_life}
@@ -44,14 +45,15 @@ own_answered_before = in_one_life own_put_back
 abbrev pub announced_before : List LivesStep
 announced_before =
     in_one_life (announced ++ ticking 60001 ∷ []) ++ restarting 0
-    ∷ in_one_life (ticking 60002 ∷ ticking 64001 ∷ ticking 3 ∷ delivering 2 ∷ delivering 3 ∷ delivering 4 ∷ delivering 5 ∷ ticking 68001 ∷ [])
+    ∷ in_one_life (ticking 60002 ∷ ticking 64001 ∷ ticking 3 ∷ delivering 2 ∷ delivering 3 ∷ delivering 4 ∷ delivering 5
+    ∷ ticking 68001 ∷ [])
 
 -- so it is of a notification, in packets 6 to 9, once that was answered
 abbrev pub notified_before : List LivesStep
 notified_before =
     in_one_life (notified ++ delivering 2 ∷ delivering 3 ∷ ticking 60001 ∷ []) ++ restarting 0
-    ∷ in_one_life (ticking 60002 ∷ delivering 4 ∷ delivering 5 ∷ dialling 1 OffHook ∷ ticking 64001 ∷ ticking 3 ∷ delivering 6 ∷ delivering 7
-    ∷ delivering 8 ∷ delivering 9 ∷ ticking 68001 ∷ [])
+    ∷ in_one_life (ticking 60002 ∷ delivering 4 ∷ delivering 5 ∷ dialling 1 OffHook ∷ ticking 64001 ∷ ticking 3 ∷ delivering 6
+    ∷ delivering 7 ∷ delivering 8 ∷ delivering 9 ∷ ticking 68001 ∷ [])
 
 -- Where there was no time yet
 

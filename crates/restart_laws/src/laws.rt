@@ -109,8 +109,8 @@ pub fn a_quarantine_of_a_new_life_is_out_after_an_outage()
         since + gap_of within + setup.disconnected_wait + 2 * within ≤ w.life.start + (plain w.life.setup before).now →
         IsAnsweredWithin w.life.setup line before after (2 * within) }
     ensures out { (setup : Setup) (steps : List LivesStep) (since within line asking : ℕ) (before after : List GatewayEvent)
-        (was endpoint : Endpoint) → IsRunOfLives setup steps → LivesAreFairFrom setup steps since within → AgentHasRoomThen setup steps since →
-        let w = plain_lives setup steps in
+        (was endpoint : Endpoint) → IsRunOfLives setup steps → LivesAreFairFrom setup steps since within →
+        AgentHasRoomThen setup steps since → let w = plain_lives setup steps in
         LineReachesTheAgentSince setup w line since → w.life.took ≡ before ++ after →
         serves (plain w.life.setup before).endpoints ≡ true →
         endpoint_at (plain w.life.setup before).endpoints line ≡ Some was → endpoint_at (gateway_of w.life).endpoints line ≡ Some endpoint →
@@ -121,8 +121,8 @@ pub fn a_quarantine_of_a_new_life_is_out_after_an_outage()
         length (of_telephone endpoint.line.quarantined.events)
         ≤ length (done_in (course_from w.life.setup (plain w.life.setup before) line after)) }
     ensures rests { (setup : Setup) (steps : List LivesStep) (since within line asking : ℕ) (before after : List GatewayEvent)
-        (was endpoint : Endpoint) → IsRunOfLives setup steps → LivesAreFairFrom setup steps since within → AgentHasRoomThen setup steps since →
-        let w = plain_lives setup steps in
+        (was endpoint : Endpoint) → IsRunOfLives setup steps → LivesAreFairFrom setup steps since within →
+        AgentHasRoomThen setup steps since → let w = plain_lives setup steps in
         LineReachesTheAgentSince setup w line since → w.life.took ≡ before ++ after →
         serves (plain w.life.setup before).endpoints ≡ true →
         endpoint_at (plain w.life.setup before).endpoints line ≡ Some was → endpoint_at (gateway_of w.life).endpoints line ≡ Some endpoint →

@@ -68,7 +68,8 @@ pub fn else_a_line_of_a_new_life_has_no_room()
     ensures waits { restart_after (starting roomless_given_up) ≡ Some (Waiting 28501) }
 {}
 
-/// Each copy of that notification is handed over, and so would be each answer, at once; but none of them is carried, for want of room alone.
+/// Each copy of that notification is handed over, and so would be each answer, at once; but none of them is carried, for want of room
+/// alone.
 pub fn else_no_copy_of_a_new_life_finds_room()
     ensures run { IsRunOfLives two_lines (starting roomless) }
     ensures begun { HasBegun (lives (starting roomless)).life.setup (lives (starting roomless)).life.took 1 (key_begun 1 next_key_number) }
@@ -76,8 +77,8 @@ pub fn else_no_copy_of_a_new_life_finds_room()
     ensures late { (lives (starting roomless)).life.start + (key_begun 1 next_key_number).moment + last_chance ≤ 22501 }
     ensures now { clock_of two_lines (lives (starting roomless)) ≡ 22501 }
     ensures handed { (number : ℕ) →
-        IsCopyOfLife two_lines (lives (starting roomless)) (number_of (lives (starting roomless))) (key_begun 1 next_key_number).text number →
-        IsHandedThen (starting roomless) number }
+        IsCopyOfLife two_lines (lives (starting roomless)) (number_of (lives (starting roomless))) (key_begun 1 next_key_number).text
+        number → IsHandedThen (starting roomless) number }
     ensures at_once { LivesAreFairFrom two_lines (starting roomless) 0 0 }
     ensures not_carried { (number : ℕ) → ¬ IsCarriedInLives two_lines (starting roomless) (key_begun 1 next_key_number) number }
     ensures none_came { ¬ HasResponse (lives (starting roomless)).life.took (key_begun 1 next_key_number).id }

@@ -1,5 +1,5 @@
-//! Worked examples of what is dialled in a new life: a world in which each premise of the law holds, and what it says; and the same one where
-//! the telephone did something since. The gateway started again at 1, and the network is fair from 2 on.
+//! Worked examples of what is dialled in a new life: a world in which each premise of the law holds, and what it says; and the same one
+//! where the telephone did something since. The gateway started again at 1, and the network is fair from 2 on.
 #![tactic(auto, unfolding(crate::proofs::Computing::on_examples))]
 
 ghost use Rattle.std.specs.Prelude.{◌≡◌, ◌≤◌, ◌<◌, ◌+◌, ◌++◌, [], ◌∷◌, false};
@@ -59,7 +59,8 @@ pub fn else_a_telephone_of_a_new_life_does_not_rest()
         (course_behind (life_took asked_anew) (took_since asked_anew asked_anew ++ took_since asked_anew told_anew))
         (line_behind (took_both asked_anew asked_anew ++ took_since asked_anew told_anew)).line }
     ensures calm { has_given_up (of_line 1 (sent_from from_twenty (plain from_twenty (took_both asked_anew asked_anew))
-        (took_since asked_anew told_anew))) (line_behind (took_both asked_anew asked_anew ++ took_since asked_anew told_anew)).post ≡ false }
+        (took_since asked_anew told_anew)))
+        (line_behind (took_both asked_anew asked_anew ++ took_since asked_anew told_anew)).post ≡ false }
     ensures answered { IsAnsweredWithin from_twenty 1 (took_both asked_anew asked_anew) (took_since asked_anew told_anew) 0 }
     ensures asked_again { IsAskedWithin from_twenty 1 (took_both asked_anew asked_anew) (took_since asked_anew told_anew) 0 }
     ensures held { (line_behind (took_both asked_anew asked_anew)).line.quarantined.events ≡ [] }
