@@ -21,7 +21,8 @@ use Rattle.live_agent.specs.declared.office.Office.{Office}
 use Rattle.live_agent.specs.Hooks.{is_off_hook, notified}
 use Rattle.live_agent.specs.Orders.{duty_of, flight_of, has_told, is_outlived, is_put_off_in, was_found_off}
 use Rattle.live_agent.specs.Showing.{shown_in}
-use Rattle.desk_laws.specs.Desk.{Desk, DeskTurn, IsHeldUntil, after_turns, announces, answers, begins, desk_of, finds, happens, lands, loses, opening_desk, owes_audit, shows, tells, ticks, wakes_next}
+use Rattle.desk_laws.specs.Desk.{Desk, DeskTurn, IsHeldUntil, after_turns, announces, answers, begins, desk_of, finds}
+use Rattle.desk_laws.specs.Desk.{happens, lands, loses, opening_desk, owes_audit, shows, tells, ticks, wakes_next}
 
 -- an exchange, and the desk of one of its gateways
 pub record Attended : Type 0 where

@@ -13,7 +13,8 @@ use Rattle.call_laws.specs.Turns.{is_in_flight}
 use Rattle.live_agent.specs.declared.care.Care.{Care}
 use Rattle.live_agent.specs.declared.care.Duty.{Duty}
 use Rattle.live_agent.specs.Orders.{flight_of}
-use Rattle.desk_laws.specs.Attended.{Attended, AttendedTurn, attended_by, care_in, elsewhere, hears_announced, hears_answer, hears_told, lets_pass, settles}
+use Rattle.desk_laws.specs.Attended.{Attended, AttendedTurn, attended_by, care_in, elsewhere, hears_announced}
+use Rattle.desk_laws.specs.Attended.{hears_answer, hears_told, lets_pass, settles}
 
 abbrev pub attended_then : List AttendedTurn → Attended
 attended_then turns = attended_by 3 0 2 turns

@@ -1,5 +1,6 @@
 -- The lines of one gateway at the desk, turn after turn: what is kept of each, and to which a command is sent again, and when.
-use Rattle.std.specs.Prelude.{◌≡◌, ◌⊎◌, ℕ, ◌≤◌, nat_le, if◌then◌else◌, Bool, true, false, List, [], ◌∷◌, ◌++◌, replicate, Option, Some, None, slice_get}
+use Rattle.std.specs.Prelude.{◌≡◌, ◌⊎◌, ℕ, ◌≤◌, nat_le, if◌then◌else◌, Bool, true, false, List}
+use Rattle.std.specs.Prelude.{[], ◌∷◌, ◌++◌, replicate, Option, Some, None, slice_get}
 use Rattle.call_routing.specs.declared.asked.Asked.{Asked}
 use Rattle.call_routing.specs.declared.fate.PutOff.{PutOff}
 use Rattle.call_routing.specs.declared.phase.Phase.{Phase}
@@ -13,7 +14,8 @@ use Rattle.live_agent.specs.declared.gateway.Gateway.{Gateway}
 use Rattle.live_agent.specs.declared.gateway.Wake.{Wake as LineWake}
 use Rattle.live_agent.specs.declared.office.Office.{Office}
 use Rattle.live_agent.specs.AgentClock.{tick_to}
-use Rattle.live_agent.specs.Duties.{again_at, announced, begun, duty_answered, found, landed, lost, new_care, owed, routed_by, told_care, told_of, woken}
+use Rattle.live_agent.specs.Duties.{again_at, announced, begun, duty_answered, found, landed, lost}
+use Rattle.live_agent.specs.Duties.{new_care, owed, routed_by, told_care, told_of, woken}
 use Rattle.live_agent.specs.Orders.{Shown, again_of, cared, flight_of, ordered}
 use Rattle.live_agent.specs.Wakes.{behind_woken, first_woken}
 

@@ -8,8 +8,12 @@ ghost use Rattle.call_laws.specs.Turns as calls;
 ghost use Rattle.live_agent.specs.declared.care.Care.{Care};
 ghost use Rattle.live_agent.specs.declared.care.Duty.TheVariants.{Audit, Clear, Route};
 ghost use Rattle.live_agent.specs.Duties.{new_care};
-ghost use Rattle.desk_laws.specs.Attended.{AreApart, WaitsFor, care_in, displays, elsewhere, gives_up, hears_announced, hears_answer, hears_told, is_apart, lets_pass, misses_told, settles, wakes_line};
-ghost use Rattle.desk_laws.specs.AttendedExample.{again_at_then, asked_then, asking, attended_then, auditing, auditing_done, coded, due_again, finds_lifted, flashing, flight_then, has_told_then, is_found_then, is_sent_then, left_then, next_then, nobody, outlived, outlived_asking, own, phase_at, picks_up, put_off, stolen, talks, waiting};
+ghost use Rattle.desk_laws.specs.Attended.{AreApart, WaitsFor, care_in, displays, elsewhere, gives_up, hears_announced, hears_answer};
+ghost use Rattle.desk_laws.specs.Attended.{hears_told, is_apart, lets_pass, misses_told, settles, wakes_line};
+ghost use Rattle.desk_laws.specs.AttendedExample.{again_at_then, asked_then, asking, attended_then, auditing, auditing_done};
+ghost use Rattle.desk_laws.specs.AttendedExample.{coded, due_again, finds_lifted, flashing, flight_then, has_told_then, is_found_then};
+ghost use Rattle.desk_laws.specs.AttendedExample.{is_sent_then, left_then, next_then, nobody, outlived, outlived_asking, own};
+ghost use Rattle.desk_laws.specs.AttendedExample.{phase_at, picks_up, put_off, stolen, talks, waiting};
 ghost use Rattle.desk_laws.specs.Desk.{GoesOn, opening_desk};
 ghost use Rattle.desk_laws.specs.Example.{held_care, routed_care};
 

@@ -20,8 +20,9 @@ ghost use Rattle.live_agent.specs.Orders.{cared, duty_of, flight_of, was_found_o
 ghost use Rattle.live_agent.specs.Showing.{shown_in};
 ghost use Rattle.live_agent.specs.Turns.{announced_by, forsaken, heard_by};
 ghost use Rattle.live_agent.specs.Wakes.{behind_woken, first_woken};
-ghost use Rattle.desk_laws.specs.Attended.{AreApart, AttendedTurn, WaitsFor, attended_by, attended_of, attended_one, attended_with, care_in};
-ghost use Rattle.desk_laws.specs.Attended.{displays, gives_up, hears_announced, hears_answer, hears_told, misses_told, settles, wakes_line};
+ghost use Rattle.desk_laws.specs.Attended.{AreApart, AttendedTurn, WaitsFor, attended_by, attended_of, attended_one};
+ghost use Rattle.desk_laws.specs.Attended.{attended_with, care_in, displays, gives_up, hears_announced};
+ghost use Rattle.desk_laws.specs.Attended.{hears_answer, hears_told, misses_told, settles, wakes_line};
 ghost use Rattle.desk_laws.specs.Desk.{Desk, DeskTurn, GoesOn, after_turns, opening_desk};
 
 /// Where the exchange has a command in flight at a line of the gateway, the desk has one of the exchange's in flight to that line; and

@@ -9,7 +9,8 @@ ghost use Rattle.live_agent.specs.Wakes.{first_woken};
 ghost use Rattle.call_laws.specs.Example.{opened, ready};
 ghost use Rattle.call_laws.specs.Turns.{is_in_flight};
 ghost use Rattle.desk_laws.specs.Desk.{GoesOn, IsHeldUntil, StandsAmong, announces, answers, begins, happens, ticks, wakes_next};
-ghost use Rattle.desk_laws.specs.Example.{again_then, asked_meanwhile, both_put_off, desk_then, desk_with, due_again, held_care, once, put_off_at_500, routed_care, wakes_then};
+ghost use Rattle.desk_laws.specs.Example.{again_then, asked_meanwhile, both_put_off, desk_then, desk_with, due_again};
+ghost use Rattle.desk_laws.specs.Example.{held_care, once, put_off_at_500, routed_care, wakes_then};
 
 use call_routing::{Asked, Phase};
 

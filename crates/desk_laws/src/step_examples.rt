@@ -12,7 +12,8 @@ ghost use Rattle.live_agent.specs.Duties.{begun, lost, new_care, outlived, owed,
 ghost use Rattle.live_agent.specs.Example.{audited, deleted_later, deleted_now, wake_at};
 ghost use Rattle.live_agent.specs.Orders.{flight_of};
 ghost use Rattle.live_agent.specs.Steps.{Begins, OfOffice, Ticks};
-ghost use Rattle.desk_laws.specs.Desk.{DeskTurn, after_turns, announces, answers, begins, desk_of, happens, lands, loses, opening_desk, owes_audit, tells, ticks, wakes_next};
+ghost use Rattle.desk_laws.specs.Desk.{DeskTurn, after_turns, announces, answers, begins, desk_of, happens};
+ghost use Rattle.desk_laws.specs.Desk.{lands, loses, opening_desk, owes_audit, tells, ticks, wakes_next};
 ghost use Rattle.desk_laws.specs.Example.{both_put_off};
 ghost use Rattle.desk_laws.specs.Steps.{Runs, Stands, issues_to};
 ghost use Rattle.desk_laws.specs.StepExample.{AreSo, both_held, both_later, held_once_more};

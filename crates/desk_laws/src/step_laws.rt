@@ -1,5 +1,5 @@
-//! Laws of what the calls of `live_agent` do to a desk, as their clauses say it of the program: each is turns of the desk, whatever turns were
-//! before. Each is of a gateway that has all lines of the exchange.
+//! Laws of what the calls of `live_agent` do to a desk, as their clauses say it of the program: each is turns of the desk, whatever turns
+//! were before. Each is of a gateway that has all lines of the exchange.
 ghost use Rattle.std.specs.Prelude.{◌≡◌, ◌≤◌, ℕ, Bool, List, [], replicate, Some};
 ghost use Rattle.std.specs.Global.{Box};
 ghost use Rattle.endpoint_names.specs.declared.name.Pattern.{Pattern};
