@@ -219,10 +219,6 @@ calm_turns setup = record {
 
 -- A tick
 
-none_arrives : (moment : ℕ) → arrivals_from 0 (tick moment ∷ []) ≡ []
-unfolding arrivals_from
-none_arrives moment = refl
-
 some_same : (a b : Endpoint) → Some a ≡ Some b → a ≡ b
 some_same a b same = cc
 

@@ -107,9 +107,6 @@ takes_behind some more =
 
 -- The network, and the agent's room
 
-zero_less : (x : ℕ) → 0 ≤ x
-zero_less x = omega arith
-
 fair_so : (number : ℕ) (post : Posted) → slice_get w.posted number ≡ Some post → number < 6 + 2 * most_quarantined + 2
 fair_so number post found = let low = found_within w.posted number post found in let is = o.posts in omega (arith, low, is)
 
@@ -124,9 +121,6 @@ goes said = λ number post found from inside. (subst (λ (x : Option Posted). If
 
 pub reaches : ReachTheAgent two_lines told_all_but_one 1
 reaches b own of = goes b.text
-
-same_many : (x y : ℕ) → x ≡ y → x ≤ y
-same_many x y same = omega (arith, same)
 
 pub room : AgentAlwaysHasRoom two_lines told_all_but_one
 room before later order = few where

@@ -107,10 +107,6 @@ fine_rests : (n lost : ℕ) → IsFine (resting n (holds [] lost))
 unfolding on_examples
 fine_rests n lost = refl
 
-fine_last : (n lost : ℕ) → IsFine (record (resting n (holds [] lost)) { now = 21002 })
-unfolding on_examples
-fine_last n lost = refl
-
 -- Of events behind others: the line announces nothing, is asked for nothing, and waits for nothing for long; and so much was done
 
 pub record Track (before events : List GatewayEvent) (done : List Observed) : Type 0 where
@@ -214,10 +210,6 @@ module _ (before events : List GatewayEvent) (done more : List Observed) (event 
         subst (λ (x : List GatewayEvent). IsFine (plain two_lines (before ++ x))) (sym all) (subst (λ (x : Machine). IsFine x) (sym next_is) fine)
 
 -- The keys
-
-no_key_events : key_events 0 ≡ []
-unfolding key_events
-no_key_events = refl
 
 one_key_more : (k : ℕ) → key_events k ++ key ∷ [] ≡ key_events (suc k)
 unfolding key_events
@@ -350,9 +342,6 @@ answered_at j held s = ap (plain two_lines) (took_so j ∙ sym s.crowd.took) ∙
 
 few_numbers : (j : ℕ) → j ≤ most_quarantined → 1 + j + 1 + 1 < numbers
 few_numbers j low = omega (arith, low)
-
-few_number : (j : ℕ) → j ≤ most_quarantined → 1 + j < numbers
-few_number j low = omega (arith, low)
 
 no_more_than : (j r most : ℕ) → suc j + r ≡ most → j ≤ most
 no_more_than j r most all = omega (arith, all)
