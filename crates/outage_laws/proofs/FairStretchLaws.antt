@@ -27,7 +27,7 @@ use Rattle.told_laws.specs.Stretch.{AnnouncesNothing, GivesNothingUp, outliving,
 use Rattle.told_laws.proofs.SettledLemmas.{sent_at}
 use Rattle.told_laws.proofs.StretchLemmas.{meanwhile_is, none_left}
 use Rattle.outage_laws.specs.AfterOutage.{AgentHasRoomFrom, IsFairFrom}
-use Rattle.outage_laws.specs.ToldSince.{FlightBeganSince, FlightsBeganSince, IsAskedForAllSince, IsToldFrom, IsToldSince}
+use Rattle.outage_laws.specs.ToldSince.{FlightBeganSince, FlightsBeganSince, IsToldFrom, IsToldSince, KeepsAllSince}
 use Rattle.outage_laws.proofs.FlightsSince.{all_flights}
 use Rattle.outage_laws.proofs.AnsweredSinceLaws.{LastBegun, answered_since, last_begun}
 use Rattle.outage_laws.proofs.BeganEvents.{last_among}
@@ -177,7 +177,7 @@ module _ (setup : Setup) (line : ℕ) (some : 1 ≤ line) (first pause stretch :
     (began : FlightsBeganSince setup line ((plain_world setup (first ++ pause)).gateway_took ++ front) later since)
     (reach : (b : Begun) → IsOfLine setup (plain_world setup ((first ++ pause) ++ stretch)) line b → since ≤ b.moment
     → GoesToAgent setup (plain_world setup ((first ++ pause) ++ stretch)) b.text)
-    (asked : IsAskedForAllSince was.line (course_from setup (plain setup (plain_world setup (first ++ pause)).gateway_took) line (front ++ later)) is.line)
+    (asked : KeepsAllSince setup line (plain setup (plain_world setup (first ++ pause)).gateway_took) (front ++ later) was.line)
     (split : (plain_world setup ((first ++ pause) ++ stretch)).gateway_took ≡ ((plain_world setup (first ++ pause)).gateway_took ++ front) ++ later)
     (at_there : endpoint_at (plain setup ((plain_world setup (first ++ pause)).gateway_took ++ front)).endpoints line ≡ Some there)
     (is_asked : IsAskedWithin setup line ((plain_world setup (first ++ pause)).gateway_took ++ front) later asking)

@@ -1,126 +1,40 @@
--- What a line keeps of what its telephone does since some moment, as long as no more is lost since: whatever was lost before.
-use Rattle.std.proofs.Common.{◌≡◌, ℕ, ◌+◌, ◌<◌, ◌≤◌, Bool, true, false, if◌then◌else◌, List, [], ◌∷◌, ◌++◌, length, Some, refl, sym, ap, subst, ◌∙◌, append-nil, append_assoc, arith}
-use Rattle.std.specs.Prelude.{nat_lt, min}
-use Rattle.mg_packages.specs.declared.event.LineEvent.{LineEvent}
-use Rattle.mg_packages.specs.declared.event.LineEvent.TheVariants as events
+-- What a line keeps of what its telephone does since some moment, as long as none of its acts is lost: whatever was lost before.
+use Rattle.std.proofs.Common.{◌≡◌, ℕ, ◌==◌, Bool, true, false, List, [], ◌∷◌, ◌++◌, Some, refl, sym, ap, subst, ◌∙◌, append-nil, append_assoc}
+use Rattle.std.specs.Prelude.{◌&&◌, not}
 use Rattle.event_values.specs.declared.observed.Observed.{Observed}
-use Rattle.event_values.specs.declared.observed.Observed.TheVariants.{Happened}
-use Rattle.event_requests.specs.Choice.{is_kept}
-use Rattle.quarantine.specs.Held.{Held, most_lost, one_lost, one_kept, holding}
 use Rattle.mg_line.specs.declared.phone.Act.{Act}
-use Rattle.mg_line.specs.declared.phone.Act.TheVariants.{OffHook, OnHook, Flash, Key}
-use Rattle.mg_line.specs.Acting.{letter_at, hooked, observed_at, phoned}
+use Rattle.mg_line.specs.Acting.{observed_at, phoned}
 use Rattle.mg_line.specs.Answering.{answered}
-use Rattle.mg_line.specs.Detecting.{quarantining, detected_in, detected}
 use Rattle.mg_line.specs.Falling.{fired}
-use Rattle.mg_line.specs.Line.{LineState, LineDone, opening_line, still}
-use Rattle.mg_line.specs.Occurring.{occurred}
+use Rattle.mg_line.specs.Line.{LineState, LineDone}
 use Rattle.mg_line.specs.Opening.{opened}
 use Rattle.mg_line.specs.Requesting.{asked}
-use Rattle.mg_line.specs.State.{State}
-use Rattle.mg_line.specs.State.TheVariants.{Normal, Notification, Lockstep}
-use Rattle.mg_line.proofs.LoseLemmas.{lost_only_grows}
 use Rattle.plain_machine.specs.declared.endpoint.Endpoint.{Endpoint}
 use Rattle.plain_machine.specs.declared.setup.Setup.{Setup}
 use Rattle.plain_machine.specs.Arriving.{arrivals_from}
-use Rattle.plain_machine.specs.Event.{GatewayEvent}
+use Rattle.plain_machine.specs.Event.{GatewayEvent, datagram, phone, tick}
+use Rattle.plain_machine.specs.Happening.{effect}
 use Rattle.plain_machine.specs.Lists.{plain}
 use Rattle.plain_machine.specs.Machine.{Machine, endpoint_at, opening, serves}
 use Rattle.plain_machine.proofs.ListLaws.{machine_on}
+use Rattle.machine_laws.proofs.LineLemmas.{place_of}
 use Rattle.machine_laws.proofs.WaitLaws.{events_wait}
 use Rattle.delivery_laws.specs.Course.{CourseStep, acts, accepts, course_from}
 use Rattle.delivery_laws.specs.Dialled.{AskForAll, done_in, told_along}
-use Rattle.delivery_laws.specs.Keeping.{AreOfPhone, Conserves, KeepsAll, happened_in, is_of_phone, told_of}
+use Rattle.delivery_laws.specs.Keeping.{Conserves, KeepsAll, happened_in, told_of}
 use Rattle.delivery_laws.proofs.CourseLemmas.{AnyResponse, LineGoes, call_turns, events_stand, hear_all}
-use Rattle.delivery_laws.proofs.DialledLemmas.{ask_back, ask_front, calls_count, done_both, grown, none_done, told_both, told_is}
+use Rattle.delivery_laws.proofs.DialledLemmas.{ask_back, ask_front, done_both, grown, none_done, told_both, told_is}
 use Rattle.delivery_laws.proofs.EndpointLemmas.{Calls, steps_of}
-use Rattle.delivery_laws.proofs.KeepingLemmas.{happened_both, hooked_keeps, nothing_is_skipped, occurred_tells, of_key, phone_kept, phone_more}
-use Rattle.delivery_laws.proofs.OnceCountLemmas.{IsCounted, acts_count, fires_count}
+use Rattle.delivery_laws.proofs.KeepingLemmas.{happened_both, nothing_is_skipped}
 use Rattle.delivery_laws.proofs.OverLists.{always}
-
--- Numbers
-
--- the count of what is lost, below its greatest value, doesn't stay where one more is lost
-no_stay : (lost : ℕ) → lost < most_lost → min most_lost (lost + 1) ≡ lost → ⊥
-no_stay lost few same = absurd (omega (arith, few, same))
-
--- it stays at each step, where it does in all
-stays : (least was is : ℕ) → least ≤ was → was ≤ is → is ≡ least → was ≡ least
-stays least was is low grows same = omega (arith, low, grows, same)
-
-both_stay : (least was is : ℕ) → was ≡ least → is ≡ least → is ≡ was
-both_stay least was is one two = two ∙ sym one
-
-low_on : (least was is : ℕ) → least ≤ was → was ≤ is → least ≤ is
-low_on least was is low grows = omega (arith, low, grows)
-
--- An act is told or kept where no more is lost
-
-held_act : (held : Held) (event : LineEvent) → held.lost < most_lost → (holding held (Happened event)).lost ≡ held.lost
-    → (holding held (Happened event)).events ≡ held.events ++ Happened event ∷ []
-unfolding holding
-held_act held event few = by_room (nat_lt (length held.events) held.room) where
-  by_room : (b : Bool) → (if b then one_kept held (Happened event) else one_lost held).lost ≡ held.lost
-      → (if b then one_kept held (Happened event) else one_lost held).events ≡ held.events ++ Happened event ∷ []
-  by_room true same = refl
-  by_room false same = absurd (no_stay held.lost few same)
-
-left_act : (line : LineState) (event : LineEvent) → is_kept line.requests (Happened event) ≡ true → line.quarantined.lost < most_lost
-    → (quarantining line (Happened event)).quarantined.lost ≡ line.quarantined.lost
-    → (quarantining line (Happened event)).quarantined.events ≡ line.quarantined.events ++ Happened event ∷ []
-unfolding quarantining
-left_act line event kept few = by_kept (is_kept line.requests (Happened event)) kept where
-  by_kept : (b : Bool) → b ≡ true → (if b then holding line.quarantined (Happened event) else line.quarantined).lost ≡ line.quarantined.lost
-      → (if b then holding line.quarantined (Happened event) else line.quarantined).events ≡ line.quarantined.events ++ Happened event ∷ []
-  by_kept true is same = held_act line.quarantined event few same
-  by_kept false is same = absurd cc
-
-kept_act : (state : State) (line : LineState) (event : LineEvent) → line.state ≡ state → (state ≡ Normal → ⊥) → is_of_phone event ≡ true → KeepsAll line
-    → line.quarantined.lost < most_lost → (quarantining line (Happened event)).quarantined.lost ≡ line.quarantined.lost
-    → Conserves line (Happened event ∷ []) (still (quarantining line (Happened event)))
-unfolding quarantining
-kept_act state line event is waits phone k few same =
-    let held = left_act line event (phone_kept line event k.asked phone) few same in
-    record {
-      keeps = record {
-        asked = k.asked;
-        untimed = k.untimed;
-        accumulated = k.accumulated;
-        of_phone = subst AreOfPhone (sym held) (phone_more line.quarantined.events event k.of_phone phone);
-        normal = λ e. absurd (waits (sym is ∙ e));
-      };
-      whole = ap happened_in held ∙ happened_both line.quarantined.events (Happened event ∷ []);
-    }
-
-act_detected_in : (state : State) (line : LineState) (event : LineEvent) (moment : ℕ) → line.state ≡ state → is_of_phone event ≡ true → KeepsAll line
-    → line.quarantined.lost < most_lost → (detected_in state line (Happened event) moment).line.quarantined.lost ≡ line.quarantined.lost
-    → Conserves line (Happened event ∷ []) (detected_in state line (Happened event) moment)
-act_detected_in Notification line event moment is phone k few same = kept_act Notification line event is (λ e. absurd cc) phone k few same
-act_detected_in Lockstep line event moment is phone k few same = kept_act Lockstep line event is (λ e. absurd cc) phone k few same
-act_detected_in Normal line event moment is phone k few same =
-    let h = occurred_tells line event moment k.asked k.accumulated k.of_phone phone in
-    let empty : happened_in (occurred line (Happened event) moment).line.quarantined.events ≡ [] =
-    ap (λ (held : Held). happened_in held.events) h.quarantined ∙ k.normal is in
-    record {
-      keeps = h.keeps;
-      whole = ap (λ xs. xs ++ happened_in (occurred line (Happened event) moment).line.quarantined.events) h.told
-          ∙ ap (λ xs. Happened event ∷ xs) empty ∙ sym (ap (λ xs. xs ++ Happened event ∷ []) (k.normal is));
-    }
-
-act_detected : (line : LineState) (event : LineEvent) (moment : ℕ) → is_of_phone event ≡ true → KeepsAll line → line.quarantined.lost < most_lost
-    → (detected line (Happened event) moment).line.quarantined.lost ≡ line.quarantined.lost → Conserves line (Happened event ∷ []) (detected line (Happened event) moment)
-unfolding detected
-act_detected line event moment phone k few same = act_detected_in line.state line event moment refl phone k few same
-
-act_kept : (line : LineState) (act : Act) (moment : ℕ) → KeepsAll line → line.quarantined.lost < most_lost → (phoned line act moment).line.quarantined.lost ≡ line.quarantined.lost
-    → Conserves line (observed_at act ∷ []) (phoned line act moment)
-unfolding phoned
-act_kept line OffHook moment k few same =
-    let h = act_detected (hooked line OffHook) events.OffHook moment refl (hooked_keeps line OffHook k) few same in record { keeps = h.keeps; whole = h.whole }
-act_kept line OnHook moment k few same =
-    let h = act_detected (hooked line OnHook) events.OnHook moment refl (hooked_keeps line OnHook k) few same in record { keeps = h.keeps; whole = h.whole }
-act_kept line Flash moment k few same = act_detected line events.Flash moment refl k few same
-act_kept line (Key key) moment k few same = act_detected line (events.Letter (letter_at key)) moment (of_key key) k few same
+use Rattle.delivery_laws.proofs.RoundLaws.{course_on}
+use Rattle.told_laws.proofs.FrontWalks.{next_machine}
+use Rattle.told_laws.proofs.InTurn.{AnyLine, any_calls}
+use Rattle.told_laws.proofs.LineBounds.{who_is_there_stays}
+use Rattle.outage_laws.specs.ToldSince.{is_lost_at, loses_none}
+use Rattle.outage_laws.proofs.ActTurns.{ActDoes, IsThere, act_does, lost_here, other_undone}
+use Rattle.outage_laws.proofs.LostActs.{act_kept}
+use Rattle.outage_laws.proofs.QuietBehind.{none_both}
 
 -- Over a course
 
@@ -150,90 +64,177 @@ kept_plain : (held : List Observed) (course : List CourseStep) (line : LineState
 kept_plain held course line done k conserves =
     subst (λ (c : List CourseStep). Kept held (c ++ steps_of done.notice) done.line) (append-nil course) (kept_goes held course [] line done [] k conserves refl refl)
 
-module _ (held : List Observed) (least : ℕ) where
-  record KeptSince (serving : Bool) (course : List CourseStep) (line : LineState) : Type 0 where
-    counted : line.quarantined.lost ≤ most_lost
-    low : least ≤ line.quarantined.lost
-    kept : AskForAll course → line.quarantined.lost ≡ least → least < most_lost → Kept held course line
+begins : (line : LineState) → KeepsAll line → Kept (happened_in line.quarantined.events) [] line
+begins line keeps = record { keeps = keeps; whole = append-nil (happened_in line.quarantined.events) }
 
-  -- where the count stays at a call
-  same_count : (serving serving' : Bool) (course front : List CourseStep) (line : LineState) (done : LineDone) → done.line.quarantined.lost ≡ line.quarantined.lost
-      → KeptSince serving course line → (AskForAll (front ++ steps_of done.notice) → Kept held course line → Kept held (front ++ steps_of done.notice) done.line)
-      → (AskForAll (front ++ steps_of done.notice) → AskForAll course) → KeptSince serving' (front ++ steps_of done.notice) done.line
-  same_count serving serving' course front line done same f goes before = record {
-    counted = subst (λ (n : ℕ). n ≤ most_lost) (sym same) f.counted;
-    low = subst (λ (n : ℕ). least ≤ n) (sym same) f.low;
-    kept = λ all is few. goes all (f.kept (before all) (sym same ∙ is) few);
-  }
+-- one course behind the other
+kept_both : (held : List Observed) (some more : List CourseStep) (was is : LineState) → Kept held some was → Kept (happened_in was.quarantined.events) more is
+    → Kept held (some ++ more) is
+kept_both held some more was is first next = record {
+  keeps = next.keeps;
+  whole = ap (λ (x : List Observed). held ++ x) (done_both some more) ∙ sym (append_assoc held (done_in some) (done_in more))
+      ∙ ap (λ (x : List Observed). x ++ done_in more) first.whole
+      ∙ append_assoc (happened_in (told_along some)) (happened_in was.quarantined.events) (done_in more)
+      ∙ ap (λ (x : List Observed). happened_in (told_along some) ++ x) next.whole
+      ∙ sym (append_assoc (happened_in (told_along some)) (happened_in (told_along more)) (happened_in is.quarantined.events))
+      ∙ ap (λ (x : List Observed). x ++ happened_in is.quarantined.events)
+      (sym (ap happened_in (told_both some more) ∙ happened_both (told_along some) (told_along more)));
+}
 
-  calls_keep : Calls KeptSince
-  calls_keep = record {
-    act = λ serving course line act moment f.
-        let grows = (lost_only_grows.act line act moment).grows f.counted in record {
-          counted = acts_count line act moment f.counted;
-          low = low_on least line.quarantined.lost (phoned line act moment).line.quarantined.lost f.low grows;
-          kept = λ all is few.
-              let front = ask_front (course ++ acts act ∷ []) (steps_of (phoned line act moment).notice) all in
-              let was : line.quarantined.lost ≡ least = stays least line.quarantined.lost (phoned line act moment).line.quarantined.lost f.low grows is in
-              let k = f.kept (ask_front course (acts act ∷ []) front) was few in
-              kept_goes held course (acts act ∷ []) line (phoned line act moment) (observed_at act ∷ []) k
-              (act_kept line act moment k.keeps (subst (λ (n : ℕ). n < most_lost) (sym was) few)
-              (both_stay least line.quarantined.lost (phoned line act moment).line.quarantined.lost was is)) refl refl;
-        };
-    request = λ course line request moment f.
-        same_count true true course (course ++ accepts request ∷ []) line (asked line request moment) (lost_only_grows.request line request moment) f
-        (λ all k.
-        kept_goes held course (accepts request ∷ []) line (asked line request moment) [] k
-        (nothing_is_skipped.request line request moment
-        (ask_back course (accepts request ∷ []) (ask_front (course ++ accepts request ∷ []) (steps_of (asked line request moment).notice) all)).0 k.keeps) refl refl)
-        (λ all. ask_front course (accepts request ∷ []) (ask_front (course ++ accepts request ∷ []) (steps_of (asked line request moment).notice) all));
-    answering = λ serving course line moment f.
-        same_count serving serving course course line (answered line moment) (lost_only_grows.answering line moment) f
-        (λ all k. kept_plain held course line (answered line moment) k (nothing_is_skipped.answering line moment k.keeps))
-        (λ all. ask_front course (steps_of (answered line moment).notice) all);
-    serving = λ course line moment f.
-        same_count false true course course line (opened line moment) (lost_only_grows.serving line moment) f
-        (λ all k. kept_plain held course line (opened line moment) k (nothing_is_skipped.serving line moment k.keeps))
-        (λ all. ask_front course (steps_of (opened line moment).notice) all);
-    firing = λ serving course line at due moment is f.
-        let grows = (lost_only_grows.firing line due moment).grows f.counted in record {
-          counted = fires_count line due moment f.counted;
-          low = low_on least line.quarantined.lost (fired line due moment).line.quarantined.lost f.low grows;
-          kept = λ all same few.
-              let k =
-              f.kept (ask_front course (steps_of (fired line due moment).notice) all)
-              (stays least line.quarantined.lost (fired line due moment).line.quarantined.lost f.low grows same) few in
-              kept_plain held course line (fired line due moment) k (nothing_is_skipped.firing line at due moment k.keeps is);
-        };
-  }
+-- Where its telephone does nothing
+
+act_some : (act : Act) → observed_at act ∷ [] ≡ [] → ⊥
+act_some act clash = cc
+
+act_is_done : (course : List CourseStep) (act : Act) (more : List CourseStep) → done_in ((course ++ acts act ∷ []) ++ more) ≡ [] → ⊥
+act_is_done course act more none =
+    let front = none_both (done_in (course ++ acts act ∷ [])) (done_in more) (sym (done_both (course ++ acts act ∷ []) more) ∙ none) in
+    act_some act (none_both (done_in course) (done_in (acts act ∷ [])) (sym (done_both course (acts act ∷ [])) ∙ front.0)).1
+
+idle_front : (course more : List CourseStep) → done_in (course ++ more) ≡ [] → done_in course ≡ []
+idle_front course more none = (none_both (done_in course) (done_in more) (sym (done_both course more) ∙ none)).0
+
+abbrev KeptIdle : List Observed → Bool → List CourseStep → LineState → Type 0
+KeptIdle held serving course line = done_in course ≡ [] → AskForAll course → Kept held course line
+
+calls_keep : (held : List Observed) → Calls (KeptIdle held)
+calls_keep held = record {
+  act = λ serving course line act moment f none all. absurd (act_is_done course act (steps_of (phoned line act moment).notice) none);
+  request = λ course line request moment f none all.
+      let steps = steps_of (asked line request moment).notice in
+      let front = ask_front (course ++ accepts request ∷ []) steps all in
+      let k = f (idle_front course (accepts request ∷ []) (idle_front (course ++ accepts request ∷ []) steps none)) (ask_front course (accepts request ∷ []) front) in
+      kept_goes held course (accepts request ∷ []) line (asked line request moment) [] k
+      (nothing_is_skipped.request line request moment (ask_back course (accepts request ∷ []) front).0 k.keeps) refl refl;
+  answering = λ serving course line moment f none all.
+      let steps = steps_of (answered line moment).notice in
+      let k = f (idle_front course steps none) (ask_front course steps all) in
+      kept_plain held course line (answered line moment) k (nothing_is_skipped.answering line moment k.keeps);
+  serving = λ course line moment f none all.
+      let steps = steps_of (opened line moment).notice in
+      let k = f (idle_front course steps none) (ask_front course steps all) in
+      kept_plain held course line (opened line moment) k (nothing_is_skipped.serving line moment k.keeps);
+  firing = λ serving course line at due moment is f none all.
+      let steps = steps_of (fired line due moment).notice in
+      let k = f (idle_front course steps none) (ask_front course steps all) in
+      kept_plain held course line (fired line due moment) k (nothing_is_skipped.firing line at due moment k.keeps is);
+}
 
 some_same : (a b : Endpoint) → Some a ≡ Some b → a ≡ b
 some_same a b same = cc
 
-no_less : (n : ℕ) → n ≤ n
-no_less n = omega arith
-
-pub kept_since : (setup : Setup) (line : ℕ) → 1 ≤ line → (some later : List GatewayEvent) (was is : Endpoint) → endpoint_at (plain setup some).endpoints line ≡ Some was
-    → endpoint_at (plain setup (some ++ later)).endpoints line ≡ Some is → KeepsAll was.line → AskForAll (course_from setup (plain setup some) line later)
-    → is.line.quarantined.lost ≡ was.line.quarantined.lost → was.line.quarantined.lost < most_lost
-    → Kept (happened_in was.line.quarantined.events) (course_from setup (plain setup some) line later) is.line
-kept_since setup line one some later was is at there keeps asks same few =
-    let least : ℕ = was.line.quarantined.lost in
+idle_kept : (setup : Setup) (line : ℕ) (before events : List GatewayEvent) (was is : Endpoint) → IsThere setup line before was
+    → IsThere setup line (before ++ events) is → KeepsAll was.line → done_in (course_from setup (plain setup before) line events) ≡ []
+    → AskForAll (course_from setup (plain setup before) line events)
+    → Kept (happened_in was.line.quarantined.events) (course_from setup (plain setup before) line events) is.line
+idle_kept setup line before events was is at there keeps none asks =
     let held : List Observed = happened_in was.line.quarantined.events in
-    let m : Machine = plain setup some in
-    let counted = always setup (λ serving course l. IsCounted l) calls_count line one zero_count some in
-    let to = events_stand setup AnyResponse (LineGoes setup (KeptSince held least)) (call_turns setup (KeptSince held least) (calls_keep held least)) line one m [] [] 0 later
-    (hear_all setup AnyResponse (λ response. tt) (arrivals_from 0 later)) (record {
-      order = events_wait setup some;
+    let m : Machine = plain setup before in
+    let one = (place_of m.endpoints line was at).0 in
+    let readable = always setup AnyLine any_calls line one tt before in
+    let to = events_stand setup AnyResponse (LineGoes setup (KeptIdle held)) (call_turns setup (KeptIdle held) (calls_keep held)) line one m [] [] 0 events
+    (hear_all setup AnyResponse (λ response. tt) (arrivals_from 0 events)) (record {
+      order = events_wait setup before;
       holds = λ s here. record {
-        readable = (counted.holds s here).readable;
-        holds = subst (λ (e : Endpoint). KeptSince held least (serves m.endpoints) [] e.line) (some_same was s (sym at ∙ here)) (record {
-          counted = subst (λ (e : Endpoint). IsCounted e.line) (sym (some_same was s (sym at ∙ here))) (counted.holds s here).holds;
-          low = no_less least;
-          kept = λ all none small. record { keeps = keeps; whole = append-nil held };
-        });
+        readable = (readable.holds s here).readable;
+        holds = subst (λ (e : Endpoint). KeptIdle held (serves m.endpoints) [] e.line) (some_same was s (sym at ∙ here)) (λ quiet all. begins was.line keeps);
       };
     }) in
-    (to.holds is (ap (λ (n : Machine). endpoint_at n.endpoints line) (sym (machine_on setup (opening setup) some later)) ∙ there)).holds.kept asks same few where
-      zero_count : IsCounted opening_line
-      zero_count = omega arith
+    (to.holds is (ap (λ (n : Machine). endpoint_at n.endpoints line) (sym (machine_on setup (opening setup) before events)) ∙ there)).holds none asks
+
+-- At one event
+
+own_kept : (setup : Setup) (line : ℕ) (before : List GatewayEvent) (k : ℕ) (act : Act) (was is : Endpoint) → IsThere setup line before was
+    → IsThere setup line (before ++ phone k act ∷ []) is → KeepsAll was.line → (k == line) ≡ true → is_lost_at line (plain setup before) (phone k act) ≡ false
+    → Kept (happened_in was.line.quarantined.events) (course_from setup (plain setup before) line (phone k act ∷ [])) is.line
+own_kept setup line before k act was is at there keeps own none =
+    let held : List Observed = happened_in was.line.quarantined.events in
+    let m : Machine = plain setup before in
+    let done : LineDone = phoned was.line act m.now in
+    let does : ActDoes setup line m k act was is = act_does setup line before k act was is at there own in
+    let kept : Kept held (acts act ∷ steps_of done.notice) done.line =
+    kept_goes held [] (acts act ∷ []) was.line done (observed_at act ∷ []) (begins was.line keeps)
+    (act_kept was.line act m.now keeps (sym (lost_here line m k act was at own) ∙ none)) refl refl in
+    subst (λ (c : List CourseStep). Kept held c is.line) (sym does.course)
+    (subst (λ (l : LineState). Kept held (acts act ∷ steps_of done.notice) l) (sym does.line_is) kept)
+
+event_kept : (setup : Setup) (line : ℕ) (before : List GatewayEvent) (event : GatewayEvent) (was is : Endpoint) → IsThere setup line before was
+    → IsThere setup line (before ++ event ∷ []) is → KeepsAll was.line → AskForAll (course_from setup (plain setup before) line (event ∷ []))
+    → is_lost_at line (plain setup before) event ≡ false
+    → Kept (happened_in was.line.quarantined.events) (course_from setup (plain setup before) line (event ∷ [])) is.line
+event_kept setup line before (datagram source bytes) was is at there keeps asks none =
+    idle_kept setup line before (datagram source bytes ∷ []) was is at there keeps (other_undone setup (plain setup before) line (datagram source bytes) refl) asks
+event_kept setup line before (tick moment) was is at there keeps asks none =
+    idle_kept setup line before (tick moment ∷ []) was is at there keeps (other_undone setup (plain setup before) line (tick moment) refl) asks
+event_kept setup line before (phone k act) was is at there keeps asks none = by_own (k == line) refl where
+  by_own : (b : Bool) → (k == line) ≡ b
+      → Kept (happened_in was.line.quarantined.events) (course_from setup (plain setup before) line (phone k act ∷ [])) is.line
+  by_own true own = own_kept setup line before k act was is at there keeps own none
+  by_own false other =
+      idle_kept setup line before (phone k act ∷ []) was is at there keeps (other_undone setup (plain setup before) line (phone k act) other) asks
+
+-- Over events
+
+both_true : (a b : Bool) → (a && b) ≡ true → (a ≡ true) × (b ≡ true)
+both_true true b is = (refl, is)
+both_true false b is = absurd (let clash : false ≡ true = is in cc)
+
+true_both : (a b : Bool) → a ≡ true → b ≡ true → (a && b) ≡ true
+true_both true b one two = two
+true_both false b one two = absurd (let clash : false ≡ true = one in cc)
+
+not_true : (b : Bool) → not b ≡ true → b ≡ false
+not_true false is = refl
+not_true true is = absurd (let clash : false ≡ true = is in cc)
+
+pub lost_parts : (setup : Setup) (line : ℕ) (m : Machine) (event : GatewayEvent) (events : List GatewayEvent) → loses_none setup line m (event ∷ events) ≡ true
+    → (is_lost_at line m event ≡ false) × (loses_none setup line (effect setup m event).value events ≡ true)
+unfolding loses_none
+lost_parts setup line m event events none =
+    let both = both_true (not (is_lost_at line m event)) (loses_none setup line (effect setup m event).value events) none in
+    (not_true (is_lost_at line m event) both.0, both.1)
+
+pub parts_lose : (setup : Setup) (line : ℕ) (m : Machine) (event : GatewayEvent) (events : List GatewayEvent) → is_lost_at line m event ≡ false
+    → loses_none setup line (effect setup m event).value events ≡ true → loses_none setup line m (event ∷ events) ≡ true
+unfolding loses_none
+parts_lose setup line m event events one rest =
+    true_both (not (is_lost_at line m event)) (loses_none setup line (effect setup m event).value events) (ap not one) rest
+
+pub none_lost_front : (setup : Setup) (line : ℕ) (m : Machine) (some more : List GatewayEvent) → loses_none setup line m (some ++ more) ≡ true
+    → loses_none setup line m some ≡ true
+unfolding loses_none
+none_lost_front setup line m [] more none = refl
+none_lost_front setup line m (event ∷ some) more none =
+    let parts = lost_parts setup line m event (some ++ more) none in
+    parts_lose setup line m event some parts.0 (none_lost_front setup line (effect setup m event).value some more parts.1)
+
+no_events : (setup : Setup) (m : Machine) (line : ℕ) → done_in (course_from setup m line []) ≡ []
+unfolding course_from
+no_events setup m line = refl
+
+pub kept_since : (setup : Setup) (line : ℕ) (before events : List GatewayEvent) (was is : Endpoint) → IsThere setup line before was
+    → IsThere setup line (before ++ events) is → KeepsAll was.line → AskForAll (course_from setup (plain setup before) line events)
+    → loses_none setup line (plain setup before) events ≡ true
+    → Kept (happened_in was.line.quarantined.events) (course_from setup (plain setup before) line events) is.line
+kept_since setup line before [] was is at there keeps asks none =
+    idle_kept setup line before [] was is at there keeps (no_events setup (plain setup before) line) asks
+kept_since setup line before (event ∷ events) was is at there keeps asks none =
+    let one : List GatewayEvent = event ∷ [] in
+    let m : Machine = plain setup before in
+    let next : Machine = plain setup (before ++ one) in
+    let first : List CourseStep = course_from setup m line one in
+    let behind : List CourseStep = course_from setup next line events in
+    let t = who_is_there_stays setup before one line was at in
+    let last_at : IsThere setup line ((before ++ one) ++ events) is =
+    subst (λ (es : List GatewayEvent). IsThere setup line es is) (sym (append_assoc before one events)) there in
+    let parts : course_from setup m line (event ∷ events) ≡ first ++ behind =
+    course_on setup m line one events
+    ∙ ap (λ (x : Machine). first ++ course_from setup x line events) (sym (machine_on setup (opening setup) before one)) in
+    let all : AskForAll (first ++ behind) = subst AskForAll parts asks in
+    let lost = lost_parts setup line m event events none in
+    let here = event_kept setup line before event was t.0 at t.1 keeps (ask_front first behind all) lost.0 in
+    let rest =
+    kept_since setup line (before ++ one) events t.0 is t.1 last_at here.keeps (ask_back first behind all)
+    (subst (λ (x : Machine). loses_none setup line x events ≡ true) (sym (next_machine setup before event)) lost.1) in
+    subst (λ (c : List CourseStep). Kept (happened_in was.line.quarantined.events) c is.line) (sym parts)
+    (kept_both (happened_in was.line.quarantined.events) first behind t.0.line is.line here rest)

@@ -25,7 +25,10 @@ pub mod YoungLemmas
 pub mod ResponseListLaws
 pub mod CalmTicks
 pub mod LostLemmas
+mod LostActs
+pub mod ActTurns
 pub mod KeepingSince
+pub mod CountedSince
 pub mod KeepsServes
 pub mod BeganEvents
 pub mod YoungSinceLaws
@@ -88,3 +91,4 @@ mod CrowdedRounds
 mod CrowdedWorld
 mod CrowdedTracks
 mod CrowdedTold
+mod CrowdedLoss

@@ -43,9 +43,8 @@ use Rattle.told_laws.proofs.SettledLemmas.{began_at}
 use Rattle.told_laws.proofs.StretchCourses.{taken_then, told_then as says_then}
 use Rattle.told_laws.proofs.TakenBehind.{TakenBehind, taken_behind}
 use Rattle.outage_laws.specs.AfterOutage.{AgentHasRoomFrom, IsFairFrom, gap_of, longer_wait, well_by}
-use Rattle.outage_laws.specs.ToldSince.{IsAskedForAllSince, IsToldFrom}
-use Rattle.outage_laws.proofs.KeepingSince.{Kept, kept_since}
-use Rattle.outage_laws.proofs.LostLemmas.{lost_on}
+use Rattle.outage_laws.specs.ToldSince.{IsToldFrom, KeepsAllSince, loses_none}
+use Rattle.outage_laws.proofs.KeepingSince.{Kept, kept_since, none_lost_front}
 use Rattle.outage_laws.proofs.QuickFronts.{asked_there, at_cut, both, cut, fair_there, gap_no_less, goes_there, long_for, low, mine, no_longer, quick_there, rest, roomy_there, same_end, short, taken_there, took_there}
 use Rattle.outage_laws.proofs.QuietBehind.{none_both, quiet_behind}
 use Rattle.outage_laws.proofs.ServesLaws.{IsQuick}
@@ -112,9 +111,6 @@ more_by before few many short within now front fewer is more = omega (arith, few
 over_by : (before few short front : ℕ) → 10400 ≤ short → before + few + short ≤ front → before + few < front
 over_by before few short front low more = omega (arith, low, more)
 
-lost_same : (was then is : ℕ) → was ≤ then → then ≤ is → is ≡ was → then ≡ was
-lost_same was then is one two same = omega (arith, one, two, same)
-
 long_on : (was much u then : ℕ) → was + much ≤ u → u ≤ then → was + much ≤ then
 long_on was much u then long on = omega (arith, long, on)
 
@@ -131,7 +127,7 @@ module _ (setup : Setup) (line : ℕ) (first pause stretch : List WorldStep) (wa
     (late : well_by setup since within ≤ now_in setup (plain_world setup first)) (front later : List GatewayEvent)
     (split : (plain_world setup ((first ++ pause) ++ stretch)).gateway_took ≡ ((plain_world setup (first ++ pause)).gateway_took ++ front) ++ later) (there : Endpoint) (asking : ℕ)
     (long : now_in setup (plain_world setup first) + outliving ≤ now_in setup (plain_world setup (first ++ pause)))
-    (asked : IsAskedForAllSince was.line (course_from setup (plain setup (plain_world setup (first ++ pause)).gateway_took) line (front ++ later)) is.line)
+    (asked : KeepsAllSince setup line (plain setup (plain_world setup (first ++ pause)).gateway_took) (front ++ later) was.line)
     (at_there : endpoint_at (plain setup ((plain_world setup (first ++ pause)).gateway_took ++ front)).endpoints line ≡ Some there)
     (is_asked : IsAskedWithin setup line ((plain_world setup (first ++ pause)).gateway_took ++ front) later asking)
     (over : (plain setup ((plain_world setup (first ++ pause)).gateway_took ++ front)).now + rounds_take (length there.line.quarantined.events) (2 * within) asking
@@ -295,15 +291,14 @@ module _ (setup : Setup) (line : ℕ) (first pause stretch : List WorldStep) (wa
         (ap (λ (x : List GatewayEvent). front ++ x) parts ∙ sym (append_assoc front some behind))
         ∙ course_on setup (plain setup u.gateway_took) line (front ++ some) behind) asked.since)
 
-    then_lost : then_there.0.line.quarantined.lost ≡ was.line.quarantined.lost
-    then_lost =
-        lost_same was.line.quarantined.lost then_there.0.line.quarantined.lost is.line.quarantined.lost
-        (lost_on setup line one u.gateway_took (front ++ some) was then_there.0 at_was
-        (subst (λ (x : List GatewayEvent). endpoint_at (plain setup x).endpoints line ≡ Some then_there.0) (append_assoc u.gateway_took front some) then_there.1))
-        (lost_on setup line one (took ++ some) behind then_there.0 is then_there.1 last_place) asked.none_lost
+    front_lost : loses_none setup line (plain setup u.gateway_took) (front ++ some) ≡ true
+    front_lost =
+        none_lost_front setup line (plain setup u.gateway_took) (front ++ some) behind
+        (subst (λ (x : List GatewayEvent). loses_none setup line (plain setup u.gateway_took) x ≡ true)
+        (ap (λ (x : List GatewayEvent). front ++ x) parts ∙ sym (append_assoc front some behind)) asked.none_lost)
 
-    asked_then : IsAskedForAllSince was.line (course_from setup (plain setup u.gateway_took) line (front ++ some)) then_there.0.line
-    asked_then = record { keeps = asked.keeps; since = front_course; none_lost = then_lost; counted = asked.counted }
+    asked_then : KeepsAllSince setup line (plain setup u.gateway_took) (front ++ some) was.line
+    asked_then = record { keeps = asked.keeps; since = front_course; none_lost = front_lost }
 
     -- the moments
 
@@ -416,15 +411,15 @@ module _ (setup : Setup) (line : ℕ) (first pause stretch : List WorldStep) (wa
 
       kept_then : Kept first_held course_then then_there.0.line
       kept_then =
-          kept_since setup line one u.gateway_took (front ++ some) was then_there.0 at_was
+          kept_since setup line u.gateway_took (front ++ some) was then_there.0 at_was
           (subst (λ (x : List GatewayEvent). endpoint_at (plain setup x).endpoints line ≡ Some then_there.0) (append_assoc u.gateway_took front some) then_there.1)
-          asked.keeps front_course then_lost asked.counted
+          asked.keeps front_course front_lost
 
       kept_all : Kept first_held course_all is.line
       kept_all =
-          kept_since setup line one u.gateway_took (front ++ later) was is at_was
+          kept_since setup line u.gateway_took (front ++ later) was is at_was
           (subst (λ (x : List GatewayEvent). endpoint_at (plain setup x).endpoints line ≡ Some is) (split ∙ append_assoc u.gateway_took front later) at_is)
-          asked.keeps asked.since asked.none_lost asked.counted
+          asked.keeps asked.since asked.none_lost
 
       no_more_done : done_in course_then ≡ done_in course_all
       no_more_done =

@@ -26,7 +26,7 @@ use Rattle.delivery_laws.proofs.StepLemmas.{steps_more}
 use Rattle.told_laws.specs.Stretch.{AnnouncesNothing, GivesNothingUp, outliving, taken_meanwhile}
 use Rattle.told_laws.proofs.StretchLemmas.{meanwhile_is}
 use Rattle.outage_laws.specs.AfterOutage.{AgentHasRoomFrom, IsFairFrom, gap_of, longer_wait, well_by}
-use Rattle.outage_laws.specs.ToldSince.{FlightsBeganSince, IsAskedForAllSince, IsToldFrom}
+use Rattle.outage_laws.specs.ToldSince.{FlightsBeganSince, IsToldFrom, KeepsAllSince}
 use Rattle.outage_laws.proofs.CalmStretches.{calm_back}
 use Rattle.outage_laws.proofs.FairStretchLaws.{fair_rests_from, fair_told_from}
 use Rattle.outage_laws.proofs.LineWindowLaws.{calm_behind, serving_behind, since_behind}
@@ -158,7 +158,7 @@ module _ (setup : Setup) (line : ℕ) (first pause stretch : List WorldStep) (wa
       (subst (λ (x : List GatewayEvent). endpoint_at (plain setup x).endpoints line ≡ Some s) (places some) at)
 
   module _ (there : Endpoint) (asking : ℕ) (long : now_in setup v + outliving ≤ now_in setup u)
-      (asked : IsAskedForAllSince was.line (course_from setup (plain setup u.gateway_took) line (front ++ later)) is.line)
+      (asked : KeepsAllSince setup line (plain setup u.gateway_took) (front ++ later) was.line)
       (at_there : endpoint_at (plain setup (u.gateway_took ++ front)).endpoints line ≡ Some there) (is_asked : IsAskedWithin setup line (u.gateway_took ++ front) later asking)
       (over : (plain setup (u.gateway_took ++ front)).now + rounds_take (length there.line.quarantined.events) (2 * within) asking < now_in setup w)
       (more : (plain setup (u.gateway_took ++ front)).now + rounds_take (length there.line.quarantined.events) (2 * within) asking + within ≤ now_in setup w) where

@@ -38,16 +38,15 @@ use Rattle.told_laws.specs.Stretch.{AnnouncesNothing, GivesNothingUp, outliving,
 use Rattle.told_laws.proofs.CalmLemmas.{Took}
 use Rattle.told_laws.proofs.SettledLemmas.{IsThere, began_at, begun_on, sent_at}
 use Rattle.outage_laws.specs.AfterOutage.{AgentHasRoomFrom, IsFairFrom}
-use Rattle.outage_laws.specs.ToldSince.{FlightBeganSince, IsAskedForAllSince, IsToldFrom}
+use Rattle.outage_laws.specs.ToldSince.{FlightBeganSince, IsToldFrom, KeepsAllSince, loses_none}
 use Rattle.outage_laws.proofs.AnsweredSinceLaws.{LastBegun, last_begun}
 use Rattle.outage_laws.proofs.BeganEvents.{begun_past}
 use Rattle.outage_laws.proofs.LastTaken.{took_if_old}
 use Rattle.outage_laws.proofs.QuietBehind.{SaysNone}
 use Rattle.outage_laws.proofs.ToldOutLaws.{OutSince, is_old, told_out}
 use Rattle.outage_laws.proofs.CalmFronts.{calm_fronts}
-use Rattle.outage_laws.proofs.KeepingSince.{Kept, kept_since}
+use Rattle.outage_laws.proofs.KeepingSince.{Kept, kept_since, none_lost_front}
 use Rattle.outage_laws.proofs.KeepsServes.{keeps_serves}
-use Rattle.outage_laws.proofs.LostLemmas.{lost_on}
 use Rattle.outage_laws.proofs.YoungSinceLaws.{clock_on, left_few, young_few}
 
 -- All of it was told: nothing more is quarantined, and what is in flight was taken, or tells nothing of the telephone.
@@ -67,9 +66,6 @@ just_behind rounds = omega arith
 
 is_past : (rounds now : ℕ) → rounds < now → rounds + 1 ≤ now
 is_past rounds now late = omega (arith, late)
-
-between_both : (was s is : ℕ) → was ≤ s → s ≤ is → is ≡ was → s ≡ was
-between_both was s is low high same = omega (arith, low, high, same)
 
 -- of all that was done and told, and of what was since
 none_more : (n k d z m r : ℕ) → n + k ≡ d + z → z ≡ m → n ≡ d + r → r ≤ m
@@ -102,7 +98,7 @@ module _ (setup : Setup) (line : ℕ) (some : 1 ≤ line) (first pause stretch :
     (since within answering asking : ℕ) (front later : List GatewayEvent) (there : Endpoint)
     (fair : IsFairFrom setup ((first ++ pause) ++ stretch) since within) (roomy : AgentHasRoomFrom setup ((first ++ pause) ++ stretch) since)
     (flew : FlightBeganSince setup (plain_world setup ((first ++ pause) ++ stretch)) since is.post.pending)
-    (asked : IsAskedForAllSince was.line (course_from setup (plain setup (plain_world setup (first ++ pause)).gateway_took) line (front ++ later)) is.line)
+    (asked : KeepsAllSince setup line (plain setup (plain_world setup (first ++ pause)).gateway_took) (front ++ later) was.line)
     (split : (plain_world setup ((first ++ pause) ++ stretch)).gateway_took ≡ ((plain_world setup (first ++ pause)).gateway_took ++ front) ++ later)
     (at_there : endpoint_at (plain setup ((plain_world setup (first ++ pause)).gateway_took ++ front)).endpoints line ≡ Some there)
     (is_answered : IsAnsweredWithin setup line ((plain_world setup (first ++ pause)).gateway_took ++ front) later answering)
@@ -163,13 +159,11 @@ module _ (setup : Setup) (line : ℕ) (some : 1 ≤ line) (first pause stretch :
 
   kept_at : (between rest : List GatewayEvent) (s : Endpoint) → front ++ later ≡ between ++ rest → There (base ++ between) s → Kept held (course between) s.line
   kept_at between rest s order here =
-      kept_since setup line some base between was s at_was here asked.keeps
+      kept_since setup line base between was s at_was here asked.keeps
       (ask_front (course between) (course_from setup (machine_after setup (plain setup base) between) line rest)
       (subst AskForAll (ap (λ (x : List GatewayEvent). course x) order ∙ course_on setup (plain setup base) line between rest) asked.since))
-      (between_both was.line.quarantined.lost s.line.quarantined.lost is.line.quarantined.lost (lost_on setup line some base between was s at_was here)
-      (lost_on setup line some (base ++ between) rest s is here
-      (subst (λ (x : List GatewayEvent). There x is) (ap (λ (x : List GatewayEvent). base ++ x) order ∙ sym (append_assoc base between rest)) at_all))
-      asked.none_lost) asked.counted
+      (none_lost_front setup line (plain setup base) between rest
+      (subst (λ (x : List GatewayEvent). loses_none setup line (plain setup base) x ≡ true) order asked.none_lost))
 
   keeps_at : (between rest : List GatewayEvent) (s : Endpoint) → front ++ later ≡ between ++ rest → There (base ++ between) s → KeepsAll s.line
   keeps_at between rest s order here = (kept_at between rest s order here).keeps

@@ -1,5 +1,9 @@
 //! Laws of what is dialled over a stretch, whatever was given up before it.
-ghost use Rattle.std.specs.Prelude.{◌≡◌, ◌⊎◌, ◌≤◌, ◌<◌, ◌+◌, ◌*◌, ◌++◌, [], ℕ, List, Some, length, false, true};
+ghost use Rattle.std.specs.Prelude.{◌≡◌, ◌⊎◌, ◌≤◌, ◌<◌, ◌+◌, ◌*◌, ◌++◌, [], ℕ, List, Some, length, false, true, min, if◌then◌else◌};
+ghost use Rattle.quarantine.specs.Held.{most_lost};
+ghost use Rattle.mg_line.specs.declared.phone.Act.{Act};
+ghost use Rattle.mg_line.specs.Acting.{observed_at, phoned};
+ghost use Rattle.mg_line.specs.Line.{LineState};
 ghost use Rattle.restart.specs.declared.restart.Restart.TheVariants.{Serving};
 ghost use Rattle.plain_machine.specs.declared.setup.Setup.{Setup};
 ghost use Rattle.plain_machine.specs.declared.endpoint.Endpoint.{Endpoint};
@@ -21,6 +25,7 @@ ghost use Rattle.delivery_laws.specs.Rounds.{IsAnsweredWithin, IsAskedWithin, of
 ghost use Rattle.told_laws.specs.Stretch.{AnnouncesNothing, outliving, taken_meanwhile};
 ghost use Rattle.outage_laws.specs.AfterOutage.{AgentHasRoomFrom, IsFairFrom};
 ghost use Rattle.outage_laws.specs.ToldSince.{FlightBeganSince, FlightsBeganSince, IsAskedForAllSince, IsToldFrom, IsToldSince};
+ghost use Rattle.outage_laws.specs.ToldSince.{KeepsAllSince, is_lost, loses_none};
 
 /// Whatever was lost and given up before: over a stretch in which a line gives nothing up, nor in the 6,500 ms before it, and over a
 /// network that is fair from some moment on, what its telephone had done by a moment of the stretch the agent was told, so many rounds and
@@ -66,10 +71,10 @@ pub fn what_is_dialled_over_a_stretch_is_told()
         (taken_meanwhile setup line u w) }
 {}
 
-/// And over a stretch like that, whatever was asked for and lost before, too: where at its beginning the line keeps all that its telephone
-/// does, is asked for all since, and loses nothing more, what was quarantined at the beginning and what its telephone had done since by a
-/// moment of the stretch the agent was told since, so much later; and that is all, where the telephone rests from that moment on (RFC 3435,
-/// 4.3 and 4.4.1).
+/// And over a stretch like that, whatever was asked for and lost before, and however much, too: where at its beginning the line keeps all
+/// that its telephone does, is asked for all since, and loses no act more, what was quarantined at the beginning and what its telephone had
+/// done since by a moment of the stretch the agent was told since, so much later; and that is all, where the telephone rests from that
+/// moment on (RFC 3435, 4.3 and 4.4.1).
 pub fn what_is_dialled_since_then_is_told()
     ensures told { (setup : Setup) (line since within answering asking : ℕ) (first pause stretch : List WorldStep)
         (front later : List GatewayEvent) (was is there : Endpoint) → IsSetUp setup →
@@ -78,7 +83,7 @@ pub fn what_is_dialled_since_then_is_told()
         endpoint_at (gateway_in setup u).endpoints line ≡ Some was →
         endpoint_at (gateway_in setup w).endpoints line ≡ Some is →
         AnnouncesNothing setup line v u was → AnnouncesNothing setup line u w is → now_in setup v + outliving ≤ now_in setup u →
-        IsAskedForAllSince was.line (course_from setup (gateway_in setup u) line (front ++ later)) is.line →
+        KeepsAllSince setup line (gateway_in setup u) (front ++ later) was.line →
         IsFairFrom setup steps since within → AgentHasRoomFrom setup steps since → FlightBeganSince setup w since is.post.pending →
         w.gateway_took ≡ (u.gateway_took ++ front) ++ later →
         let took = u.gateway_took ++ front in endpoint_at (plain setup took).endpoints line ≡ Some there →
@@ -95,7 +100,7 @@ pub fn what_is_dialled_since_then_is_told()
         endpoint_at (gateway_in setup u).endpoints line ≡ Some was →
         endpoint_at (gateway_in setup w).endpoints line ≡ Some is →
         AnnouncesNothing setup line v u was → AnnouncesNothing setup line u w is → now_in setup v + outliving ≤ now_in setup u →
-        IsAskedForAllSince was.line (course_from setup (gateway_in setup u) line (front ++ later)) is.line →
+        KeepsAllSince setup line (gateway_in setup u) (front ++ later) was.line →
         IsFairFrom setup steps since within → AgentHasRoomFrom setup steps since → FlightBeganSince setup w since is.post.pending →
         w.gateway_took ≡ (u.gateway_took ++ front) ++ later →
         let took = u.gateway_took ++ front in endpoint_at (plain setup took).endpoints line ≡ Some there →
@@ -113,7 +118,7 @@ pub fn what_is_dialled_since_then_is_told()
         endpoint_at (gateway_in setup u).endpoints line ≡ Some was →
         endpoint_at (gateway_in setup w).endpoints line ≡ Some is →
         AnnouncesNothing setup line v u was → AnnouncesNothing setup line u w is → now_in setup v + outliving ≤ now_in setup u →
-        IsAskedForAllSince was.line (course_from setup (gateway_in setup u) line (front ++ later)) is.line →
+        KeepsAllSince setup line (gateway_in setup u) (front ++ later) was.line →
         IsFairFrom setup steps since within → AgentHasRoomFrom setup steps since →
         w.gateway_took ≡ (u.gateway_took ++ front) ++ later →
         let took = u.gateway_took ++ front in endpoint_at (plain setup took).endpoints line ≡ Some there →
@@ -132,7 +137,7 @@ pub fn what_is_dialled_since_then_is_told()
         endpoint_at (gateway_in setup u).endpoints line ≡ Some was →
         endpoint_at (gateway_in setup w).endpoints line ≡ Some is →
         AnnouncesNothing setup line v u was → AnnouncesNothing setup line u w is → now_in setup v + outliving ≤ now_in setup u →
-        IsAskedForAllSince was.line (course_from setup (gateway_in setup u) line (front ++ later)) is.line →
+        KeepsAllSince setup line (gateway_in setup u) (front ++ later) was.line →
         IsFairFrom setup steps since within → AgentHasRoomFrom setup steps since →
         w.gateway_took ≡ (u.gateway_took ++ front) ++ later →
         let took = u.gateway_took ++ front in endpoint_at (plain setup took).endpoints line ≡ Some there →
@@ -185,4 +190,22 @@ pub fn what_is_quarantined_goes_out_once_the_network_is_fair()
         IsAskedWithin setup line some later asking →
         (plain setup some).now + rounds_take (length was.line.quarantined.events) (2 * within) asking < now_in setup w →
         done_in (course_from setup (plain setup some) line later) ≡ [] → of_telephone is.line.quarantined.events ≡ [] }
+{}
+
+/// At an act that is lost a line counts one more, up to the greatest count; at each other act it counts as many as before. So none of its
+/// acts is lost where as many are counted by the end as at first, below the greatest count, at which it stays: a condition by the count
+/// holds nowhere but where the one without it does.
+pub fn no_act_is_lost_where_the_count_stays()
+    ensures by_step { (line : LineState) (act : Act) (moment : ℕ) → (phoned line act moment).line.quarantined.lost
+        ≡ (if is_lost line (observed_at act) then min most_lost (line.quarantined.lost + 1) else line.quarantined.lost) }
+    ensures none_lost { (setup : Setup) (line : ℕ) (before events : List GatewayEvent) (was is : Endpoint) →
+        endpoint_at (plain setup before).endpoints line ≡ Some was →
+        endpoint_at (plain setup (before ++ events)).endpoints line ≡ Some is →
+        is.line.quarantined.lost ≡ was.line.quarantined.lost → was.line.quarantined.lost < most_lost →
+        loses_none setup line (plain setup before) events ≡ true }
+    ensures by_count { (setup : Setup) (line : ℕ) (before events : List GatewayEvent) (was is : Endpoint) →
+        endpoint_at (plain setup before).endpoints line ≡ Some was →
+        endpoint_at (plain setup (before ++ events)).endpoints line ≡ Some is →
+        IsAskedForAllSince was.line (course_from setup (plain setup before) line events) is.line →
+        KeepsAllSince setup line (plain setup before) events was.line }
 {}

@@ -13,7 +13,7 @@ ghost use Rattle.delivery_laws.specs.Keeping.{happened_in};
 ghost use Rattle.delivery_laws.specs.Rounds.{IsAnsweredWithin, IsAskedWithin, of_telephone, rounds_take};
 ghost use Rattle.told_laws.specs.Stretch.{outliving, taken_meanwhile};
 ghost use Rattle.outage_laws.specs.AfterOutage.{AgentHasRoomFrom, IsFairFrom, IsWell, ReachTheAgentSince, well_by};
-ghost use Rattle.outage_laws.specs.ToldSince.{IsAskedForAllSince, IsToldFrom};
+ghost use Rattle.outage_laws.specs.ToldSince.{IsToldFrom, KeepsAllSince};
 
 /// Behind an outage of any length all is well by then: the gateway serves, each line has its agent, and each command of them is done. From
 /// 1 ms later on a line waits for the answer to its command for twice the time of the network at most. And however long the network takes:
@@ -50,7 +50,7 @@ pub fn all_is_well_after_an_outage()
 {}
 
 /// And from 6,500 ms later on all that a telephone does is told, whatever was asked for, lost and given up before: where the line keeps
-/// all that its telephone does, is asked for all since, loses nothing more, and isn't left without a request for longer than so many ms,
+/// all that its telephone does, is asked for all since, loses no act more, and isn't left without a request for longer than so many ms,
 /// what was quarantined at that moment, and what its telephone had done since by a later one, the agent was told since, as many rounds
 /// later as there were events in its quarantine, and once the time of the network; and that is all, where the telephone rests from that
 /// moment on (RFC 3435, 3.5, 4.3 and 4.4).
@@ -62,7 +62,7 @@ pub fn what_is_dialled_behind_an_outage_is_told()
         ((line : ℕ) → ReachTheAgentSince setup w line since) →
         endpoint_at (gateway_in setup u).endpoints line ≡ Some was → endpoint_at (gateway_in setup w).endpoints line ≡ Some is →
         well_by setup since within ≤ now_in setup v → now_in setup v + outliving ≤ now_in setup u →
-        IsAskedForAllSince was.line (course_from setup (gateway_in setup u) line (front ++ later)) is.line →
+        KeepsAllSince setup line (gateway_in setup u) (front ++ later) was.line →
         w.gateway_took ≡ (u.gateway_took ++ front) ++ later →
         let took = u.gateway_took ++ front in endpoint_at (plain setup took).endpoints line ≡ Some there →
         IsAskedWithin setup line took later asking →
@@ -78,7 +78,7 @@ pub fn what_is_dialled_behind_an_outage_is_told()
         ((line : ℕ) → ReachTheAgentSince setup w line since) →
         endpoint_at (gateway_in setup u).endpoints line ≡ Some was → endpoint_at (gateway_in setup w).endpoints line ≡ Some is →
         well_by setup since within ≤ now_in setup v → now_in setup v + outliving ≤ now_in setup u →
-        IsAskedForAllSince was.line (course_from setup (gateway_in setup u) line (front ++ later)) is.line →
+        KeepsAllSince setup line (gateway_in setup u) (front ++ later) was.line →
         w.gateway_took ≡ (u.gateway_took ++ front) ++ later →
         let took = u.gateway_took ++ front in endpoint_at (plain setup took).endpoints line ≡ Some there →
         IsAskedWithin setup line took later asking →
