@@ -2,8 +2,13 @@
 //! is seen.
 #![tactic(auto, unfolding(crate::proofs::Computing::on_examples))]
 
-ghost use Rattle.std.specs.Prelude.{[], ◌∷◌, None};
+ghost use Rattle.std.specs.Prelude.{◌≡◌, ◌-◌, true, false, [], ◌∷◌, None};
 ghost use Rattle.quarantine.specs.Held.{most_lost};
+ghost use Rattle.mg_line.specs.declared.phone.Act.TheVariants as acts;
+ghost use Rattle.mg_line.specs.declared.phone.Key.TheVariants as keys;
+ghost use Rattle.mg_line.specs.Line.{most_quarantined};
+ghost use Rattle.mg_line.specs.State.TheVariants.{Lockstep, Normal, Notification};
+ghost use Rattle.plain_machine.specs.Event.{phone, tick};
 ghost use Rattle.plain_machine.specs.Example.{two_lines};
 ghost use Rattle.agent_core.specs.World.{delivering};
 ghost use Rattle.world_laws.specs.Example.{world};
@@ -14,8 +19,9 @@ ghost use Rattle.outage_laws.specs.AfterOutage.{AgentHasRoomFrom, IsFairFrom};
 ghost use Rattle.outage_laws.specs.Carrying.{IsHandedBack};
 ghost use Rattle.outage_laws.specs.Example.{found_again};
 ghost use Rattle.outage_laws.specs.Roomless.{roomless};
-ghost use Rattle.outage_laws.specs.SinceExample.{having_lost};
+ghost use Rattle.outage_laws.specs.SinceExample.{asked_for_none, gateway_holding, gateway_with, having_lost, holding_five, losing};
 ghost use Rattle.outage_laws.specs.ToldSince.{FlightBeganSince, IsAskedForAllSince, IsToldFrom, IsToldSince};
+ghost use Rattle.outage_laws.specs.ToldSince.{KeepsAllSince, is_lost, is_lost_at, loses_none};
 
 /// What was on its way at first is taken before all else; and then that begins with what was done, unless it was told before. What is in
 /// flight goes to the agent; what is handed back is that packet; and a packet that is handed over 1 ms too late isn't handed over in time.
@@ -37,4 +43,24 @@ pub fn what_is_told_since_begins_with_what_was_done()
     ensures lost_most { ¬ IsAskedForAllSince (having_lost most_lost) [] (having_lost most_lost) }
     ensures room_since { AgentHasRoomFrom two_lines roomless 22502 }
     ensures no_room { ¬ AgentHasRoomFrom two_lines roomless 22501 }
+{}
+
+/// A key is lost where the line waits for an answer, or in step for a request, the quarantine is full, and it is one that is kept: not
+/// where events occur, nor where there is room for one more, nor if nobody asked for it. So it is at the line's own telephone alone, and
+/// behind the keys before it. At the greatest count a key that finds room is kept, though the count says nothing.
+pub fn an_act_that_finds_no_room_is_lost()
+    ensures full { is_lost (holding_five most_quarantined Notification (having_lost 0)) five ≡ true }
+    ensures at_the_greatest { is_lost (holding_five most_quarantined Notification (having_lost most_lost)) five ≡ true }
+    ensures in_step { is_lost (holding_five most_quarantined Lockstep (having_lost 0)) five ≡ true }
+    ensures occurs { is_lost (holding_five most_quarantined Normal (having_lost 0)) five ≡ false }
+    ensures room { is_lost (holding_five (most_quarantined - 1) Notification (having_lost 0)) five ≡ false }
+    ensures not_kept { is_lost (asked_for_none (holding_five most_quarantined Notification (having_lost 0))) five ≡ false }
+    ensures there { is_lost_at 1 (gateway_holding most_quarantined) (phone 1 (acts.Key keys.Five)) ≡ true }
+    ensures elsewhere { is_lost_at 1 (gateway_holding most_quarantined) (phone 2 (acts.Key keys.Five)) ≡ false }
+    ensures no_act { is_lost_at 1 (gateway_holding most_quarantined) (tick 20000) ≡ false }
+    ensures kept { loses_none two_lines 1 (gateway_holding (most_quarantined - 1)) (phone 1 (acts.Key keys.Five) ∷ []) ≡ true }
+    ensures the_next { loses_none two_lines 1 (gateway_holding (most_quarantined - 1))
+        (phone 1 (acts.Key keys.Five) ∷ phone 1 (acts.Key keys.Five) ∷ []) ≡ false }
+    ensures not_counted { KeepsAllSince two_lines 1 (gateway_with (losing most_lost))
+        (phone 1 (acts.Key keys.Five) ∷ phone 1 (acts.Key keys.Six) ∷ []) (having_lost most_lost) }
 {}
