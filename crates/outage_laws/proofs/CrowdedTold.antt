@@ -220,7 +220,7 @@ asks_none (acts act ∷ course) none = asks_none course none
 asks_none (accepts request ∷ course) none = absurd cc
 asks_none (notifies identifier observed ∷ course) none = asks_none course none
 
-both_on : (all_keys ++ then_on) ≡ took_between idle crowded ++ took_between crowded told_all_but_one
+pub both_on : (all_keys ++ then_on) ≡ took_between idle crowded ++ took_between crowded told_all_but_one
 both_on = ap (λ (x : List GatewayEvent). x ++ then_on) (sym keys_are) ∙ ap (λ (x : List GatewayEvent). took_between idle crowded ++ x) (sym rest_is)
 
 behind_keys : machine_after two_lines (plain two_lines base_took) all_keys ≡ plain two_lines crowd_took

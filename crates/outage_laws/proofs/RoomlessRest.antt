@@ -2,7 +2,7 @@
 use Rattle.std.proofs.Common.{◌≡◌, ◌++◌, ◌≤◌, ℕ, ◌+◌, ◌&&◌, Bool, true, false, [], ◌∷◌, List, Option, Some, None, refl, ap, sym, ◌∙◌, append-nil, append_assoc, arith, subst}
 use Rattle.std.specs.Prelude.{IfSome, drop, length, map, nat_le, slice_get}
 use Rattle.std.specs.Option.{unwrap_or}
-use Rattle.std.proofs.lemmas.Bool.{and_parts, leb-true, ltb-true}
+use Rattle.std.proofs.lemmas.Bool.{and_parts, leb-true}
 use Rattle.std.proofs.lemmas.List.{drop_at, length-append}
 use Rattle.event_values.specs.declared.observed.Observed.{Observed}
 use Rattle.mg_line.specs.Acting.{observed_at}
@@ -42,7 +42,7 @@ use Rattle.told_laws.specs.Stretch.{AnnouncesNothing, outliving, taken_meanwhile
 use Rattle.told_laws.proofs.StretchLemmas.{meanwhile_is}
 use Rattle.outage_laws.specs.AfterOutage.{well_by}
 use Rattle.outage_laws.specs.Roomless.{key_only, next_key_number, rest_first, rest_then, rested, rested_soon, tick_only, untold, untold_then}
-use Rattle.outage_laws.specs.ToldSince.{FlightBeganSince, FlightsBeganSince, IsAskedForAllSince, IsToldFrom}
+use Rattle.outage_laws.specs.ToldSince.{FlightBeganSince, FlightsBeganSince, IsToldFrom, KeepsAllSince, loses_none}
 use Rattle.outage_laws.proofs.Computing.{on_examples}
 use Rattle.outage_laws.proofs.RoomlessLine.{Stays, below_length, deliver_on, found_front, front, goes, key, r, silent, snoc_is, w_0}
 use Rattle.outage_laws.proofs.RoomlessMachine.{key_sent, numbered}
@@ -460,20 +460,16 @@ calm_since =
 
 -- It is asked for all
 
-asked_so : IsAskedForAllSince (line_in (rest_at 21001)).line (course_from two_lines (rest_at 21001) 1 (key_only ++ tick_only)) (line_in at_21002).line
-unfolding on_examples
+asked_so : KeepsAllSince two_lines 1 (rest_at 21001) (key_only ++ tick_only) (line_in (rest_at 21001)).line
+unfolding on_examples loses_none
 asked_so = record {
   keeps = record { asked = notifies_each _ refl refl; untimed = refl; accumulated = refl; of_phone = tt; normal = λ is. refl };
   since = tt;
   none_lost = refl;
-  counted = ltb-true _ _ refl;
 }
 
-pub asked_for_all : IsAskedForAllSince (line_with two_lines (took_first rested)).line (course_from two_lines (gateway_in two_lines (world rested)) 1 (key_only ++ tick_only))
-    (line_with two_lines (took_first untold)).line
-asked_for_all =
-    subst (λ (m : Machine). IsAskedForAllSince (line_in m).line (course_from two_lines m 1 (key_only ++ tick_only)) (line_with two_lines (took_first untold)).line) (sym rested_stays.gateway)
-    (subst (λ (m : Machine). IsAskedForAllSince (line_in (rest_at 21001)).line (course_from two_lines (rest_at 21001) 1 (key_only ++ tick_only)) (line_in m).line) (sym untold_stays.gateway) asked_so)
+pub asked_for_all : KeepsAllSince two_lines 1 (gateway_in two_lines (world rested)) (key_only ++ tick_only) (line_with two_lines (took_first rested)).line
+asked_for_all = subst (λ (m : Machine). KeepsAllSince two_lines 1 m (key_only ++ tick_only) (line_in m).line) (sym rested_stays.gateway) asked_so
 
 -- It waits for no request, and for its answer for no longer than 1 ms
 

@@ -18,18 +18,16 @@ use Rattle.told_laws.specs.Stretch.{AnnouncesNothing, taken_meanwhile}
 use Rattle.told_laws.specs.WorldExample.{gives_up_sooner, seconds_from}
 use Rattle.told_laws.specs.WorldPremises.{line_in}
 use Rattle.outage_laws.specs.ToldLaterExample.{reports_elsewhere}
-use Rattle.outage_laws.specs.ToldSince.{IsAskedForAllSince, IsToldFrom, IsToldSince}
+use Rattle.outage_laws.specs.ToldSince.{IsToldFrom, IsToldSince, KeepsAllSince}
 
 -- Of line 1 of a gateway with this setup
 
--- that it announces nothing between some steps and others, and is asked for all since
+-- that it announces nothing between some steps and others, and keeps all at these events, behind some steps
 abbrev pub CalmBetween : Setup → List WorldStep → List WorldStep → Type 0
 CalmBetween setup before steps = AnnouncesNothing setup 1 (plain_world setup before) (plain_world setup steps) (line_in setup steps)
 
-abbrev pub IsAskedSince : Setup → List WorldStep → List GatewayEvent → List WorldStep → Type 0
-IsAskedSince setup was events steps =
-    IsAskedForAllSince (line_in setup was).line (course_from setup (gateway_in setup (plain_world setup was)) 1 events)
-    (line_in setup steps).line
+abbrev pub KeepsAllThen : Setup → List WorldStep → List GatewayEvent → Type 0
+KeepsAllThen setup was events = KeepsAllSince setup 1 (gateway_in setup (plain_world setup was)) events (line_in setup was).line
 
 -- what the agent took of it meanwhile
 abbrev pub taken_by : Setup → List WorldStep → List WorldStep → List Observed

@@ -15,7 +15,7 @@ use Rattle.delivery_laws.specs.Keeping.{happened_in}
 use Rattle.told_laws.specs.Stretch.{GivesNothingUp, taken_meanwhile}
 use Rattle.told_laws.specs.WorldExample.{seconds_from}
 use Rattle.outage_laws.specs.ToldLaterExample.{asks_for_the_next}
-use Rattle.outage_laws.specs.ToldSince.{IsAskedForAllSince, IsToldFrom}
+use Rattle.outage_laws.specs.ToldSince.{IsToldFrom, KeepsAllSince}
 
 -- it is lifted, and tells that, packet 2, which is answered, packet 3; and key 5 is pressed, for which nobody asked
 abbrev pub pressed_unasked : List WorldStep
@@ -94,15 +94,13 @@ lifted_early = ticking 1 ∷ dialling 1 OffHook ∷ []
 abbrev pub not_served_yet : List WorldStep
 not_served_yet = lifted_early ++ ticking 1001 ∷ []
 
--- of line 1: that it gives nothing up between some steps and others, that it is asked for all since, and what the agent took meanwhile
+-- of line 1: that it gives nothing up between some steps and others, that it keeps all since, and what the agent took meanwhile
 abbrev pub GaveNothingUpBetween : List WorldStep → List WorldStep → Type 0
 GaveNothingUpBetween before steps = GivesNothingUp two_lines 1 (world before) (world steps) (endpoint_then before) (endpoint_then steps)
 
-abbrev pub WasAskedForAllSince : List WorldStep → List WorldStep → List WorldStep → Type 0
-WasAskedForAllSince was some steps =
-    IsAskedForAllSince (endpoint_then was).line
-    (course_from two_lines (gateway_in two_lines (world was)) 1 (took_between was some ++ took_between some steps))
-    (endpoint_then steps).line
+abbrev pub KeptAllSince : List WorldStep → List WorldStep → List WorldStep → Type 0
+KeptAllSince was some steps =
+    KeepsAllSince two_lines 1 (gateway_in two_lines (world was)) (took_between was some ++ took_between some steps) (endpoint_then was).line
 
 abbrev pub taken_between : List WorldStep → List WorldStep → List Observed
 taken_between before steps = taken_meanwhile two_lines 1 (world before) (world steps)

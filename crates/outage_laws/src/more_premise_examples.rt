@@ -34,7 +34,7 @@ ghost use Rattle.outage_laws.specs.AfterOutage.{AgentHasRoomFrom, IsFairFrom, Re
 ghost use Rattle.outage_laws.specs.Crowded.{crowded, idle, idle_soon, told_all_but_one};
 ghost use Rattle.outage_laws.specs.HadTime.{FlightGoesToAgent, HadItsTimeIfBefore};
 ghost use Rattle.outage_laws.specs.LinePremises.{answered_ever_later, held_with, long_winded};
-ghost use Rattle.outage_laws.specs.MorePremises.{CalmBetween, IsAskedSince, IsToldAt, IsToldFromThen, back_again, back_since, comes_before};
+ghost use Rattle.outage_laws.specs.MorePremises.{CalmBetween, KeepsAllThen, IsToldAt, IsToldFromThen, back_again, back_since, comes_before};
 ghost use Rattle.outage_laws.specs.MorePremises.{done_at_these, elsewhere_once, elsewhere_twice, forged, forged_lifted, forged_once};
 ghost use Rattle.outage_laws.specs.MorePremises.{forged_twice, forged_untold, forging, gone_astray, gone_on, hung_up_astray};
 ghost use Rattle.outage_laws.specs.MorePremises.{hung_up_at_once};
@@ -47,7 +47,7 @@ ghost use Rattle.outage_laws.specs.Roomless.{asked_first};
 ghost use Rattle.outage_laws.specs.SinceThenExample.{asked_at_last, hung_up_then, never_asked, pressed_again, rested_then, rested_unasked};
 ghost use Rattle.outage_laws.specs.SinceThenExample.{told_since_then};
 ghost use Rattle.outage_laws.specs.ToldLaterExample.{reports_elsewhere};
-ghost use Rattle.outage_laws.specs.ToldSince.{FlightBeganSince, FlightsBeganSince, IsToldFrom, IsToldSince};
+ghost use Rattle.outage_laws.specs.ToldSince.{FlightBeganSince, FlightsBeganSince, IsToldFrom, IsToldSince, loses_none};
 
 /// Where the gateway isn't set up well the agent may take another text for the notification, and never that, though all else holds that the
 /// laws of what is told, over a stretch or behind an outage, ask for; and where that was, and is told so much later.
@@ -63,8 +63,8 @@ pub fn else_what_was_forged_is_told()
     ensures asked { IsAskedForAll (course_of forging 1 (took_with forging forged))
         (course_from forging (plain forging (took_with forging forged)) 1 (took_between_with forging forged forged_untold))
         (line_in forging forged_untold).line }
-    ensures asked_since { IsAskedSince forging forged_twice
-        (took_between_with forging forged_twice forged_lifted ++ took_between_with forging forged_lifted forged_untold) forged_untold }
+    ensures keeps_since { KeepsAllThen forging forged_twice
+        (took_between_with forging forged_twice forged_lifted ++ took_between_with forging forged_lifted forged_untold) }
     ensures fair { IsFairFrom forging forged_untold 0 0 }
     ensures room { AgentHasRoomFrom forging forged_untold 0 }
     ensures goes { (line : ℕ) (b : Begun) → IsOfLine forging (plain_world forging forged_untold) line b →
@@ -107,8 +107,8 @@ pub fn else_what_was_answered_early_isnt_told()
     ensures asked { IsAskedForAll (course_of two_lines 1 (took_with two_lines asked_for_all))
         (course_from two_lines (plain two_lines (took_with two_lines asked_for_all)) 1
         (took_between_with two_lines asked_for_all gone_on)) (line_in two_lines gone_on).line }
-    ensures asked_since { IsAskedSince two_lines rested_twice
-        (took_between_with two_lines rested_twice put_back_then ++ took_between_with two_lines put_back_then gone_on) gone_on }
+    ensures keeps_since { KeepsAllThen two_lines rested_twice
+        (took_between_with two_lines rested_twice put_back_then ++ took_between_with two_lines put_back_then gone_on) }
     ensures fair { IsFairFrom two_lines gone_on 0 1000 }
     ensures room { AgentHasRoomFrom two_lines gone_on 0 }
     ensures goes { (line : ℕ) (b : Begun) → IsOfLine two_lines (plain_world two_lines gone_on) line b →
@@ -151,8 +151,8 @@ pub fn else_what_is_given_up_since_isnt_told()
     ensures asked { IsAskedForAll (course_of hasty 1 (took_with hasty reports_elsewhere))
         (course_from hasty (plain hasty (took_with hasty reports_elsewhere)) 1
         (took_between_with hasty reports_elsewhere back_since)) (line_in hasty back_since).line }
-    ensures asked_since { IsAskedSince hasty elsewhere_twice
-        (took_between_with hasty elsewhere_twice back_again ++ took_between_with hasty back_again back_since) back_since }
+    ensures keeps_since { KeepsAllThen hasty elsewhere_twice
+        (took_between_with hasty elsewhere_twice back_again ++ took_between_with hasty back_again back_since) }
     ensures fair { IsFairFrom hasty back_since 0 500 }
     ensures fair_then { IsFairFrom hasty back_since 46002 500 }
     ensures gave_up { ¬ CalmBetween hasty elsewhere_twice back_since }
@@ -197,8 +197,8 @@ pub fn else_what_was_given_up_before_is_told()
     ensures asked { IsAskedForAll (course_of two_lines 1 (took_with two_lines asked_for_all))
         (course_from two_lines (plain two_lines (took_with two_lines asked_for_all)) 1
         (took_between_with two_lines asked_for_all comes_before)) (line_in two_lines comes_before).line }
-    ensures asked_since { IsAskedSince two_lines gives_up_sooner
-        (took_between_with two_lines gives_up_sooner pressed_soon ++ took_between_with two_lines pressed_soon comes_before) comes_before }
+    ensures keeps_since { KeepsAllThen two_lines gives_up_sooner
+        (took_between_with two_lines gives_up_sooner pressed_soon ++ took_between_with two_lines pressed_soon comes_before) }
     ensures not_well { now_in two_lines (plain_world two_lines unanswered) < well_by two_lines 19502 500 }
     ensures fair { IsFairFrom two_lines comes_before 19502 500 }
     ensures room { AgentHasRoomFrom two_lines comes_before 0 }
@@ -245,7 +245,7 @@ pub fn else_what_was_done_in_another_world_isnt_told()
         (course_from two_lines (plain two_lines (took_with two_lines asked_for_all)) 1
         (took_between_with two_lines asked_for_all rested_on))
         (line_in two_lines rested_on).line }
-    ensures asked_since { IsAskedSince two_lines rested_twice (never_done ++ []) rested_on }
+    ensures keeps_since { KeepsAllThen two_lines rested_twice (never_done ++ []) }
     ensures fair { IsFairFrom two_lines rested_on 0 0 }
     ensures room { AgentHasRoomFrom two_lines rested_on 0 }
     ensures goes { (line : ℕ) (b : Begun) → IsOfLine two_lines (plain_world two_lines rested_on) line b →
@@ -409,8 +409,8 @@ pub fn else_what_goes_elsewhere_isnt_told()
     ensures asked { IsAskedForAll (course_of hasty 1 (took_with hasty reports_elsewhere))
         (course_from hasty (plain hasty (took_with hasty reports_elsewhere)) 1
         (took_between_with hasty reports_elsewhere told_astray)) (line_in hasty told_astray).line }
-    ensures asked_since { IsAskedSince hasty elsewhere_twice
-        (took_between_with hasty elsewhere_twice lifted_astray ++ took_between_with hasty lifted_astray told_astray) told_astray }
+    ensures keeps_since { KeepsAllThen hasty elsewhere_twice
+        (took_between_with hasty elsewhere_twice lifted_astray ++ took_between_with hasty lifted_astray told_astray) }
     ensures fair { IsFairFrom hasty told_astray 0 0 }
     ensures room { AgentHasRoomFrom hasty told_astray 0 }
     ensures of_line { IsOfLine hasty (plain_world hasty told_astray) 1 told_elsewhere }
@@ -447,9 +447,8 @@ pub fn else_what_nobody_asks_for_isnt_told()
     ensures asked { IsAskedForAll (course_of two_lines 1 (took_with two_lines asked_in_step))
         (course_from two_lines (plain two_lines (took_with two_lines asked_in_step)) 1
         (took_between_with two_lines asked_in_step never_asked_in_step)) (line_in two_lines never_asked_in_step).line }
-    ensures asked_since { IsAskedSince two_lines step_twice
-        (took_between_with two_lines step_twice pressed_in_step ++ took_between_with two_lines pressed_in_step never_asked_in_step)
-        never_asked_in_step }
+    ensures keeps_since { KeepsAllThen two_lines step_twice
+        (took_between_with two_lines step_twice pressed_in_step ++ took_between_with two_lines pressed_in_step never_asked_in_step) }
     ensures fair { IsFairFrom two_lines never_asked_in_step 0 0 }
     ensures room { AgentHasRoomFrom two_lines never_asked_in_step 0 }
     ensures goes { (line : ℕ) (b : Begun) → IsOfLine two_lines (plain_world two_lines never_asked_in_step) line b →
@@ -499,7 +498,9 @@ pub fn else_what_is_asked_for_no_more_isnt_told()
         (took_between_with two_lines asked_for_all dropped_for_none)) }
     ensures asked_less_since { ¬ AskForAll (course_from two_lines (gateway_in two_lines (plain_world two_lines rested_twice)) 1
         (took_between_with two_lines rested_twice pressed_for_none ++ took_between_with two_lines pressed_for_none dropped_for_none)) }
-    ensures none_lost { (line_in two_lines dropped_for_none).line.quarantined.lost ≡ 0 }
+    ensures none_lost { ((line_in two_lines dropped_for_none).line.quarantined.lost ≡ 0) ×
+        (loses_none two_lines 1 (gateway_in two_lines (plain_world two_lines rested_twice)) (took_between_with two_lines rested_twice
+        pressed_for_none ++ took_between_with two_lines pressed_for_none dropped_for_none) ≡ true) }
     ensures fair { IsFairFrom two_lines dropped_for_none 0 0 }
     ensures room { AgentHasRoomFrom two_lines dropped_for_none 0 }
     ensures goes { (line : ℕ) (b : Begun) → IsOfLine two_lines (plain_world two_lines dropped_for_none) line b →
@@ -583,6 +584,8 @@ pub fn else_what_was_done_before_isnt_told()
         (21001 + rounds_take most_quarantined (2 * 0) 0 + 0 < 21002) }
     ensures lost_rests { done_in (course_from two_lines (plain two_lines (took_first crowded)) 1
         (took_between crowded told_all_but_one)) ≡ [] }
+    ensures lost_act { loses_none two_lines 1 (gateway_in two_lines (world idle))
+        (took_between idle crowded ++ took_between crowded told_all_but_one) ≡ false }
     ensures lost_one { ((line_with two_lines (took_first idle)).line.quarantined.lost ≡ 0) ×
         ((line_with two_lines (took_first told_all_but_one)).line.quarantined.lost ≡ 1) }
     ensures lost_not_told { (¬ IsToldFrom (line_with two_lines (took_first idle)).post.pending

@@ -36,7 +36,7 @@ ghost use Rattle.outage_laws.specs.Roomless.{asked_first, key_begun, key_only, n
 ghost use Rattle.outage_laws.specs.Roomless.{own_roomless_then, own_ticks};
 ghost use Rattle.outage_laws.specs.Roomless.{rested, rested_soon, roomless};
 ghost use Rattle.outage_laws.specs.Roomless.{roomless_given_up, roomless_soon, tick_only, ticks_on, ticks_then, untold};
-ghost use Rattle.outage_laws.specs.ToldSince.{FlightBeganSince, FlightsBeganSince, IsAskedForAllSince, IsToldFrom, IsToldSince};
+ghost use Rattle.outage_laws.specs.ToldSince.{FlightBeganSince, FlightsBeganSince, IsToldFrom, IsToldSince, KeepsAllSince};
 
 /// Where the agent has no room: 4,096 commands are young there, taken one behind the other, and the next notification isn't taken, though
 /// each of its copies is handed over at once; nor is it answered. It is given up, and the line has no agent then. Nor is the last copy of a
@@ -116,9 +116,8 @@ pub fn else_a_quarantine_waits_for_room()
         (serves (gateway_in two_lines (world rested)).endpoints ≡ true) }
     ensures told_calm { AnnouncesNothing two_lines 1 (world rested_soon) (world rested) (line_with two_lines (took_first rested)) ×
         AnnouncesNothing two_lines 1 (world rested) (world untold) (line_with two_lines (took_first untold)) }
-    ensures told_asked { IsAskedForAllSince (line_with two_lines (took_first rested)).line
-        (course_from two_lines (gateway_in two_lines (world rested)) 1 (key_only ++ tick_only))
-        (line_with two_lines (took_first untold)).line }
+    ensures told_asked { KeepsAllSince two_lines 1 (gateway_in two_lines (world rested)) (key_only ++ tick_only)
+        (line_with two_lines (took_first rested)).line }
     ensures told_split { took_first untold ≡ (took_first rested ++ key_only) ++ tick_only }
     ensures told_began { FlightBeganSince two_lines (world untold) 0 (line_with two_lines (took_first untold)).post.pending ×
         FlightsBeganSince two_lines 1 (took_first rested ++ key_only) tick_only 0 }

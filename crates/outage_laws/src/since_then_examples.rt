@@ -25,12 +25,12 @@ ghost use Rattle.delivery_laws.specs.OwnChances.{IsOfLine};
 ghost use Rattle.delivery_laws.specs.Rounds.{IsAnsweredWithin, IsAskedWithin, of_telephone, rounds_take};
 ghost use Rattle.told_laws.specs.Stretch.{outliving};
 ghost use Rattle.outage_laws.specs.AfterOutage.{AgentHasRoomFrom, IsFairFrom};
-ghost use Rattle.outage_laws.specs.SinceThenExample.{GaveNothingUpBetween, ToldFrom, WasAskedForAllSince};
+ghost use Rattle.outage_laws.specs.SinceThenExample.{GaveNothingUpBetween, ToldFrom, KeptAllSince};
 ghost use Rattle.outage_laws.specs.SinceThenExample.{asked_at_last, asked_no_more, done_between, hung_up_then, never_asked};
 ghost use Rattle.outage_laws.specs.SinceThenExample.{lifted_early, never_asked_again, not_served_yet};
 ghost use Rattle.outage_laws.specs.SinceThenExample.{pressed_again, pressed_for_nobody, pressed_unasked, rested_asked, rested_then};
 ghost use Rattle.outage_laws.specs.SinceThenExample.{rested_unasked, six_waits, taken_between, told_since_then};
-ghost use Rattle.outage_laws.specs.ToldSince.{FlightBeganSince, FlightsBeganSince};
+ghost use Rattle.outage_laws.specs.ToldSince.{FlightBeganSince, FlightsBeganSince, loses_none};
 
 /// A key for which nobody asked is never told; and what is quarantined behind 11 s, and done since, is told, so much later. All that the
 /// law asks for holds at once. More is told than what was quarantined, where the telephone doesn't rest since.
@@ -40,7 +40,7 @@ pub fn what_waits_since_then_is_told()
     ensures calm_before { GaveNothingUpBetween six_waits rested_then }
     ensures calm_since { GaveNothingUpBetween rested_then told_since_then }
     ensures long { now_in two_lines (world six_waits) + outliving ≤ now_in two_lines (world rested_then) }
-    ensures asked { WasAskedForAllSince rested_then hung_up_then told_since_then }
+    ensures asked { KeptAllSince rested_then hung_up_then told_since_then }
     ensures fair { IsFairFrom two_lines told_since_then 0 300 }
     ensures room { AgentHasRoomFrom two_lines told_since_then 0 }
     ensures flew { FlightBeganSince two_lines (world told_since_then) 0 (endpoint_then told_since_then).post.pending }
@@ -63,7 +63,7 @@ pub fn what_waits_since_then_is_told()
         (took_between hung_up_then told_since_then)) ≡ [] }
     ensures done_in_all { done_then told_since_then ≡ off_hook ∷ five ∷ five ∷ six ∷ hung_up ∷ [] }
     ensures told_in_all { told_then told_since_then ≡ off_hook ∷ five ∷ six ∷ hung_up ∷ [] }
-    ensures asked_first { WasAskedForAllSince rested_then rested_then told_since_then }
+    ensures asked_first { KeptAllSince rested_then rested_then told_since_then }
     ensures answered_first { IsAnsweredWithin two_lines 1 (took_first rested_then) (took_between rested_then told_since_then) (2 * 300) }
     ensures asked_again_first { IsAskedWithin two_lines 1 (took_first rested_then) (took_between rested_then told_since_then) 100 }
     ensures more_first { (plain two_lines (took_first rested_then)).now + rounds_take 1 (2 * 300) 100 + 300
@@ -82,7 +82,8 @@ pub fn what_nobody_asked_for_isnt_told()
     ensures keeps_not { ¬ KeepsAll (endpoint_then rested_unasked).line }
     ensures since { AskForAll (course_from two_lines (gateway_in two_lines (world rested_unasked)) 1
         (took_between rested_unasked pressed_again ++ took_between pressed_again never_asked)) }
-    ensures none_lost { (endpoint_then never_asked).line.quarantined.lost ≡ 0 }
+    ensures none_lost { loses_none two_lines 1 (gateway_in two_lines (world rested_unasked))
+        (took_between rested_unasked pressed_again ++ took_between pressed_again never_asked) ≡ true }
     ensures fair { IsFairFrom two_lines never_asked 0 300 }
     ensures room { AgentHasRoomFrom two_lines never_asked 0 }
     ensures flew { FlightBeganSince two_lines (world never_asked) 0 (endpoint_then never_asked).post.pending }
@@ -106,7 +107,8 @@ pub fn what_nobody_asks_for_since_isnt_told()
     ensures keeps { KeepsAll (endpoint_then rested_asked).line }
     ensures since_not { ¬ AskForAll (course_from two_lines (gateway_in two_lines (world rested_asked)) 1
         (took_between rested_asked pressed_for_nobody ++ took_between pressed_for_nobody asked_no_more)) }
-    ensures none_lost { (endpoint_then asked_no_more).line.quarantined.lost ≡ 0 }
+    ensures none_lost { loses_none two_lines 1 (gateway_in two_lines (world rested_asked))
+        (took_between rested_asked pressed_for_nobody ++ took_between pressed_for_nobody asked_no_more) ≡ true }
     ensures fair { IsFairFrom two_lines asked_no_more 0 300 }
     ensures room { AgentHasRoomFrom two_lines asked_no_more 0 }
     ensures flew { FlightBeganSince two_lines (world asked_no_more) 0 (endpoint_then asked_no_more).post.pending }
@@ -128,7 +130,7 @@ pub fn what_waits_for_a_request_isnt_told()
     ensures calm_before { GaveNothingUpBetween six_waits rested_then }
     ensures calm_since { GaveNothingUpBetween rested_then never_asked_again }
     ensures long { now_in two_lines (world six_waits) + outliving ≤ now_in two_lines (world rested_then) }
-    ensures asked { WasAskedForAllSince rested_then rested_then never_asked_again }
+    ensures asked { KeptAllSince rested_then rested_then never_asked_again }
     ensures fair { IsFairFrom two_lines never_asked_again 0 300 }
     ensures room { AgentHasRoomFrom two_lines never_asked_again 0 }
     ensures flew { FlightBeganSince two_lines (world never_asked_again) 0 (endpoint_then never_asked_again).post.pending }

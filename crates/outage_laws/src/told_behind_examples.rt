@@ -21,7 +21,7 @@ ghost use Rattle.delivery_laws.specs.Rounds.{IsAskedWithin, rounds_take};
 ghost use Rattle.told_laws.specs.Stretch.{outliving};
 ghost use Rattle.outage_laws.specs.AfterOutage.{AgentHasRoomFrom, IsFairFrom, well_by};
 ghost use Rattle.outage_laws.specs.Example.{connected_in_step};
-ghost use Rattle.outage_laws.specs.SinceThenExample.{ToldFrom, WasAskedForAllSince, done_between, taken_between};
+ghost use Rattle.outage_laws.specs.SinceThenExample.{ToldFrom, KeptAllSince, done_between, taken_between};
 ghost use Rattle.outage_laws.specs.ToldBehindExample.{all_told_in_step, asked_for_nothing, kept_in_step, put_back_in_step, rested_in_step};
 ghost use Rattle.outage_laws.specs.ToldBehindExample.{six_told_in_step, told_too_soon, unasked_in_step};
 
@@ -37,7 +37,7 @@ pub fn all_is_told_behind_an_outage()
     ensures numbers { HasNumbersLeft (own_in two_lines (world all_told_in_step)) }
     ensures well { well_by two_lines 19502 100 ≡ now_in two_lines (world connected_in_step) }
     ensures long { now_in two_lines (world connected_in_step) + outliving ≡ now_in two_lines (world rested_in_step) }
-    ensures asked { WasAskedForAllSince rested_in_step put_back_in_step all_told_in_step }
+    ensures asked { KeptAllSince rested_in_step put_back_in_step all_told_in_step }
     ensures front { took_first put_back_in_step ≡ took_first rested_in_step ++ took_between rested_in_step put_back_in_step }
     ensures split { took_first all_told_in_step ≡ took_first put_back_in_step ++ took_between put_back_in_step all_told_in_step }
     ensures asked_again { IsAskedWithin two_lines 1 (took_first put_back_in_step) (took_between put_back_in_step all_told_in_step) 100 }
@@ -49,7 +49,7 @@ pub fn all_is_told_behind_an_outage()
     ensures told { ToldFrom rested_in_step put_back_in_step all_told_in_step }
     ensures rests { done_in (course_from two_lines (plain two_lines (took_first put_back_in_step)) 1
         (took_between put_back_in_step all_told_in_step)) ≡ [] }
-    ensures asked_first { WasAskedForAllSince rested_in_step rested_in_step all_told_in_step }
+    ensures asked_first { KeptAllSince rested_in_step rested_in_step all_told_in_step }
     ensures asked_again_first { IsAskedWithin two_lines 1 (took_first rested_in_step) (took_between rested_in_step all_told_in_step) 100 }
     ensures held_first { (endpoint_then rested_in_step).line.quarantined.events ≡ five ∷ six ∷ [] }
     ensures more_first { (plain two_lines (took_first rested_in_step)).now + rounds_take 2 (2 * 100) 100 + 100
@@ -68,7 +68,7 @@ pub fn else_something_isnt_told_behind_an_outage()
     ensures fair_then { IsFairFrom two_lines six_told_in_step 19502 100 }
     ensures taken_then { taken_between rested_in_step six_told_in_step ≡ five ∷ six ∷ [] }
     ensures unfair { ¬ IsFairFrom two_lines kept_in_step 19502 100 }
-    ensures asked_yet { WasAskedForAllSince rested_in_step put_back_in_step kept_in_step }
+    ensures asked_yet { KeptAllSince rested_in_step put_back_in_step kept_in_step }
     ensures taken_yet { taken_between rested_in_step kept_in_step ≡ five ∷ six ∷ [] }
     ensures fair_unasked { IsFairFrom two_lines unasked_in_step 19502 100 }
     ensures unasked { ¬ IsAskedWithin two_lines 1 (took_first put_back_in_step) (took_between put_back_in_step unasked_in_step) 100 }
@@ -84,7 +84,7 @@ pub fn else_something_isnt_told_behind_an_outage()
         GoesToAgent two_lines (world told_too_soon) b.text }
     ensures well_soon { well_by two_lines 19502 100 ≡ now_in two_lines (world connected_in_step) }
     ensures too_soon { ¬ (now_in two_lines (world connected_in_step) + outliving ≤ now_in two_lines (world connected_in_step)) }
-    ensures asked_soon { WasAskedForAllSince connected_in_step connected_in_step told_too_soon }
+    ensures asked_soon { KeptAllSince connected_in_step connected_in_step told_too_soon }
     ensures split_soon { took_first told_too_soon ≡ took_first connected_in_step ++ took_between connected_in_step told_too_soon }
     ensures asked_again_soon { IsAskedWithin two_lines 1 (took_first connected_in_step) (took_between connected_in_step told_too_soon) 100 }
     ensures held_soon { (endpoint_then connected_in_step).line.quarantined.events ≡ five ∷ six ∷ [] }

@@ -24,7 +24,7 @@ ghost use Rattle.delivery_laws.specs.OwnChances.{IsOfLine};
 ghost use Rattle.delivery_laws.specs.Rounds.{IsAnsweredWithin, IsAskedWithin, of_telephone, rounds_take};
 ghost use Rattle.told_laws.specs.Stretch.{outliving};
 ghost use Rattle.outage_laws.specs.AfterOutage.{AgentHasRoomFrom, IsFairFrom};
-ghost use Rattle.outage_laws.specs.SinceThenExample.{WasAskedForAllSince, done_between};
+ghost use Rattle.outage_laws.specs.SinceThenExample.{KeptAllSince, done_between};
 ghost use Rattle.outage_laws.specs.ToldSince.{FlightBeganSince, FlightsBeganSince};
 ghost use Rattle.outage_laws.specs.ToldSinceExample.{GaveNothingUpSince, ToldSince, dialled_since, kept_from_it, kept_longer, rested_since};
 ghost use Rattle.outage_laws.specs.ToldSinceExample.{waiting_since};
@@ -75,7 +75,7 @@ pub fn what_was_dialled_since_is_told_no_sooner()
     ensures asked { IsAskedForAll (course_of two_lines 1 (took_first asked_in_step))
         (course_from two_lines (plain two_lines (took_first asked_in_step)) 1 (took_between asked_in_step underway_since))
         (endpoint_then underway_since).line }
-    ensures asked_since { WasAskedForAllSince rested_since dialled_since underway_since }
+    ensures asked_since { KeptAllSince rested_since dialled_since underway_since }
     ensures fair { IsFairFrom two_lines underway_since 28502 300 }
     ensures room { AgentHasRoomFrom two_lines underway_since 28502 }
     ensures flew { FlightBeganSince two_lines (world underway_since) 28502 (endpoint_then underway_since).post.pending }
@@ -102,7 +102,7 @@ pub fn what_is_kept_from_the_agent_is_not_told()
     ensures asked { IsAskedForAll (course_of two_lines 1 (took_first asked_in_step))
         (course_from two_lines (plain two_lines (took_first asked_in_step)) 1 (took_between asked_in_step kept_from_it))
         (endpoint_then kept_from_it).line }
-    ensures asked_since { WasAskedForAllSince rested_since dialled_since kept_from_it }
+    ensures asked_since { KeptAllSince rested_since dialled_since kept_from_it }
     ensures not_fair { ¬ IsFairFrom two_lines kept_from_it 28502 300 }
     ensures room { AgentHasRoomFrom two_lines kept_from_it 28502 }
     ensures flew { FlightBeganSince two_lines (world kept_from_it) 28502 (endpoint_then kept_from_it).post.pending }

@@ -1,6 +1,5 @@
-use Rattle.std.proofs.Common.{◌≡◌, ℕ, ◌<◌, length, refl, sym, ◌∙◌, subst, arith, inl}
+use Rattle.std.proofs.Common.{◌≡◌, ℕ, ◌<◌, ◌++◌, length, refl, sym, subst, arith, inl}
 use Rattle.std.proofs.lemmas.Bool.{leb-true, ltb-true}
-use Rattle.quarantine.specs.Held.{most_lost}
 use Rattle.plain_machine.specs.Lists.{sent_of}
 use Rattle.machine_laws.specs.Belonging.{of_line}
 use Rattle.machine_laws.specs.Saying.{Begun, begun_in}
@@ -13,9 +12,9 @@ use Rattle.delivery_laws.proofs.AskingLemmas.{notifies_each}
 use Rattle.delivery_laws.proofs.DialledNumberLemmas.{few_are_begun}
 use Rattle.delivery_laws.proofs.ExampleLemmas.{goes_astray, took_split}
 use Rattle.delivery_laws.proofs.FrontLemmas.{agent_has_room, answered_within, never_locked}
-use Rattle.told_laws.specs.WorldPremises.{line_in}
-use Rattle.outage_laws.specs.MorePremises.{elsewhere_twice, lifted_astray, told_astray, told_elsewhere}
+use Rattle.outage_laws.specs.MorePremises.{KeepsAllThen, elsewhere_twice, lifted_astray, told_astray, told_elsewhere}
 use Rattle.outage_laws.specs.ToldLaterExample.{reports_elsewhere}
+use Rattle.outage_laws.specs.ToldSince.{loses_none}
 use Rattle.outage_laws.proofs.Computing.{on_examples}
 use Rattle.outage_laws.proofs.FairFromExamples.{fair_from_is, room_from}
 use Rattle.outage_laws.proofs.HadTimeExamples.{flights_since}
@@ -26,13 +25,13 @@ begun : length (own_in hasty (plain_world hasty told_astray)) ≡ 2
 unfolding on_examples
 begun = refl
 
-lost_then : (line_in hasty told_astray).line.quarantined.lost ≡ 0
-unfolding on_examples
-lost_then = refl
-
-lost_before : (line_in hasty elsewhere_twice).line.quarantined.lost ≡ 0
-unfolding on_examples
-lost_before = refl
+kept_then : KeepsAllThen hasty elsewhere_twice (took_between_with hasty elsewhere_twice lifted_astray ++ took_between_with hasty lifted_astray told_astray)
+unfolding on_examples loses_none
+kept_then = record {
+  keeps = record { asked = notifies_each _ refl refl; untimed = refl; accumulated = refl; of_phone = tt; normal = λ is. refl };
+  since = tt;
+  none_lost = refl;
+}
 
 pub returns : goal.returns
 unfolding on_examples
@@ -50,12 +49,7 @@ returns c = record {
     since = tt;
     none_lost = refl;
   };
-  asked_since = record {
-    keeps = record { asked = notifies_each _ refl refl; untimed = refl; accumulated = refl; of_phone = tt; normal = λ is. refl };
-    since = tt;
-    none_lost = lost_then ∙ sym lost_before;
-    counted = subst (λ (n : ℕ). n < most_lost) (sym lost_before) (omega arith);
-  };
+  keeps_since = kept_then;
   fair = fair_from_is hasty told_astray 0 0 refl;
   room = room_from hasty told_astray 0 (agent_has_room hasty told_astray refl);
   of_line = any_from_one (λ (one : Begun). one ≡ told_elsewhere) (begun_in (of_line 1 (sent_of hasty (plain_world hasty told_astray).gateway_took))) (inl refl);

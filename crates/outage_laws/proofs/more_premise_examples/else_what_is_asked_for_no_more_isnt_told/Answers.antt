@@ -1,4 +1,4 @@
-use Rattle.std.proofs.Common.{◌≡◌, ℕ, ◌<◌, length, refl, sym, subst, arith, ◌++◌}
+use Rattle.std.proofs.Common.{◌≡◌, ℕ, ◌<◌, true, length, refl, sym, subst, arith, ◌++◌}
 use Rattle.std.proofs.lemmas.Bool.{leb-true, ltb-true}
 use Rattle.mg_packages.specs.declared.event.LineEvent.TheVariants as events
 use Rattle.mg_line.specs.declared.phone.Key.TheVariants.{Five}
@@ -16,6 +16,7 @@ use Rattle.delivery_laws.proofs.DialledNumberLemmas.{few_are_begun}
 use Rattle.delivery_laws.proofs.ExampleLemmas.{to_agent, took_split, two_lines_set_up}
 use Rattle.delivery_laws.proofs.FrontLemmas.{agent_has_room, answered_within, never_locked}
 use Rattle.outage_laws.specs.MorePremises.{dropped_for_none, pressed_for_none, rested_twice}
+use Rattle.outage_laws.specs.ToldSince.{loses_none}
 use Rattle.outage_laws.proofs.Computing.{on_examples}
 use Rattle.outage_laws.proofs.FairFromExamples.{fair_from_is, room_from}
 use Rattle.outage_laws.proofs.HadTimeExamples.{flights_since}
@@ -34,6 +35,11 @@ asks_less_since : AskForAll (course_from two_lines (gateway_in two_lines (plain_
 unfolding on_examples
 asks_less_since all = let clash = all.0.requested.phone (events.Letter (letter_at Five)) refl in cc
 
+none_lost_then : loses_none two_lines 1 (gateway_in two_lines (plain_world two_lines rested_twice))
+    (took_between_with two_lines rested_twice pressed_for_none ++ took_between_with two_lines pressed_for_none dropped_for_none) ≡ true
+unfolding on_examples loses_none
+none_lost_then = refl
+
 pub returns : goal.returns
 unfolding on_examples
 returns c = record {
@@ -49,7 +55,7 @@ returns c = record {
   keeps = record { asked = notifies_each _ refl refl; untimed = refl; accumulated = refl; of_phone = tt; normal = λ is. refl };
   asked_less = asks_less;
   asked_less_since = asks_less_since;
-  none_lost = refl;
+  none_lost = (refl, none_lost_then);
   fair = fair_from_is two_lines dropped_for_none 0 0 refl;
   room = room_from two_lines dropped_for_none 0 (agent_has_room two_lines dropped_for_none refl);
   goes = λ line b of. to_agent two_lines dropped_for_none b.text refl;

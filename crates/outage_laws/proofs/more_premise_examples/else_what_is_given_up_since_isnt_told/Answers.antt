@@ -1,4 +1,4 @@
-use Rattle.std.proofs.Common.{◌≡◌, ℕ, ◌<◌, length, refl, sym, ◌∙◌, subst, arith, true, false}
+use Rattle.std.proofs.Common.{◌≡◌, ℕ, ◌<◌, ◌++◌, length, refl, sym, subst, arith, true, false}
 use Rattle.std.proofs.lemmas.Bool.{leb-true, ltb-true}
 use Rattle.std.proofs.Common.{◌+◌, ◌≤◌, inl}
 use Rattle.machine_laws.specs.Saying.{Begun}
@@ -6,7 +6,6 @@ use Rattle.machine_laws.proofs.EachLemmas.{any_from_one}
 use Rattle.delivery_laws.specs.Chances.{last_chance}
 use Rattle.delivery_laws.proofs.ExampleLemmas.{goes_astray}
 use Rattle.outage_laws.specs.MorePremises.{told_elsewhere}
-use Rattle.quarantine.specs.Held.{most_lost}
 use Rattle.plain_machine.specs.Lists.{sent_of}
 use Rattle.machine_laws.specs.Belonging.{of_line}
 use Rattle.machine_laws.specs.Saying.{begun_in}
@@ -18,9 +17,9 @@ use Rattle.delivery_laws.proofs.AskingLemmas.{notifies_each}
 use Rattle.delivery_laws.proofs.DialledNumberLemmas.{few_are_begun}
 use Rattle.delivery_laws.proofs.ExampleLemmas.{took_split}
 use Rattle.delivery_laws.proofs.FrontLemmas.{agent_has_room, answered_within, never_locked}
-use Rattle.told_laws.specs.WorldPremises.{line_in}
-use Rattle.outage_laws.specs.MorePremises.{back_again, back_since, elsewhere_twice}
+use Rattle.outage_laws.specs.MorePremises.{KeepsAllThen, back_again, back_since, elsewhere_twice}
 use Rattle.outage_laws.specs.ToldLaterExample.{reports_elsewhere}
+use Rattle.outage_laws.specs.ToldSince.{loses_none}
 use Rattle.outage_laws.proofs.Computing.{on_examples}
 use Rattle.outage_laws.proofs.FairFromExamples.{fair_from_is, room_from}
 use Rattle.outage_laws.proofs.HadTimeExamples.{flights_since}
@@ -34,13 +33,13 @@ begun : length (own_in hasty (plain_world hasty back_since)) ≡ 3
 unfolding on_examples
 begun = refl
 
-lost_then : (line_in hasty back_since).line.quarantined.lost ≡ 0
-unfolding on_examples
-lost_then = refl
-
-lost_before : (line_in hasty elsewhere_twice).line.quarantined.lost ≡ 0
-unfolding on_examples
-lost_before = refl
+kept_then : KeepsAllThen hasty elsewhere_twice (took_between_with hasty elsewhere_twice back_again ++ took_between_with hasty back_again back_since)
+unfolding on_examples loses_none
+kept_then = record {
+  keeps = record { asked = notifies_each _ refl refl; untimed = refl; accumulated = refl; of_phone = tt; normal = λ is. refl };
+  since = (record { requested = notifies_each _ refl refl; quarantined = refl }, tt);
+  none_lost = refl;
+}
 
 pub returns : goal.returns
 unfolding on_examples
@@ -56,12 +55,7 @@ returns c = record {
     since = (record { requested = notifies_each _ refl refl; quarantined = refl }, tt);
     none_lost = refl;
   };
-  asked_since = record {
-    keeps = record { asked = notifies_each _ refl refl; untimed = refl; accumulated = refl; of_phone = tt; normal = λ is. refl };
-    since = (record { requested = notifies_each _ refl refl; quarantined = refl }, tt);
-    none_lost = lost_then ∙ sym lost_before;
-    counted = subst (λ (n : ℕ). n < most_lost) (sym lost_before) (omega arith);
-  };
+  keeps_since = kept_then;
   fair = fair_from_is hasty back_since 0 500 refl;
   fair_then = fair_from_is hasty back_since 46002 500 refl;
   gave_up = λ calm. (let clash : true ≡ false = calm in cc);

@@ -1,6 +1,5 @@
-use Rattle.std.proofs.Common.{◌≡◌, ℕ, ◌<◌, length, refl, sym, ◌∙◌, subst, arith, [], ◌∷◌}
+use Rattle.std.proofs.Common.{◌≡◌, ℕ, ◌<◌, ◌++◌, length, refl, sym, subst, arith, [], ◌∷◌}
 use Rattle.std.proofs.lemmas.Bool.{leb-true, ltb-true}
-use Rattle.quarantine.specs.Held.{most_lost}
 use Rattle.plain_machine.specs.Event.{tick}
 use Rattle.plain_machine.specs.Example.{two_lines}
 use Rattle.agent_core.specs.World.{plain_world}
@@ -11,8 +10,8 @@ use Rattle.delivery_laws.proofs.AskingLemmas.{notifies_each}
 use Rattle.delivery_laws.proofs.DialledNumberLemmas.{few_are_begun}
 use Rattle.delivery_laws.proofs.ExampleLemmas.{to_agent, took_split, two_lines_set_up}
 use Rattle.delivery_laws.proofs.FrontLemmas.{agent_has_room, answered_within}
-use Rattle.told_laws.specs.WorldPremises.{line_in}
-use Rattle.outage_laws.specs.MorePremises.{never_asked_in_step, pressed_in_step, step_twice}
+use Rattle.outage_laws.specs.MorePremises.{KeepsAllThen, never_asked_in_step, pressed_in_step, step_twice}
+use Rattle.outage_laws.specs.ToldSince.{loses_none}
 use Rattle.outage_laws.proofs.Computing.{on_examples}
 use Rattle.outage_laws.proofs.FairFromExamples.{fair_from_is, room_from}
 use Rattle.outage_laws.proofs.HadTimeExamples.{flights_since}
@@ -23,17 +22,17 @@ begun : length (own_in two_lines (plain_world two_lines never_asked_in_step)) �
 unfolding on_examples
 begun = refl
 
-lost_then : (line_in two_lines never_asked_in_step).line.quarantined.lost ≡ 0
-unfolding on_examples
-lost_then = refl
-
-lost_before : (line_in two_lines step_twice).line.quarantined.lost ≡ 0
-unfolding on_examples
-lost_before = refl
-
 unasked_then : IsAskedWithin two_lines 1 (took_with two_lines pressed_in_step) (took_between_with two_lines pressed_in_step never_asked_in_step) 100 → ⊥
 unfolding on_examples
 unasked_then asked = asked [] (tick 22201 ∷ []) [] _ refl refl refl (ltb-true _ _ refl) refl
+
+kept_then : KeepsAllThen two_lines step_twice (took_between_with two_lines step_twice pressed_in_step ++ took_between_with two_lines pressed_in_step never_asked_in_step)
+unfolding on_examples loses_none
+kept_then = record {
+  keeps = record { asked = notifies_each _ refl refl; untimed = refl; accumulated = refl; of_phone = tt; normal = λ is. refl };
+  since = tt;
+  none_lost = refl;
+}
 
 pub returns : goal.returns
 unfolding on_examples
@@ -51,12 +50,7 @@ returns c = record {
     since = tt;
     none_lost = refl;
   };
-  asked_since = record {
-    keeps = record { asked = notifies_each _ refl refl; untimed = refl; accumulated = refl; of_phone = tt; normal = λ is. refl };
-    since = tt;
-    none_lost = lost_then ∙ sym lost_before;
-    counted = subst (λ (n : ℕ). n < most_lost) (sym lost_before) (omega arith);
-  };
+  keeps_since = kept_then;
   fair = fair_from_is two_lines never_asked_in_step 0 0 refl;
   room = room_from two_lines never_asked_in_step 0 (agent_has_room two_lines never_asked_in_step refl);
   goes = λ line b of. to_agent two_lines never_asked_in_step b.text refl;

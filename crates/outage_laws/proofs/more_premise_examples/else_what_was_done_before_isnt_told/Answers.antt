@@ -9,6 +9,7 @@ use Rattle.delivery_laws.proofs.AskingLemmas.{notifies_each}
 use Rattle.delivery_laws.proofs.ExampleLemmas.{two_lines_set_up}
 use Rattle.outage_laws.specs.MorePremises.{pressed_in_step, step_twice}
 use Rattle.outage_laws.proofs.Computing.{on_examples}
+use Rattle.outage_laws.proofs.CrowdedLoss.{one_act_lost}
 use Rattle.outage_laws.proofs.CrowdedTold as crowd
 use Rattle.outage_laws.proofs.MoreExamples.{told_but_one, told_no_more}
 use Rattle.outage_laws.proofs.more_premise_examples.else_what_was_done_before_isnt_told.Goals as goal
@@ -107,6 +108,9 @@ returns-clause-lost_held c = (crowd.held, crowd.over)
 
 pub returns-clause-lost_rests : goal.returns-clause-lost_rests
 returns-clause-lost_rests c = crowd.done_no_more
+
+pub returns-clause-lost_act : goal.returns-clause-lost_act
+returns-clause-lost_act c = one_act_lost
 
 pub returns-clause-lost_one : goal.returns-clause-lost_one
 returns-clause-lost_one c = (crowd.none_lost_yet, crowd.one_is_lost)

@@ -1,6 +1,5 @@
-use Rattle.std.proofs.Common.{◌≡◌, ℕ, ◌<◌, length, refl, sym, ◌∙◌, subst, arith}
+use Rattle.std.proofs.Common.{◌≡◌, ℕ, ◌<◌, ◌++◌, length, refl, sym, subst, arith}
 use Rattle.std.proofs.lemmas.Bool.{leb-true, ltb-true}
-use Rattle.quarantine.specs.Held.{most_lost}
 use Rattle.agent_core.specs.World.{plain_world}
 use Rattle.world_laws.specs.Reached.{own_in}
 use Rattle.delivery_laws.specs.Example.{took_between_with, took_with}
@@ -9,8 +8,8 @@ use Rattle.delivery_laws.proofs.AskingLemmas.{notifies_each}
 use Rattle.delivery_laws.proofs.DialledNumberLemmas.{few_are_begun}
 use Rattle.delivery_laws.proofs.ExampleLemmas.{no_agent, to_agent, took_split}
 use Rattle.delivery_laws.proofs.FrontLemmas.{agent_has_room, answered_within, never_locked}
-use Rattle.told_laws.specs.WorldPremises.{line_in}
-use Rattle.outage_laws.specs.MorePremises.{forged, forged_lifted, forged_twice, forged_untold, forging}
+use Rattle.outage_laws.specs.MorePremises.{KeepsAllThen, forged, forged_lifted, forged_twice, forged_untold, forging}
+use Rattle.outage_laws.specs.ToldSince.{loses_none}
 use Rattle.outage_laws.proofs.Computing.{on_examples}
 use Rattle.outage_laws.proofs.FairFromExamples.{fair_from_is, room_from}
 use Rattle.outage_laws.proofs.HadTimeExamples.{flights_since}
@@ -21,13 +20,13 @@ begun : length (own_in forging (plain_world forging forged_untold)) ≡ 2
 unfolding on_examples
 begun = refl
 
-lost_then : (line_in forging forged_untold).line.quarantined.lost ≡ 0
-unfolding on_examples
-lost_then = refl
-
-lost_before : (line_in forging forged_twice).line.quarantined.lost ≡ 0
-unfolding on_examples
-lost_before = refl
+kept_then : KeepsAllThen forging forged_twice (took_between_with forging forged_twice forged_lifted ++ took_between_with forging forged_lifted forged_untold)
+unfolding on_examples loses_none
+kept_then = record {
+  keeps = record { asked = notifies_each _ refl refl; untimed = refl; accumulated = refl; of_phone = tt; normal = λ is. refl };
+  since = tt;
+  none_lost = refl;
+}
 
 pub returns : goal.returns
 unfolding on_examples
@@ -46,12 +45,7 @@ returns c = record {
     since = tt;
     none_lost = refl;
   };
-  asked_since = record {
-    keeps = record { asked = notifies_each _ refl refl; untimed = refl; accumulated = refl; of_phone = tt; normal = λ is. refl };
-    since = tt;
-    none_lost = lost_then ∙ sym lost_before;
-    counted = subst (λ (n : ℕ). n < most_lost) (sym lost_before) (omega arith);
-  };
+  keeps_since = kept_then;
   fair = fair_from_is forging forged_untold 0 0 refl;
   room = room_from forging forged_untold 0 (agent_has_room forging forged_untold refl);
   goes = λ line b of. to_agent forging forged_untold b.text refl;

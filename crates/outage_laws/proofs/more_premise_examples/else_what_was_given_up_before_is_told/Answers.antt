@@ -1,6 +1,5 @@
-use Rattle.std.proofs.Common.{◌≡◌, ℕ, ◌<◌, length, refl, sym, ◌∙◌, subst, arith, true, false}
+use Rattle.std.proofs.Common.{◌≡◌, ℕ, ◌<◌, ◌++◌, length, refl, sym, subst, arith, true, false}
 use Rattle.std.proofs.lemmas.Bool.{leb-true, ltb-true}
-use Rattle.quarantine.specs.Held.{most_lost}
 use Rattle.plain_machine.specs.Example.{two_lines}
 use Rattle.agent_core.specs.World.{plain_world}
 use Rattle.world_laws.specs.Reached.{own_in}
@@ -12,8 +11,8 @@ use Rattle.delivery_laws.proofs.ExampleLemmas.{to_agent, took_split}
 use Rattle.delivery_laws.proofs.FrontLemmas.{agent_has_room, answered_within, never_locked}
 use Rattle.told_laws.specs.Stretch.{outliving}
 use Rattle.told_laws.specs.WorldExample.{gives_up_sooner}
-use Rattle.told_laws.specs.WorldPremises.{line_in}
-use Rattle.outage_laws.specs.MorePremises.{comes_before, pressed_soon}
+use Rattle.outage_laws.specs.MorePremises.{KeepsAllThen, comes_before, pressed_soon}
+use Rattle.outage_laws.specs.ToldSince.{loses_none}
 use Rattle.outage_laws.proofs.Computing.{on_examples}
 use Rattle.outage_laws.proofs.FairFromExamples.{fair_from_is, room_from}
 use Rattle.outage_laws.proofs.HadTimeExamples.{flights_since}
@@ -24,13 +23,13 @@ begun : length (own_in two_lines (plain_world two_lines comes_before)) ≡ 4
 unfolding on_examples
 begun = refl
 
-lost_then : (line_in two_lines comes_before).line.quarantined.lost ≡ 0
-unfolding on_examples
-lost_then = refl
-
-lost_before : (line_in two_lines gives_up_sooner).line.quarantined.lost ≡ 0
-unfolding on_examples
-lost_before = refl
+kept_then : KeepsAllThen two_lines gives_up_sooner (took_between_with two_lines gives_up_sooner pressed_soon ++ took_between_with two_lines pressed_soon comes_before)
+unfolding on_examples loses_none
+kept_then = record {
+  keeps = record { asked = notifies_each _ refl refl; untimed = refl; accumulated = refl; of_phone = tt; normal = λ is. refl };
+  since = tt;
+  none_lost = refl;
+}
 
 pub returns : goal.returns
 unfolding on_examples
@@ -50,12 +49,7 @@ returns c = record {
     since = tt;
     none_lost = refl;
   };
-  asked_since = record {
-    keeps = record { asked = notifies_each _ refl refl; untimed = refl; accumulated = refl; of_phone = tt; normal = λ is. refl };
-    since = tt;
-    none_lost = lost_then ∙ sym lost_before;
-    counted = subst (λ (n : ℕ). n < most_lost) (sym lost_before) (omega arith);
-  };
+  keeps_since = kept_then;
   not_well = ltb-true _ _ refl;
   fair = fair_from_is two_lines comes_before 19502 500 refl;
   room = room_from two_lines comes_before 0 (agent_has_room two_lines comes_before refl);

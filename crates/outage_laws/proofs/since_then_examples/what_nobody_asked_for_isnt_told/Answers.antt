@@ -1,6 +1,7 @@
-use Rattle.std.proofs.Common.{refl}
+use Rattle.std.proofs.Common.{◌≡◌, true, ◌++◌, refl}
 use Rattle.std.proofs.lemmas.Bool.{leb-true, ltb-true}
 use Rattle.plain_machine.specs.Example.{two_lines}
+use Rattle.agent_core.specs.World.{gateway_in}
 use Rattle.world_laws.specs.Example.{world}
 use Rattle.delivery_laws.specs.DialledExample.{endpoint_then}
 use Rattle.delivery_laws.specs.Example.{took_between, took_first}
@@ -13,6 +14,7 @@ use Rattle.mg_line.specs.Acting.{letter_at}
 use Rattle.mg_packages.specs.declared.event.LineEvent.TheVariants as events
 use Rattle.delivery_laws.specs.Keeping.{KeepsAll}
 use Rattle.outage_laws.specs.SinceThenExample.{never_asked, pressed_again, rested_unasked}
+use Rattle.outage_laws.specs.ToldSince.{loses_none}
 use Rattle.outage_laws.proofs.Computing.{on_examples}
 use Rattle.outage_laws.proofs.FairFromExamples.{fair_from_is, room_from}
 use Rattle.outage_laws.proofs.HadTimeExamples.{flight_since}
@@ -38,6 +40,10 @@ keeps_none : KeepsAll (endpoint_then rested_unasked).line → ⊥
 unfolding on_examples
 keeps_none k = let clash = k.asked.phone (events.Letter (letter_at Five)) refl in cc
 
+none_lost_then : loses_none two_lines 1 (gateway_in two_lines (world rested_unasked)) (took_between rested_unasked pressed_again ++ took_between pressed_again never_asked) ≡ true
+unfolding on_examples loses_none
+none_lost_then = refl
+
 pub returns : goal.returns
 unfolding on_examples
 returns c = record {
@@ -47,7 +53,7 @@ returns c = record {
   long = leb-true _ _ refl;
   keeps_not = keeps_none;
   since = tt;
-  none_lost = refl;
+  none_lost = none_lost_then;
   fair = fair_then;
   room = room_then;
   flew = flight_since two_lines (world never_asked) 0 (endpoint_then never_asked).post.pending (λ text. to_agent two_lines never_asked text refl) refl;

@@ -1,4 +1,4 @@
-use Rattle.std.proofs.Common.{refl}
+use Rattle.std.proofs.Common.{◌≡◌, true, refl}
 use Rattle.std.proofs.lemmas.Bool.{leb-true, ltb-true}
 use Rattle.plain_machine.specs.Example.{two_lines}
 use Rattle.world_laws.specs.Example.{world}
@@ -17,6 +17,7 @@ use Rattle.agent_core.specs.World.{gateway_in}
 use Rattle.delivery_laws.specs.Course.{course_from}
 use Rattle.delivery_laws.specs.Dialled.{AskForAll}
 use Rattle.outage_laws.specs.SinceThenExample.{asked_no_more, pressed_for_nobody, rested_asked}
+use Rattle.outage_laws.specs.ToldSince.{loses_none}
 use Rattle.outage_laws.proofs.Computing.{on_examples}
 use Rattle.outage_laws.proofs.FairFromExamples.{fair_from_is, room_from}
 use Rattle.outage_laws.proofs.HadTimeExamples.{flight_since}
@@ -42,6 +43,10 @@ asks_less : AskForAll (course_from two_lines (gateway_in two_lines (world rested
 unfolding on_examples
 asks_less all = let clash = all.0.requested.phone (events.Letter (letter_at Five)) refl in cc
 
+none_lost_then : loses_none two_lines 1 (gateway_in two_lines (world rested_asked)) (took_between rested_asked pressed_for_nobody ++ took_between pressed_for_nobody asked_no_more) ≡ true
+unfolding on_examples loses_none
+none_lost_then = refl
+
 pub returns : goal.returns
 unfolding on_examples
 returns c = record {
@@ -51,7 +56,7 @@ returns c = record {
   long = leb-true _ _ refl;
   keeps = record { asked = notifies_each _ refl refl; untimed = refl; accumulated = refl; of_phone = tt; normal = λ is. refl };
   since_not = asks_less;
-  none_lost = refl;
+  none_lost = none_lost_then;
   fair = fair_then;
   room = room_then;
   flew = flight_since two_lines (world asked_no_more) 0 (endpoint_then asked_no_more).post.pending (λ text. to_agent two_lines asked_no_more text refl) refl;

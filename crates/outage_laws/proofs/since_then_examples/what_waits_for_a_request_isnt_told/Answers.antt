@@ -1,6 +1,5 @@
-use Rattle.std.proofs.Common.{◌≡◌, ℕ, ◌<◌, [], ◌∷◌, refl, sym, ◌∙◌, subst, arith}
+use Rattle.std.proofs.Common.{[], ◌∷◌, refl}
 use Rattle.std.proofs.lemmas.Bool.{leb-true, ltb-true}
-use Rattle.quarantine.specs.Held.{most_lost}
 use Rattle.plain_machine.specs.Event.{tick}
 use Rattle.plain_machine.specs.Example.{two_lines}
 use Rattle.world_laws.specs.Example.{world}
@@ -11,8 +10,9 @@ use Rattle.delivery_laws.proofs.AskingLemmas.{notifies_each}
 use Rattle.delivery_laws.proofs.ExampleLemmas.{to_agent, took_split}
 use Rattle.delivery_laws.proofs.FrontLemmas.{agent_has_room, answered_within}
 use Rattle.outage_laws.specs.AfterOutage.{AgentHasRoomFrom, IsFairFrom}
-use Rattle.outage_laws.specs.SinceThenExample.{WasAskedForAllSince, never_asked_again, rested_then}
+use Rattle.outage_laws.specs.SinceThenExample.{KeptAllSince, never_asked_again, rested_then}
 use Rattle.outage_laws.specs.ToldSince.{FlightsBeganSince}
+use Rattle.outage_laws.specs.ToldSince.{loses_none}
 use Rattle.outage_laws.proofs.Computing.{on_examples}
 use Rattle.outage_laws.proofs.FairFromExamples.{fair_from_is, room_from}
 use Rattle.outage_laws.proofs.HadTimeExamples.{flight_since, flights_since}
@@ -38,21 +38,12 @@ began_then : FlightsBeganSince two_lines 1 (took_first rested_then) (took_betwee
 unfolding on_examples
 began_then = flights_since two_lines 1 (took_first rested_then) (took_between rested_then never_asked_again) 0 refl
 
-lost_then : (endpoint_then never_asked_again).line.quarantined.lost ≡ 0
-unfolding on_examples
-lost_then = refl
-
-lost_before : (endpoint_then rested_then).line.quarantined.lost ≡ 0
-unfolding on_examples
-lost_before = refl
-
-was_asked : WasAskedForAllSince rested_then rested_then never_asked_again
-unfolding on_examples
-was_asked = record {
+kept_all : KeptAllSince rested_then rested_then never_asked_again
+unfolding on_examples loses_none
+kept_all = record {
   keeps = record { asked = notifies_each _ refl refl; untimed = refl; accumulated = refl; of_phone = (refl, tt); normal = λ is. absurd cc };
   since = tt;
-  none_lost = lost_then ∙ sym lost_before;
-  counted = subst (λ (n : ℕ). n < most_lost) (sym lost_before) (omega arith);
+  none_lost = refl;
 }
 
 pub returns : goal.returns
@@ -62,7 +53,7 @@ returns c = record {
   calm_before = (refl, refl);
   calm_since = (refl, refl);
   long = leb-true _ _ refl;
-  asked = was_asked;
+  asked = kept_all;
   fair = fair_then;
   room = room_then;
   flew = flight_since two_lines (world never_asked_again) 0 (endpoint_then never_asked_again).post.pending (λ text. to_agent two_lines never_asked_again text refl) refl;

@@ -14,13 +14,13 @@ use Rattle.std.proofs.Common.{List, ◌++◌, Option, None}
 use Rattle.outbound.specs.Flight.{InFlight}
 use Rattle.event_values.specs.declared.observed.Observed.{Observed}
 use Rattle.world_laws.specs.Reached.{own_in}
-use Rattle.quarantine.specs.Held.{most_lost}
 use Rattle.delivery_laws.specs.OnceExample.{hung_up, six}
 use Rattle.delivery_laws.proofs.DialledNumberLemmas.{few_are_begun}
 use Rattle.delivery_laws.proofs.ExampleLemmas.{two_lines_set_up}
 use Rattle.told_laws.specs.Stretch.{IsOnItsWay}
 use Rattle.outage_laws.specs.ToldSince.{FlightsBeganSince}
-use Rattle.outage_laws.specs.SinceThenExample.{ToldFrom, WasAskedForAllSince, done_between, hung_up_then, rested_then, taken_between, told_since_then}
+use Rattle.outage_laws.specs.SinceThenExample.{ToldFrom, KeptAllSince, done_between, hung_up_then, rested_then, taken_between, told_since_then}
+use Rattle.outage_laws.specs.ToldSince.{loses_none}
 use Rattle.outage_laws.proofs.Computing.{on_examples}
 use Rattle.outage_laws.proofs.FairFromExamples.{fair_from_is, room_from}
 use Rattle.outage_laws.proofs.HadTimeExamples.{flight_since, flights_since}
@@ -63,21 +63,12 @@ none_flew : IsOnItsWay (endpoint_then rested_then).post.pending []
 unfolding on_examples
 none_flew = refl
 
-lost_then : (endpoint_then told_since_then).line.quarantined.lost ≡ 0
-unfolding on_examples
-lost_then = refl
-
-lost_before : (endpoint_then rested_then).line.quarantined.lost ≡ 0
-unfolding on_examples
-lost_before = refl
-
-was_asked : WasAskedForAllSince rested_then hung_up_then told_since_then
-unfolding on_examples
-was_asked = record {
+kept_all : KeptAllSince rested_then hung_up_then told_since_then
+unfolding on_examples loses_none
+kept_all = record {
   keeps = record { asked = notifies_each _ refl refl; untimed = refl; accumulated = refl; of_phone = (refl, tt); normal = λ is. absurd cc };
   since = (record { requested = notifies_each _ refl refl; quarantined = refl }, (record { requested = notifies_each _ refl refl; quarantined = refl }, (record { requested = notifies_each _ refl refl; quarantined = refl }, tt)));
-  none_lost = lost_then ∙ sym lost_before;
-  counted = subst (λ (n : ℕ). n < most_lost) (sym lost_before) (omega arith);
+  none_lost = refl;
 }
 
 is_told : ToldFrom rested_then hung_up_then told_since_then
@@ -100,13 +91,12 @@ none_flies : (endpoint_then rested_then).post.pending ≡ None
 unfolding on_examples
 none_flies = refl
 
-was_asked_first : WasAskedForAllSince rested_then rested_then told_since_then
-unfolding on_examples
-was_asked_first = record {
-  keeps = was_asked.keeps;
+kept_all_first : KeptAllSince rested_then rested_then told_since_then
+unfolding on_examples loses_none
+kept_all_first = record {
+  keeps = kept_all.keeps;
   since = (record { requested = notifies_each _ refl refl; quarantined = refl }, (record { requested = notifies_each _ refl refl; quarantined = refl }, (record { requested = notifies_each _ refl refl; quarantined = refl }, tt)));
-  none_lost = was_asked.none_lost;
-  counted = was_asked.counted;
+  none_lost = refl;
 }
 
 answered_first : IsAnsweredWithin two_lines 1 (took_first rested_then) (took_between rested_then told_since_then) 600
@@ -127,7 +117,7 @@ returns c = record {
   calm_before = (refl, refl);
   calm_since = (refl, refl);
   long = leb-true _ _ refl;
-  asked = was_asked;
+  asked = kept_all;
   fair = fair_then;
   room = room_then;
   flew = flight_since two_lines (world told_since_then) 0 (endpoint_then told_since_then).post.pending (λ text. to_agent two_lines told_since_then text refl) refl;
@@ -146,7 +136,7 @@ returns c = record {
   rests = refl;
   done_in_all = refl;
   told_in_all = refl;
-  asked_first = was_asked_first;
+  asked_first = kept_all_first;
   answered_first = answered_first;
   asked_again_first = asked_within two_lines 1 (took_first rested_then) (took_between rested_then told_since_then) 100 refl;
   more_first = leb-true _ _ refl;

@@ -2,7 +2,6 @@ use Rattle.std.proofs.Common.{◌≡◌, ℕ, ◌<◌, List, [], ◌∷◌, ◌+
 use Rattle.std.proofs.lemmas.Bool.{leb-true}
 use Rattle.event_values.specs.declared.observed.Observed.{Observed}
 use Rattle.outbound.specs.Flight.{InFlight}
-use Rattle.quarantine.specs.Held.{most_lost}
 use Rattle.plain_machine.specs.Example.{two_lines}
 use Rattle.world_laws.specs.Example.{world}
 use Rattle.world_laws.specs.Reached.{own_in}
@@ -14,8 +13,9 @@ use Rattle.delivery_laws.proofs.DialledNumberLemmas.{few_are_begun}
 use Rattle.delivery_laws.proofs.ExampleLemmas.{to_agent, took_split, two_lines_set_up}
 use Rattle.delivery_laws.proofs.FrontLemmas.{agent_has_room, asked_within}
 use Rattle.told_laws.specs.Stretch.{IsOnItsWay}
-use Rattle.outage_laws.specs.SinceThenExample.{ToldFrom, WasAskedForAllSince, done_between, taken_between}
+use Rattle.outage_laws.specs.SinceThenExample.{ToldFrom, KeptAllSince, done_between, taken_between}
 use Rattle.outage_laws.specs.ToldBehindExample.{all_told_in_step, put_back_in_step, rested_in_step}
+use Rattle.outage_laws.specs.ToldSince.{loses_none}
 use Rattle.outage_laws.proofs.Computing.{on_examples}
 use Rattle.outage_laws.proofs.FairFromExamples.{fair_from_is, room_from}
 use Rattle.outage_laws.proofs.MoreExamples.{told_more}
@@ -37,21 +37,12 @@ none_flew : IsOnItsWay (endpoint_then rested_in_step).post.pending []
 unfolding on_examples
 none_flew = refl
 
-lost_then : (endpoint_then all_told_in_step).line.quarantined.lost ≡ 0
-unfolding on_examples
-lost_then = refl
-
-lost_before : (endpoint_then rested_in_step).line.quarantined.lost ≡ 0
-unfolding on_examples
-lost_before = refl
-
-was_asked : WasAskedForAllSince rested_in_step put_back_in_step all_told_in_step
-unfolding on_examples
-was_asked = record {
+kept_all : KeptAllSince rested_in_step put_back_in_step all_told_in_step
+unfolding on_examples loses_none
+kept_all = record {
   keeps = record { asked = notifies_each _ refl refl; untimed = refl; accumulated = refl; of_phone = (refl, (refl, tt)); normal = λ is. absurd cc };
   since = (record { requested = notifies_each _ refl refl; quarantined = refl }, (record { requested = notifies_each _ refl refl; quarantined = refl }, (record { requested = notifies_each _ refl refl; quarantined = refl }, (record { requested = notifies_each _ refl refl; quarantined = refl }, tt))));
-  none_lost = lost_then ∙ sym lost_before;
-  counted = subst (λ (n : ℕ). n < most_lost) (sym lost_before) (omega arith);
+  none_lost = refl;
 }
 
 is_told : ToldFrom rested_in_step put_back_in_step all_told_in_step
@@ -74,13 +65,12 @@ none_flies : (endpoint_then rested_in_step).post.pending ≡ None
 unfolding on_examples
 none_flies = refl
 
-was_asked_first : WasAskedForAllSince rested_in_step rested_in_step all_told_in_step
-unfolding on_examples
-was_asked_first = record {
-  keeps = was_asked.keeps;
+kept_all_first : KeptAllSince rested_in_step rested_in_step all_told_in_step
+unfolding on_examples loses_none
+kept_all_first = record {
+  keeps = kept_all.keeps;
   since = (record { requested = notifies_each _ refl refl; quarantined = refl }, (record { requested = notifies_each _ refl refl; quarantined = refl }, (record { requested = notifies_each _ refl refl; quarantined = refl }, (record { requested = notifies_each _ refl refl; quarantined = refl }, tt))));
-  none_lost = was_asked.none_lost;
-  counted = was_asked.counted;
+  none_lost = refl;
 }
 
 more_told : (told : ToldFrom rested_in_step rested_in_step all_told_in_step) × (told.rest ≡ []) → ⊥
@@ -99,7 +89,7 @@ returns c = record {
   numbers = few_are_begun (own_in two_lines (world all_told_in_step)) (subst (λ (n : ℕ). n < 9999999) (sym some_began) (omega arith));
   well = refl;
   long = refl;
-  asked = was_asked;
+  asked = kept_all;
   front = took_split two_lines rested_in_step put_back_in_step refl;
   split = took_split two_lines put_back_in_step all_told_in_step refl;
   asked_again = asked_within two_lines 1 (took_first put_back_in_step) (took_between put_back_in_step all_told_in_step) 100 refl;
@@ -109,7 +99,7 @@ returns c = record {
   taken = taken_is;
   told = is_told;
   rests = refl;
-  asked_first = was_asked_first;
+  asked_first = kept_all_first;
   asked_again_first = asked_within two_lines 1 (took_first rested_in_step) (took_between rested_in_step all_told_in_step) 100 refl;
   held_first = refl;
   more_first = leb-true _ _ refl;

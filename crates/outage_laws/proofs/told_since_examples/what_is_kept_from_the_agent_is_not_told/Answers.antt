@@ -1,6 +1,5 @@
-use Rattle.std.proofs.Common.{◌≡◌, ℕ, ◌<◌, refl, sym, ◌∙◌, subst, arith}
+use Rattle.std.proofs.Common.{refl}
 use Rattle.std.proofs.lemmas.Bool.{leb-true, ltb-true}
-use Rattle.quarantine.specs.Held.{most_lost}
 use Rattle.plain_machine.specs.Example.{two_lines}
 use Rattle.world_laws.specs.Example.{world}
 use Rattle.delivery_laws.specs.DialledExample.{endpoint_then}
@@ -10,8 +9,9 @@ use Rattle.delivery_laws.proofs.AskingLemmas.{notifies_each}
 use Rattle.delivery_laws.proofs.ExampleLemmas.{to_agent, took_split}
 use Rattle.delivery_laws.proofs.FrontLemmas.{agent_has_room, answered_within, asked_within}
 use Rattle.outage_laws.specs.AfterOutage.{AgentHasRoomFrom, IsFairFrom}
-use Rattle.outage_laws.specs.SinceThenExample.{WasAskedForAllSince}
+use Rattle.outage_laws.specs.SinceThenExample.{KeptAllSince}
 use Rattle.outage_laws.specs.ToldSinceExample.{dialled_since, kept_from_it, rested_since}
+use Rattle.outage_laws.specs.ToldSince.{loses_none}
 use Rattle.outage_laws.proofs.Computing.{on_examples}
 use Rattle.outage_laws.proofs.FairFromExamples.{fair_from_is, not_fair_from, room_from}
 use Rattle.outage_laws.proofs.HadTimeExamples.{flight_since, not_since, not_flights_since}
@@ -33,21 +33,12 @@ asked_then : IsAskedWithin two_lines 1 (took_first dialled_since) (took_between 
 unfolding on_examples
 asked_then = asked_within two_lines 1 (took_first dialled_since) (took_between dialled_since kept_from_it) 100 refl
 
-lost_then : (endpoint_then kept_from_it).line.quarantined.lost ≡ 0
-unfolding on_examples
-lost_then = refl
-
-lost_before : (endpoint_then rested_since).line.quarantined.lost ≡ 0
-unfolding on_examples
-lost_before = refl
-
-was_asked : WasAskedForAllSince rested_since dialled_since kept_from_it
-unfolding on_examples
-was_asked = record {
+kept_all : KeptAllSince rested_since dialled_since kept_from_it
+unfolding on_examples loses_none
+kept_all = record {
   keeps = record { asked = notifies_each _ refl refl; untimed = refl; accumulated = refl; of_phone = tt; normal = λ is. refl };
   since = (record { requested = notifies_each _ refl refl; quarantined = refl }, tt);
-  none_lost = lost_then ∙ sym lost_before;
-  counted = subst (λ (n : ℕ). n < most_lost) (sym lost_before) (omega arith);
+  none_lost = refl;
 }
 
 pub returns : goal.returns
@@ -65,7 +56,7 @@ returns c = record {
     );
     none_lost = refl;
   };
-  asked_since = was_asked;
+  asked_since = kept_all;
   not_fair = not_fair_from two_lines kept_from_it 28502 300 23 _ refl refl refl refl;
   room = room_then;
   flew = flight_since two_lines (world kept_from_it) 28502 (endpoint_then kept_from_it).post.pending (λ text. to_agent two_lines kept_from_it text refl) refl;

@@ -1,7 +1,6 @@
-use Rattle.std.proofs.Common.{◌≡◌, ℕ, ◌<◌, [], ◌∷◌, drop, refl, sym, ◌∙◌, subst, arith}
+use Rattle.std.proofs.Common.{[], ◌∷◌, drop, refl}
 use Rattle.std.proofs.lemmas.Bool.{leb-true, ltb-true}
 use Rattle.plain_machine.specs.Event.{tick}
-use Rattle.quarantine.specs.Held.{most_lost}
 use Rattle.plain_machine.specs.Example.{two_lines}
 use Rattle.world_laws.specs.Example.{world}
 use Rattle.delivery_laws.specs.DialledExample.{endpoint_then}
@@ -11,8 +10,9 @@ use Rattle.delivery_laws.proofs.AskingLemmas.{notifies_each}
 use Rattle.delivery_laws.proofs.ExampleLemmas.{to_agent, took_split}
 use Rattle.delivery_laws.proofs.FrontLemmas.{agent_has_room, answered_within, asked_within, not_answered}
 use Rattle.outage_laws.specs.AfterOutage.{AgentHasRoomFrom, IsFairFrom}
-use Rattle.outage_laws.specs.SinceThenExample.{WasAskedForAllSince}
+use Rattle.outage_laws.specs.SinceThenExample.{KeptAllSince}
 use Rattle.outage_laws.specs.ToldSinceExample.{dialled_since, rested_since, underway_since}
+use Rattle.outage_laws.specs.ToldSince.{loses_none}
 use Rattle.outage_laws.proofs.Computing.{on_examples}
 use Rattle.outage_laws.proofs.FairFromExamples.{fair_from_is, room_from}
 use Rattle.outage_laws.proofs.HadTimeExamples.{flight_since}
@@ -39,21 +39,12 @@ unfolding on_examples
 not_at_once_then =
     not_answered two_lines 1 (took_first dialled_since) (took_between dialled_since underway_since) (tick 40301 ∷ []) (drop 1 (took_between dialled_since underway_since)) 0 refl refl
 
-lost_then : (endpoint_then underway_since).line.quarantined.lost ≡ 0
-unfolding on_examples
-lost_then = refl
-
-lost_before : (endpoint_then rested_since).line.quarantined.lost ≡ 0
-unfolding on_examples
-lost_before = refl
-
-was_asked : WasAskedForAllSince rested_since dialled_since underway_since
-unfolding on_examples
-was_asked = record {
+kept_all : KeptAllSince rested_since dialled_since underway_since
+unfolding on_examples loses_none
+kept_all = record {
   keeps = record { asked = notifies_each _ refl refl; untimed = refl; accumulated = refl; of_phone = tt; normal = λ is. refl };
   since = (record { requested = notifies_each _ refl refl; quarantined = refl }, tt);
-  none_lost = lost_then ∙ sym lost_before;
-  counted = subst (λ (n : ℕ). n < most_lost) (sym lost_before) (omega arith);
+  none_lost = refl;
 }
 
 pub returns : goal.returns
@@ -71,7 +62,7 @@ returns c = record {
     );
     none_lost = refl;
   };
-  asked_since = was_asked;
+  asked_since = kept_all;
   fair = fair_then;
   room = room_then;
   flew = flight_since two_lines (world underway_since) 28502 (endpoint_then underway_since).post.pending (λ text. to_agent two_lines underway_since text refl) refl;
