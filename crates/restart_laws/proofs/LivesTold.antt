@@ -32,7 +32,7 @@ use Rattle.delivery_laws.proofs.RestLemmas.{begun_both}
 use Rattle.delivery_laws.proofs.RoundLaws.{course_on, out_in_time, sent_on}
 use Rattle.delivery_laws.proofs.ToldLemmas.{told_by}
 use Rattle.told_laws.proofs.StretchCourses.{told_then}
-use Rattle.outage_laws.specs.ToldSince.{IsAskedForAllSince}
+use Rattle.outage_laws.specs.ToldSince.{KeepsAllSince}
 use Rattle.outage_laws.proofs.KeepingSince.{Kept, kept_since}
 use Rattle.life_laws.specs.Apart.{LieApart, firsts_of_lives}
 use Rattle.life_laws.specs.Lives.{Brought, LivesStep, LivesWorld, clock_of, lives_are_taken, lives_of, lives_opening, number_of, plain_lives}
@@ -73,8 +73,7 @@ module _ (setup : Setup) (steps : List LivesStep) (since within line answering a
     (at_was : endpoint_at (plain (plain_lives setup steps).life.setup before).endpoints line ≡ Some was)
     (at_there : endpoint_at (plain (plain_lives setup steps).life.setup (before ++ front)).endpoints line ≡ Some there)
     (at_is : endpoint_at (plain (plain_lives setup steps).life.setup ((before ++ front) ++ later)).endpoints line ≡ Some is)
-    (asked : IsAskedForAllSince was.line
-    (course_from (plain_lives setup steps).life.setup (plain (plain_lives setup steps).life.setup before) line (front ++ later)) is.line)
+    (asked : KeepsAllSince (plain_lives setup steps).life.setup line (plain (plain_lives setup steps).life.setup before) (front ++ later) was.line)
     (calm : has_given_up (of_line line (sent_from (plain_lives setup steps).life.setup (plain (plain_lives setup steps).life.setup (before ++ front)) later)) is.post ≡ false)
     (is_answered : IsAnsweredWithin (plain_lives setup steps).life.setup line (before ++ front) later answering)
     (is_asked : IsAskedWithin (plain_lives setup steps).life.setup line (before ++ front) later asking)
@@ -114,7 +113,7 @@ module _ (setup : Setup) (steps : List LivesStep) (since within line answering a
   -- What the line told, and no more than was done since is quarantined
 
   kept : Kept held (course events) is.line
-  kept = kept_since K line some before events was is at_was at_all asked.keeps asked.since asked.none_lost asked.counted
+  kept = kept_since K line before events was is at_was at_all asked.keeps asked.since asked.none_lost
 
   few : length left ≤ length done_since
   few =

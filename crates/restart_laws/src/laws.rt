@@ -22,7 +22,7 @@ ghost use Rattle.delivery_laws.specs.Keeping.{happened_in};
 ghost use Rattle.delivery_laws.specs.Rounds.{IsAnsweredWithin, IsAskedWithin, of_telephone, rounds_take};
 ghost use Rattle.outage_laws.specs.AfterOutage.{gap_of, longest_pause};
 ghost use Rattle.outage_laws.specs.Alone.{HasBegun, HasResponse};
-ghost use Rattle.outage_laws.specs.ToldSince.{IsAskedForAllSince};
+ghost use Rattle.outage_laws.specs.ToldSince.{KeepsAllSince};
 ghost use Rattle.life_laws.specs.Lives.{Brought, LivesStep, clock_of, gateway_of, lives_of, number_of, plain_lives, restarting};
 ghost use Rattle.life_laws.specs.Apart.{LieApart, firsts_of_lives};
 ghost use Rattle.restart_laws.specs.AfterRestart.{AgentHasRoomThen, IsRunOfLives, LifeGoesToAgent, LineReachesTheAgentSince};
@@ -137,7 +137,7 @@ pub fn a_quarantine_of_a_new_life_is_out_after_an_outage()
 /// What was quarantined at some moment, and what the telephone of such a line of the life that goes on did since by a later one, that line
 /// tells as many rounds later as there were events in its quarantine; and the network's time behind that the agent took each of the
 /// commands that tell it, of those that began since the network came back, as a first of that life. So it is where the line is asked for
-/// all since, loses nothing more, gives nothing up, and waits for no answer and for no request for longer than so many ms each, and lives'
+/// all since, loses no act more, gives nothing up, and waits for no answer and for no request for longer than so many ms each, and lives'
 /// ids lie apart. And that is all, where the telephone rests from that later moment on (RFC 3435, 3.5, 4.3 and 4.4.1).
 pub fn what_is_dialled_in_a_new_life_is_told_after_an_outage()
     ensures told { (setup : Setup) (steps : List LivesStep) (since within line answering asking : ℕ)
@@ -147,7 +147,7 @@ pub fn what_is_dialled_in_a_new_life_is_told_after_an_outage()
         endpoint_at (plain w.life.setup before).endpoints line ≡ Some was →
         let some = before ++ front in endpoint_at (plain w.life.setup some).endpoints line ≡ Some there →
         endpoint_at (plain w.life.setup (some ++ later)).endpoints line ≡ Some is →
-        IsAskedForAllSince was.line (course_from w.life.setup (plain w.life.setup before) line (front ++ later)) is.line →
+        KeepsAllSince w.life.setup line (plain w.life.setup before) (front ++ later) was.line →
         has_given_up (of_line line (sent_from w.life.setup (plain w.life.setup some) later)) is.post ≡ false →
         IsAnsweredWithin w.life.setup line some later answering → IsAskedWithin w.life.setup line some later asking →
         (plain w.life.setup some).now + rounds_take (length there.line.quarantined.events) answering asking
@@ -162,7 +162,7 @@ pub fn what_is_dialled_in_a_new_life_is_told_after_an_outage()
         endpoint_at (plain w.life.setup before).endpoints line ≡ Some was →
         let some = before ++ front in endpoint_at (plain w.life.setup some).endpoints line ≡ Some there →
         endpoint_at (plain w.life.setup (some ++ later)).endpoints line ≡ Some is →
-        IsAskedForAllSince was.line (course_from w.life.setup (plain w.life.setup before) line (front ++ later)) is.line →
+        KeepsAllSince w.life.setup line (plain w.life.setup before) (front ++ later) was.line →
         has_given_up (of_line line (sent_from w.life.setup (plain w.life.setup some) later)) is.post ≡ false →
         IsAnsweredWithin w.life.setup line some later answering → IsAskedWithin w.life.setup line some later asking →
         (plain w.life.setup some).now + rounds_take (length there.line.quarantined.events) answering asking

@@ -12,7 +12,7 @@ ghost use Rattle.delivery_laws.specs.GivenUp.{has_given_up};
 ghost use Rattle.delivery_laws.specs.OnceExample.{lifted};
 ghost use Rattle.delivery_laws.specs.Rounds.{IsAnsweredWithin, IsAskedWithin, rounds_take};
 ghost use Rattle.outage_laws.specs.Alone.{HasBegun};
-ghost use Rattle.outage_laws.specs.ToldSince.{IsAskedForAllSince};
+ghost use Rattle.outage_laws.specs.ToldSince.{KeepsAllSince};
 ghost use Rattle.life_laws.specs.Apart.{LieApart};
 ghost use Rattle.life_laws.specs.Lives.{clock_of, lives_of};
 ghost use Rattle.life_laws.specs.Example.{firsts_after, lives};
@@ -33,9 +33,8 @@ pub fn what_was_dialled_in_a_new_life_is_told()
     ensures apart { LieApart (lives_of (lives told_anew)) }
     ensures life { (lives told_anew).life.setup ≡ from_twenty }
     ensures split { life_took told_anew ≡ (took_both asked_anew told_once ++ a_ms) ++ [] }
-    ensures asked { IsAskedForAllSince (line_behind (life_took asked_anew)).line
-        (course_behind (life_took asked_anew) (took_since asked_anew told_once ++ a_ms))
-        (line_behind (took_both asked_anew told_once ++ a_ms)).line }
+    ensures keeps { KeepsAllSince from_twenty 1 (plain from_twenty (life_took asked_anew)) (took_since asked_anew told_once ++ a_ms)
+        (line_behind (life_took asked_anew)).line }
     ensures calm { has_given_up (of_line 1 (sent_from from_twenty (plain from_twenty (took_both asked_anew told_once)) a_ms))
         (line_behind (took_both asked_anew told_once ++ a_ms)).post ≡ false }
     ensures answered { IsAnsweredWithin from_twenty 1 (took_both asked_anew told_once) a_ms 0 }
@@ -55,9 +54,8 @@ pub fn what_was_dialled_in_a_new_life_is_told()
 /// And where the telephone did something since more is told than was done by then.
 pub fn else_a_telephone_of_a_new_life_does_not_rest()
     ensures split { life_took told_anew ≡ (took_both asked_anew asked_anew ++ took_since asked_anew told_anew) ++ [] }
-    ensures asked { IsAskedForAllSince (line_behind (life_took asked_anew)).line
-        (course_behind (life_took asked_anew) (took_since asked_anew asked_anew ++ took_since asked_anew told_anew))
-        (line_behind (took_both asked_anew asked_anew ++ took_since asked_anew told_anew)).line }
+    ensures keeps { KeepsAllSince from_twenty 1 (plain from_twenty (life_took asked_anew))
+        (took_since asked_anew asked_anew ++ took_since asked_anew told_anew) (line_behind (life_took asked_anew)).line }
     ensures calm { has_given_up (of_line 1 (sent_from from_twenty (plain from_twenty (took_both asked_anew asked_anew))
         (took_since asked_anew told_anew)))
         (line_behind (took_both asked_anew asked_anew ++ took_since asked_anew told_anew)).post ≡ false }

@@ -1,39 +1,28 @@
-use Rattle.std.proofs.Common.{◌≡◌, ℕ, ◌<◌, ◌++◌, refl, sym, ◌∙◌, subst, arith}
+use Rattle.std.proofs.Common.{◌++◌, refl}
 use Rattle.std.proofs.lemmas.Bool.{ltb-true}
-use Rattle.quarantine.specs.Held.{most_lost}
+use Rattle.plain_machine.specs.Lists.{plain}
 use Rattle.delivery_laws.proofs.AskingLemmas.{notifies_each}
 use Rattle.delivery_laws.proofs.FrontLemmas.{answered_within, asked_within}
-use Rattle.outage_laws.specs.ToldSince.{IsAskedForAllSince}
+use Rattle.outage_laws.specs.ToldSince.{KeepsAllSince, loses_none}
 use Rattle.restart_laws.specs.Example.{life_took, took_since}
-use Rattle.restart_laws.specs.ToldExample.{asked_anew, course_behind, from_twenty, line_behind, told_anew, took_both}
+use Rattle.restart_laws.specs.ToldExample.{asked_anew, from_twenty, line_behind, told_anew, took_both}
 use Rattle.restart_laws.proofs.Computing.{on_examples}
 use Rattle.restart_laws.proofs.told_examples.else_a_telephone_of_a_new_life_does_not_rest.Goals as goal
 
-lost_then : (line_behind (took_both asked_anew asked_anew ++ took_since asked_anew told_anew)).line.quarantined.lost ≡ 0
-unfolding on_examples
-lost_then = refl
-
-lost_before : (line_behind (life_took asked_anew)).line.quarantined.lost ≡ 0
-unfolding on_examples
-lost_before = refl
-
-was_asked : IsAskedForAllSince (line_behind (life_took asked_anew)).line (course_behind (life_took asked_anew) (took_since asked_anew asked_anew ++ took_since asked_anew told_anew))
-    (line_behind (took_both asked_anew asked_anew ++ took_since asked_anew told_anew)).line
-unfolding on_examples
-was_asked = record {
+kept_all : KeepsAllSince from_twenty 1 (plain from_twenty (life_took asked_anew)) (took_since asked_anew asked_anew ++ took_since asked_anew told_anew) (line_behind (life_took asked_anew)).line
+unfolding on_examples loses_none
+kept_all = record {
   keeps = record { asked = notifies_each _ refl refl; untimed = refl; accumulated = refl; of_phone = tt; normal = λ is. refl };
   since = tt;
-  none_lost = lost_then ∙ sym lost_before;
-  counted = subst (λ (n : ℕ). n < most_lost) (sym lost_before) (omega arith);
+  none_lost = refl;
 }
 
 pub returns-clause-split : goal.returns-clause-split
 unfolding on_examples
 returns-clause-split c = refl
 
-pub returns-clause-asked : goal.returns-clause-asked
-unfolding on_examples
-returns-clause-asked c = was_asked
+pub returns-clause-keeps : goal.returns-clause-keeps
+returns-clause-keeps c = kept_all
 
 pub returns-clause-calm : goal.returns-clause-calm
 unfolding on_examples
