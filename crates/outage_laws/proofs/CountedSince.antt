@@ -28,8 +28,8 @@ no_stay : (was is : ℕ) → is ≡ min most_lost (was + 1) → is ≡ was → w
 no_stay was is more same few = absurd (omega (arith, more, same, few))
 
 -- it stays at each event, where it does in all
-stays : (was then is : ℕ) → was ≤ then → then ≤ is → is ≡ was → then ≡ was
-stays was then is one two same = omega (arith, one, two, same)
+stays : (was between is : ℕ) → was ≤ between → between ≤ is → is ≡ was → between ≡ was
+stays was between is one two same = omega (arith, one, two, same)
 
 -- At one event
 

@@ -110,10 +110,10 @@ fine_rests n lost = refl
 -- Of events behind others: the line announces nothing, is asked for nothing, and waits for nothing for long; and so much was done
 
 pub record Track (before events : List GatewayEvent) (done : List Observed) : Type 0 where
-  quiet : has_announced (sent_from two_lines (plain two_lines before) events) ≡ false
-  unasked : requests_in (course_from two_lines (plain two_lines before) 1 events) ≡ []
-  done_is : done_in (course_from two_lines (plain two_lines before) 1 events) ≡ done
-  fine : (some rest : List GatewayEvent) → events ≡ some ++ rest → IsFine (plain two_lines (before ++ some))
+  pub quiet : has_announced (sent_from two_lines (plain two_lines before) events) ≡ false
+  pub unasked : requests_in (course_from two_lines (plain two_lines before) 1 events) ≡ []
+  pub done_is : done_in (course_from two_lines (plain two_lines before) 1 events) ≡ done
+  pub fine : (some rest : List GatewayEvent) → events ≡ some ++ rest → IsFine (plain two_lines (before ++ some))
 
 no_events : (some rest : List GatewayEvent) → [] ≡ some ++ rest → some ≡ []
 no_events [] rest same = refl

@@ -1,4 +1,4 @@
-use Rattle.std.proofs.Common.{◌≢◌, ℕ, ◌<◌, List, [], ◌∷◌, inl, inr, refl, ap, arith}
+use Rattle.std.proofs.Common.{◌≡◌, ◌≢◌, ℕ, ◌<◌, List, [], ◌∷◌, inl, inr, refl, ap, arith}
 use Rattle.std.specs.Option.{unwrap_or}
 use Rattle.mgcp_text.specs.Reading.{Outcome, id_in}
 use Rattle.plain_machine.specs.Arriving.{TextArrival, arrivals_from}
