@@ -196,7 +196,7 @@ unheard false line now code text was is cares kept none takes =
     let unread = subst (λ (flight : Option Duty). TakesResponse flight line now code text was (cared landed cares line) is kept) none takes in
     unread.1 ∙ cared_same landed cares line (slice_get cares line) refl none landed_same
 
-woken_same : (moment later : ℕ) (care : Care) → (woken moment care).again ≡ Some later → care.again ≡ Some later
+pub woken_same : (moment later : ℕ) (care : Care) → (woken moment care).again ≡ Some later → care.again ≡ Some later
 woken_same moment later care again = by_test (is_due_at care.again moment) again where
   by_test : (b : Bool) → (if b then record care { again = None } else care).again ≡ Some later → care.again ≡ Some later
   by_test true again = absurd (none-some later again)
@@ -263,7 +263,7 @@ agrees_by was is line leads agree =
     subst (λ (attended : Attended). Agree attended.exchange attended.desk line) leads.2
     (all_agree anyone was leads.0 line leads.1 refl agree)
 
-abbrev AgreesIn : Gateway → Box Office → ℕ → Type 0
+abbrev pub AgreesIn : Gateway → Box Office → ℕ → Type 0
 AgreesIn gateway office line = Agree office.value.exchange (desk_of gateway office.value) line
 
 module _ (gateway after : Gateway) (was is : Box Office) where
@@ -272,7 +272,7 @@ module _ (gateway after : Gateway) (was is : Box Office) where
   stood_agrees line stands leads agree =
       agrees_by (attended_of gateway was.value) (attended_of after is.value) line (stood gateway after was.value is.value stands leads) agree
 
-  step_agrees : (step : Step) → DoesAnyhow step gateway was after is → ((line : ℕ) → AgreesIn gateway was line) → (line : ℕ) → AgreesIn after is line
+  pub step_agrees : (step : Step) → DoesAnyhow step gateway was after is → ((line : ℕ) → AgreesIn gateway was line) → (line : ℕ) → AgreesIn after is line
   step_agrees (steps.gives_up of) does agree line =
       stood_agrees line does.0
       (given_up of gateway.ticked was.value.exchange is.value.exchange was.value.cares.items is.value.cares.items gateway.wakes.items does.1) (agree line)

@@ -395,7 +395,7 @@ all_behind attended [] turn = refl
 all_behind attended (one ∷ turns) turn = all_behind (attended_one attended one) turns turn
 
 -- something is in flight to it, or nothing is to be sent to it
-abbrev FliesOrNone : Care → ExchangeState → ℕ → List ℕ → Type 0
+abbrev pub FliesOrNone : Care → ExchangeState → ℕ → List ℕ → Type 0
 FliesOrNone care exchange line map = ((duty : Duty) × (care.flight ≡ Some duty)) ⊎ (ordered (Some care) exchange line map ≡ None)
 
 -- the exchange sends nothing, and it is the exchange's turn
@@ -435,7 +435,7 @@ due_sends exchange desk line map care None none starts there =
     (sym (care_here landed (cared begun desk.cares line) line ∙ ap (option_map landed) (care_here begun desk.cares line)) ∙ there))
     (ap (λ (c : Option Command). due (sent_by exchange line c) line) none ∙ none))
 
-settled_sends : (exchange : ExchangeState) (desk : Desk) (line : ℕ) (map : List ℕ) (care : Care) (duty : Option Duty)
+pub settled_sends : (exchange : ExchangeState) (desk : Desk) (line : ℕ) (map : List ℕ) (care : Care) (duty : Option Duty)
     → duty_of (slice_get desk.cares line) ≡ duty → slice_get (after_turns desk (begun_for duty exchange line)).cares line ≡ Some care
     → FliesOrNone care (after exchange (sent_for duty line)) line map
 unfolding after after_turns
@@ -461,7 +461,7 @@ settled_flies attended turns line care there =
     (settled_sends before.exchange before.desk line [] care (duty_of (care_in before line)) refl
     (sym (ap (λ (a : Attended). care_in a line) same) ∙ there))
 
-waits_by : (desk : Desk) (line : ℕ) (care : Care) (exchange : ExchangeState) (phase : Phase) (asked : Option Asked) → FliesOrNone care exchange line []
+pub waits_by : (desk : Desk) (line : ℕ) (care : Care) (exchange : ExchangeState) (phase : Phase) (asked : Option Asked) → FliesOrNone care exchange line []
     → GoesOn desk line care exchange [] phase asked → WaitsFor desk line care phase asked
 waits_by desk line care exchange phase asked sent (inl flies) = inl flies
 waits_by desk line care exchange phase asked sent (inr (inl held)) = inr (inl held)

@@ -64,7 +64,7 @@ leads_both was mid is first next = (
 )
 
 -- an exchange, and a desk at this moment
-abbrev both_at : ExchangeState → ℕ → List Care → List Wake → Attended
+abbrev pub both_at : ExchangeState → ℕ → List Care → List Wake → Attended
 both_at exchange now cares wakes = attended_with exchange (desk_at now cares wakes)
 
 same_at : (was is : ExchangeState) (now : ℕ) (cares kept : List Care) (wakes held : List Wake) → is ≡ was → kept ≡ cares → held ≡ wakes
@@ -77,12 +77,17 @@ same_clock : (now later : ℕ) (cares : List Care) (wakes held : List Wake) → 
 same_clock now later cares wakes held now_so held_so = rw (now_so, held_so) refl
 
 -- by one turn, which leaves this of the exchange, and of what is kept
+one_turn : (was to is : ExchangeState) (now : ℕ) (cares mid kept : List Care) (wakes : List Wake) (turn : AttendedTurn)
+    → attended_one (both_at was now cares wakes) turn ≡ both_at to now mid wakes → is ≡ to → kept ≡ mid
+    → attended_one (both_at was now cares wakes) turn ≡ both_at is now kept wakes
+one_turn was to is now cares mid kept wakes turn so is_so kept_so = so ∙ same_at to is now mid kept wakes wakes is_so kept_so refl
+
 leads_to : (was to is : ExchangeState) (now : ℕ) (cares mid kept : List Care) (wakes : List Wake) (turn : AttendedTurn) → is_apart anyone turn ≡ true
     → attended_one (both_at was now cares wakes) turn ≡ both_at to now mid wakes → is ≡ to → kept ≡ mid
     → Leads (both_at was now cares wakes) (both_at is now kept wakes)
 leads_to was to is now cares mid kept wakes turn own so is_so kept_so =
     leads_one (both_at was now cares wakes) (both_at is now kept wakes) turn own
-    (so ∙ same_at to is now mid kept wakes wakes is_so kept_so refl)
+    (one_turn was to is now cares mid kept wakes turn so is_so kept_so)
 
 -- Given up
 
@@ -172,33 +177,40 @@ sent_none exchange line none = ap (sent_by exchange line) none
 
 begun_due : (command : Option Command) (line now : ℕ) (was is : ExchangeState) (cares kept : List Care) (wakes : List Wake) → due was line ≡ command
     → duty_of (slice_get cares line) ≡ Some Route → is ≡ sent_to was line → kept ≡ landed_if (is_none (due was line)) (cared begun cares line) line
-    → Leads (both_at was now cares wakes) (both_at is now kept wakes)
+    → attended_one (both_at was now cares wakes) (settles line) ≡ both_at is now kept wakes
 begun_due (Some command) line now was is cares kept wakes sends begins is_so kept_so =
-    leads_to was (sent_to was line) is now cares (cared begun cares line) kept wakes (settles line) refl
+    one_turn was (sent_to was line) is now cares (cared begun cares line) kept wakes (settles line)
     (settled_routed was (desk_at now cares wakes) line command begins sends) is_so
     (kept_so ∙ ap (λ (c : Option Command). landed_if (is_none c) (cared begun cares line) line) sends)
 begun_due None line now was is cares kept wakes none begins is_so kept_so =
-    leads_to was was is now cares (cared landed (cared begun cares line) line) kept wakes (settles line) refl
+    one_turn was was is now cares (cared landed (cared begun cares line) line) kept wakes (settles line)
     (settled_nothing was (desk_at now cares wakes) line begins none) (is_so ∙ sent_none was line none)
     (kept_so ∙ ap (λ (c : Option Command). landed_if (is_none c) (cared begun cares line) line) none)
 
 begun_by : (duty : Option Duty) (line now : ℕ) (was is : ExchangeState) (cares kept : List Care) (wakes : List Wake) → duty_of (slice_get cares line) ≡ duty
-    → BeginsBy duty line was cares is kept → Leads (both_at was now cares wakes) (both_at is now kept wakes)
+    → BeginsBy duty line was cares is kept → attended_one (both_at was now cares wakes) (settles line) ≡ both_at is now kept wakes
 begun_by None line now was is cares kept wakes begins begun_so =
-    leads_to was was is now cares cares kept wakes (settles line) refl (settled_held was (desk_at now cares wakes) line begins) begun_so.0
+    one_turn was was is now cares cares kept wakes (settles line) (settled_held was (desk_at now cares wakes) line begins) begun_so.0
     (begun_so.1 ∙ held_by cares line (slice_get cares line) refl begins)
 begun_by (Some Clear) line now was is cares kept wakes begins begun_so =
-    leads_to was was is now cares (cared begun cares line) kept wakes (settles line) refl
+    one_turn was was is now cares (cared begun cares line) kept wakes (settles line)
     (settled_cleared was (desk_at now cares wakes) line begins) begun_so.0 begun_so.1
 begun_by (Some Audit) line now was is cares kept wakes begins begun_so =
-    leads_to was was is now cares (cared begun cares line) kept wakes (settles line) refl
+    one_turn was was is now cares (cared begun cares line) kept wakes (settles line)
     (settled_audited was (desk_at now cares wakes) line begins) begun_so.0 begun_so.1
 begun_by (Some Route) line now was is cares kept wakes begins begun_so =
     begun_due (due was line) line now was is cares kept wakes refl begins begun_so.0 begun_so.1
 
+-- it is that turn
+pub begun_turn : (line now : ℕ) (was is : ExchangeState) (cares kept : List Care) (wakes : List Wake) → Begins line was cares is kept
+    → attended_one (both_at was now cares wakes) (settles line) ≡ both_at is now kept wakes
+begun_turn line now was is cares kept wakes begun_so = begun_by (duty_of (slice_get cares line)) line now was is cares kept wakes refl begun_so
+
 begun_at : (line now : ℕ) (was is : ExchangeState) (cares kept : List Care) (wakes : List Wake) → Begins line was cares is kept
     → Leads (both_at was now cares wakes) (both_at is now kept wakes)
-begun_at line now was is cares kept wakes begun_so = begun_by (duty_of (slice_get cares line)) line now was is cares kept wakes refl begun_so
+begun_at line now was is cares kept wakes begun_so =
+    leads_one (both_at was now cares wakes) (both_at is now kept wakes) (settles line) refl
+    (begun_turn line now was is cares kept wakes begun_so)
 
 -- at a gateway
 
@@ -226,14 +238,14 @@ none_at : (now : ℕ) (wakes : List Wake) (found : Option Wake) → woken_first 
 none_at now wakes None none = refl
 none_at now wakes (Some wake) none = none_by wakes wake (nat_le wake.moment now) none
 
-none_woken : (now : ℕ) (wakes : List Wake) → first_woken now wakes ≡ None → behind_woken now wakes ≡ wakes
+pub none_woken : (now : ℕ) (wakes : List Wake) → first_woken now wakes ≡ None → behind_woken now wakes ≡ wakes
 none_woken now wakes none = none_at now wakes (slice_get wakes 0) none
 
-abbrev exchange_in : Option (Box Office) → ExchangeState
+abbrev pub exchange_in : Option (Box Office) → ExchangeState
 exchange_in None = opening 0 0
 exchange_in (Some office) = office.value.exchange
 
-abbrev cares_in : Option (Box Office) → List Care
+abbrev pub cares_in : Option (Box Office) → List Care
 cares_in None = []
 cares_in (Some office) = office.value.cares.items
 

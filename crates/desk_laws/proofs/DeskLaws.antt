@@ -468,17 +468,24 @@ module _ (care : Care) (exchange : ExchangeState) (line : ℕ) (map : List ℕ) 
   pub sends_or_waits : care.flight ≡ None → care.again ≡ None → SendsOrWaits
   sends_or_waits none free = by_next care.next (begun_free care none free)
 
-pub goes_on_at : (desk : Desk) (line : ℕ) (care : Care) (exchange : ExchangeState) (map : List ℕ) (phase : Phase) (is : Line) → IsSound desk
-    → slice_get desk.cares line ≡ Some care → phase_of exchange line ≡ Some phase → line_of exchange line ≡ Some is
-    → is_in_flight exchange line ≡ false → GoesOn desk line care exchange map phase is.asked
-goes_on_at desk line care exchange map phase is s there here known idle = by_flight care.flight refl where
+pub goes_on_held : (desk : Desk) (line : ℕ) (care : Care) (exchange : ExchangeState) (map : List ℕ) (phase : Phase) (is : Line)
+    → ((moment : ℕ) → care.again ≡ Some moment → IsHeldUntil desk line care moment) → phase_of exchange line ≡ Some phase
+    → line_of exchange line ≡ Some is → is_in_flight exchange line ≡ false → GoesOn desk line care exchange map phase is.asked
+goes_on_held desk line care exchange map phase is until here known idle = by_flight care.flight refl where
   by_again : (again : Option ℕ) → care.again ≡ again → care.flight ≡ None → GoesOn desk line care exchange map phase is.asked
-  by_again (Some moment) held none = inr (inl (moment, held_until desk line care moment s there held))
+  by_again (Some moment) held none = inr (inl (moment, until moment held))
   by_again None free none = inr (inr (sends_or_waits care exchange line map phase is here known idle none free))
 
   by_flight : (flight : Option Duty) → care.flight ≡ flight → GoesOn desk line care exchange map phase is.asked
   by_flight (Some duty) flies = inl (duty, flies)
   by_flight None none = by_again care.again refl none
+
+pub goes_on_at : (desk : Desk) (line : ℕ) (care : Care) (exchange : ExchangeState) (map : List ℕ) (phase : Phase) (is : Line) → IsSound desk
+    → slice_get desk.cares line ≡ Some care → phase_of exchange line ≡ Some phase → line_of exchange line ≡ Some is
+    → is_in_flight exchange line ≡ false → GoesOn desk line care exchange map phase is.asked
+goes_on_at desk line care exchange map phase is s there here known idle =
+    goes_on_held desk line care exchange map phase is
+    (λ (moment : ℕ) (held : care.again ≡ Some moment). held_until desk line care moment s there held) here known idle
 
 pub goes_on : (lines line : ℕ) (turns : List DeskTurn) (care : Care) (exchange : ExchangeState) (map : List ℕ) (phase : Phase) (is : Line)
     → slice_get (after_turns (opening_desk lines) turns).cares line ≡ Some care → phase_of exchange line ≡ Some phase → line_of exchange line ≡ Some is
