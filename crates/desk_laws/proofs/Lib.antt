@@ -11,3 +11,8 @@ mod AttendedLaws
 mod AttendedCalls
 mod AttendedRuns
 mod AnyhowRuns
+mod LineLemmas
+mod GatewayLemmas
+mod GatewayRuns
+mod SameLines
+mod GatewayWakes

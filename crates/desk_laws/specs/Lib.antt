@@ -1,5 +1,6 @@
 pub mod Desk
 pub mod Steps
+pub mod Gateways
 pub mod Attended
 pub mod Example
 pub mod HappeningExample
