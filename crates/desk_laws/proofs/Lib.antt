@@ -14,5 +14,6 @@ mod AnyhowRuns
 mod LineLemmas
 mod GatewayLemmas
 mod GatewayRuns
+mod GatewayExampleLemmas
 mod SameLines
 mod GatewayWakes

@@ -6,3 +6,4 @@ pub mod Example
 pub mod HappeningExample
 pub mod StepExample
 pub mod AttendedExample
+pub mod GatewaysExample

@@ -7,6 +7,7 @@
 pub mod attended_examples;
 pub mod attended_laws;
 pub mod examples;
+pub mod gateway_examples;
 pub mod gateway_laws;
 pub mod happening_examples;
 pub mod laws;
