@@ -4,7 +4,7 @@
 
 ghost use Rattle.std.specs.Prelude.{◌≡◌, ◌∷◌, ◌++◌, [], List, None, slice_get, Some, false, true};
 ghost use Rattle.std.specs.Global.{Box};
-ghost use Rattle.call_routing.specs.Exchange.{phase_of};
+ghost use Rattle.call_routing.specs.Exchange.{opening, phase_of};
 ghost use Rattle.call_laws.specs.Turns.{is_in_flight};
 ghost use Rattle.live_agent.specs.declared.care.Duty.TheVariants.{Route};
 ghost use Rattle.live_agent.specs.declared.gateway.Gateway.{Gateway};
@@ -83,6 +83,8 @@ pub fn a_call_is_of_its_gateway()
         ¬ DoesOwn (takes_answer 1 200 []) (high gateway) office (high gateway) office }
     ensures no_call { (gateways : List Gateway) (office : Box Office) → StepsDo DoesOwn [] gateways office gateways office }
     ensures else_one_comes { (gateway : Gateway) (office : Box Office) → ¬ StepsDo DoesOwn [] [] office (gateway ∷ []) office }
+    ensures else_a_line_comes { (gateways : List Gateway) (was is : Box Office) → was.value.exchange ≡ opening 3 0 →
+        is.value.exchange ≡ opening 4 0 → ¬ StepsDo DoesOwn [] gateways was gateways is }
 {}
 
 /// What a line of one gateway dials has a line of another ring: that is sent what it is asked for, by the gateway that has it. What is put

@@ -1,5 +1,8 @@
-use Rattle.std.proofs.Common.{◌≡◌, ◌≤◌, List, length, refl, ap, arith}
+use Rattle.std.proofs.Common.{◌≡◌, ◌≤◌, List, length, refl, sym, ap, ◌∙◌, arith}
+use Rattle.std.specs.Global.{Box}
+use Rattle.call_routing.specs.Exchange.{ExchangeState}
 use Rattle.live_agent.specs.declared.gateway.Gateway.{Gateway}
+use Rattle.live_agent.specs.declared.office.Office.{Office}
 use Rattle.live_agent.specs.AgentClock.{tick_to}
 use Rattle.desk_laws.proofs.GatewayExampleLemmas.{has_so}
 use Rattle.desk_laws.proofs.gateway_examples.a_call_is_of_its_gateway.Goals as goal
@@ -34,3 +37,11 @@ returns-clause-no_call c = λ gateways office. (refl, refl)
 pub returns-clause-else_one_comes : goal.returns-clause-else_one_comes
 returns-clause-else_one_comes c = λ gateway office does.
     absurd (let same : 1 ≡ 0 = ap (λ (gateways : List Gateway). length gateways) does.0 in omega (arith, same))
+
+pub returns-clause-else_a_line_comes : goal.returns-clause-else_a_line_comes
+returns-clause-else_a_line_comes c = λ gateways was is three four does.
+    absurd
+    (let same : 4 ≡ 3 =
+    ap (λ (exchange : ExchangeState). length exchange.lines)
+    (sym four ∙ (ap (λ (office : Box Office). office.value.exchange) does.1 ∙ three)) in
+    omega (arith, same))
