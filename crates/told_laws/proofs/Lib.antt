@@ -41,6 +41,8 @@ pub mod FateLemmas
 pub mod FateSteps
 pub mod FateCourses
 pub mod FateExampleLemmas
+pub mod SentAnyway
+pub mod AgentReaches
 pub mod Computing
 pub mod WorldComputing
 pub mod FullLine

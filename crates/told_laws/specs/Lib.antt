@@ -11,3 +11,4 @@ pub mod WorldPremises
 pub mod WalkExample
 pub mod FateExample
 pub mod FrontExample
+pub mod DeliveryPremises

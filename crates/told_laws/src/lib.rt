@@ -7,6 +7,7 @@
 
 pub mod examples;
 pub mod fate_examples;
+pub mod fewer_premises;
 pub mod front_examples;
 pub mod laws;
 pub mod premise_examples;

@@ -1,0 +1,37 @@
+//! Laws of delivery that ask for less: what an answer that was sent, and a command that began, need for the rest (RFC 3435, 3.5).
+#![tactic(auto)]
+
+ghost use Rattle.std.specs.Prelude.{◌≡◌, ◌⊎◌, ◌≤◌, ◌+◌, ℕ, List, All, slice_get, Some, true};
+ghost use Rattle.plain_machine.specs.declared.setup.Setup.{Setup};
+ghost use Rattle.plain_machine.specs.Setup.{IsSetUp};
+ghost use Rattle.machine_laws.specs.Saying.{Begun};
+ghost use Rattle.agent_core.specs.declared.packet.End.TheVariants.{AgentEnd};
+ghost use Rattle.agent_core.specs.declared.packet.Posted.{Posted};
+ghost use Rattle.agent_core.specs.World.{World, WorldStep, now_in, plain_world};
+ghost use Rattle.delivery_laws.specs.Chances.{chances};
+ghost use Rattle.delivery_laws.specs.Copies.{IsAnswered, IsIssued, IsServed, arrives};
+ghost use Rattle.delivery_laws.specs.OwnChances.{HasCome, IsOfLine, IsToldAfter};
+
+/// Once the gateway sent the stored answer to a command of the agent's, however it came to that, the command has an answer where that
+/// packet is handed over less than 23,500 ms after the command was issued: no copy of the command need be what was answered just then,
+/// the gateway needs no room, and no step before is asked for but as one of all, which are taken (RFC 3435, 3.5).
+pub fn what_was_answered_is_served()
+    ensures { (setup : Setup) (before : World) (first : List WorldStep) (b : Begun) → IsSetUp setup →
+        let after = plain_world setup first in IsIssued setup after b → (answer : IsAnswered setup before after b.id) →
+        IsServed setup first b answer.number }
+{}
+
+/// Until a response to it comes, each command of a gateway's own goes out eight times, whichever line sent it, or the gateway itself,
+/// which is line 0, and whatever steps are refused (RFC 3435, 3.5.3).
+pub fn what_a_line_begins_is_sent_eight_times()
+    ensures { (setup : Setup) (steps : List WorldStep) (line : ℕ) (b : Begun) → IsSetUp setup → let w = plain_world setup steps in
+        IsOfLine setup w line b →
+        HasCome w b.id ⊎ All (λ (wait : ℕ). b.moment + wait ≤ now_in setup w → IsToldAfter setup w b wait) chances }
+{}
+
+/// Each packet of the agent's goes to the gateway, whatever steps are refused: so of a copy of a text of its own that needn't be asked for.
+pub fn what_the_agent_sends_goes_to_the_gateway()
+    ensures { (setup : Setup) (steps : List WorldStep) (number : ℕ) (post : Posted) →
+        slice_get (plain_world setup steps).posted number ≡ Some post → post.end ≡ AgentEnd →
+        arrives AgentEnd setup post.packet ≡ true }
+{}
