@@ -43,6 +43,7 @@ pub mod FateCourses
 pub mod FateExampleLemmas
 pub mod SentAnyway
 pub mod AgentReaches
+pub mod DeliveryLemmas
 pub mod Computing
 pub mod WorldComputing
 pub mod FullLine

@@ -5,6 +5,7 @@
 //! `specs/` says what is among what, and how what is told walks through what was done.
 #![tactic(auto)]
 
+pub mod delivery_examples;
 pub mod examples;
 pub mod fate_examples;
 pub mod fewer_premises;
