@@ -44,6 +44,7 @@ pub mod FateExampleLemmas
 pub mod SentAnyway
 pub mod AgentReaches
 pub mod DeliveryLemmas
+pub mod SetupLemmas
 pub mod Computing
 pub mod WorldComputing
 pub mod FullLine

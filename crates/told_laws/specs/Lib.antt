@@ -12,3 +12,4 @@ pub mod WalkExample
 pub mod FateExample
 pub mod FrontExample
 pub mod DeliveryPremises
+pub mod SetupPremises

@@ -13,6 +13,7 @@ pub mod front_examples;
 pub mod laws;
 pub mod premise_examples;
 pub mod premise_worlds;
+pub mod setup_examples;
 pub mod walk_examples;
 pub mod way_examples;
 pub mod world_examples;
