@@ -151,6 +151,23 @@ has_it first end (one ∷ gateways) line have past before =
     has_it_here first line one gateways have.0 past (cases_lt line (first + one.lines))
     (λ (late : first + one.lines ≤ line). has_it (first + one.lines) end gateways line have.1 late before)
 
+-- no other line is of any of them
+at_most : (first end : ℕ) (gateways : List Gateway) → HaveLines first end gateways → first ≤ end
+at_most first end [] have = (let same : first ≡ end = have in omega (arith, same))
+at_most first end (one ∷ gateways) have =
+    (let behind : first + one.lines ≤ end = at_most (first + one.lines) end gateways have.1 in omega (arith, behind))
+
+pub before_end : (first end : ℕ) (gateways : List Gateway) (place line : ℕ) (gateway : Gateway) → HaveLines first end gateways
+    → slice_get gateways place ≡ Some gateway → Has gateway line → line < end
+before_end first end [] place line gateway have there has = absurd (none-some gateway there)
+before_end first end (one ∷ gateways) zero line gateway have there has =
+    let here : Has one line = subst (λ (g : Gateway). Has g line) (sym (same_some one gateway there)) has in
+    let before : line < first + one.lines = subst (λ (n : ℕ). line < n + one.lines) have.0 here.1 in
+    let behind : first + one.lines ≤ end = at_most (first + one.lines) end gateways have.1 in
+    omega (arith, before, behind)
+before_end first end (one ∷ gateways) (suc place) line gateway have there has =
+    before_end (first + one.lines) end gateways place line gateway have.1 there has
+
 -- Lines stay where they are
 
 still_by : (first end : ℕ) (was is : Gateway) (are : List Gateway) → KeepsLines was is → was.first ≡ first → HaveLines (first + was.lines) end are

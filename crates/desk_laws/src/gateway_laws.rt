@@ -61,11 +61,13 @@ pub fn what_was_put_off_at_any_gateway_wakes_when_its_moment_comes()
 {}
 
 /// Where the gateways have the exchange's lines, the next one's behind those of the one before: no line is of two of them, each is of one,
-/// and so it stays, whatever is called.
+/// no gateway has any other, and so it stays, whatever is called.
 pub fn each_line_is_of_one_gateway()
     ensures of_no_two { (count : ℕ) (gateways : List Gateway) → HaveLines 0 count gateways → ShareNoLine gateways }
     ensures of_one { (count line : ℕ) (gateways : List Gateway) → HaveLines 0 count gateways → line < count →
         (place : ℕ) × (gateway : Gateway) × (slice_get gateways place ≡ Some gateway) × Has gateway line }
+    ensures no_other { (count place line : ℕ) (gateways : List Gateway) (gateway : Gateway) → HaveLines 0 count gateways →
+        slice_get gateways place ≡ Some gateway → Has gateway line → line < count }
     ensures stays { (count : ℕ) (steps : List StepAt) (were are : List Gateway) (was is : Box Office) → HaveLines 0 count were →
         StepsDo DoesOwn steps were was are is → HaveLines 0 count are }
 {}
