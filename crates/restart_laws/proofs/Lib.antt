@@ -22,5 +22,6 @@ mod ToldWorld
 mod LivesPlaces
 mod OneLife
 mod StartedWorld
+mod StartedPremises
 mod RoomlessAnew
 mod RoomlessOnce

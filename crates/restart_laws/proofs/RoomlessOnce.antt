@@ -1,15 +1,14 @@
 -- The life of a gateway that started again before anything else, where its agent has no room: it is the gateway of the world, and what is so
 -- there is so of it.
 use Rattle.std.proofs.Common.{◌≡◌, ℕ, List, [], ◌∷◌, ◌++◌, Some, true, refl, sym, ap, ◌∙◌, subst, arith}
-use Rattle.std.specs.Prelude.{All, Any, length, option_map}
+use Rattle.std.specs.Prelude.{Any, length, option_map}
 use Rattle.restart.specs.declared.restart.Restart.TheVariants.{Waiting}
 use Rattle.plain_machine.specs.declared.endpoint.Endpoint.{Endpoint}
 use Rattle.plain_machine.specs.Event.{tick}
 use Rattle.plain_machine.specs.Example.{two_lines}
 use Rattle.plain_machine.specs.Machine.{Machine, endpoint_at}
 use Rattle.plain_machine.specs.Posting.{id_on}
-use Rattle.machine_laws.specs.Saying.{Begun}
-use Rattle.machine_laws.proofs.EachLemmas.{Each, all_from_each, each_weaker}
+use Rattle.machine_laws.proofs.EachLemmas.{Each, each_weaker}
 use Rattle.call_agent.specs.Hearing.{AgentEvent, plain_agent}
 use Rattle.agent_core.specs.World.{agent_in, agent_of, plain_world}
 use Rattle.outage_laws.specs.Alone.{HasBegun, HasResponse}
@@ -19,15 +18,15 @@ use Rattle.outage_laws.proofs.RoomlessLine.{e_22501, given_up_stays, goes, is_fa
 use Rattle.outage_laws.proofs.RoomlessRounds.{IsLow, IsOther, filled, low_other}
 use Rattle.outage_laws.proofs.RoomlessTicks.{at_22501, at_23501}
 use Rattle.life_laws.specs.Lives.{Brought, Life, LivesWorld, agent_then, clock_of, gateway_of, lives_are_taken, lives_of, lives_opening, number_of, plain_lives, restarting}
-use Rattle.life_laws.specs.Apart.{AreApart, BeginsLater, LieApart, begun_of, firsts_of_lives}
-use Rattle.life_laws.proofs.PairLemmas.{Pairs, pairs_to}
+use Rattle.life_laws.specs.Apart.{LieApart, firsts_of_lives}
 use Rattle.restart_laws.specs.AfterRestart.{AgentHasRoomThen, LifeGoesToAgent, LivesAreFairFrom}
 use Rattle.restart_laws.specs.Example.{restart_after}
 use Rattle.restart_laws.specs.Roomless.{full_front, starting}
 use Rattle.restart_laws.proofs.Computing.{on_examples}
 use Rattle.restart_laws.proofs.OneLife.{IsWorld, fair_in_one, goes_in_one, not_among, one_clock}
 use Rattle.restart_laws.proofs.RoomlessAnew.{no_room}
-use Rattle.restart_laws.proofs.StartedWorld.{before, started_agent, started_is_taken, started_life, started_network, started_over}
+use Rattle.restart_laws.proofs.StartedPremises.{started_apart}
+use Rattle.restart_laws.proofs.StartedWorld.{started_agent, started_is_taken, started_life, started_network, started_over, two_lines_start}
 
 as_world : IsWorld two_lines (restarting 0 ∷ [])
 as_world = record { agent = started_agent; network = started_network }
@@ -75,18 +74,8 @@ none_taken = not_among two_lines (starting roomless) (id_on 1 next_key_number) o
 pub none_came : HasResponse w.life.took (key_begun 1 next_key_number).id → ⊥
 none_came any = not_answered (subst (λ (one : Life). HasResponse one.took (id_on 1 next_key_number)) life any)
 
-none_begun : begun_of before ≡ []
-unfolding on_examples
-none_begun = refl
-
-first_apart : (life : Life) → AreApart before life
-first_apart one =
-    all_from_each (λ (b : Begun). All (BeginsLater b) (begun_of one)) (begun_of before) (subst (Each (λ (b : Begun). All (BeginsLater b) (begun_of one))) (sym none_begun) tt)
-
 pub apart : LieApart (lives_of w)
-apart =
-    pairs_to AreApart (lives_of w)
-    (subst (λ (over : List Life). Pairs AreApart (over ++ w.life ∷ [])) (sym (started_over roomless)) ((first_apart w.life, tt), (tt, tt)))
+apart = started_apart two_lines two_lines_start roomless
 
 pub second_life : number_of w ≡ 1
 second_life = ap length (started_over roomless)

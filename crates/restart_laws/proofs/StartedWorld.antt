@@ -12,6 +12,7 @@ use Rattle.plain_machine.specs.Example.{two_lines}
 use Rattle.plain_machine.specs.Packing.{put_out}
 use Rattle.plain_machine.specs.Happening.{effect}
 use Rattle.plain_machine.specs.Refusing.{refusal_of, tick_refusal}
+use Rattle.plain_machine.specs.Setup.{IsSetUp}
 use Rattle.call_agent.specs.Hearing.{AgentEvent, agent_effect, agent_refusal, hears, issues}
 use Rattle.agent_core.specs.declared.packet.End.{End}
 use Rattle.agent_core.specs.declared.packet.Packet.{Packet}
@@ -21,6 +22,7 @@ use Rattle.agent_core.specs.World.{World, WorldStep, agent_in, agent_of, agent_r
 use Rattle.machine_laws.proofs.EachLemmas.{is_none-None}
 use Rattle.world_laws.proofs.AgentLaws.{tick_taken}
 use Rattle.world_laws.proofs.WorldLaws.{Sound, gateway_taken, opening_sound, step_sound, tick_is}
+use Rattle.delivery_laws.proofs.ExampleLemmas.{two_lines_set_up}
 use Rattle.life_laws.specs.Lives.{Brought, Letter, Life, LivesWorld, agent_side, handed, handed_from, lived, lived_refusal, lives_after, lives_are_taken, lives_opening, plain_lives, restarting, said_to, sent_by, step_refused, stepping, to_agent_of, to_life}
 use Rattle.restart_laws.specs.Roomless.{starting}
 use Rattle.restart_laws.proofs.Computing.{on_examples}
@@ -29,13 +31,13 @@ abbrev post_of : Letter → Posted
 post_of letter = letter.post
 
 -- the life that is over, which took nothing
-abbrev pub before : Life
-before = record { setup = two_lines; start = 0; took = [] }
+abbrev pub before : Setup → Life
+before setup = record { setup = setup; start = 0; took = [] }
 
 -- a world of lives with one life behind that, that of this world
-abbrev one_life : Setup → World → List Brought → List Letter → LivesWorld
+abbrev pub one_life : Setup → World → List Brought → List Letter → LivesWorld
 one_life setup v brought letters =
-    record { over = before ∷ []; life = record { setup = setup; start = 0; took = v.gateway_took }; agent_took = v.agent_took; brought = brought; letters = letters }
+    record { over = before setup ∷ []; life = record { setup = setup; start = 0; took = v.gateway_took }; agent_took = v.agent_took; brought = brought; letters = letters }
 
 record IsOne (setup : Setup) (w : LivesWorld) (v : World) : Type 0 where
   brought : List Brought
@@ -142,32 +144,38 @@ steps_one setup w v (step ∷ steps) o = steps_one setup (lived setup w (steppin
 
 -- Behind such a start
 
-starts_so : lived two_lines (lives_opening two_lines) (restarting 0) ≡ one_life two_lines world_opening [] []
+-- the life that starts so has the same setup
+pub record StartsSo (setup : Setup) : Type 0 where
+  pub set_up : IsSetUp setup
+  pub starts : lived setup (lives_opening setup) (restarting 0) ≡ one_life setup world_opening [] []
+
+pub two_lines_start : StartsSo two_lines
 unfolding lived on_examples
-starts_so = refl
+two_lines_start = record { set_up = two_lines_set_up; starts = refl }
 
-start_may : lived_refusal two_lines (lives_opening two_lines) (restarting 0) ≡ None
+start_may : (setup : Setup) → lived_refusal setup (lives_opening setup) (restarting 0) ≡ None
 unfolding lived_refusal
-start_may = refl
+start_may setup = refl
 
-first_one : IsOne two_lines (lived two_lines (lives_opening two_lines) (restarting 0)) world_opening
-first_one = record { brought = []; letters = []; is = starts_so; posted = refl }
+module _ (setup : Setup) (s : StartsSo setup) where
+  first_one : IsOne setup (lived setup (lives_opening setup) (restarting 0)) world_opening
+  first_one = record { brought = []; letters = []; is = s.starts; posted = refl }
 
-all_one : (steps : List WorldStep) → IsOne two_lines (plain_lives two_lines (starting steps)) (plain_world two_lines steps)
-unfolding lives_after
-all_one steps = steps_one two_lines (lived two_lines (lives_opening two_lines) (restarting 0)) world_opening steps first_one
+  all_one : (steps : List WorldStep) → IsOne setup (plain_lives setup (starting steps)) (plain_world setup steps)
+  unfolding lives_after
+  all_one steps = steps_one setup (lived setup (lives_opening setup) (restarting 0)) world_opening steps first_one
 
-pub started_over : (steps : List WorldStep) → (plain_lives two_lines (starting steps)).over ≡ before ∷ []
-started_over steps = ap (λ (w : LivesWorld). w.over) (all_one steps).is
+  pub over_then : (steps : List WorldStep) → (plain_lives setup (starting steps)).over ≡ before setup ∷ []
+  over_then steps = ap (λ (w : LivesWorld). w.over) (all_one steps).is
 
-pub started_life : (steps : List WorldStep) → (plain_lives two_lines (starting steps)).life ≡ record { setup = two_lines; start = 0; took = (plain_world two_lines steps).gateway_took }
-started_life steps = ap (λ (w : LivesWorld). w.life) (all_one steps).is
+  pub life_then : (steps : List WorldStep) → (plain_lives setup (starting steps)).life ≡ record { setup = setup; start = 0; took = (plain_world setup steps).gateway_took }
+  life_then steps = ap (λ (w : LivesWorld). w.life) (all_one steps).is
 
-pub started_agent : (steps : List WorldStep) → (plain_lives two_lines (starting steps)).agent_took ≡ (plain_world two_lines steps).agent_took
-started_agent steps = ap (λ (w : LivesWorld). w.agent_took) (all_one steps).is
+  pub agent_as : (steps : List WorldStep) → (plain_lives setup (starting steps)).agent_took ≡ (plain_world setup steps).agent_took
+  agent_as steps = ap (λ (w : LivesWorld). w.agent_took) (all_one steps).is
 
-pub started_network : (steps : List WorldStep) → (agent_side (plain_lives two_lines (starting steps))).posted ≡ (plain_world two_lines steps).posted
-started_network steps = let o = all_one steps in ap (λ (w : LivesWorld). map post_of w.letters) o.is ∙ o.posted
+  pub network_as : (steps : List WorldStep) → (agent_side (plain_lives setup (starting steps))).posted ≡ (plain_world setup steps).posted
+  network_as steps = let o = all_one steps in ap (λ (w : LivesWorld). map post_of w.letters) o.is ∙ o.posted
 
 -- What a world takes
 
@@ -199,9 +207,27 @@ steps_taken setup w v (step ∷ steps) s o taken =
     (ap (λ refusal. is_none refusal) (refused_one setup w v step s o none))
     (steps_taken setup (lived setup w (stepping step)) (went setup v step) steps (step_sound setup v step s none) (one_on setup w v step o) both.1)
 
-pub started_is_taken : (steps : List WorldStep) → steps_are_taken two_lines world_opening steps ≡ true → lives_are_taken two_lines (lives_opening two_lines) (starting steps) ≡ true
+pub taken_as : (setup : Setup) → StartsSo setup → (steps : List WorldStep) → steps_are_taken setup world_opening steps ≡ true
+    → lives_are_taken setup (lives_opening setup) (starting steps) ≡ true
 unfolding lives_are_taken
-started_is_taken steps taken =
-    and_from (is_none (lived_refusal two_lines (lives_opening two_lines) (restarting 0)))
-    (lives_are_taken two_lines (lived two_lines (lives_opening two_lines) (restarting 0)) (map stepping steps)) (ap (λ refusal. is_none refusal) start_may)
-    (steps_taken two_lines (lived two_lines (lives_opening two_lines) (restarting 0)) world_opening steps (opening_sound two_lines) first_one taken)
+taken_as setup s steps taken =
+    and_from (is_none (lived_refusal setup (lives_opening setup) (restarting 0)))
+    (lives_are_taken setup (lived setup (lives_opening setup) (restarting 0)) (map stepping steps)) (ap (λ refusal. is_none refusal) (start_may setup))
+    (steps_taken setup (lived setup (lives_opening setup) (restarting 0)) world_opening steps (opening_sound setup) (first_one setup s) taken)
+
+-- Of the gateway of two lines
+
+pub started_over : (steps : List WorldStep) → (plain_lives two_lines (starting steps)).over ≡ before two_lines ∷ []
+started_over = over_then two_lines two_lines_start
+
+pub started_life : (steps : List WorldStep) → (plain_lives two_lines (starting steps)).life ≡ record { setup = two_lines; start = 0; took = (plain_world two_lines steps).gateway_took }
+started_life = life_then two_lines two_lines_start
+
+pub started_agent : (steps : List WorldStep) → (plain_lives two_lines (starting steps)).agent_took ≡ (plain_world two_lines steps).agent_took
+started_agent = agent_as two_lines two_lines_start
+
+pub started_network : (steps : List WorldStep) → (agent_side (plain_lives two_lines (starting steps))).posted ≡ (plain_world two_lines steps).posted
+started_network = network_as two_lines two_lines_start
+
+pub started_is_taken : (steps : List WorldStep) → steps_are_taken two_lines world_opening steps ≡ true → lives_are_taken two_lines (lives_opening two_lines) (starting steps) ≡ true
+started_is_taken = taken_as two_lines two_lines_start
