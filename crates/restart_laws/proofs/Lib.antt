@@ -23,5 +23,7 @@ mod LivesPlaces
 mod OneLife
 mod StartedWorld
 mod StartedPremises
+mod Untold
+mod ForgedAnew
 mod RoomlessAnew
 mod RoomlessOnce

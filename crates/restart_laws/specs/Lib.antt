@@ -5,3 +5,4 @@ pub mod Roomless
 pub mod CarriedBack
 pub mod CarriedExample
 pub mod ToldExample
+pub mod ToldPhoneExample

@@ -13,4 +13,5 @@ pub mod laws;
 pub mod quarantine_examples;
 pub mod roomless_examples;
 pub mod told_examples;
+pub mod told_phone_examples;
 pub mod word_examples;

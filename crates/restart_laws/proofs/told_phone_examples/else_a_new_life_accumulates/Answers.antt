@@ -1,0 +1,124 @@
+use Rattle.std.proofs.Common.{◌≡◌, ℕ, ◌<◌, true, List, [], ◌∷◌, ◌++◌, length, refl}
+use Rattle.std.proofs.lemmas.Bool.{ltb-true}
+use Rattle.event_values.specs.declared.observed.Observed.{Observed}
+use Rattle.mg_packages.specs.declared.event.LineEvent.TheVariants as events
+use Rattle.plain_machine.specs.Event.{tick}
+use Rattle.plain_machine.specs.Example.{two_lines}
+use Rattle.agent_core.specs.World.{plain_world, steps_are_taken, world_opening}
+use Rattle.delivery_laws.specs.Example.{accumulated, asked_to_accumulate, line_with, put_by, took_between, took_first}
+use Rattle.delivery_laws.specs.Fairness.{AgentAlwaysHasRoom, GoesToAgent}
+use Rattle.delivery_laws.specs.Keeping.{KeepsAll}
+use Rattle.delivery_laws.proofs.Computing.{on_examples}
+use Rattle.delivery_laws.proofs.ExampleLemmas.{to_agent, took_split}
+use Rattle.delivery_laws.proofs.FrontLemmas.{agent_has_room, answered_within, never_locked}
+use Rattle.outage_laws.specs.AfterOutage.{IsFairFrom}
+use Rattle.outage_laws.specs.ToldSince.{loses_none}
+use Rattle.outage_laws.proofs.FairFromExamples.{fair_from_is}
+use Rattle.life_laws.specs.Lives.{plain_lives}
+use Rattle.restart_laws.specs.Roomless.{starting}
+use Rattle.restart_laws.specs.ToldPhoneExample.{done_anew, tells_anew}
+use Rattle.restart_laws.proofs.StartedPremises.{started_apart, started_by, started_fair, started_goes, started_room, started_run, started_setup}
+use Rattle.restart_laws.proofs.StartedWorld.{life_then, two_lines_start}
+use Rattle.restart_laws.proofs.Untold.{untold}
+use Rattle.restart_laws.proofs.told_phone_examples.else_a_new_life_accumulates.Goals as goal
+
+taken : steps_are_taken two_lines world_opening put_by ≡ true
+unfolding on_examples
+taken = refl
+
+fair : IsFairFrom two_lines put_by 0 0
+unfolding on_examples
+fair = fair_from_is two_lines put_by 0 0 refl
+
+room : AgentAlwaysHasRoom two_lines put_by
+unfolding on_examples
+room = agent_has_room two_lines put_by refl
+
+goes : (text : List ℕ) → GoesToAgent two_lines (plain_world two_lines put_by) text
+unfolding on_examples
+goes text = to_agent two_lines put_by text refl
+
+keeps_less : KeepsAll (line_with two_lines (took_first asked_to_accumulate)).line → ⊥
+unfolding on_examples
+keeps_less k = let clash = k.asked.phone events.OffHook refl in cc
+
+abbrev none : List Observed
+none = []
+
+told_is : tells_anew two_lines (took_first asked_to_accumulate) (took_between asked_to_accumulate accumulated ++ tick 2 ∷ []) ≡ none
+unfolding on_examples
+told_is = refl
+
+few : length none < length (done_anew two_lines (took_first asked_to_accumulate) (took_between asked_to_accumulate accumulated))
+unfolding on_examples
+few = ltb-true (length none) (length (done_anew two_lines (took_first asked_to_accumulate) (took_between asked_to_accumulate accumulated))) refl
+
+pub returns-clause-run : goal.returns-clause-run
+returns-clause-run c = started_run two_lines two_lines_start put_by taken
+
+pub returns-clause-fair : goal.returns-clause-fair
+returns-clause-fair c = started_fair two_lines two_lines_start put_by 0 taken fair
+
+pub returns-clause-room : goal.returns-clause-room
+returns-clause-room c = started_room two_lines two_lines_start put_by 0 taken room
+
+pub returns-clause-goes : goal.returns-clause-goes
+returns-clause-goes c = λ b began past. started_goes two_lines two_lines_start put_by b.text (goes b.text)
+
+pub returns-clause-apart : goal.returns-clause-apart
+returns-clause-apart c = started_apart two_lines two_lines_start put_by
+
+pub returns-clause-life : goal.returns-clause-life
+returns-clause-life c = life_then two_lines two_lines_start put_by
+
+pub returns-clause-by : goal.returns-clause-by
+returns-clause-by c = started_by two_lines two_lines_start put_by taken
+
+pub returns-clause-front : goal.returns-clause-front
+unfolding on_examples
+returns-clause-front c = took_split two_lines asked_to_accumulate accumulated refl
+
+pub returns-clause-split : goal.returns-clause-split
+unfolding on_examples
+returns-clause-split c = took_split two_lines accumulated put_by refl
+
+pub returns-clause-keeps_not : goal.returns-clause-keeps_not
+returns-clause-keeps_not c = keeps_less
+
+pub returns-clause-asked_for_all : goal.returns-clause-asked_for_all
+unfolding on_examples
+returns-clause-asked_for_all c = tt
+
+pub returns-clause-none_lost : goal.returns-clause-none_lost
+unfolding on_examples loses_none
+returns-clause-none_lost c = refl
+
+pub returns-clause-calm : goal.returns-clause-calm
+unfolding on_examples
+returns-clause-calm c = refl
+
+pub returns-clause-answered : goal.returns-clause-answered
+unfolding on_examples
+returns-clause-answered c = answered_within two_lines 1 (took_first accumulated) (tick 2 ∷ []) 0 refl
+
+pub returns-clause-asked_again : goal.returns-clause-asked_again
+unfolding on_examples
+returns-clause-asked_again c = never_locked two_lines 1 (took_first accumulated) (tick 2 ∷ []) 0 refl
+
+pub returns-clause-held : goal.returns-clause-held
+unfolding on_examples
+returns-clause-held c = refl
+
+pub returns-clause-over : goal.returns-clause-over
+unfolding on_examples
+returns-clause-over c = ltb-true _ _ refl
+
+pub returns-clause-done : goal.returns-clause-done
+unfolding on_examples
+returns-clause-done c = refl
+
+pub returns-clause-tells : goal.returns-clause-tells
+returns-clause-tells c = told_is
+
+pub returns-clause-not_told : goal.returns-clause-not_told
+returns-clause-not_told c = untold (plain_lives two_lines (starting put_by)) two_lines 0 (took_first asked_to_accumulate) (took_between asked_to_accumulate accumulated) (tick 2 ∷ []) none (started_setup two_lines two_lines_start put_by) told_is few
