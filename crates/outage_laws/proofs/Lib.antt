@@ -86,9 +86,9 @@ mod RoomlessRest
 mod RoomlessTold
 mod RoomlessEver
 mod RoomlessCopies
-mod CrowdedMachine
+pub mod CrowdedMachine
 mod CrowdedRounds
-mod CrowdedWorld
+pub mod CrowdedWorld
 mod CrowdedTracks
-mod CrowdedTold
-mod CrowdedLoss
+pub mod CrowdedTold
+pub mod CrowdedLoss
