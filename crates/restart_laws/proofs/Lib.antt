@@ -24,6 +24,7 @@ mod OneLife
 mod StartedWorld
 mod StartedPremises
 mod Untold
+mod CrowdedAnew
 mod ForgedAnew
 mod RoomlessAnew
 mod RoomlessOnce

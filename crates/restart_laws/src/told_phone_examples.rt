@@ -1,7 +1,8 @@
 //! Worked examples of what is dialled in a new life where one premise alone of its telephone, or of what it is asked for, is missing: all
 //! else that the law asks for holds, and what it says doesn't. The gateway started again before anything else, but where it says otherwise.
 
-ghost use Rattle.std.specs.Prelude.{◌≡◌, ◌≤◌, ◌<◌, ◌+◌, ◌++◌, [], ◌∷◌, false, map, true};
+ghost use Rattle.std.specs.Prelude.{◌≡◌, ◌≤◌, ◌<◌, ◌+◌, ◌++◌, [], ◌∷◌, false, length, map, true};
+ghost use Rattle.mg_line.specs.Line.{most_quarantined};
 ghost use Rattle.plain_machine.specs.Event.{tick};
 ghost use Rattle.plain_machine.specs.Example.{two_lines};
 ghost use Rattle.plain_machine.specs.Lists.{plain, sent_from};
@@ -17,6 +18,7 @@ ghost use Rattle.delivery_laws.specs.GivenUp.{has_given_up};
 ghost use Rattle.delivery_laws.specs.Keeping.{KeepsAll};
 ghost use Rattle.delivery_laws.specs.OnceExample.{five, lifted};
 ghost use Rattle.delivery_laws.specs.Rounds.{IsAnsweredWithin, IsAskedWithin, rounds_take};
+ghost use Rattle.outage_laws.specs.Crowded.{crowded, idle, told_all_but_one};
 ghost use Rattle.outage_laws.specs.MorePremises.{forging};
 ghost use Rattle.outage_laws.specs.ToldSince.{KeepsAllSince, loses_none};
 ghost use Rattle.life_laws.specs.Apart.{LieApart};
@@ -247,4 +249,33 @@ pub fn else_a_new_life_is_not_set_up()
     ensures not_taken { forger_firsts forged_anew ≡ (0, 10000000) ∷ (1, 1) ∷ [] }
     ensures not_told { ¬ IsToldAnew forging forged_anew 1 (forger_took asked_by_forger)
         (forger_took_between asked_by_forger lifted_by_forger) (tick 2 ∷ []) }
+{}
+
+/// Nor is what is lost: 258 keys are pressed at once, and for the last there is no room.
+pub fn else_an_act_of_a_new_life_is_lost()
+    ensures run { IsRunOfLives two_lines (starting told_all_but_one) }
+    ensures fair { LivesAreFairFrom two_lines (starting told_all_but_one) 0 0 }
+    ensures room { AgentHasRoomThen two_lines (starting told_all_but_one) 0 }
+    ensures goes { LineReachesTheAgentSince two_lines (lives (starting told_all_but_one)) 1 0 }
+    ensures apart { LieApart (lives_of (lives (starting told_all_but_one))) }
+    ensures life { (lives (starting told_all_but_one)).life
+        ≡ record { setup = two_lines; start = 0; took = took_first told_all_but_one } }
+    ensures front { took_first crowded ≡ took_first idle ++ took_between idle crowded }
+    ensures split { took_first told_all_but_one ≡ took_first crowded ++ took_between crowded told_all_but_one }
+    ensures keeps { KeepsAll (line_with two_lines (took_first idle)).line }
+    ensures asked_for_all { AskForAll (course_from two_lines (plain two_lines (took_first idle)) 1
+        (took_between idle crowded ++ took_between crowded told_all_but_one)) }
+    ensures one_lost { loses_none two_lines 1 (plain two_lines (took_first idle))
+        (took_between idle crowded ++ took_between crowded told_all_but_one) ≡ false }
+    ensures calm { has_given_up (of_line 1 (sent_from two_lines (plain two_lines (took_first crowded))
+        (took_between crowded told_all_but_one))) (line_with two_lines (took_first told_all_but_one)).post ≡ false }
+    ensures answered { IsAnsweredWithin two_lines 1 (took_first crowded) (took_between crowded told_all_but_one) 0 }
+    ensures asked_again { IsAskedWithin two_lines 1 (took_first crowded) (took_between crowded told_all_but_one) 0 }
+    ensures held { length (line_with two_lines (took_first crowded)).line.quarantined.events ≡ most_quarantined }
+    ensures over { (plain two_lines (took_first crowded)).now + rounds_take most_quarantined 0 0
+        < (plain two_lines (took_first told_all_but_one)).now }
+    ensures by { (lives (starting told_all_but_one)).life.start + (plain two_lines (took_first told_all_but_one)).now + 0
+        ≤ clock_of two_lines (lives (starting told_all_but_one)) }
+    ensures not_told { ¬ IsToldAnew two_lines (starting told_all_but_one) 0 (took_first idle) (took_between idle crowded)
+        (took_between crowded told_all_but_one) }
 {}
