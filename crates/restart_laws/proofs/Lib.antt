@@ -3,9 +3,12 @@ pub mod GatewayTracks
 pub mod GatewayServes
 pub mod LivesFronts
 pub mod LivesSays
+pub mod AgentAnswers
+pub mod LivesRefused
 pub mod LivesTake
 pub mod LivesServe
 pub mod LivesTaken
+pub mod LivesCame
 pub mod LivesInFlight
 pub mod LineAlone
 pub mod LineServes

@@ -1,4 +1,5 @@
--- Of eight copies of a command of the life that goes on one that the network carries is enough.
+-- Of eight copies of a command of the life that goes on one that the network carries is enough: of a line's, where each life is set up, and
+-- whatever steps were refused.
 use Rattle.std.proofs.Common.{◌≡◌, ◌≢◌, ℕ, suc, ◌+◌, ◌<◌, ◌≤◌, true, List, [], ◌∷◌, ◌++◌, length, Option, Some, inl, inr, refl, sym, ap, ◌∙◌, subst, arith, append_assoc}
 use Rattle.std.specs.Prelude.{◌⊎◌, All, Any, IfSome, slice_get}
 use Rattle.std.specs.Option.{unwrap_or}
@@ -13,30 +14,38 @@ use Rattle.plain_machine.specs.Arriving.{TextArrival, arrival, arrivals_at, arri
 use Rattle.plain_machine.specs.Event.{GatewayEvent, datagram}
 use Rattle.plain_machine.specs.Lists.{plain, sent_of}
 use Rattle.plain_machine.specs.Machine.{opening}
+use Rattle.plain_machine.specs.Message.{Sent}
 use Rattle.plain_machine.specs.Setup.{IsSetUp}
 use Rattle.plain_machine.proofs.ListLaws.{arrivals_on}
-use Rattle.machine_laws.specs.Belonging.{of_line}
+use Rattle.machine_laws.specs.Belonging.{is_of, of_line}
 use Rattle.machine_laws.specs.Saying.{Begun, OneOf, begun_in}
-use Rattle.machine_laws.proofs.EachLemmas.{Each, any_from_one, each_at, each_from_all, each_weaker, one_behind, one_from_any, one_mapped, one_weaker}
-use Rattle.agent_core.specs.World.{delivering, gateway_address}
+use Rattle.machine_laws.proofs.EachLemmas.{Each, any_from_one, each_at, each_from_all, each_weaker, one_behind, one_from_any, one_mapped, one_of_each, one_to, one_weaker}
+use Rattle.machine_laws.proofs.TellsLemmas.{IsCommand}
+use Rattle.agent_core.specs.World.{delivering, gateway_address, is_among}
 use Rattle.delivery_laws.specs.Chances.{chances, last_chance}
 use Rattle.delivery_laws.specs.OwnChances.{IsResponse}
 use Rattle.delivery_laws.proofs.CarryLaws.{AreApart, chances_apart, chances_low, one_spared}
-use Rattle.delivery_laws.proofs.PlaceLemmas.{each_two}
+use Rattle.delivery_laws.proofs.FirstBroughtLaws.{begun_of_all}
+use Rattle.delivery_laws.proofs.OwnChanceLaws.{one_unfiltered}
+use Rattle.delivery_laws.proofs.PlaceLemmas.{each_member, each_two, one_at}
 use Rattle.delivery_laws.proofs.PostedLemmas.{SaysAt}
 use Rattle.delivery_laws.proofs.SenderLemmas.{address_itself}
 use Rattle.outage_laws.specs.Alone.{HasBegun, HasResponse, IsSentAt}
 use Rattle.outage_laws.proofs.EachLine.{each_eight}
 use Rattle.outage_laws.proofs.OwnSendLaws.{own_eight}
 use Rattle.life_laws.specs.Lives.{Letter, LivesStep, LivesWorld, clock_of, gateway_of, lives_are_taken, lives_opening, number_of, plain_lives, stepping, to_life}
-use Rattle.life_laws.proofs.HandedLaws.{lives_kept}
+use Rattle.life_laws.proofs.LifeSays.{IsLife}
+use Rattle.life_laws.proofs.LinkedLives.{lives_stand}
+use Rattle.life_laws.proofs.OwnEvents.{all_commands}
 use Rattle.restart_laws.specs.AfterRestart.{AgentHasRoomThen, LifeGoesToAgent, LivesAreFairFrom}
 use Rattle.restart_laws.specs.CarriedBack.{IsCarriedInLives, IsCopyOfLife, IsHandedThen}
-use Rattle.restart_laws.proofs.LivesFronts.{Follows, SameLife, front_follows, life_more, lives_front, stays_sent}
+use Rattle.restart_laws.proofs.GatewayTracks.{SaidGoes, said_goes}
+use Rattle.restart_laws.proofs.LivesFronts.{Follows, SameLife, front_follows, life_more, stays_sent}
 use Rattle.restart_laws.proofs.LivesInFlight.{comes_before}
 use Rattle.restart_laws.proofs.LivesLong.{is_on}
-use Rattle.restart_laws.proofs.LivesSays.{Keeps, lives_keep, one_address}
-use Rattle.restart_laws.proofs.LivesServe.{IsTold, Reaches, is_told, own_reaches, text_reaches}
+use Rattle.restart_laws.proofs.LivesRefused.{EachSetUp, KeepsOn, front_set_up, last_set_up, lives_in_time, lives_keep_on, run_set_up}
+use Rattle.restart_laws.proofs.LivesSays.{IsPosted, Keeps, TellsOf, life_is, lives_keep}
+use Rattle.restart_laws.proofs.LivesServe.{own_reaches}
 use Rattle.restart_laws.proofs.LivesTake.{IsReplied, handed_to_life, replied}
 
 -- Numbers
@@ -47,8 +56,8 @@ never now moment past by = absurd (omega (arith, past, by))
 no_more : (now at : ℕ) → now + 1 ≤ at → at ≤ now → ⊥
 no_more now at past by = absurd (omega (arith, past, by))
 
-sent_by_then : (start first wait last now clock : ℕ) → clock ≡ start + now → start + first + last ≤ clock → wait ≤ last → first + wait ≤ now
-sent_by_then start first wait last now clock same late low = omega (arith, same, late, low)
+sent_by_then : (start first wait last now clock : ℕ) → clock ≤ start + now → start + first + last ≤ clock → wait ≤ last → first + wait ≤ now
+sent_by_then start first wait last now clock time late low = omega (arith, time, late, low)
 
 no_other : (here number last : ℕ) → number ≤ here → number ≡ last → here < last → ⊥
 no_other here number last few one less = absurd (omega (arith, few, one, less))
@@ -56,23 +65,9 @@ no_other here number last few one less = absurd (omega (arith, few, one, less))
 two_waits : (start first wait other : ℕ) → start + (first + wait) ≡ start + (first + other) → wait ≢ other → ⊥
 two_waits start first wait other same apart = apart (omega (arith, same))
 
-module _ (setup : Setup) (steps : List LivesStep) (set_up : IsSetUp setup) (taken : lives_are_taken setup (lives_opening setup) steps ≡ true) where
+module _ (setup : Setup) (steps : List LivesStep) (set_up : EachSetUp (plain_lives setup steps)) where
   abbrev w : LivesWorld
   w = plain_lives setup steps
-
-  -- nothing is asked of the network from behind the end on
-  abbrev late : ℕ
-  late = clock_of setup w + 1
-
-  pub fair : LivesAreFairFrom setup steps late 0
-  fair number letter found past by = absurd (never (clock_of setup w) letter.post.packet.moment past by)
-
-  pub roomy : AgentHasRoomThen setup steps late
-  roomy before later order past =
-      absurd
-      (no_more (clock_of setup w) (clock_of setup (plain_lives setup before)) past
-      (subst (λ (s : List LivesStep). clock_of setup (plain_lives setup before) ≤ clock_of setup (plain_lives setup s)) (sym order)
-      (is_on setup before later (subst (λ (s : List LivesStep). lives_are_taken setup (lives_opening setup) s ≡ true) order taken)).clock))
 
   -- An answer that is handed over to the life came to it
 
@@ -83,12 +78,15 @@ module _ (setup : Setup) (steps : List LivesStep) (set_up : IsSetUp setup) (take
     abbrev first : List LivesStep
     first = c.before ++ stepping (delivering number) ∷ []
 
-    first_taken : lives_are_taken setup (lives_opening setup) first ≡ true
-    first_taken = lives_front setup (lives_opening setup) first c.rest (subst (λ (s : List LivesStep). lives_are_taken setup (lives_opening setup) s ≡ true) c.order taken)
+    first_set_up : EachSetUp (plain_lives setup first)
+    first_set_up = front_set_up setup first c.rest (subst (λ (s : List LivesStep). EachSetUp (plain_lives setup s)) c.order set_up)
+
+    before_keeps : KeepsOn setup (plain_lives setup c.before)
+    before_keeps = lives_keep_on setup c.before (front_set_up setup c.before (stepping (delivering number) ∷ []) first_set_up)
 
     reply : IsReplied setup (plain_lives setup c.before) (plain_lives setup first) c.copy.letter.life b.id (clock_of setup (plain_lives setup c.before))
     reply =
-        replied setup c.before number c.copy.letter b.id name b.text set_up first_taken c.copy.found c.copy.sender c.copy.goes
+        replied setup c.before number c.copy.letter b.id name b.text before_keeps (lives_keep_on setup first first_set_up) c.copy.found c.copy.sender c.copy.goes
         (one_from_any (λ (one : List ℕ). one ≡ b.text) (texts_of c.copy.letter.post.packet.bytes) c.copy.inside) reads c.room
 
     its_life : reply.letter.life ≡ number_of w
@@ -124,13 +122,11 @@ module _ (setup : Setup) (steps : List LivesStep) (set_up : IsSetUp setup) (take
     found : slice_get v.letters reply.number ≡ Some reply.letter
     found = stays_sent (plain_lives setup first) v reply.number reply.letter (front_follows setup first back.between) reply.found
 
-    v_taken : lives_are_taken setup (lives_opening setup) some ≡ true
-    v_taken =
-        lives_front setup (lives_opening setup) some (stepping (delivering reply.number) ∷ [])
-        (lives_front setup (lives_opening setup) handed back.later (subst (λ (s : List LivesStep). lives_are_taken setup (lives_opening setup) s ≡ true) order taken))
-
-    v_keeps : Keeps setup v
-    v_keeps = lives_keep setup some set_up v_taken
+    v_keeps : KeepsOn setup v
+    v_keeps =
+        lives_keep_on setup some
+        (front_set_up setup some (stepping (delivering reply.number) ∷ [])
+        (front_set_up setup handed back.later (subst (λ (s : List LivesStep). EachSetUp (plain_lives setup s)) order set_up)))
 
     few : reply.letter.life ≤ number_of v
     few =
@@ -139,7 +135,7 @@ module _ (setup : Setup) (steps : List LivesStep) (set_up : IsSetUp setup) (take
 
     goes_back : same_address reply.letter.post.packet.to (gateway_address v.life.setup) ≡ true
     goes_back =
-        ap (λ (a : SocketAddrV4). same_address a (gateway_address v.life.setup)) (reply.replies.2 ∙ sym (one_address setup v v_keeps))
+        ap (λ (a : SocketAddrV4). same_address a (gateway_address v.life.setup)) (reply.replies.2 ∙ sym (ap (λ (s : Setup). gateway_address s) v_keeps.same))
         ∙ address_itself (gateway_address v.life.setup)
 
     abbrev event : GatewayEvent
@@ -176,22 +172,73 @@ module _ (setup : Setup) (steps : List LivesStep) (set_up : IsSetUp setup) (take
 
   -- One of the eight is
 
+  keeps : KeepsOn setup w
+  keeps = lives_keep_on setup steps set_up
+
+  abbrev all_sent : List Sent
+  all_sent = sent_of w.life.setup w.life.took
+
+  -- where a packet that has it goes to the agent
+  abbrev Reaches : Begun → ℕ → Type 0
+  Reaches b wait =
+      (one : Sent) (number : ℕ) (letter : Letter) → slice_get w.letters number ≡ Some letter → OneOf (λ (x : Sent). x ≡ one) all_sent → SaysAt b.text (b.moment + wait) one
+      → TellsOf (number_of w) w.life.start one letter → is_among setup.agent.route letter.post.packet.to ≡ true
+
+  -- so long behind its first send it is in a packet of the life's, that goes there
+  record IsTold (b : Begun) (wait : ℕ) : Type 0 where
+    number : ℕ
+    copy : IsCopyOfLife setup w (number_of w) b.text number
+    sent_at : copy.letter.post.packet.moment ≡ w.life.start + (b.moment + wait)
+
   module _ (line : ℕ) (b : Begun) (lost : List ℕ) (began : OneOf (λ (one : Begun). one ≡ b) (begun_in (of_line line (sent_of w.life.setup w.life.took))))
-      (reaches : (wait : ℕ) → Reaches setup steps late 0 set_up taken fair roomy b wait)
+      (reaches : (wait : ℕ) → Reaches b wait)
       (sent : HasResponse w.life.took b.id ⊎ All (λ (wait : ℕ). b.moment + wait ≤ (plain w.life.setup w.life.took).now → IsSentAt w.life.setup w.life.took line b.text (b.moment + wait)) chances)
       (by : w.life.start + b.moment + last_chance ≤ clock_of setup w) (few : length lost ≤ most_repeats)
       (carries : (number : ℕ) → IsCopyOfLife setup w (number_of w) b.text number → (Any (λ (n : ℕ). n ≡ number) lost → ⊥) → IsCarriedInLives setup steps b number) where
+    command : IsCommand b
+    command =
+        one_to (λ (one : Begun). IsCommand one × (one ≡ b)) (IsCommand b) (λ one both. subst IsCommand both.1 both.0) (begun_in all_sent)
+        (one_of_each IsCommand (λ (one : Begun). one ≡ b) (begun_in all_sent) (all_commands w.life.setup w.life.took (last_set_up w set_up))
+        (begun_of_all (λ (one : Begun). one ≡ b) line all_sent began))
+
+    abbrev Ready : Sent → Type 0
+    Ready one = OneOf (λ (x : Sent). x ≡ one) all_sent × IsPosted (number_of w) w.life.start w.letters one
+
+    by_letter : (wait : ℕ) (one : Sent) → OneOf (λ (x : Sent). x ≡ one) all_sent → SaysAt b.text (b.moment + wait) one
+        → ((number : ℕ) × (letter : Letter) × (slice_get w.letters number ≡ Some letter) × TellsOf (number_of w) w.life.start one letter) → IsTold b wait
+    by_letter wait one among says at = record {
+      number = at.0;
+      copy = record {
+        letter = at.1;
+        found = at.2;
+        of = at.3.0;
+        sender = at.3.1;
+        goes = reaches wait one at.0 at.1 at.2 among says at.3;
+        inside = any_from_one (λ (x : List ℕ). x ≡ b.text) (texts_of at.1.post.packet.bytes)
+            (subst (λ (t : List ℕ). OneOf (λ (x : List ℕ). x ≡ t) (texts_of at.1.post.packet.bytes)) says.0 at.3.4);
+      };
+      sent_at = at.3.2 ∙ ap (λ (n : ℕ). w.life.start + n) says.1;
+    }
+
+    told_by : (wait : ℕ) → OneOf (SaysAt b.text (b.moment + wait)) (of_line line all_sent) → IsTold b wait
+    told_by wait said =
+        one_to (λ (one : Sent). Ready one × SaysAt b.text (b.moment + wait) one) (IsTold b wait)
+        (λ one all. by_letter wait one all.0.0 all.1 (one_at (TellsOf (number_of w) w.life.start one) w.letters all.0.1)) all_sent
+        (one_of_each Ready (SaysAt b.text (b.moment + wait)) all_sent
+        (each_two (λ (one : Sent). OneOf (λ (x : Sent). x ≡ one) all_sent) (IsPosted (number_of w) w.life.start w.letters) all_sent (each_member all_sent) keeps.posted)
+        (one_unfiltered (SaysAt b.text (b.moment + wait)) (λ (one : Sent). is_of line one.owner) all_sent said))
+
     abbrev Chance : ℕ → Type 0
     Chance wait = b.moment + wait ≤ (plain w.life.setup w.life.took).now → IsSentAt w.life.setup w.life.took line b.text (b.moment + wait)
 
     abbrev Told : ℕ → Type 0
-    Told wait = IsTold setup steps late 0 set_up taken fair roomy b wait
+    Told wait = IsTold b wait
 
     told_at : (wait : ℕ) → wait ≤ last_chance → Chance wait → Told wait
     told_at wait low chance =
-        is_told setup steps late 0 set_up taken fair roomy line b wait began (reaches wait)
-        (one_from_any (SaysAt b.text (b.moment + wait)) (of_line line (sent_of w.life.setup w.life.took))
-        (chance (sent_by_then w.life.start b.moment wait last_chance (gateway_of w.life).now (clock_of setup w) (lives_kept setup steps taken).clock by low)))
+        told_by wait
+        (one_from_any (SaysAt b.text (b.moment + wait)) (of_line line all_sent)
+        (chance (sent_by_then w.life.start b.moment wait last_chance (gateway_of w.life).now (clock_of setup w) (lives_in_time setup steps set_up) by low)))
 
     all_told : All Chance chances → Each Told chances
     all_told told =
@@ -208,8 +255,8 @@ module _ (setup : Setup) (steps : List LivesStep) (set_up : IsSetUp setup) (take
     -- of two moments there are two packets
     two_numbers : (wait other : ℕ) (one : Told wait) (next : Told other) → wait ≢ other → one.number ≢ next.number
     two_numbers wait other one next apart same =
-        let letter : one.letter ≡ next.letter = same_letter one.letter next.letter (sym one.found ∙ ap (slice_get w.letters) same ∙ next.found) in
-        two_waits w.life.start b.moment wait other (sym one.moment ∙ ap (λ (x : Letter). x.post.packet.moment) letter ∙ next.moment) apart
+        let letter : one.copy.letter ≡ next.copy.letter = same_letter one.copy.letter next.copy.letter (sym one.copy.found ∙ ap (slice_get w.letters) same ∙ next.copy.found) in
+        two_waits w.life.start b.moment wait other (sym one.sent_at ∙ ap (λ (x : Letter). x.post.packet.moment) letter ∙ next.sent_at) apart
 
     one_apart : (wait : ℕ) (one : Told wait) (waits : List ℕ) (all : Each Told waits) → Each (λ (other : ℕ). wait ≢ other) waits → Each (λ (n : ℕ). one.number ≢ n) (numbers waits all)
     unfolding numbers
@@ -221,27 +268,17 @@ module _ (setup : Setup) (steps : List LivesStep) (set_up : IsSetUp setup) (take
     all_apart [] all apart = tt
     all_apart (wait ∷ waits) all apart = (one_apart wait all.0 waits all.1 apart.0, all_apart waits all.1 apart.1)
 
-    copy_of : (wait : ℕ) (t : Told wait) → IsCopyOfLife setup w (number_of w) b.text t.number
-    copy_of wait t = record {
-      letter = t.letter;
-      found = t.found;
-      of = t.of;
-      sender = t.sender;
-      goes = t.goes;
-      inside = any_from_one (λ (one : List ℕ). one ≡ b.text) (texts_of t.letter.post.packet.bytes) t.inside;
-    }
-
     all_copies : (waits : List ℕ) (all : Each Told waits) → Each (IsCopyOfLife setup w (number_of w) b.text) (numbers waits all)
     unfolding numbers
     all_copies [] all = tt
-    all_copies (wait ∷ waits) all = (copy_of wait all.0, all_copies waits all.1)
+    all_copies (wait ∷ waits) all = (all.0.copy, all_copies waits all.1)
 
     as_many : (waits : List ℕ) (all : Each Told waits) → length (numbers waits all) ≡ length waits
     unfolding numbers
     as_many [] all = refl
     as_many (wait ∷ waits) all = ap (λ (n : ℕ). suc n) (as_many waits all.1)
 
-    pub answered : HasResponse w.life.took b.id
+    answered : HasResponse w.life.took b.id
     answered = by_sent sent where
       by_sent : HasResponse w.life.took b.id ⊎ All Chance chances → HasResponse w.life.took b.id
       by_sent (inl come) = come
@@ -250,19 +287,64 @@ module _ (setup : Setup) (steps : List LivesStep) (set_up : IsSetUp setup) (take
           let many : length (numbers chances all) ≡ most_repeats + 1 = as_many chances all in
           let spared = one_spared (IsCopyOfLife setup w (number_of w) b.text) lost (numbers chances all) (all_apart chances all chances_apart) (omega (arith, few, many))
           (all_copies chances all) in
-          carried_back b spared.0 all.0.name all.0.reads (carries spared.0 spared.1 (λ any. spared.2 (one_from_any (λ (n : ℕ). n ≡ spared.0) lost any)))
+          carried_back b spared.0 command.name command.reads (carries spared.0 spared.1 (λ any. spared.2 (one_from_any (λ (n : ℕ). n ≡ spared.0) lost any)))
 
-  -- Of a line, and of the gateway itself
+  -- Of a line
+
+  -- what goes nowhere else
+  text_reaches : (b : Begun) (wait : ℕ) → LifeGoesToAgent setup w b.text → Reaches b wait
+  text_reaches b wait goes one number letter found among says tells =
+      goes number letter found tells.0 tells.1
+      (any_from_one (λ (x : List ℕ). x ≡ b.text) (texts_of letter.post.packet.bytes)
+      (subst (λ (t : List ℕ). OneOf (λ (x : List ℕ). x ≡ t) (texts_of letter.post.packet.bytes)) says.0 tells.4))
 
   pub line_answered : (line : ℕ) (b : Begun) (lost : List ℕ) → HasBegun w.life.setup w.life.took line b → LifeGoesToAgent setup w b.text
       → w.life.start + b.moment + last_chance ≤ clock_of setup w → length lost ≤ most_repeats
       → ((number : ℕ) → IsCopyOfLife setup w (number_of w) b.text number → (Any (λ (n : ℕ). n ≡ number) lost → ⊥) → IsCarriedInLives setup steps b number) → HasResponse w.life.took b.id
   line_answered line b lost began goes by few carries =
       answered line b lost (one_from_any (λ (one : Begun). one ≡ b) (begun_in (of_line line (sent_of w.life.setup w.life.took))) began)
-      (λ wait. text_reaches setup steps late 0 set_up taken fair roomy b wait goes) (each_eight w.life.setup w.life.took line b began) by few carries
+      (λ wait. text_reaches b wait goes) (each_eight w.life.setup w.life.took line b began) by few carries
 
-  pub own_answered : (b : Begun) (lost : List ℕ) → HasBegun w.life.setup w.life.took 0 b → w.life.start + b.moment + last_chance ≤ clock_of setup w → length lost ≤ most_repeats
-      → ((number : ℕ) → IsCopyOfLife setup w (number_of w) b.text number → (Any (λ (n : ℕ). n ≡ number) lost → ⊥) → IsCarriedInLives setup steps b number) → HasResponse w.life.took b.id
+-- Of the gateway itself, where no step is refused: what it announces goes to the agent
+
+module _ (setup : Setup) (steps : List LivesStep) (set_up : IsSetUp setup) (taken : lives_are_taken setup (lives_opening setup) steps ≡ true) where
+  abbrev whole : LivesWorld
+  whole = plain_lives setup steps
+
+  -- nothing is asked of the network from behind the end on
+  abbrev late : ℕ
+  late = clock_of setup whole + 1
+
+  fair : LivesAreFairFrom setup steps late 0
+  fair number letter there past by = absurd (never (clock_of setup whole) letter.post.packet.moment past by)
+
+  roomy : AgentHasRoomThen setup steps late
+  roomy before later order past =
+      absurd
+      (no_more (clock_of setup whole) (clock_of setup (plain_lives setup before)) past
+      (subst (λ (s : List LivesStep). clock_of setup (plain_lives setup before) ≤ clock_of setup (plain_lives setup s)) (sym order)
+      (is_on setup before later (subst (λ (s : List LivesStep). lives_are_taken setup (lives_opening setup) s ≡ true) order taken)).clock))
+
+  all_set_up : EachSetUp whole
+  all_set_up = run_set_up setup steps set_up taken
+
+  is : IsLife (clock_of setup whole) whole.life
+  is = life_is setup whole (lives_stand setup steps set_up taken)
+
+  whole_keeps : Keeps setup whole
+  whole_keeps = lives_keep setup steps set_up taken
+
+  said_so : (one : Sent) → OneOf (λ (x : Sent). x ≡ one) (sent_of whole.life.setup whole.life.took) → SaidGoes whole.life.setup one
+  said_so one among =
+      one_to (λ (x : Sent). SaidGoes whole.life.setup x × (x ≡ one)) (SaidGoes whole.life.setup one) (λ x both. subst (SaidGoes whole.life.setup) both.1 both.0) (sent_of whole.life.setup whole.life.took)
+      (one_of_each (SaidGoes whole.life.setup) (λ (x : Sent). x ≡ one) (sent_of whole.life.setup whole.life.took)
+      (said_goes whole.life.setup is.set_up whole.life.took whole_keeps.arrivals whole_keeps.from) among)
+
+  pub own_answered : (b : Begun) (lost : List ℕ) → HasBegun whole.life.setup whole.life.took 0 b → whole.life.start + b.moment + last_chance ≤ clock_of setup whole → length lost ≤ most_repeats
+      → ((number : ℕ) → IsCopyOfLife setup whole (number_of whole) b.text number → (Any (λ (n : ℕ). n ≡ number) lost → ⊥) → IsCarriedInLives setup steps b number) → HasResponse whole.life.took b.id
   own_answered b lost began by few carries =
-      let it = one_from_any (λ (one : Begun). one ≡ b) (begun_in (of_line 0 (sent_of w.life.setup w.life.took))) began in
-      answered 0 b lost it (λ wait. own_reaches setup steps late 0 set_up taken fair roomy b wait it) (own_eight w.life.setup w.life.took b began) by few carries
+      let it = one_from_any (λ (one : Begun). one ≡ b) (begun_in (of_line 0 (sent_of whole.life.setup whole.life.took))) began in
+      answered setup steps all_set_up 0 b lost it
+      (λ wait one number letter found among says tells.
+      own_reaches setup steps late 0 set_up taken fair roomy b wait it one number letter found (said_so one among) says tells)
+      (own_eight whole.life.setup whole.life.took b began) by few carries

@@ -76,10 +76,10 @@ PostsPlain gateway_end packet = Unit {0}
 abbrev PlainLetter : Letter → Type 0
 PlainLetter letter = PostsPlain letter.post.end letter.post.packet
 
-abbrev IsBy : ℕ → Letter → Type 0
+abbrev pub IsBy : ℕ → Letter → Type 0
 IsBy number letter = letter.life ≤ number
 
-abbrev LetterComes : Setup → Letter → Type 0
+abbrev pub LetterComes : Setup → Letter → Type 0
 LetterComes setup letter = Comes setup letter.post
 
 pub record Keeps (setup : Setup) (w : LivesWorld) : Type 0 where
@@ -125,11 +125,11 @@ module _ (number : ℕ) (life : Life) (sent : List Sent) (goes : All IsOut sent)
   each_posts =
       each_weaker (λ (one : Sent). OneOf (λ (other : Sent). other ≡ one) sent) (IsPosted number life.start (map (sent_by number life) outs)) one_posts sent (each_member sent)
 
-by_number : (limit number : ℕ) → number ≤ limit → (life : Life) (outs : List OutDatagram) → Each (IsBy limit) (map (sent_by number life) outs)
+pub by_number : (limit number : ℕ) → number ≤ limit → (life : Life) (outs : List OutDatagram) → Each (IsBy limit) (map (sent_by number life) outs)
 by_number limit number few life [] = tt
 by_number limit number few life (out ∷ outs) = (few, by_number limit number few life outs)
 
-life_come : (setup : Setup) (number : ℕ) (life : Life) → gateway_address life.setup ≡ gateway_address setup → (outs : List OutDatagram)
+pub life_come : (setup : Setup) (number : ℕ) (life : Life) → gateway_address life.setup ≡ gateway_address setup → (outs : List OutDatagram)
     → Each (LetterComes setup) (map (sent_by number life) outs)
 life_come setup number life same [] = tt
 life_come setup number life same (out ∷ outs) = (same, life_come setup number life same outs)
@@ -140,17 +140,17 @@ life_plain number life (out ∷ outs) = (tt, life_plain number life outs)
 
 -- And the agent
 
-said_by : (setup : Setup) (limit number : ℕ) → number ≤ limit → (outs : List OutDatagram) → Each (IsBy limit) (map (said_to setup number) outs)
+pub said_by : (setup : Setup) (limit number : ℕ) → number ≤ limit → (outs : List OutDatagram) → Each (IsBy limit) (map (said_to setup number) outs)
 said_by setup limit number few [] = tt
 said_by setup limit number few (out ∷ outs) = (few, said_by setup limit number few outs)
 
-agent_come : (setup : Setup) (number : ℕ) (outs : List OutDatagram) → Each (LetterComes setup) (map (said_to setup number) outs)
+pub agent_come : (setup : Setup) (number : ℕ) (outs : List OutDatagram) → Each (LetterComes setup) (map (said_to setup number) outs)
 agent_come setup number [] = tt
 agent_come setup number (out ∷ outs) = (refl, agent_come setup number outs)
 
 -- An event
 
-at_most : (n : ℕ) → n ≤ n
+pub at_most : (n : ℕ) → n ≤ n
 at_most n = omega arith
 
 pub all_out : (life : Life) (now : ℕ) (event : GatewayEvent) → IsLife now life → All IsOut (effect life.setup (gateway_of life) event).sent
@@ -240,7 +240,7 @@ unasked (bad_body id) is = tt
 unasked (message (messages.Command verb id name params body)) is = tt
 unasked (message (messages.Response code id params body)) is = is
 
-bare_so : (life : Life) (text : List ℕ) → IsSetUp life.setup → SaysSo life text → BareText text
+pub bare_so : (life : Life) (text : List ℕ) → IsSetUp life.setup → SaysSo life text → BareText text
 bare_so life text set_up (inl one) =
     one_to (λ (b : Begun). BareBegun b × (text ≡ b.text)) (BareText text) (λ b both. subst BareText (sym both.1) both.0) (own_of life)
     (one_of_each BareBegun (λ (b : Begun). text ≡ b.text) (own_of life) (own_bare life.setup (alone life.setup life.took) set_up) one)
@@ -296,7 +296,7 @@ handed_keeps setup w letter s keeps is few plain comes = by_end letter.post.end 
   by_end agent_end from texts sender = to_gateway (same_address packet.to (gateway_address w.life.setup)) texts sender
   by_end gateway_end from texts sender = to_agent (is_among setup.agent.route packet.to) (heard_so setup w letter.life letter.post s.linked.each from)
 
-number_later : (number limit next : ℕ) → number ≤ limit → limit < next → number ≤ next
+pub number_later : (number limit next : ℕ) → number ≤ limit → limit < next → number ≤ next
 number_later number limit next few more = omega (arith, few, more)
 
 restarted_keeps : (setup : Setup) (w : LivesWorld) (first : ℕ) → Keeps setup w → Keeps setup (restarted setup w first)

@@ -20,18 +20,16 @@ use Rattle.plain_machine.specs.declared.setup.Setup.{Setup}
 use Rattle.plain_machine.specs.Event.{datagram}
 use Rattle.plain_machine.specs.Setup.{IsSetUp}
 use Rattle.machine_laws.specs.Saying.{IsAnswerTo, OneOf, Tells}
-use Rattle.machine_laws.proofs.EachLemmas.{Each, each_at, each_back, one_from_any, one_mapped, one_of_each, one_to, one_weaker}
+use Rattle.machine_laws.proofs.EachLemmas.{Each, all_from_each, each_at, each_back, one_from_any, one_mapped, one_of_each, one_to, one_weaker}
 use Rattle.machine_laws.proofs.TellsLemmas.{IsAnsweredBy}
 use Rattle.call_agent.specs.Agent.{AgentMachine}
 use Rattle.call_agent.specs.Hearing.{AgentEvent, hears, took_all}
 use Rattle.agent_core.specs.declared.packet.End.{End}
 use Rattle.agent_core.specs.declared.packet.End.TheVariants.{AgentEnd as agent_end, GatewayEnd as gateway_end}
 use Rattle.agent_core.specs.World.{agent_of, delivering, gateway_address, is_among}
-use Rattle.world_laws.specs.Reached.{issued_in}
-use Rattle.world_laws.proofs.AgentLaws.{never}
-use Rattle.world_laws.proofs.WorldLaws.{Holding, agent_answers}
+use Rattle.world_laws.proofs.AgentLaws.{Fine}
+use Rattle.world_laws.proofs.WorldLaws.{Holding}
 use Rattle.delivery_laws.specs.Taking.{IsConfirmedIn}
-use Rattle.delivery_laws.proofs.ChanceLaws.{goes_in}
 use Rattle.delivery_laws.proofs.PacketLemmas.{HasMessage, packed_has}
 use Rattle.delivery_laws.proofs.PlaceLemmas.{one_beyond}
 use Rattle.delivery_laws.proofs.SenderLemmas.{ComesFrom}
@@ -41,14 +39,14 @@ use Rattle.delivery_laws.proofs.TakeLemmas.{Answers, texts_answer}
 use Rattle.delivery_laws.proofs.UnconfirmedLaws.{AllSilent, IsSilent}
 use Rattle.life_laws.specs.Lives.{Letter, Life, LivesStep, LivesWorld, agent_side, agent_then, clock_of, handed, handed_from, lived, lives_are_taken, lives_of, lives_opening, plain_lives, said_to, stepping, to_agent_of, to_life}
 use Rattle.life_laws.specs.Apart.{OfLife, begun_of}
-use Rattle.life_laws.proofs.HandedLaws.{lives_kept}
 use Rattle.life_laws.proofs.AnswersSoon.{AnswersSoon}
 use Rattle.life_laws.proofs.LifeSays.{IsLife, kept_of, packet_says}
 use Rattle.life_laws.proofs.LinkedLives.{IsLetter, IsPacketOf, Stands, lives_stand}
 use Rattle.life_laws.proofs.PairLemmas.{of_life_to, of_life_with}
 use Rattle.restart_laws.specs.AfterRestart.{AgentHasRoomNow}
-use Rattle.restart_laws.proofs.LivesFronts.{delivered_clock, life_more, lives_front}
-use Rattle.restart_laws.proofs.LivesSays.{lives_keep}
+use Rattle.restart_laws.proofs.AgentAnswers.{AnswersWell, texts_well}
+use Rattle.restart_laws.proofs.LivesFronts.{life_more}
+use Rattle.restart_laws.proofs.LivesRefused.{KeepsOn}
 
 -- No packet is sent later than now
 
@@ -136,8 +134,8 @@ never_confirmed m id silent is =
     (λ entry both. let clash : false ≡ true = sym (both.0 id) ∙ both.1 in cc) is.later
     (one_of_each IsSilent (λ (entry : Entry). confirms id entry ≡ true) is.later later (one_from_any (λ (entry : Entry). confirms id entry ≡ true) is.later is.named))
 
-module _ (setup : Setup) (steps : List LivesStep) (number : ℕ) (letter : Letter) (id : ℕ) (name text : List ℕ) (set_up : IsSetUp setup)
-    (taken : lives_are_taken setup (lives_opening setup) (steps ++ stepping (delivering number) ∷ []) ≡ true)
+module _ (setup : Setup) (steps : List LivesStep) (number : ℕ) (letter : Letter) (id : ℕ) (name text : List ℕ)
+    (keeps : KeepsOn setup (plain_lives setup steps)) (keeps_then : KeepsOn setup (plain_lives setup (steps ++ stepping (delivering number) ∷ [])))
     (found : slice_get (plain_lives setup steps).letters number ≡ Some letter) (sender : letter.post.end ≡ gateway_end)
     (goes : is_among setup.agent.route letter.post.packet.to ≡ true) (inside : OneOf (λ (one : List ℕ). one ≡ text) (texts_of letter.post.packet.bytes))
     (reads : is_command_as id name (read_text text) ≡ true)
@@ -160,27 +158,28 @@ module _ (setup : Setup) (steps : List LivesStep) (number : ℕ) (letter : Lette
   abbrev event : AgentEvent
   event = hears (datagram source bytes)
 
-  front : lives_are_taken setup (lives_opening setup) steps ≡ true
-  front = lives_front setup (lives_opening setup) steps (stepping (delivering number) ∷ []) taken
-
   is_after : after ≡ to_agent_of setup letter.life w event
   is_after = life_more setup steps (stepping (delivering number)) ∙ handed_to_agent setup w number letter found sender goes
 
   machine : agent_then setup after ≡ (took_all (agent_of setup) m source (texts_of bytes)).machine
   machine = ap (agent_then setup) is_after ∙ agent_more setup (agent_side w) event ∙ machine_is (agent_of setup) m source bytes
 
+  well : AnswersWell m (took_all (agent_of setup) m source (texts_of bytes))
+  well = texts_well (agent_of setup) m source (texts_of bytes) keeps.kept
+
+  same_clock : clock_of setup after ≡ m.now
+  same_clock = ap (λ (x : AgentMachine). x.now) machine ∙ well.now
+
   has_room : length (young_firsts m.now (took_all (agent_of setup) m source (texts_of bytes)).machine.history) < most_firsts
   has_room =
       subst (λ (x : AgentMachine). length (young_firsts m.now x.history) < most_firsts) machine
-      (subst (λ (t : ℕ). length (young_firsts t (agent_then setup after).history) < most_firsts) (delivered_clock setup steps number front) room)
+      (subst (λ (t : ℕ). length (young_firsts t (agent_then setup after).history) < most_firsts) same_clock room)
 
   answers : Answers id m.now source (took_all (agent_of setup) m source (texts_of bytes)).machine.history (took_all (agent_of setup) m source (texts_of bytes)).sent
   answers = texts_answer (agent_of setup) m source (texts_of bytes) id name text reads inside has_room
 
   messages : All IsMessage (took_all (agent_of setup) m source (texts_of bytes)).sent
-  messages =
-      subst (All IsMessage) (says_is (agent_of setup) m source bytes)
-      (goes_in setup (agent_side w) event (lives_kept setup steps front).agrees.agent (never m source bytes))
+  messages = all_from_each IsMessage (took_all (agent_of setup) m source (texts_of bytes)).sent well.sent
 
   posted : after.letters ≡ w.letters ++ map (said_to setup letter.life) (packed (took_all (agent_of setup) m source (texts_of bytes)).sent)
   posted =
@@ -191,21 +190,20 @@ module _ (setup : Setup) (steps : List LivesStep) (number : ℕ) (letter : Lette
   from_gateway =
       subst (λ (end : End). ComesFrom setup end letter.post.packet) sender
       (subst (λ (o : Option Letter). IfSome o (λ (one : Letter). ComesFrom setup one.post.end one.post.packet)) found
-      (each_at (λ (one : Letter). ComesFrom setup one.post.end one.post.packet) w.letters number (lives_keep setup steps set_up front).comes))
+      (each_at (λ (one : Letter). ComesFrom setup one.post.end one.post.packet) w.letters number keeps.comes))
 
   stored_reads : (text : List ℕ) → OneOf (IsAnsweredBy id text) (firsts_in (took_all (agent_of setup) m source (texts_of bytes)).machine.history) → IsAnswerTo id text
   stored_reads text stored =
       let firsts = firsts_in (agent_then setup after).history in
       let there : OneOf (IsAnsweredBy id text) firsts = subst (λ (x : AgentMachine). OneOf (IsAnsweredBy id text) (firsts_in x.history)) (sym machine) stored in
-      one_to (λ (one : KeptFirst). IsAnswerTo one.id one.answer × IsAnsweredBy id text one) (IsAnswerTo id text)
-      (λ one both. subst (λ (i : ℕ). IsAnswerTo i text) both.1.0 (subst (IsAnswerTo one.id) both.1.1 both.0)) firsts
-      (one_of_each (λ (one : KeptFirst). IsAnswerTo one.id one.answer) (IsAnsweredBy id text) firsts
-      (agent_answers (issued_in setup (agent_side after)) (agent_then setup after) (lives_kept setup (steps ++ stepping (delivering number) ∷ []) taken).agrees.agent) there)
+      one_to (λ (one : KeptFirst). Fine one.id one.answer × IsAnsweredBy id text one) (IsAnswerTo id text)
+      (λ one both. subst (λ (i : ℕ). IsAnswerTo i text) both.1.0 (subst (IsAnswerTo one.id) both.1.1 both.0.response)) firsts
+      (one_of_each (λ (one : KeptFirst). Fine one.id one.answer) (IsAnsweredBy id text) firsts keeps_then.kept there)
 
   by_answers : Answers id m.now source (took_all (agent_of setup) m source (texts_of bytes)).machine.history (took_all (agent_of setup) m source (texts_of bytes)).sent
       → IsReplied setup w after letter.life id (clock_of setup w)
   by_answers (inl confirmed) =
-      absurd (never_confirmed (agent_then setup after) id (lives_keep setup (steps ++ stepping (delivering number) ∷ []) set_up taken).silent
+      absurd (never_confirmed (agent_then setup after) id keeps_then.silent
       (subst (λ (x : AgentMachine). IsConfirmedIn id x.history) (sym machine) confirmed))
   by_answers (inr says) =
       let told = one_beyond (Replies letter.life source m.now says.text) w.letters (map (said_to setup letter.life) (packed (took_all (agent_of setup) m source (texts_of bytes)).sent))
