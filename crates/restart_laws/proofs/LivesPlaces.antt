@@ -1,19 +1,28 @@
--- Where copies of a text of a life's are among the packets, by its length; for worked examples, in which it computes.
-use Rattle.std.proofs.Common.{◌≡◌, ℕ, zero, suc, ◌+◌, Bool, true, false, ◌||◌, ◌&&◌, ◌==◌, if◌then◌else◌, List, [], ◌∷◌, length, Option, Some, inl, inr, refl, sym, ap, ◌∙◌, subst, arith}
-use Rattle.std.specs.Prelude.{slice_get}
+-- Where copies of a text of a life's are among the packets, by its length, and which responses came to it; for worked examples, in which it
+-- computes.
+use Rattle.std.proofs.Common.{◌≡◌, ℕ, zero, suc, ◌+◌, Bool, true, false, ◌||◌, ◌&&◌, ◌==◌, if◌then◌else◌, List, [], ◌∷◌, ◌++◌, length, Option, Some, inl, inr, refl, sym, ap, ◌∙◌, subst, arith}
+use Rattle.std.specs.Prelude.{flat_map, slice_get}
 use Rattle.std.specs.Option.{unwrap_or}
 use Rattle.std.proofs.lemmas.Bool.{eq-eqb}
 use Rattle.std.proofs.lemmas.Bool.Decides.{Decides-eqb}
 use Rattle.std.proofs.lemmas.Option.{none-some}
 use Rattle.transmission.specs.Texts.{texts_of}
 use Rattle.plain_machine.specs.declared.setup.Setup.{Setup}
+use Rattle.plain_machine.specs.Arriving.{TextArrival, arrivals_of}
+use Rattle.plain_machine.specs.Example.{two_lines}
+use Rattle.plain_machine.specs.Setup.{IsSetUp}
 use Rattle.machine_laws.specs.Saying.{Begun, OneOf}
-use Rattle.machine_laws.proofs.EachLemmas.{one_from_any}
+use Rattle.machine_laws.proofs.EachLemmas.{Each, all_from_each, one_before, one_behind, one_from_any}
 use Rattle.agent_core.specs.declared.packet.End.{End}
 use Rattle.agent_core.specs.declared.packet.End.TheVariants.{AgentEnd as agent_end, GatewayEnd as gateway_end}
 use Rattle.agent_core.specs.World.{is_among}
-use Rattle.life_laws.specs.Lives.{Letter, LivesStep, LivesWorld}
-use Rattle.restart_laws.specs.CarriedBack.{IsCarriedInLives, IsCopyOfLife}
+use Rattle.delivery_laws.specs.OwnChances.{IsResponse}
+use Rattle.delivery_laws.proofs.ExampleLemmas.{two_lines_set_up}
+use Rattle.outage_laws.specs.Alone.{HasResponse}
+use Rattle.life_laws.specs.Example.{lives}
+use Rattle.life_laws.specs.Lives.{Letter, Life, LivesStep, LivesWorld, lives_of}
+use Rattle.restart_laws.specs.CarriedBack.{AreSetUp, IsCarriedInLives, IsCopyOfLife, IsHandedThen}
+use Rattle.restart_laws.specs.Example.{responding, responses_after}
 use Rattle.restart_laws.proofs.LivesFairExamples.{hand_over, handed_there}
 
 abbrev is_gateway : End → Bool
@@ -90,3 +99,29 @@ copies setup w life text number copy =
 pub never_carried : (setup : Setup) (steps : List LivesStep) (b : Begun) (number : ℕ) → hand_over number steps ≡ false → IsCarriedInLives setup steps b number → ⊥
 never_carried setup steps b number none c =
     absurd (let clash : false ≡ true = sym none ∙ ap (hand_over number) c.order ∙ handed_there number c.before c.rest in cc)
+
+pub never_handed : (rest : List LivesStep) (number : ℕ) → hand_over number rest ≡ false → IsHandedThen rest number → ⊥
+never_handed rest number none h =
+    absurd (let clash : false ≡ true = sym none ∙ ap (hand_over number) h.order ∙ handed_there number h.between h.later in cc)
+
+-- A response that came has one of the ids
+
+id_there : (id : ℕ) (arrivals : List TextArrival) → OneOf (λ (a : TextArrival). IsResponse id a.outcome) arrivals
+    → OneOf (λ (n : ℕ). n ≡ id) (flat_map (λ (a : TextArrival). responding a.outcome) arrivals)
+id_there id [] one = absurd one
+id_there id (a ∷ arrivals) (inl is) =
+    one_before (λ (n : ℕ). n ≡ id) (responding a.outcome) (flat_map (λ (x : TextArrival). responding x.outcome) arrivals)
+    (subst (OneOf (λ (n : ℕ). n ≡ id)) (sym (ap responding is.3)) (inl refl))
+id_there id (a ∷ arrivals) (inr there) =
+    one_behind (λ (n : ℕ). n ≡ id) (responding a.outcome) (flat_map (λ (x : TextArrival). responding x.outcome) arrivals) (id_there id arrivals there)
+
+pub comes_among : (steps : List LivesStep) (id : ℕ) → HasResponse (lives steps).life.took id → OneOf (λ (n : ℕ). n ≡ id) (responses_after steps)
+comes_among steps id came =
+    id_there id (arrivals_of (lives steps).life.took) (one_from_any (λ (a : TextArrival). IsResponse id a.outcome) (arrivals_of (lives steps).life.took) came)
+
+-- Where the gateway didn't start again, that is set up
+
+pub one_set_up : (w : LivesWorld) → w.over ≡ [] → w.life.setup ≡ two_lines → AreSetUp w
+one_set_up w none same =
+    all_from_each (λ (life : Life). IsSetUp life.setup) (lives_of w)
+    (subst (λ (over : List Life). Each (λ (life : Life). IsSetUp life.setup) (over ++ w.life ∷ [])) (sym none) (subst IsSetUp (sym same) two_lines_set_up, tt))

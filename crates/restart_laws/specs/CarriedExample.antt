@@ -3,9 +3,9 @@ use Rattle.std.specs.Prelude.{codes, List, [], ◌∷◌, ◌++◌}
 use Rattle.machine_laws.specs.Saying.{Begun}
 use Rattle.agent_core.specs.World.{delivering, ticking}
 use Rattle.world_laws.specs.Example.{seconds}
-use Rattle.delivery_laws.specs.Example.{notified}
+use Rattle.delivery_laws.specs.Example.{elsewhere, notified, own_responded, up_to}
 use Rattle.outage_laws.specs.Example.{all_lost, last_copy, saved}
-use Rattle.outage_laws.specs.Premises.{all_elsewhere, own_all_lost, twenty_behind}
+use Rattle.outage_laws.specs.Premises.{all_elsewhere, announced_anew, answered_untaken, own_all_lost, own_answered_untaken, twenty_behind}
 use Rattle.life_laws.specs.Lives.{LivesStep}
 use Rattle.life_laws.specs.Example.{in_one_life}
 use Rattle.restart_laws.specs.Example.{behind_a_start}
@@ -60,3 +60,27 @@ own_parted_on = behind_a_start (seconds 21)
 
 abbrev pub its_parted_announcement : Begun
 its_parted_announcement = record { id = 21; moment = 1; text = codes "RSIP 21 *@x\r\n.\r\n MGCP 1.0\r\nRM: restart\r\n" }
+
+-- Where the answer to the copy that is handed over is lost, packet 11, or 9
+
+abbrev pub unanswered_copy : List LivesStep
+unanswered_copy = last_copy_anew ++ in_one_life (delivering 10 ∷ [])
+
+abbrev pub own_unanswered_copy : List LivesStep
+own_unanswered_copy = own_last_copy_anew ++ in_one_life (delivering 8 ∷ [])
+
+-- Where a step is refused, in a world of one life
+
+-- in what it issues the agent answers the notification, packet 2, or the announcement, packet 0, of which it took none; then 20 s go by
+abbrev pub answered_all_the_same : List LivesStep
+answered_all_the_same = in_one_life answered_untaken
+
+abbrev pub own_answered_all_the_same : List LivesStep
+own_answered_all_the_same = in_one_life own_answered_untaken
+
+-- or it sends the announcement elsewhere, by 521, packet 1: all copies of the next one go there
+abbrev pub sent_away : List LivesStep
+sent_away = in_one_life (own_responded (codes "521 1") elsewhere ++ delivering 1 ∷ up_to 20)
+
+abbrev pub announced_away : Begun
+announced_away = record announced_anew { moment = 1 }

@@ -1,35 +1,41 @@
 //! Worked examples of the copies of what a new life sends: a world in which each premise of the law holds; and worlds in which one premise
-//! alone is missing, and no response comes.
+//! alone is missing, and no response comes, or it comes and nothing was taken.
 #![tactic(auto, unfolding(crate::proofs::Computing::on_examples))]
 
-ghost use Rattle.std.specs.Prelude.{◌≡◌, ◌<◌, ◌≤◌, ◌+◌, ℕ, ◌∷◌, [], Any, length, true};
+ghost use Rattle.std.specs.Prelude.{◌≡◌, ◌<◌, ◌≤◌, ◌+◌, ◌++◌, ℕ, ◌∷◌, [], Any, length, true, false};
 ghost use Rattle.outbound.specs.Sends.{most_repeats};
 ghost use Rattle.plain_machine.specs.Example.{two_lines};
 ghost use Rattle.plain_machine.specs.Setup.{IsSetUp};
+ghost use Rattle.agent_core.specs.World.{delivering};
 ghost use Rattle.delivery_laws.specs.Chances.{last_chance};
-ghost use Rattle.delivery_laws.specs.Example.{dotted};
+ghost use Rattle.delivery_laws.specs.Example.{dotted, lifted};
 ghost use Rattle.outage_laws.specs.Alone.{HasBegun};
+ghost use Rattle.outage_laws.specs.Example.{announcement};
 ghost use Rattle.outage_laws.specs.Premises.{never_begun};
-ghost use Rattle.life_laws.specs.Example.{lives};
-ghost use Rattle.life_laws.specs.Lives.{clock_of, lives_are_taken, lives_opening, number_of, plain_lives};
-ghost use Rattle.restart_laws.specs.AfterRestart.{IsRunOfLives, LifeGoesToAgent};
-ghost use Rattle.restart_laws.specs.CarriedBack.{IsCarriedInLives, IsCopyOfLife};
+ghost use Rattle.life_laws.specs.Example.{firsts_after, lives};
+ghost use Rattle.life_laws.specs.Lives.{clock_of, lives_are_taken, lives_opening, number_of, plain_lives, stepping};
+ghost use Rattle.restart_laws.specs.AfterRestart.{AgentHasRoomNow, IsRunOfLives, LifeGoesToAgent};
+ghost use Rattle.restart_laws.specs.CarriedBack.{AreSetUp, IsAnswerToLife, IsCarriedInLives, IsCopyOfLife, IsHandedThen};
 ghost use Rattle.restart_laws.specs.CarriedExample.{all_lost_anew, elsewhere_anew, notified_anew, parted_anew, parted_on, saved_anew};
 ghost use Rattle.restart_laws.specs.CarriedExample.{announced_just_now, its_announcement, its_parted_announcement, own_all_lost_anew};
 ghost use Rattle.restart_laws.specs.CarriedExample.{own_parted_on, own_saved_anew};
+ghost use Rattle.restart_laws.specs.CarriedExample.{announced_away, answered_all_the_same, own_answered_all_the_same, sent_away};
+ghost use Rattle.restart_laws.specs.CarriedExample.{last_copy_anew, own_last_copy_anew, own_unanswered_copy, unanswered_copy};
 ghost use Rattle.restart_laws.specs.Example.{life_with, lifted_anew, reported_astray, responses_after};
 ghost use Rattle.restart_laws.specs.InFlightExample.{responses_with};
 
 /// Seven copies of a notification of a new life are lost, packets 3 to 9, and each that isn't is carried: the last one is, and its answer.
-/// All that the law asks for holds at once, and a response comes.
+/// All that the law asks for holds at once, and it is taken, and a response comes.
 pub fn each_copy_of_a_new_life_but_seven_is_carried()
     ensures run { IsRunOfLives two_lines saved_anew }
+    ensures set_up { AreSetUp (lives saved_anew) }
     ensures begun { HasBegun (lives saved_anew).life.setup (lives saved_anew).life.took 1 lifted_anew }
     ensures goes { LifeGoesToAgent two_lines (lives saved_anew) lifted_anew.text }
     ensures late { (lives saved_anew).life.start + lifted_anew.moment + last_chance ≤ clock_of two_lines (lives saved_anew) }
     ensures seven { length {A = ℕ} (3 ∷ 4 ∷ 5 ∷ 6 ∷ 7 ∷ 8 ∷ 9 ∷ []) ≡ most_repeats }
     ensures carried { (number : ℕ) → IsCopyOfLife two_lines (lives saved_anew) (number_of (lives saved_anew)) lifted_anew.text number →
         ¬ Any (λ (n : ℕ). n ≡ number) (3 ∷ 4 ∷ 5 ∷ 6 ∷ 7 ∷ 8 ∷ 9 ∷ []) → IsCarriedInLives two_lines saved_anew lifted_anew number }
+    ensures taken { firsts_after saved_anew ≡ (1, 21) ∷ (1, 10000020) ∷ [] }
     ensures answered { responses_after saved_anew ≡ 21 ∷ 10000020 ∷ [] }
 {}
 
@@ -37,6 +43,7 @@ pub fn each_copy_of_a_new_life_but_seven_is_carried()
 /// goes elsewhere; before all eight are sent; and where more than seven copies are lost, or one that isn't lost isn't carried.
 pub fn else_no_copy_of_a_new_life_is_carried()
     ensures not_set_up { ¬ IsSetUp dotted }
+    ensures none_set_up { ¬ AreSetUp (plain_lives dotted parted_on) }
     ensures steps { lives_are_taken dotted (lives_opening dotted) parted_on ≡ true }
     ensures begun { HasBegun (life_with dotted parted_on).setup (life_with dotted parted_on).took 1 parted_anew }
     ensures goes { LifeGoesToAgent dotted (plain_lives dotted parted_on) parted_anew.text }
@@ -72,6 +79,7 @@ pub fn each_copy_of_its_announcement_but_seven_is_carried()
     ensures carried { (number : ℕ) →
         IsCopyOfLife two_lines (lives own_saved_anew) (number_of (lives own_saved_anew)) its_announcement.text number →
         ¬ Any (λ (n : ℕ). n ≡ number) (1 ∷ 2 ∷ 3 ∷ 4 ∷ 5 ∷ 6 ∷ 7 ∷ []) → IsCarriedInLives two_lines own_saved_anew its_announcement number }
+    ensures taken { firsts_after own_saved_anew ≡ (1, 21) ∷ [] }
     ensures answered { responses_after own_saved_anew ≡ 21 ∷ [] }
 {}
 
@@ -102,4 +110,83 @@ pub fn else_no_copy_of_its_announcement_is_carried()
     ensures not_begun { ¬ HasBegun (lives own_all_lost_anew).life.setup (lives own_all_lost_anew).life.took 0 never_begun }
     ensures none_of_it { (number : ℕ) → ¬ IsCopyOfLife two_lines (lives own_all_lost_anew) 1 never_begun.text number }
     ensures none_came { responses_after own_all_lost_anew ≡ [] }
+{}
+
+/// Nor where the last copy is handed over to the agent, which has room, takes it and answers it, and the answer is lost, packet 11.
+pub fn else_the_answer_to_a_copy_is_lost()
+    ensures run { IsRunOfLives two_lines unanswered_copy }
+    ensures begun { HasBegun (lives unanswered_copy).life.setup (lives unanswered_copy).life.took 1 lifted_anew }
+    ensures goes { LifeGoesToAgent two_lines (lives unanswered_copy) lifted_anew.text }
+    ensures late { (lives unanswered_copy).life.start + lifted_anew.moment + last_chance ≤ clock_of two_lines (lives unanswered_copy) }
+    ensures seven { length {A = ℕ} (3 ∷ 4 ∷ 5 ∷ 6 ∷ 7 ∷ 8 ∷ 9 ∷ []) ≡ most_repeats }
+    ensures but_one { (number : ℕ) →
+        IsCopyOfLife two_lines (lives unanswered_copy) (number_of (lives unanswered_copy)) lifted_anew.text number →
+        ¬ Any (λ (n : ℕ). n ≡ number) (3 ∷ 4 ∷ 5 ∷ 6 ∷ 7 ∷ 8 ∷ 9 ∷ []) → number ≡ 10 }
+    ensures handed { unanswered_copy ≡ (last_copy_anew ++ stepping (delivering 10) ∷ []) ++ [] }
+    ensures copy { IsCopyOfLife two_lines (lives last_copy_anew) (number_of (lives unanswered_copy)) lifted_anew.text 10 }
+    ensures room { AgentHasRoomNow two_lines (lives (last_copy_anew ++ stepping (delivering 10) ∷ [])) }
+    ensures answer { IsAnswerToLife (lives last_copy_anew) (lives (last_copy_anew ++ stepping (delivering 10) ∷ []))
+        (number_of (lives unanswered_copy)) lifted_anew.id 11 }
+    ensures not_back { ¬ IsHandedThen [] 11 }
+    ensures not_carried { ¬ IsCarriedInLives two_lines unanswered_copy lifted_anew 10 }
+    ensures taken { firsts_after unanswered_copy ≡ (1, 21) ∷ (1, 10000020) ∷ [] }
+    ensures none_came { responses_after unanswered_copy ≡ 21 ∷ [] }
+{}
+
+/// So it is of the announcement of the gateway itself, whose answer is packet 9.
+pub fn else_the_answer_to_its_announcement_is_lost()
+    ensures run { IsRunOfLives two_lines own_unanswered_copy }
+    ensures begun { HasBegun (lives own_unanswered_copy).life.setup (lives own_unanswered_copy).life.took 0 its_announcement }
+    ensures late { (lives own_unanswered_copy).life.start + its_announcement.moment + last_chance
+        ≤ clock_of two_lines (lives own_unanswered_copy) }
+    ensures seven { length {A = ℕ} (1 ∷ 2 ∷ 3 ∷ 4 ∷ 5 ∷ 6 ∷ 7 ∷ []) ≡ most_repeats }
+    ensures but_one { (number : ℕ) →
+        IsCopyOfLife two_lines (lives own_unanswered_copy) (number_of (lives own_unanswered_copy)) its_announcement.text number →
+        ¬ Any (λ (n : ℕ). n ≡ number) (1 ∷ 2 ∷ 3 ∷ 4 ∷ 5 ∷ 6 ∷ 7 ∷ []) → number ≡ 8 }
+    ensures handed { own_unanswered_copy ≡ (own_last_copy_anew ++ stepping (delivering 8) ∷ []) ++ [] }
+    ensures copy { IsCopyOfLife two_lines (lives own_last_copy_anew) (number_of (lives own_unanswered_copy)) its_announcement.text 8 }
+    ensures room { AgentHasRoomNow two_lines (lives (own_last_copy_anew ++ stepping (delivering 8) ∷ [])) }
+    ensures answer { IsAnswerToLife (lives own_last_copy_anew) (lives (own_last_copy_anew ++ stepping (delivering 8) ∷ []))
+        (number_of (lives own_unanswered_copy)) its_announcement.id 9 }
+    ensures not_back { ¬ IsHandedThen [] 9 }
+    ensures not_carried { ¬ IsCarriedInLives two_lines own_unanswered_copy its_announcement 8 }
+    ensures taken { firsts_after own_unanswered_copy ≡ (1, 21) ∷ [] }
+    ensures none_came { responses_after own_unanswered_copy ≡ [] }
+{}
+
+/// Where a step is refused, by which the agent answers what it didn't take, a command of a line's or of the gateway itself is answered all
+/// the same, and isn't taken.
+pub fn else_it_is_answered_and_not_taken()
+    ensures refused { lives_are_taken two_lines (lives_opening two_lines) answered_all_the_same ≡ false }
+    ensures set_up { AreSetUp (lives answered_all_the_same) }
+    ensures begun { HasBegun (lives answered_all_the_same).life.setup (lives answered_all_the_same).life.took 1 lifted }
+    ensures goes { LifeGoesToAgent two_lines (lives answered_all_the_same) lifted.text }
+    ensures late { (lives answered_all_the_same).life.start + lifted.moment + last_chance
+        ≤ clock_of two_lines (lives answered_all_the_same) }
+    ensures one_lost { (number : ℕ) → IsCopyOfLife two_lines (lives answered_all_the_same) 0 lifted.text number →
+        Any (λ (n : ℕ). n ≡ number) (2 ∷ []) }
+    ensures came { responses_after answered_all_the_same ≡ 1 ∷ 10000000 ∷ [] }
+    ensures not_taken { firsts_after answered_all_the_same ≡ (0, 1) ∷ [] }
+    ensures own_refused { lives_are_taken two_lines (lives_opening two_lines) own_answered_all_the_same ≡ false }
+    ensures own_set_up { AreSetUp (lives own_answered_all_the_same) }
+    ensures own_begun { HasBegun (lives own_answered_all_the_same).life.setup (lives own_answered_all_the_same).life.took 0 announcement }
+    ensures own_late { (lives own_answered_all_the_same).life.start + announcement.moment + last_chance
+        ≤ clock_of two_lines (lives own_answered_all_the_same) }
+    ensures own_one_lost { (number : ℕ) → IsCopyOfLife two_lines (lives own_answered_all_the_same) 0 announcement.text number →
+        Any (λ (n : ℕ). n ≡ number) (0 ∷ []) }
+    ensures own_came { responses_after own_answered_all_the_same ≡ 1 ∷ [] }
+    ensures own_not_taken { firsts_after own_answered_all_the_same ≡ [] }
+{}
+
+/// And where by such a step the agent sends the gateway elsewhere, what that announces then has no copy that goes to the agent, and no
+/// response comes.
+pub fn else_its_announcement_is_sent_away()
+    ensures refused { lives_are_taken two_lines (lives_opening two_lines) sent_away ≡ false }
+    ensures set_up { AreSetUp (lives sent_away) }
+    ensures begun { HasBegun (lives sent_away).life.setup (lives sent_away).life.took 0 announced_away }
+    ensures late { (lives sent_away).life.start + announced_away.moment + last_chance ≤ clock_of two_lines (lives sent_away) }
+    ensures one_lost { (number : ℕ) → IsCopyOfLife two_lines (lives sent_away) 0 announced_away.text number →
+        Any (λ (n : ℕ). n ≡ number) (0 ∷ []) }
+    ensures not_taken { firsts_after sent_away ≡ [] }
+    ensures none_came { responses_after sent_away ≡ 1 ∷ [] }
 {}

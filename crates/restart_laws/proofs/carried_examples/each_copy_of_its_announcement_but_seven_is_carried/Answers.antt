@@ -71,5 +71,6 @@ returns c = record {
   late = leb-true _ _ refl;
   seven = refl;
   carried = λ number copy left. by_place number (copies two_lines (lives own_saved_anew) 1 its_announcement.text number copy) left;
+  taken = refl;
   answered = refl;
 }
