@@ -25,9 +25,13 @@ mod ToldWorld
 mod LivesPlaces
 mod OneLife
 mod StartedWorld
-mod StartedPremises
-mod Untold
 mod CrowdedAnew
 mod ForgedAnew
+mod RoomlessStarts
+mod StartedPremises
+mod Untold
 mod RoomlessAnew
+mod RoomlessAnewOn
+mod RoomlessBack
+mod RoomlessBackLine
 mod RoomlessOnce

@@ -6,6 +6,7 @@ ghost use Rattle.restart.specs.declared.restart.Restart.TheVariants.{Waiting};
 ghost use Rattle.plain_machine.specs.Example.{two_lines};
 ghost use Rattle.plain_machine.specs.Lists.{plain};
 ghost use Rattle.plain_machine.specs.Machine.{serves};
+ghost use Rattle.plain_machine.specs.Setup.{IsSetUp};
 ghost use Rattle.machine_laws.specs.Saying.{Begun};
 ghost use Rattle.delivery_laws.specs.Chances.{last_chance};
 ghost use Rattle.delivery_laws.specs.Course.{course_from};
@@ -22,7 +23,7 @@ ghost use Rattle.life_laws.specs.Example.{lives};
 ghost use Rattle.restart_laws.specs.AfterRestart.{AgentHasRoomThen, IsRunOfLives, LifeGoesToAgent, LivesAreFairFrom};
 ghost use Rattle.restart_laws.specs.CarriedBack.{IsCarriedInLives, IsCopyOfLife, IsHandedThen};
 ghost use Rattle.restart_laws.specs.Example.{restart_after};
-ghost use Rattle.restart_laws.specs.Roomless.{announced_anew, roomless_anew, starting};
+ghost use Rattle.restart_laws.specs.Roomless.{announced_anew, roomless_anew, roomless_before, roomless_for_good, roomless_key, starting};
 
 /// A gateway whose first life told 4,096 commands, all of which are young at the agent, starts again: its announcement isn't taken, though
 /// each of its copies is handed over at once and no earlier life had its id; nor is it answered. So the gateway doesn't serve by then.
@@ -42,6 +43,41 @@ pub fn else_a_new_life_has_no_room()
     ensures late_since { 1 + longest_pause + 2 * 0 ≤ 4001 + 1 }
     ensures none_taken { ¬ Any (λ (one : Brought). one.reached.asked.id ≡ announced_anew.id) (firsts_of_lives (lives roomless_anew)) }
     ensures none_came { ¬ HasResponse (lives roomless_anew).life.took announced_anew.id }
+{}
+
+/// Where steps are refused, by which the clock is put back to where the agent had no room, each copy of a new life's announcement is handed
+/// over there, and none is taken; nor is it answered. From 30,003 on the agent has room.
+pub fn else_a_new_life_is_where_no_room_was()
+    ensures set_up { IsSetUp two_lines }
+    ensures refused { ¬ IsRunOfLives two_lines roomless_before }
+    ensures fair { LivesAreFairFrom two_lines roomless_before 30003 4000 }
+    ensures room { AgentHasRoomThen two_lines roomless_before 30003 }
+    ensures start { (lives roomless_before).life.start ≡ 30002 }
+    ensures begun { HasBegun (lives roomless_before).life.setup (lives roomless_before).life.took 0 announced_anew }
+    ensures in_flight { 30003 ≤ (lives roomless_before).life.start + announced_anew.moment + last_chance }
+    ensures now { clock_of two_lines (lives roomless_before) ≡ 38002 }
+    ensures late { (lives roomless_before).life.start + announced_anew.moment + 4000 ≤ 38002 }
+    ensures late_since { 30003 + longest_pause + 4000 ≤ 38002 + 1 }
+    ensures none_taken { ¬ Any (λ (one : Brought). one.reached.asked.id ≡ announced_anew.id) (firsts_of_lives (lives roomless_before)) }
+    ensures none_came { ¬ HasResponse (lives roomless_before).life.took announced_anew.id }
+{}
+
+/// So it is of a notification of a line, of a life that began with the world.
+pub fn else_a_line_tells_where_no_room_was()
+    ensures set_up { IsSetUp two_lines }
+    ensures refused { ¬ IsRunOfLives two_lines roomless_key }
+    ensures fair { LivesAreFairFrom two_lines roomless_key 30002 4000 }
+    ensures room { AgentHasRoomThen two_lines roomless_key 30002 }
+    ensures start { (lives roomless_key).life.start ≡ 0 }
+    ensures begun { HasBegun (lives roomless_key).life.setup (lives roomless_key).life.took 1 (key_begun 30002 next_key_number) }
+    ensures goes { LifeGoesToAgent two_lines (lives roomless_key) (key_begun 30002 next_key_number).text }
+    ensures in_flight { 30002 ≤ (lives roomless_key).life.start + (key_begun 30002 next_key_number).moment + last_chance }
+    ensures now { clock_of two_lines (lives roomless_key) ≡ 38001 }
+    ensures late { (lives roomless_key).life.start + (key_begun 30002 next_key_number).moment + 4000 ≤ 38001 }
+    ensures late_since { 30002 + longest_pause + 4000 ≤ 38001 + 1 }
+    ensures none_taken { ¬ Any (λ (one : Brought). one.reached.asked.id ≡ (key_begun 30002 next_key_number).id)
+        (firsts_of_lives (lives roomless_key)) }
+    ensures none_came { ¬ HasResponse (lives roomless_key).life.took (key_begun 30002 next_key_number).id }
 {}
 
 /// So it is of a notification of a line, where the gateway started again before it told anything; that is given up, and the line has no
@@ -82,6 +118,22 @@ pub fn else_no_copy_of_a_new_life_finds_room()
     ensures at_once { LivesAreFairFrom two_lines (starting roomless) 0 0 }
     ensures not_carried { (number : ℕ) → ¬ IsCarriedInLives two_lines (starting roomless) (key_begun 1 next_key_number) number }
     ensures none_came { ¬ HasResponse (lives (starting roomless)).life.took (key_begun 1 next_key_number).id }
+{}
+
+/// So it is of the announcement of the gateway itself: each of its eight copies is handed over, and so would be each answer, at once.
+pub fn else_no_copy_of_its_announcement_finds_room()
+    ensures run { IsRunOfLives two_lines roomless_for_good }
+    ensures begun { HasBegun (lives roomless_for_good).life.setup (lives roomless_for_good).life.took 0 announced_anew }
+    ensures late { (lives roomless_for_good).life.start + announced_anew.moment + last_chance
+        ≤ clock_of two_lines (lives roomless_for_good) }
+    ensures now { clock_of two_lines (lives roomless_for_good) ≡ 19502 }
+    ensures handed { (number : ℕ) →
+        IsCopyOfLife two_lines (lives roomless_for_good) (number_of (lives roomless_for_good)) announced_anew.text number →
+        IsHandedThen roomless_for_good number }
+    ensures at_once { LivesAreFairFrom two_lines roomless_for_good 1 0 }
+    ensures not_carried { (number : ℕ) → ¬ IsCarriedInLives two_lines roomless_for_good announced_anew number }
+    ensures none_taken { ¬ Any (λ (one : Brought). one.reached.asked.id ≡ announced_anew.id) (firsts_of_lives (lives roomless_for_good)) }
+    ensures none_came { ¬ HasResponse (lives roomless_for_good).life.took announced_anew.id }
 {}
 
 /// Before that it waits for its answer for longer than twice the network's time, and what was quarantined is quarantined yet.
