@@ -2,28 +2,34 @@
 //! an answer that was sent isn't had, or what the gateway's packets should tell stands in the agent's alone.
 #![tactic(auto, unfolding(crate::proofs::WorldComputing::on_examples))]
 
-ghost use Rattle.std.specs.Prelude.{◌≡◌, ◌+◌, All, codes, [], ◌∷◌, ◌++◌, false, None, Some, true};
+ghost use Rattle.std.specs.Prelude.{◌≡◌, ◌<◌, ◌+◌, ℕ, All, Any, codes, List, [], ◌∷◌, ◌++◌, false, None, slice_get, Some, true};
 ghost use Rattle.mg_line.specs.State.TheVariants.{Lockstep, Normal};
 ghost use Rattle.mgcp_text.specs.Reading.{read_text};
-ghost use Rattle.plain_machine.specs.Example.{two_lines};
+ghost use Rattle.transmission.specs.Texts.{texts_of};
+ghost use Rattle.plain_machine.specs.declared.endpoint.Endpoint.{Endpoint};
+ghost use Rattle.plain_machine.specs.Answering.{took_all};
+ghost use Rattle.plain_machine.specs.Example.{agent, two_lines};
 ghost use Rattle.plain_machine.specs.Lists.{plain, sent_of};
 ghost use Rattle.plain_machine.specs.Machine.{endpoint_at};
 ghost use Rattle.plain_machine.specs.Setup.{IsSetUp};
 ghost use Rattle.machine_laws.specs.Belonging.{of_line};
 ghost use Rattle.machine_laws.specs.Saying.{HasNumbersLeft};
 ghost use Rattle.agent_core.specs.declared.packet.End.TheVariants.{AgentEnd, GatewayEnd};
-ghost use Rattle.agent_core.specs.World.{delivering, gateway_in, now_in, plain_world, steps_are_taken, world_opening};
+ghost use Rattle.agent_core.specs.declared.packet.Posted.{Posted};
+ghost use Rattle.agent_core.specs.World.{WorldStep, agent_in, delivering, gateway_in, now_in, plain_world, steps_are_taken};
+ghost use Rattle.agent_core.specs.World.{world_opening};
 ghost use Rattle.world_laws.specs.Example.{code_in, world};
 ghost use Rattle.world_laws.specs.Reached.{own_in};
 ghost use Rattle.delivery_laws.specs.Chances.{IsSentAfter};
-ghost use Rattle.delivery_laws.specs.Copies.{HasRoom, IsAnswered, IsCopy, IsIssued, IsRun, IsServed, answer_wait, gateway_firsts};
+ghost use Rattle.delivery_laws.specs.Copies.{HasAnswer, HasRoom, IsAnswered, IsCopy, IsIssued, IsRun, IsServed, answer_wait};
+ghost use Rattle.delivery_laws.specs.Copies.{gateway_firsts};
 ghost use Rattle.delivery_laws.specs.Course.{course_from, course_of};
 ghost use Rattle.delivery_laws.specs.Dialled.{IsAskedForAll};
 ghost use Rattle.delivery_laws.specs.DialledExample.{asked, done_then, endpoint_then, told_then};
 ghost use Rattle.delivery_laws.specs.Example.{answered_state, as_response, audit, brought, elsewhere, hasty, line_after, own_responded};
 ghost use Rattle.delivery_laws.specs.Example.{putting_off, redirected_anew, responded, took_between, took_first};
 ghost use Rattle.delivery_laws.specs.GivenUp.{has_given_up};
-ghost use Rattle.delivery_laws.specs.GoingOn.{IsPlainAnswer};
+ghost use Rattle.delivery_laws.specs.GoingOn.{GoesOn, GoesOnAmid, IsPlainAnswer};
 ghost use Rattle.delivery_laws.specs.OnceExample.{five, lifted as off_hook};
 ghost use Rattle.delivery_laws.specs.OwnChances.{HasCome, IsOfLine, IsResponse, IsToldAfter};
 ghost use Rattle.told_laws.specs.DeliveryPremises.{AnswersAndServes, ComesOrIsTold, GoesOnAt, IsInFlight, TakesTexts, texts_there};
@@ -166,4 +172,21 @@ pub fn else_what_the_agent_sends_is_told_of_no_line()
     ensures not_come { ¬ HasCome (world audited_first) 1 }
     ensures not_told { ¬ IsToldAfter two_lines (world audited_first) first_audit 0 }
     ensures neither { ¬ ComesOrIsTold two_lines (world audited_first) first_audit }
+{}
+
+/// With one word less in what these laws conclude it would hold in such a world: a packet of either end tells a command; an answer is had
+/// where it comes a ms sooner; a line goes on at an answer that its packet doesn't have, or at a command.
+pub fn with_one_word_less_it_would_hold()
+    ensures of_either_end { (number : ℕ) × (post : Posted) × (slice_get (world audited_first).posted number ≡ Some post)
+        × (post.packet.moment ≡ first_audit.moment + 0)
+        × Any (λ (one : List ℕ). one ≡ first_audit.text) (texts_of post.packet.bytes) }
+    ensures a_ms_sooner { (between later : List WorldStep) →
+        steps_are_taken two_lines world_opening (((answered_at_last ++ between) ++ delivering 10 ∷ []) ++ later) ≡ true →
+        now_in two_lines (world (answered_at_last ++ between)) < issued_later.moment + 23499 →
+        HasAnswer 1 (agent_in two_lines (world (((answered_at_last ++ between) ++ delivering 10 ∷ []) ++ later))) }
+    ensures not_in_its_packet { GoesOnAmid two_lines (gateway_in two_lines (world audited_meanwhile)) agent
+        (audit.text ∷ codes "200 10000000 OK\r\n" ∷ []) 1 10000000 }
+    ensures at_a_command { (was is : Endpoint) × (endpoint_at (gateway_in two_lines (world audited_at_rest)).endpoints 1 ≡ Some was)
+        × (endpoint_at (took_all two_lines (gateway_in two_lines (world audited_at_rest)) agent (audit.text ∷ [])).value.endpoints 1
+        ≡ Some is) × GoesOn 1 1 was is }
 {}
