@@ -4,7 +4,7 @@ use Rattle.std.specs.Prelude.{ℕ, List, [], ◌∷◌, replicate}
 use Rattle.event_requests.specs.Requests.{no_requests}
 use Rattle.mg_line.specs.Line.{LineState}
 use Rattle.mg_line.specs.State.{State}
-use Rattle.mg_line.specs.State.TheVariants.{Notification}
+use Rattle.mg_line.specs.State.TheVariants.{Lockstep, Normal, Notification}
 use Rattle.plain_machine.specs.declared.endpoint.Endpoint.{Endpoint}
 use Rattle.plain_machine.specs.Event.{GatewayEvent}
 use Rattle.plain_machine.specs.Example.{two_lines}
@@ -23,9 +23,19 @@ abbrev pub having_lost : ℕ → LineState
 having_lost lost = losing lost (endpoint_then rested_asked).line
 
 -- so many keys are quarantined, and it stands so
-abbrev pub holding_five : ℕ → State → LineState → LineState
-holding_five many state line =
+abbrev pub holding_in : State → ℕ → LineState → LineState
+holding_in state many line =
     record line { state = state; quarantined = record line.quarantined { events = replicate many five } }
+
+-- where events occur; where it waits for an answer; and where it waits, in step, for a request
+abbrev pub holding_open : ℕ → LineState → LineState
+holding_open many line = holding_in Normal many line
+
+abbrev pub holding_unanswered : ℕ → LineState → LineState
+holding_unanswered many line = holding_in Notification many line
+
+abbrev pub holding_unasked : ℕ → LineState → LineState
+holding_unasked many line = holding_in Lockstep many line
 
 -- nothing is asked for
 abbrev pub asked_for_none : LineState → LineState
@@ -42,9 +52,9 @@ gateway_changed change m = record m { endpoints = record m.endpoints { list = fi
 abbrev pub gateway_with : (LineState → LineState) → Machine
 gateway_with change = gateway_changed change (gateway_in two_lines (world rested_asked))
 
--- it waits, with so many keys quarantined
+-- it waits for an answer, with so many keys quarantined
 abbrev pub gateway_holding : ℕ → Machine
-gateway_holding many = gateway_with (holding_five many Notification)
+gateway_holding many = gateway_with (holding_unanswered many)
 
 -- behind these events it announces itself by then
 abbrev pub LineAnnounces : List GatewayEvent → ℕ → Type 0

@@ -7,7 +7,6 @@ ghost use Rattle.quarantine.specs.Held.{most_lost};
 ghost use Rattle.mg_line.specs.declared.phone.Act.TheVariants as acts;
 ghost use Rattle.mg_line.specs.declared.phone.Key.TheVariants as keys;
 ghost use Rattle.mg_line.specs.Line.{most_quarantined};
-ghost use Rattle.mg_line.specs.State.TheVariants.{Lockstep, Normal, Notification};
 ghost use Rattle.plain_machine.specs.Event.{phone, tick};
 ghost use Rattle.plain_machine.specs.Example.{two_lines};
 ghost use Rattle.agent_core.specs.World.{delivering};
@@ -19,7 +18,8 @@ ghost use Rattle.outage_laws.specs.AfterOutage.{AgentHasRoomFrom, IsFairFrom};
 ghost use Rattle.outage_laws.specs.Carrying.{IsHandedBack};
 ghost use Rattle.outage_laws.specs.Example.{found_again};
 ghost use Rattle.outage_laws.specs.Roomless.{roomless};
-ghost use Rattle.outage_laws.specs.SinceExample.{asked_for_none, gateway_holding, gateway_with, having_lost, holding_five, losing};
+ghost use Rattle.outage_laws.specs.SinceExample.{asked_for_none, gateway_holding, gateway_with, having_lost, holding_open};
+ghost use Rattle.outage_laws.specs.SinceExample.{holding_unanswered, holding_unasked, losing};
 ghost use Rattle.outage_laws.specs.ToldSince.{FlightBeganSince, IsAskedForAllSince, IsToldFrom, IsToldSince};
 ghost use Rattle.outage_laws.specs.ToldSince.{KeepsAllSince, is_lost, is_lost_at, loses_none};
 
@@ -49,12 +49,12 @@ pub fn what_is_told_since_begins_with_what_was_done()
 /// where events occur, nor where there is room for one more, nor if nobody asked for it. So it is at the line's own telephone alone, and
 /// behind the keys before it. At the greatest count a key that finds room is kept, though the count says nothing.
 pub fn an_act_that_finds_no_room_is_lost()
-    ensures full { is_lost (holding_five most_quarantined Notification (having_lost 0)) five ≡ true }
-    ensures at_the_greatest { is_lost (holding_five most_quarantined Notification (having_lost most_lost)) five ≡ true }
-    ensures in_step { is_lost (holding_five most_quarantined Lockstep (having_lost 0)) five ≡ true }
-    ensures occurs { is_lost (holding_five most_quarantined Normal (having_lost 0)) five ≡ false }
-    ensures room { is_lost (holding_five (most_quarantined - 1) Notification (having_lost 0)) five ≡ false }
-    ensures not_kept { is_lost (asked_for_none (holding_five most_quarantined Notification (having_lost 0))) five ≡ false }
+    ensures full { is_lost (holding_unanswered most_quarantined (having_lost 0)) five ≡ true }
+    ensures at_the_greatest { is_lost (holding_unanswered most_quarantined (having_lost most_lost)) five ≡ true }
+    ensures in_step { is_lost (holding_unasked most_quarantined (having_lost 0)) five ≡ true }
+    ensures occurs { is_lost (holding_open most_quarantined (having_lost 0)) five ≡ false }
+    ensures room { is_lost (holding_unanswered (most_quarantined - 1) (having_lost 0)) five ≡ false }
+    ensures not_kept { is_lost (asked_for_none (holding_unanswered most_quarantined (having_lost 0))) five ≡ false }
     ensures there { is_lost_at 1 (gateway_holding most_quarantined) (phone 1 (acts.Key keys.Five)) ≡ true }
     ensures elsewhere { is_lost_at 1 (gateway_holding most_quarantined) (phone 2 (acts.Key keys.Five)) ≡ false }
     ensures no_act { is_lost_at 1 (gateway_holding most_quarantined) (tick 20000) ≡ false }
