@@ -157,7 +157,7 @@ module _ (setup : Setup) (start : List LivesStep) (same : IsWorld setup start) w
 
 other_firsts : (id : ℕ) (entries : List Entry) → Each (IsOther id) entries → Each (λ (first : KeptFirst). (first.id == id) ≡ false) (firsts_in entries)
 other_firsts id [] others = tt
-other_firsts id (First first ∷ entries) others = (others.0, other_firsts id entries others.1)
+other_firsts id (First one ∷ entries) others = (others.0, other_firsts id entries others.1)
 other_firsts id (Confirmation spans ∷ entries) others = other_firsts id entries others.1
 
 no_other : (a id : ℕ) → (a == id) ≡ false → a ≡ id → ⊥

@@ -3,7 +3,6 @@ use Rattle.std.proofs.Common.{◌≡◌, ℕ, ◌+◌, ◌-◌, ◌*◌, ◌<◌
 use Rattle.std.specs.Prelude.{All, Any, nat_lt, option_map, slice_get}
 use Rattle.history.specs.Entry.{Entry}
 use Rattle.history.specs.Kept.{firsts_in, young_firsts}
-use Rattle.history.specs.Looking.{full}
 use Rattle.history.specs.Memory.{memory_time, most_firsts}
 use Rattle.plain_machine.specs.Event.{GatewayEvent, tick}
 use Rattle.plain_machine.specs.Example.{two_lines}
