@@ -1,5 +1,7 @@
 -- Worlds in which one premise alone of a law of delivery is missing, and what the law says of them.
 use Rattle.std.specs.Prelude.{◌≡◌, ◌⊎◌, ℕ, ◌+◌, ◌≤◌, codes, All, List, [], ◌∷◌, ◌++◌, Option, Some, None, slice_get}
+use Rattle.mg_line.specs.State.{State}
+use Rattle.mg_line.specs.State.TheVariants.{Lockstep, Normal}
 use Rattle.outbound.specs.Flight.{InFlight}
 use Rattle.transmission.specs.Texts.{texts_of}
 use Rattle.plain_machine.specs.declared.setup.Setup.{Setup}
@@ -19,6 +21,13 @@ use Rattle.delivery_laws.specs.GoingOn.{GoesOnAmid}
 use Rattle.delivery_laws.specs.OwnChances.{HasCome, IsToldAfter}
 
 -- Which lets a line go on
+
+-- how it stands where events occur, and where it waits, in step, for a request
+abbrev pub in_normal : State
+in_normal = Normal
+
+abbrev pub in_lockstep : State
+in_lockstep = Lockstep
 
 -- this line is there behind these steps, and has a command with this id in flight
 pub record IsInFlight (setup : Setup) (steps : List WorldStep) (line id : ℕ) : Type 0 where

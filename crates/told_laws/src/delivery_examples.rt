@@ -3,7 +3,6 @@
 #![tactic(auto, unfolding(crate::proofs::WorldComputing::on_examples))]
 
 ghost use Rattle.std.specs.Prelude.{◌≡◌, ◌<◌, ◌+◌, ℕ, All, Any, codes, List, [], ◌∷◌, ◌++◌, false, None, slice_get, Some, true};
-ghost use Rattle.mg_line.specs.State.TheVariants.{Lockstep, Normal};
 ghost use Rattle.mgcp_text.specs.Reading.{read_text};
 ghost use Rattle.transmission.specs.Texts.{texts_of};
 ghost use Rattle.plain_machine.specs.declared.endpoint.Endpoint.{Endpoint};
@@ -34,7 +33,7 @@ ghost use Rattle.delivery_laws.specs.OnceExample.{five, lifted as off_hook};
 ghost use Rattle.delivery_laws.specs.OwnChances.{HasCome, IsOfLine, IsResponse, IsToldAfter};
 ghost use Rattle.told_laws.specs.DeliveryPremises.{AnswersAndServes, ComesOrIsTold, GoesOnAt, IsInFlight, TakesTexts, texts_there};
 ghost use Rattle.told_laws.specs.DeliveryPremises.{answered_again, answered_amid, answered_at_last, answered_itself, audited_again};
-ghost use Rattle.told_laws.specs.DeliveryPremises.{audited_at_rest, told_at_rest};
+ghost use Rattle.told_laws.specs.DeliveryPremises.{audited_at_rest, in_lockstep, in_normal, told_at_rest};
 ghost use Rattle.told_laws.specs.DeliveryPremises.{audited_first, audited_meanwhile, first_audit, issued_later, of_no_line};
 ghost use Rattle.told_laws.specs.DeliveryPremises.{put_off_too_long, repeated_seven_times, second_audit, waited_long};
 ghost use Rattle.told_laws.specs.WorldPremises.{taken_out_of_order};
@@ -47,8 +46,8 @@ pub fn a_line_goes_on_amid_requests()
     ensures plain { All (IsPlainAnswer 10000000) (texts_there two_lines answered_amid 3) }
     ensures flies { IsInFlight two_lines answered_amid 1 10000000 }
     ensures goes_on { GoesOnAt two_lines answered_amid 3 1 10000000 }
-    ensures before { answered_state answered_amid ≡ Some Lockstep }
-    ensures behind { line_after (answered_amid ++ delivering 3 ∷ []) ≡ (Some Normal, None) }
+    ensures before { answered_state answered_amid ≡ Some in_lockstep }
+    ensures behind { line_after (answered_amid ++ delivering 3 ∷ []) ≡ (Some in_normal, None) }
 {}
 
 /// A command lets no line go on, nor does a response that isn't in the packet, though all else that the law asks for holds.
@@ -65,8 +64,8 @@ pub fn else_a_command_lets_no_line_go_on()
 /// A line that waits for a request stands as an answer would leave it. All the same there is nothing at which it goes on in a packet with a
 /// command, or with a response to another one.
 pub fn a_line_goes_on_at_a_response_to_its_command()
-    ensures rests { line_after brought ≡ (Some Lockstep, None) }
-    ensures would_rest { answered_state brought ≡ Some Lockstep }
+    ensures rests { line_after brought ≡ (Some in_lockstep, None) }
+    ensures would_rest { answered_state brought ≡ Some in_lockstep }
     ensures not_at_a_command { ¬ GoesOnAt two_lines audited_at_rest 4 1 10000000 }
     ensures not_at_another { ¬ GoesOnAt two_lines told_at_rest 4 1 10000000 }
 {}
