@@ -1,38 +1,18 @@
 -- A gateway that isn't set up well, whose first life told the agent a notification that has the id of one of the next life's; for a worked
 -- example.
-use Rattle.std.proofs.Common.{◌≡◌, ◌+◌, ◌<◌, ◌≤◌, true, List, [], ◌∷◌, ◌++◌, codes, drop, length, inl, inr, refl, sym, ap, ◌∙◌, subst, arith}
-use Rattle.std.specs.Prelude.{◌⊎◌}
-use Rattle.std.proofs.Math.Seq.{drop-append_seam}
+use Rattle.std.proofs.Common.{◌≡◌, ◌+◌, ◌≤◌, true, List, [], ◌∷◌, ◌++◌, codes, drop, length, inl, refl, sym, ap, ◌∙◌}
 use Rattle.std.proofs.lemmas.Bool.{leb-true}
-use Rattle.plain_machine.specs.declared.setup.Setup.{Setup}
 use Rattle.plain_machine.specs.Event.{GatewayEvent, tick}
 use Rattle.machine_laws.specs.Saying.{Begun, OneOf}
 use Rattle.outage_laws.specs.MorePremises.{forging}
-use Rattle.life_laws.specs.Lives.{LivesStep, number_of, plain_lives}
+use Rattle.life_laws.specs.Lives.{number_of, plain_lives}
 use Rattle.restart_laws.specs.AfterRestart.{began_then}
 use Rattle.restart_laws.specs.ToldPhoneExample.{IsToldAnew, asked_by_forger, forged_anew, forger_firsts, forger_took, forger_took_between, lifted_by_forger}
 use Rattle.restart_laws.proofs.Computing.{on_examples}
-use Rattle.restart_laws.proofs.LivesFronts.{Follows, SameLife, front_follows}
+use Rattle.restart_laws.proofs.LivesApart.{life_parted}
 use Rattle.restart_laws.proofs.Untold.{are_others, untold_by_one}
 
--- What a life took up to one of the steps, and then since; computed twice, and compared, it would be dear
-
-abbrev took_of : Setup → List LivesStep → List GatewayEvent
-took_of setup steps = (plain_lives setup steps).life.took
-
-life_parted : (setup : Setup) (first all : List LivesStep) → all ≡ first ++ drop (length first) all → number_of (plain_lives setup all) ≡ number_of (plain_lives setup first)
-    → took_of setup all ≡ took_of setup first ++ drop (length (took_of setup first)) (took_of setup all)
-life_parted setup first all order same =
-    of_front (subst (λ (x : List LivesStep). Follows (plain_lives setup first) (plain_lives setup x)) (sym order) (front_follows setup first (drop (length first) all))).life where
-      of_front : ((number_of (plain_lives setup all) ≡ number_of (plain_lives setup first)) × SameLife (plain_lives setup first).life (plain_lives setup all).life)
-          ⊎ (number_of (plain_lives setup first) < number_of (plain_lives setup all)) → took_of setup all ≡ took_of setup first ++ drop (length (took_of setup first)) (took_of setup all)
-      of_front (inl both) =
-          let events : List GatewayEvent = both.1.events in
-          let is : took_of setup all ≡ took_of setup first ++ events = both.1.took in
-          is
-          ∙ ap (λ (x : List GatewayEvent). took_of setup first ++ x)
-          (sym (ap (λ (x : List GatewayEvent). drop (length (took_of setup first)) x) is ∙ drop-append_seam (took_of setup first) events))
-      of_front (inr less) = absurd (omega (arith, less, same))
+-- What its life took, in parts
 
 one_more_life : number_of (plain_lives forging asked_by_forger) ≡ 1
 unfolding on_examples

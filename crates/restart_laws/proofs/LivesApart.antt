@@ -1,19 +1,17 @@
 -- What a life took by one of two lists of steps of which one is the front of the other, and whether its ids lie apart from those of the one
 -- before it, which began one command alone; for worked examples.
-use Rattle.std.proofs.Common.{◌≡◌, ◌==◌, ◌&&◌, ◌<◌, ℕ, zero, suc, Bool, true, List, [], ◌∷◌, ◌++◌, drop, length, take, inl, inr, refl, sym, ap, ◌∙◌, subst, arith}
+use Rattle.std.proofs.Common.{◌≡◌, ◌==◌, ◌&&◌, ◌<◌, ℕ, Bool, true, List, [], ◌∷◌, ◌++◌, drop, length, inl, inr, sym, ap, ◌∙◌, subst, arith}
 use Rattle.std.specs.Prelude.{◌⊎◌, All, not}
 use Rattle.std.proofs.lemmas.Bool.{and_parts, eq-eqb}
 use Rattle.std.proofs.Math.Seq.{drop-append_seam}
+use Rattle.plain_machine.specs.declared.setup.Setup.{Setup}
 use Rattle.plain_machine.specs.Event.{GatewayEvent}
 use Rattle.machine_laws.specs.Saying.{Begun}
 use Rattle.machine_laws.proofs.EachLemmas.{Each, all_from_each}
 use Rattle.life_laws.proofs.PairLemmas.{Pairs, pairs_to}
 use Rattle.life_laws.specs.Apart.{AreApart, BeginsLater, LieApart, begun_of}
-use Rattle.life_laws.specs.Example.{lives}
-use Rattle.life_laws.specs.Lives.{Life, LivesStep, LivesWorld, lives_of, number_of}
-use Rattle.restart_laws.specs.Example.{life_took, took_since}
+use Rattle.life_laws.specs.Lives.{Life, LivesStep, LivesWorld, lives_of, number_of, plain_lives}
 use Rattle.restart_laws.proofs.LivesFronts.{Follows, SameLife, front_follows}
-use Rattle.plain_machine.specs.Example.{two_lines}
 
 -- none of these has this id
 abbrev pub all_other : ℕ → List Begun → Bool
@@ -40,21 +38,21 @@ first_apart w earlier a one first other =
           all_from_each (λ (x : Begun). All (BeginsLater x) (begun_of w.life)) (begun_of earlier)
           (subst (Each (λ (x : Begun). All (BeginsLater x) (begun_of w.life))) (sym first) (later, tt))
 
-pub parted : (n : ℕ) (events : List GatewayEvent) → events ≡ take n events ++ drop n events
-parted zero events = refl
-parted (suc n) [] = refl
-parted (suc n) (event ∷ events) = ap (λ (x : List GatewayEvent). event ∷ x) (parted n events)
+-- What a life took up to one of the steps, and then since; computed twice, and compared, it would be dear
 
-pub life_parted : (first all : List LivesStep) → all ≡ first ++ drop (length first) all → number_of (lives all) ≡ number_of (lives first)
-    → life_took all ≡ life_took first ++ took_since first all
-life_parted first all order same =
-    of_front (subst (λ (x : List LivesStep). Follows (lives first) (lives x)) (sym order) (front_follows two_lines first (drop (length first) all))).life where
-      of_front : ((number_of (lives all) ≡ number_of (lives first)) × SameLife (lives first).life (lives all).life) ⊎ (number_of (lives first) < number_of (lives all))
-          → life_took all ≡ life_took first ++ took_since first all
+abbrev pub took_of : Setup → List LivesStep → List GatewayEvent
+took_of setup steps = (plain_lives setup steps).life.took
+
+pub life_parted : (setup : Setup) (first all : List LivesStep) → all ≡ first ++ drop (length first) all → number_of (plain_lives setup all) ≡ number_of (plain_lives setup first)
+    → took_of setup all ≡ took_of setup first ++ drop (length (took_of setup first)) (took_of setup all)
+life_parted setup first all order same =
+    of_front (subst (λ (x : List LivesStep). Follows (plain_lives setup first) (plain_lives setup x)) (sym order) (front_follows setup first (drop (length first) all))).life where
+      of_front : ((number_of (plain_lives setup all) ≡ number_of (plain_lives setup first)) × SameLife (plain_lives setup first).life (plain_lives setup all).life)
+          ⊎ (number_of (plain_lives setup first) < number_of (plain_lives setup all)) → took_of setup all ≡ took_of setup first ++ drop (length (took_of setup first)) (took_of setup all)
       of_front (inl both) =
           let events : List GatewayEvent = both.1.events in
-          let is : life_took all ≡ life_took first ++ events = both.1.took in
+          let is : took_of setup all ≡ took_of setup first ++ events = both.1.took in
           is
-          ∙ ap (λ (x : List GatewayEvent). life_took first ++ x)
-          (sym (ap (λ (x : List GatewayEvent). drop (length (life_took first)) x) is ∙ drop-append_seam (life_took first) events))
+          ∙ ap (λ (x : List GatewayEvent). took_of setup first ++ x)
+          (sym (ap (λ (x : List GatewayEvent). drop (length (took_of setup first)) x) is ∙ drop-append_seam (took_of setup first) events))
       of_front (inr less) = absurd (omega (arith, less, same))
