@@ -27,6 +27,7 @@ mod OneLife
 mod StartedWorld
 mod CrowdedAnew
 mod ForgedAnew
+mod ToldAnew
 mod RoomlessStarts
 mod StartedPremises
 mod Untold

@@ -1,5 +1,6 @@
-//! Worked examples of what is dialled in a new life where one premise alone of its telephone, or of what it is asked for, is missing: all
-//! else that the law asks for holds, and what it says doesn't. The gateway started again before anything else, but where it says otherwise.
+//! Worked examples of what is dialled in a new life: a world in which all that the law asks for holds; and worlds in which one premise
+//! alone of its telephone, or of what it is asked for, is missing, and what the law says doesn't hold. The gateway started again before
+//! anything else, but where it says otherwise.
 
 ghost use Rattle.std.specs.Prelude.{◌≡◌, ◌≤◌, ◌<◌, ◌+◌, ◌++◌, [], ◌∷◌, false, length, map, true};
 ghost use Rattle.mg_line.specs.Line.{most_quarantined};
@@ -13,7 +14,8 @@ ghost use Rattle.delivery_laws.specs.Course.{course_from};
 ghost use Rattle.delivery_laws.specs.Dialled.{AskForAll};
 ghost use Rattle.delivery_laws.specs.DialledExample.{asked as asked_for_all};
 ghost use Rattle.delivery_laws.specs.Example.{accumulated, asked_in_step, asked_to_accumulate, dialled_in_step, hasty, hasty_line};
-ghost use Rattle.delivery_laws.specs.Example.{hasty_took, hasty_took_between, line_with, put_by, took_between, took_first, unasked};
+ghost use Rattle.delivery_laws.specs.Example.{hasty_took, hasty_took_between, kept_back, line_with, put_by, rested, took_between};
+ghost use Rattle.delivery_laws.specs.Example.{took_first, unasked};
 ghost use Rattle.delivery_laws.specs.GivenUp.{has_given_up};
 ghost use Rattle.delivery_laws.specs.Keeping.{KeepsAll};
 ghost use Rattle.delivery_laws.specs.OnceExample.{five, lifted};
@@ -31,6 +33,33 @@ ghost use Rattle.restart_laws.specs.ToldPhoneExample.{IsToldAnew, asked_by_forge
 ghost use Rattle.restart_laws.specs.ToldPhoneExample.{forger_took, forger_took_between, lifted_by_forger, never_answered, pressed_by_map};
 ghost use Rattle.restart_laws.specs.ToldPhoneExample.{pressed_for_nothing, pressed_unanswered, rests_by_map, rests_for_nothing};
 ghost use Rattle.restart_laws.specs.ToldPhoneExample.{tells_anew, waits_unanswered};
+
+/// Where line 1 is asked for all, is lifted and tells that, all that the law asks for holds at once, and so does what it says.
+pub fn what_was_dialled_behind_a_start_is_told()
+    ensures run { IsRunOfLives two_lines (starting rested) }
+    ensures fair { LivesAreFairFrom two_lines (starting rested) 0 0 }
+    ensures room { AgentHasRoomThen two_lines (starting rested) 0 }
+    ensures goes { LineReachesTheAgentSince two_lines (lives (starting rested)) 1 0 }
+    ensures apart { LieApart (lives_of (lives (starting rested))) }
+    ensures life { (lives (starting rested)).life ≡ record { setup = two_lines; start = 0; took = took_first rested } }
+    ensures front { took_first kept_back ≡ took_first asked_for_all ++ took_between asked_for_all kept_back }
+    ensures split { took_first rested ≡ took_first kept_back ++ took_between kept_back rested }
+    ensures asked { KeepsAllSince two_lines 1 (plain two_lines (took_first asked_for_all))
+        (took_between asked_for_all kept_back ++ took_between kept_back rested) (line_with two_lines (took_first asked_for_all)).line }
+    ensures calm { has_given_up (of_line 1 (sent_from two_lines (plain two_lines (took_first kept_back)) (took_between kept_back rested)))
+        (line_with two_lines (took_first rested)).post ≡ false }
+    ensures answered { IsAnsweredWithin two_lines 1 (took_first kept_back) (took_between kept_back rested) 0 }
+    ensures asked_again { IsAskedWithin two_lines 1 (took_first kept_back) (took_between kept_back rested) 0 }
+    ensures held { (line_with two_lines (took_first kept_back)).line.quarantined.events ≡ [] }
+    ensures over { (plain two_lines (took_first kept_back)).now + rounds_take 0 0 0 < (plain two_lines (took_first rested)).now }
+    ensures by { (lives (starting rested)).life.start + (plain two_lines (took_first rested)).now + 0
+        ≤ clock_of two_lines (lives (starting rested)) }
+    ensures done { done_anew two_lines (took_first asked_for_all) (took_between asked_for_all kept_back) ≡ lifted ∷ [] }
+    ensures tells { tells_anew two_lines (took_first asked_for_all)
+        (took_between asked_for_all kept_back ++ took_between kept_back rested) ≡ lifted ∷ [] }
+    ensures told { IsToldAnew two_lines (starting rested) 0 (took_first asked_for_all) (took_between asked_for_all kept_back)
+        (took_between kept_back rested) }
+{}
 
 /// Where nobody asks a line in step what was dialled isn't told; nor before the time for that is over.
 pub fn else_nobody_asks_a_new_life()
