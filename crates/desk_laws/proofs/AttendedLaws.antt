@@ -340,7 +340,7 @@ unfolding after_turns
 desk_behind desk [] more = refl
 desk_behind desk (turn ∷ some) more = desk_behind (after_turn desk turn) some more
 
-exchange_behind : (exchange : ExchangeState) (some more : List Turn) → after exchange (some ++ more) ≡ after (after exchange some) more
+pub exchange_behind : (exchange : ExchangeState) (some more : List Turn) → after exchange (some ++ more) ≡ after (after exchange some) more
 unfolding after
 exchange_behind exchange [] more = refl
 exchange_behind exchange (turn ∷ some) more = exchange_behind (after_one exchange turn) some more

@@ -6,7 +6,7 @@ use Rattle.std.proofs.lemmas.Bool.{cases_eq}
 use Rattle.call_routing.specs.declared.line.Line.{Line}
 use Rattle.call_routing.specs.declared.phase.Phase.{Phase}
 use Rattle.call_routing.specs.Exchange.{ExchangeState, line_of, opening, phase_of}
-use Rattle.call_laws.specs.Turns.{is_in_flight}
+use Rattle.call_laws.specs.Turns.{Turn, after, is_in_flight}
 use Rattle.live_agent.specs.declared.care.Duty.TheVariants.{Route}
 use Rattle.live_agent.specs.declared.care.Care.{Care}
 use Rattle.live_agent.specs.declared.gateway.Gateway.{Gateway}
@@ -26,9 +26,9 @@ use Rattle.desk_laws.proofs.AttendedLaws.{FliesOrNone, is_routed, opening_agrees
 use Rattle.desk_laws.proofs.AttendedLemmas.{flight_at}
 use Rattle.desk_laws.proofs.AttendedRuns.{begun_turn}
 use Rattle.desk_laws.proofs.DeskLaws.{goes_on_held}
+use Rattle.desk_laws.proofs.ExchangeRuns.{Led, is_there, led_both, led_none, opened_within, step_led, turns_there}
 use Rattle.desk_laws.proofs.GatewayLemmas.{DidOrRested, called, does_less, had, has_it, share_none, still_have, was_there}
 use Rattle.desk_laws.proofs.LineLemmas.{InCare, LineSound, Standing, StaysSo, announced_all, answer_far, answer_here, answer_still, given_up, heard, issued, later, new_sound, told_of_it, unchanged, woken_elsewhere, woken_next}
-use Rattle.desk_laws.proofs.SameLines.{is_there, opened_within, step_there}
 use Rattle.desk_laws.proofs.WakeLemmas.{stands_front, stands_last, wake_of}
 
 -- what is kept of a line, by the clock of a gateway and by what that sends again
@@ -255,13 +255,20 @@ agree_then (one ∷ ones) were are was is runs agree line =
     agree_then ones runs.0 are runs.1 is runs.3
     (λ (of : ℕ). step_agrees caller.before caller.behind was runs.1 one.step caller.did agree of) line
 
--- the exchange has the lines that it had
-there_then : (ones : List StepAt) (were are : List Gateway) (was is : Box Office) → StepsDo DoesAnyhow ones were was are is → (line : ℕ)
-    → is_there is.value.exchange line ≡ is_there was.value.exchange line
-there_then [] were are was is ends line = ap (λ (office : Box Office). is_there office.value.exchange line) ends.1
-there_then (one ∷ ones) were are was is runs line =
+-- the exchange comes there by turns
+led_then : (ones : List StepAt) (were are : List Gateway) (was is : Box Office) → StepsDo DoesAnyhow ones were was are is
+    → Led was.value.exchange is.value.exchange
+led_then [] were are was is ends =
+    led_none was.value.exchange is.value.exchange (ap (λ (office : Box Office). office.value.exchange) ends.1)
+led_then (one ∷ ones) were are was is runs =
     let caller = called (λ (gateway after : Gateway). DoesAnyhow one.step gateway was after runs.1) were runs.0 one.place runs.2 in
-    there_then ones runs.0 are runs.1 is runs.3 line ∙ step_there one.step caller.before caller.behind was runs.1 caller.did line
+    led_both was.value.exchange runs.1.value.exchange is.value.exchange
+    (step_led one.step caller.before caller.behind was runs.1 caller.did) (led_then ones runs.0 are runs.1 is runs.3)
+
+pub are_turns : (count last : ℕ) (ones : List StepAt) (were are : List Gateway) (was is : Box Office) → was.value.exchange ≡ opening count last
+    → StepsDo DoesAnyhow ones were was are is → (turns : List Turn) × (after (opening count last) turns ≡ is.value.exchange)
+are_turns count last ones were are was is opens runs =
+    subst (λ (exchange : ExchangeState). Led exchange is.value.exchange) opens (led_then ones were are was is runs)
 
 -- From the start on
 
@@ -337,9 +344,10 @@ each_goes_on count last lines line ones were are was is care map phase of opens 
     ) where
       within : line < count
       within =
+          let led = are_turns count last ones were are was is opens (own_anyhow ones were are was is runs) in
           opened_within count last line
-          (sym (ap (λ (exchange : ExchangeState). is_there exchange line) opens)
-          ∙ (sym (there_then ones were are was is (own_anyhow ones were are was is runs) line) ∙ ap (λ (here : Option Line). is_some here) known))
+          (sym (turns_there (opening count last) led.0 line)
+          ∙ (ap (λ (exchange : ExchangeState). is_there exchange line) led.1 ∙ ap (λ (here : Option Line). is_some here) known))
 
 -- A line that was just sent what it is to be sent
 

@@ -15,5 +15,5 @@ mod LineLemmas
 mod GatewayLemmas
 mod GatewayRuns
 mod GatewayExampleLemmas
-mod SameLines
+mod ExchangeRuns
 mod GatewayWakes

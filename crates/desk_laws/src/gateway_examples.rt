@@ -5,7 +5,7 @@
 ghost use Rattle.std.specs.Prelude.{◌≡◌, ◌∷◌, ◌++◌, [], List, None, slice_get, Some, false, true};
 ghost use Rattle.std.specs.Global.{Box};
 ghost use Rattle.call_routing.specs.Exchange.{opening, phase_of};
-ghost use Rattle.call_laws.specs.Turns.{is_in_flight};
+ghost use Rattle.call_laws.specs.Turns.{Turn, after, is_in_flight, sends, tells};
 ghost use Rattle.live_agent.specs.declared.care.Duty.TheVariants.{Route};
 ghost use Rattle.live_agent.specs.declared.gateway.Gateway.{Gateway};
 ghost use Rattle.live_agent.specs.declared.office.Office.{Office};
@@ -18,10 +18,11 @@ ghost use Rattle.desk_laws.specs.Attended.{WaitsFor};
 ghost use Rattle.desk_laws.specs.Desk.{GoesOn, desk_of};
 ghost use Rattle.desk_laws.specs.Example.{routed_care};
 ghost use Rattle.desk_laws.specs.Gateways.{DoesOwn, Has, HaveLines, IsOwn, OneDoes, Rests, ShareNoLine, StepsDo, at_gateway};
-ghost use Rattle.desk_laws.specs.GatewaysExample.{IsPutOff, RingsAcross, at_moment, high, low, puts_off, ringing, rings_across, with_lines};
+ghost use Rattle.desk_laws.specs.GatewaysExample.{IsPutOff, RingsAcross, at_moment, high, low, off_hook};
+ghost use Rattle.desk_laws.specs.GatewaysExample.{puts_off, ringing, rings_across, with_lines};
 ghost use Rattle.desk_laws.specs.Steps.{DoesAnyhow, goes_on_to, issues_to, settles, takes_answer};
 
-use call_routing::Phase;
+use call_routing::{Phase, Told};
 
 /// Its lines are those from its first on, as many as it has. No line is of two, where one's begin behind those of the other; and they have
 /// all lines where the next one's begin there, from the exchange's first line to its last.
@@ -92,6 +93,8 @@ pub fn a_call_is_of_its_gateway()
 pub fn a_line_of_one_gateway_calls_a_line_of_another()
     ensures rings { (gateway another : Gateway) (was between is : Box Office) → RingsAcross was between is →
         StepsDo DoesOwn rings_across (low gateway ∷ high another ∷ []) was (low gateway ∷ high another ∷ []) is }
+    ensures by_turns { (was between is : Box Office) → RingsAcross was between is →
+        after off_hook (tells 0 (Told.Dialled (Some 2)) ∷ sends 2 ∷ []) ≡ is.value.exchange }
     ensures called { (was between is : Box Office) → RingsAcross was between is → phase_of is.value.exchange 2 ≡ Some ringing }
     ensures in_flight { (was between is : Box Office) → RingsAcross was between is → is_in_flight is.value.exchange 2 ≡ true }
     ensures kept { (was between is : Box Office) → RingsAcross was between is →
@@ -102,6 +105,12 @@ pub fn a_line_of_one_gateway_calls_a_line_of_another()
         StepsDo DoesOwn puts_off (low gateway ∷ high another ∷ []) was (low gateway ∷ high after ∷ []) is }
     ensures falls_due { (gateway after : Gateway) (was between is : Box Office) → IsPutOff [] was between is gateway after →
         GoesOn (desk_of (high after) is.value) 2 deleted_later is.value.exchange [] Phase.Resting None }
+{}
+
+/// From an exchange of three lines no turns lead to one of four.
+pub fn else_no_turns_lead_to_another_exchange()
+    ensures { (office : Box Office) → office.value.exchange ≡ opening 4 0 →
+        ¬ ((turns : List Turn) × (after (opening 3 0) turns ≡ office.value.exchange)) }
 {}
 
 /// What was put off so falls due at no gateway that sends nothing again, nor soon by a clock that has gone back. So a line may not go on by

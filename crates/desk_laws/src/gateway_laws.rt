@@ -5,7 +5,7 @@ ghost use Rattle.std.specs.Global.{Box};
 ghost use Rattle.call_routing.specs.declared.line.Line.{Line};
 ghost use Rattle.call_routing.specs.declared.phase.Phase.{Phase};
 ghost use Rattle.call_routing.specs.Exchange.{line_of, opening, phase_of};
-ghost use Rattle.call_laws.specs.Turns.{is_in_flight};
+ghost use Rattle.call_laws.specs.Turns.{Turn, after, is_in_flight};
 ghost use Rattle.live_agent.specs.declared.care.Care.{Care};
 ghost use Rattle.live_agent.specs.declared.care.Duty.TheVariants.{Route};
 ghost use Rattle.live_agent.specs.declared.gateway.Gateway.{Gateway};
@@ -17,6 +17,14 @@ ghost use Rattle.desk_laws.specs.Attended.{WaitsFor};
 ghost use Rattle.desk_laws.specs.Desk.{GoesOn, IsHeldUntil, desk_of};
 ghost use Rattle.desk_laws.specs.Gateways.{DoesOwn, Has, HaveLines, ShareNoLine, StepAt, StepsDo, at_gateway};
 ghost use Rattle.desk_laws.specs.Steps.{DoesAnyhow, issues_to};
+
+/// Whatever calls are made, of whichever gateways: the exchange is where turns of its own lead, so that each law of calls holds of it
+/// (`call_laws`).
+pub fn what_calls_do_to_the_exchange_is_turns_of_it()
+    ensures { (count last : ℕ) (steps : List StepAt) (were are : List Gateway) (was is : Box Office) →
+        was.value.exchange ≡ opening count last → StepsDo DoesAnyhow steps were was are is →
+        (turns : List Turn) × (after (opening count last) turns ≡ is.value.exchange) }
+{}
 
 /// Whichever gateway each call is of, and whichever gateway has the lines to which it does something. What the exchange has in flight at a
 /// line is in flight to it by what is kept of it. In each phase of a line of a gateway a command is in flight to it; or what was put off of

@@ -1,4 +1,4 @@
-use Rattle.std.proofs.Common.{List, [], ◌∷◌, inl, refl, ap, arith}
+use Rattle.std.proofs.Common.{List, [], ◌∷◌, inl, refl, sym, ap, arith}
 use Rattle.std.specs.Prelude.{slice_get}
 use Rattle.call_routing.specs.Exchange.{ExchangeState, phase_of}
 use Rattle.call_laws.specs.Turns.{is_in_flight}
@@ -23,6 +23,10 @@ returns-clause-rings c = λ gateway another was between is so. (
     (refl, refl),
   ),
 )
+
+pub returns-clause-by_turns : goal.returns-clause-by_turns
+unfolding on_examples
+returns-clause-by_turns c = λ was between is so. sym so.asked.turned
 
 pub returns-clause-called : goal.returns-clause-called
 unfolding on_examples
