@@ -21,7 +21,17 @@ pub mod LivesTold
 pub mod LivesCarried
 pub mod LivesFairExamples
 mod LivesApart
+mod LivesAstray
 mod ToldWorld
+mod ToldTests
+mod ToldKept
+mod ToldKeptLine
+mod ToldAstray
+mod ToldAstrayLine
+mod ToldAlike
+mod ToldAlikeLine
+mod ToldEarlier
+mod ToldEarlierLine
 mod LivesPlaces
 mod OneLife
 mod StartedWorld

@@ -6,3 +6,4 @@ pub mod CarriedBack
 pub mod CarriedExample
 pub mod ToldExample
 pub mod ToldPhoneExample
+pub mod ToldNetExample

@@ -13,5 +13,6 @@ pub mod laws;
 pub mod quarantine_examples;
 pub mod roomless_examples;
 pub mod told_examples;
+pub mod told_net_examples;
 pub mod told_phone_examples;
 pub mod word_examples;
