@@ -46,3 +46,4 @@ mod RoomlessAnewOn
 mod RoomlessBack
 mod RoomlessBackLine
 mod RoomlessOnce
+mod ToldRoomless

@@ -1,14 +1,15 @@
 -- The worlds of the worked examples of what is dialled in a new life where its network, its agent or its ids fail it: line 1 of a gateway
 -- that started again is asked for all, and lifted, and the agent doesn't take what tells that as one of its life.
 use Rattle.std.specs.Prelude.{◌≡◌, ◌<◌, ◌+◌, ℕ, codes, false, List, [], ◌∷◌, ◌++◌, length, Some}
-use Rattle.mg_line.specs.declared.phone.Act.TheVariants.{OffHook}
+use Rattle.mg_line.specs.declared.phone.Act.TheVariants.{Key, OffHook}
+use Rattle.mg_line.specs.declared.phone.Key.TheVariants.{Five}
 use Rattle.plain_machine.specs.declared.setup.Setup.{Setup}
 use Rattle.plain_machine.specs.Event.{GatewayEvent, phone, tick}
 use Rattle.plain_machine.specs.Lists.{plain, sent_from}
 use Rattle.plain_machine.specs.Machine.{endpoint_at}
 use Rattle.machine_laws.specs.Belonging.{of_line}
 use Rattle.machine_laws.specs.Saying.{Begun}
-use Rattle.agent_core.specs.World.{delivering, dialling, issuing, ticking}
+use Rattle.agent_core.specs.World.{WorldStep, delivering, dialling, issuing, ticking}
 use Rattle.world_laws.specs.Example.{announced}
 use Rattle.delivery_laws.specs.Example.{line_with}
 use Rattle.delivery_laws.specs.GivenUp.{has_given_up}
@@ -19,6 +20,7 @@ use Rattle.life_laws.specs.Lives.{LivesStep, LivesWorld, restarting}
 use Rattle.life_laws.specs.Example.{in_one_life}
 use Rattle.restart_laws.specs.AfterRestart.{IsToldByLife, began_then}
 use Rattle.restart_laws.specs.Example.{behind_a_start}
+use Rattle.restart_laws.specs.Roomless.{full_front}
 use Rattle.restart_laws.specs.ToldExample.{asked_anew}
 use Rattle.restart_laws.specs.ToldPhoneExample.{done_anew}
 
@@ -95,3 +97,11 @@ put_back_far = asked_far ++ in_one_life (dialling 1 OffHook ∷ ticking 3 ∷ de
 -- what its life takes meanwhile
 abbrev pub lifting_far : List GatewayEvent
 lifting_far = phone 1 OffHook ∷ tick 0 ∷ tick 1 ∷ []
+
+-- A gateway that starts again before anything else tells 4,094 keys; the agent has no room for the next one, packet 8,194, which is handed
+-- over at once, and a ms passes.
+abbrev pub key_untaken : List WorldStep
+key_untaken = dialling 1 (Key Five) ∷ delivering 8194 ∷ ticking 2 ∷ []
+
+abbrev pub untaken_key : List WorldStep
+untaken_key = full_front ++ key_untaken

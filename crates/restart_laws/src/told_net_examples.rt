@@ -2,23 +2,27 @@
 //! agent and its ids, and what the law says isn't so. What it asks of the line itself holds in each (`TellsInTime`); a world in which all
 //! holds, and one in which the telephone does something since, are in told_examples.
 
-ghost use Rattle.std.specs.Prelude.{◌≡◌, ◌≤◌, ◌<◌, ◌+◌, ◌++◌, ℕ, List, [], ◌∷◌, false};
+ghost use Rattle.std.specs.Prelude.{◌≡◌, ◌≤◌, ◌<◌, ◌+◌, ◌++◌, ℕ, List, [], ◌∷◌, Any, false};
 ghost use Rattle.plain_machine.specs.declared.setup.Setup.{Setup};
 ghost use Rattle.plain_machine.specs.Event.{GatewayEvent};
 ghost use Rattle.plain_machine.specs.Example.{two_lines};
 ghost use Rattle.plain_machine.specs.Lists.{plain};
 ghost use Rattle.plain_machine.specs.Setup.{IsSetUp};
 ghost use Rattle.machine_laws.specs.Saying.{Begun};
+ghost use Rattle.delivery_laws.specs.Example.{took_first};
 ghost use Rattle.outage_laws.specs.Alone.{HasBegun};
-ghost use Rattle.life_laws.specs.Apart.{LieApart};
+ghost use Rattle.outage_laws.specs.Roomless.{key_begun, key_only, next_key_number};
+ghost use Rattle.life_laws.specs.Apart.{LieApart, firsts_of_lives};
 ghost use Rattle.life_laws.specs.Example.{firsts_after, lives};
-ghost use Rattle.life_laws.specs.Lives.{LivesStep, clock_of, lives_are_taken, lives_of, lives_opening, plain_lives};
+ghost use Rattle.life_laws.specs.Lives.{Brought, LivesStep, clock_of, lives_are_taken, lives_of, lives_opening, plain_lives};
 ghost use Rattle.restart_laws.specs.AfterRestart.{AgentHasRoomThen, IsRunOfLives, LifeGoesToAgent, LineReachesTheAgentSince};
 ghost use Rattle.restart_laws.specs.AfterRestart.{LivesAreFairFrom};
 ghost use Rattle.restart_laws.specs.Example.{life_took, took_since};
+ghost use Rattle.restart_laws.specs.Roomless.{full_front, starting};
 ghost use Rattle.restart_laws.specs.ToldExample.{a_ms, asked_anew, from_twenty};
 ghost use Rattle.restart_laws.specs.ToldNetExample.{IsToldThen, TellsInTime, asked_alike, asked_elsewhere, asked_far, gone_there};
 ghost use Rattle.restart_laws.specs.ToldNetExample.{kept_anew, lifted_alike, lifting, lifting_far, put_back_far, repeated_alike};
+ghost use Rattle.restart_laws.specs.ToldNetExample.{untaken_key};
 
 /// What is asked of their line in these worlds is what the law asks of it, so that with the rest of its premises what is dialled is told.
 pub fn a_line_that_tells_in_time_is_told()
@@ -103,4 +107,23 @@ pub fn else_what_a_new_life_tells_is_an_earlier_one()
         ≤ clock_of two_lines (lives put_back_far) }
     ensures not_taken { firsts_after put_back_far ≡ (0, 1) ∷ (0, 10000000) ∷ (1, 1) ∷ [] }
     ensures untold { ¬ IsToldThen (lives put_back_far) 60002 (life_took asked_far) lifting_far a_ms }
+{}
+
+/// And where the agent has no room it takes none of it: 4,096 commands are young there, and the next key's notification is handed over at
+/// once.
+pub fn else_what_a_new_life_tells_finds_no_room()
+    ensures run { IsRunOfLives two_lines (starting untaken_key) }
+    ensures fair { LivesAreFairFrom two_lines (starting untaken_key) 0 0 }
+    ensures no_room { ¬ AgentHasRoomThen two_lines (starting untaken_key) 0 }
+    ensures goes { (b : Begun) → HasBegun (lives (starting untaken_key)).life.setup (lives (starting untaken_key)).life.took 1 b →
+        LifeGoesToAgent two_lines (lives (starting untaken_key)) b.text }
+    ensures apart { LieApart (lives_of (lives (starting untaken_key))) }
+    ensures life { (lives (starting untaken_key)).life ≡ record { setup = two_lines; start = 0; took = took_first untaken_key } }
+    ensures split { took_first untaken_key ≡ ((took_first full_front ++ key_only) ++ a_ms) ++ [] }
+    ensures tells { TellsInTime two_lines (took_first full_front) key_only a_ms 1 0 }
+    ensures by { (lives (starting untaken_key)).life.start + (plain two_lines ((took_first full_front ++ key_only) ++ a_ms)).now + 0
+        ≤ clock_of two_lines (lives (starting untaken_key)) }
+    ensures none_taken { ¬ Any (λ (one : Brought). one.reached.asked.id ≡ (key_begun 1 next_key_number).id)
+        (firsts_of_lives (lives (starting untaken_key))) }
+    ensures untold { ¬ IsToldThen (lives (starting untaken_key)) 0 (took_first full_front) key_only a_ms }
 {}
