@@ -43,6 +43,8 @@ pub mod FateCourses
 pub mod FateExampleLemmas
 pub mod SentAnyway
 pub mod AgentReaches
+pub mod SoonAnyway
+pub mod AskingAnyway
 pub mod DeliveryLemmas
 pub mod SetupLemmas
 pub mod Computing

@@ -1,13 +1,17 @@
-//! Laws of delivery that ask for less: what an answer that was sent, and a command that began, need for the rest (RFC 3435, 3.5).
+//! Laws of delivery that ask for less than their like in `delivery_laws`: that no step is refused, or that the gateway is set up, isn't
+//! needed (RFC 3435, 3.5).
 #![tactic(auto)]
 
 ghost use Rattle.std.specs.Prelude.{◌≡◌, ◌⊎◌, ◌≤◌, ◌+◌, ℕ, List, All, slice_get, Some, true};
 ghost use Rattle.plain_machine.specs.declared.setup.Setup.{Setup};
+ghost use Rattle.plain_machine.specs.declared.endpoint.Endpoint.{Endpoint};
+ghost use Rattle.plain_machine.specs.Machine.{endpoint_at};
 ghost use Rattle.plain_machine.specs.Setup.{IsSetUp};
 ghost use Rattle.machine_laws.specs.Saying.{Begun};
 ghost use Rattle.agent_core.specs.declared.packet.End.TheVariants.{AgentEnd};
 ghost use Rattle.agent_core.specs.declared.packet.Posted.{Posted};
-ghost use Rattle.agent_core.specs.World.{World, WorldStep, now_in, plain_world};
+ghost use Rattle.agent_core.specs.World.{World, WorldStep, gateway_in, now_in, plain_world, steps_are_taken, world_opening};
+ghost use Rattle.delivery_laws.specs.Asking.{KeepsAsking};
 ghost use Rattle.delivery_laws.specs.Chances.{chances};
 ghost use Rattle.delivery_laws.specs.Copies.{IsAnswered, IsIssued, IsServed, arrives};
 ghost use Rattle.delivery_laws.specs.OwnChances.{HasCome, IsOfLine, IsToldAfter};
@@ -34,4 +38,15 @@ pub fn what_the_agent_sends_goes_to_the_gateway()
     ensures { (setup : Setup) (steps : List WorldStep) (number : ℕ) (post : Posted) →
         slice_get (plain_world setup steps).posted number ≡ Some post → post.end ≡ AgentEnd →
         arrives AgentEnd setup post.packet ≡ true }
+{}
+
+/// Whatever the setup, the gateway keeps asking until it is answered, and so does each line whose command was given up: that the steps are
+/// taken is enough (RFC 3435, 4.4.6 and 4.4.7).
+pub fn who_is_unanswered_asks_whatever_the_setup()
+    ensures own { (setup : Setup) (steps : List WorldStep) → steps_are_taken setup world_opening steps ≡ true →
+        let w = plain_world setup steps in KeepsAsking setup.restart_wait (now_in setup w) (gateway_in setup w).endpoints.own }
+    ensures line { (setup : Setup) (steps : List WorldStep) (line : ℕ) (endpoint : Endpoint) →
+        steps_are_taken setup world_opening steps ≡ true → let w = plain_world setup steps in
+        endpoint_at (gateway_in setup w).endpoints line ≡ Some endpoint →
+        KeepsAsking setup.disconnected_wait (now_in setup w) endpoint.post }
 {}
