@@ -45,6 +45,8 @@ pub mod SentAnyway
 pub mod AgentReaches
 pub mod SoonAnyway
 pub mod AskingAnyway
+pub mod BareTurns
+pub mod BareWorlds
 pub mod DeliveryLemmas
 pub mod SetupLemmas
 pub mod Computing

@@ -2,19 +2,26 @@
 //! needed (RFC 3435, 3.5).
 #![tactic(auto)]
 
-ghost use Rattle.std.specs.Prelude.{◌≡◌, ◌⊎◌, ◌≤◌, ◌+◌, ℕ, List, All, slice_get, Some, true};
+ghost use Rattle.std.specs.Prelude.{◌≡◌, ◌⊎◌, ◌≤◌, ◌+◌, ℕ, codes, List, All, Any, slice_get, None, Some, true};
+ghost use Rattle.mgcp_text.specs.declared.message.Message.TheVariants as messages;
+ghost use Rattle.mgcp_text.specs.declared.message.Param.{Param};
+ghost use Rattle.mgcp_text.specs.declared.message.Verb.{Verb};
+ghost use Rattle.mgcp_text.specs.Message.{param_at};
+ghost use Rattle.mgcp_text.specs.Reading.{message, read_text};
+ghost use Rattle.transmission.specs.Texts.{texts_of};
 ghost use Rattle.plain_machine.specs.declared.setup.Setup.{Setup};
 ghost use Rattle.plain_machine.specs.declared.endpoint.Endpoint.{Endpoint};
 ghost use Rattle.plain_machine.specs.Machine.{endpoint_at};
 ghost use Rattle.plain_machine.specs.Setup.{IsSetUp};
 ghost use Rattle.machine_laws.specs.Saying.{Begun};
-ghost use Rattle.agent_core.specs.declared.packet.End.TheVariants.{AgentEnd};
+ghost use Rattle.agent_core.specs.declared.packet.End.TheVariants.{AgentEnd, GatewayEnd};
 ghost use Rattle.agent_core.specs.declared.packet.Posted.{Posted};
 ghost use Rattle.agent_core.specs.World.{World, WorldStep, gateway_in, now_in, plain_world, steps_are_taken, world_opening};
 ghost use Rattle.delivery_laws.specs.Asking.{KeepsAsking};
 ghost use Rattle.delivery_laws.specs.Chances.{chances};
 ghost use Rattle.delivery_laws.specs.Copies.{IsAnswered, IsIssued, IsServed, arrives};
 ghost use Rattle.delivery_laws.specs.OwnChances.{HasCome, IsOfLine, IsToldAfter};
+ghost use Rattle.delivery_laws.specs.Taking.{IsConfirmedIn, agent_history};
 
 /// Once the gateway sent the stored answer to a command of the agent's, however it came to that, the command has an answer where that
 /// packet is handed over less than 23,500 ms after the command was issued: no copy of the command need be what was answered just then,
@@ -49,4 +56,16 @@ pub fn who_is_unanswered_asks_whatever_the_setup()
         steps_are_taken setup world_opening steps ≡ true → let w = plain_world setup steps in
         endpoint_at (gateway_in setup w).endpoints line ≡ Some endpoint →
         KeepsAsking setup.disconnected_wait (now_in setup w) endpoint.post }
+{}
+
+/// No command that the gateway's end posts has a K, whatever steps are refused, and nothing that the agent keeps confirms any id: that the
+/// gateway is set up is enough (RFC 3435, 3.2.2.1).
+pub fn the_gateway_never_confirms()
+    ensures posted { (setup : Setup) (steps : List WorldStep) (number : ℕ) (post : Posted) (text : List ℕ) (verb : Verb) (id : ℕ)
+        (name : List ℕ) (params : List Param) (body : List ℕ) → IsSetUp setup →
+        slice_get (plain_world setup steps).posted number ≡ Some post → post.end ≡ GatewayEnd →
+        Any (λ (one : List ℕ). one ≡ text) (texts_of post.packet.bytes) →
+        read_text text ≡ message (messages.Command verb id name params body) → param_at (codes "K") params ≡ None }
+    ensures kept { (setup : Setup) (steps : List WorldStep) (id : ℕ) → IsSetUp setup →
+        ¬ IsConfirmedIn id (agent_history setup (plain_world setup steps)) }
 {}
