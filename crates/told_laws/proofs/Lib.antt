@@ -47,6 +47,8 @@ pub mod SoonAnyway
 pub mod AskingAnyway
 pub mod BareTurns
 pub mod BareWorlds
+pub mod AgentAnyway
+pub mod TakenAnyway
 pub mod DeliveryLemmas
 pub mod SetupLemmas
 pub mod Computing

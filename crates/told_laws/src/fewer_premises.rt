@@ -2,7 +2,7 @@
 //! needed (RFC 3435, 3.5).
 #![tactic(auto)]
 
-ghost use Rattle.std.specs.Prelude.{◌≡◌, ◌⊎◌, ◌≤◌, ◌+◌, ℕ, codes, List, All, Any, slice_get, None, Some, true};
+ghost use Rattle.std.specs.Prelude.{◌≡◌, ◌⊎◌, ◌≤◌, ◌+◌, ℕ, codes, List, [], ◌∷◌, ◌++◌, All, Any, slice_get, None, Some, true};
 ghost use Rattle.mgcp_text.specs.declared.message.Message.TheVariants as messages;
 ghost use Rattle.mgcp_text.specs.declared.message.Param.{Param};
 ghost use Rattle.mgcp_text.specs.declared.message.Verb.{Verb};
@@ -16,12 +16,12 @@ ghost use Rattle.plain_machine.specs.Setup.{IsSetUp};
 ghost use Rattle.machine_laws.specs.Saying.{Begun};
 ghost use Rattle.agent_core.specs.declared.packet.End.TheVariants.{AgentEnd, GatewayEnd};
 ghost use Rattle.agent_core.specs.declared.packet.Posted.{Posted};
-ghost use Rattle.agent_core.specs.World.{World, WorldStep, gateway_in, now_in, plain_world, steps_are_taken, world_opening};
+ghost use Rattle.agent_core.specs.World.{World, WorldStep, delivering, gateway_in, now_in, plain_world, steps_are_taken, world_opening};
 ghost use Rattle.delivery_laws.specs.Asking.{KeepsAsking};
 ghost use Rattle.delivery_laws.specs.Chances.{chances};
-ghost use Rattle.delivery_laws.specs.Copies.{IsAnswered, IsIssued, IsServed, arrives};
+ghost use Rattle.delivery_laws.specs.Copies.{IsAnswered, IsCopy, IsIssued, IsServed, arrives};
 ghost use Rattle.delivery_laws.specs.OwnChances.{HasCome, IsOfLine, IsToldAfter};
-ghost use Rattle.delivery_laws.specs.Taking.{IsConfirmedIn, agent_history};
+ghost use Rattle.delivery_laws.specs.Taking.{AgentHasRoom, IsConfirmedIn, IsOwn, IsTaken, agent_history};
 
 /// Once the gateway sent the stored answer to a command of the agent's, however it came to that, the command has an answer where that
 /// packet is handed over less than 23,500 ms after the command was issued: no copy of the command need be what was answered just then,
@@ -68,4 +68,13 @@ pub fn the_gateway_never_confirms()
         read_text text ≡ message (messages.Command verb id name params body) → param_at (codes "K") params ≡ None }
     ensures kept { (setup : Setup) (steps : List WorldStep) (id : ℕ) → IsSetUp setup →
         ¬ IsConfirmedIn id (agent_history setup (plain_world setup steps)) }
+{}
+
+/// A copy of a notification or an announcement that is handed to the agent, however old it is and whatever steps were refused, is taken at
+/// once, if it wasn't before, and a packet with the stored answer goes back to the gateway, where the agent has room (RFC 3435, 2.3.4,
+/// 2.3.12 and 3.5.1).
+pub fn a_delivered_notification_is_taken_anyway()
+    ensures { (setup : Setup) (steps : List WorldStep) (number : ℕ) (b : Begun) → IsSetUp setup → let w = plain_world setup steps in
+        let after = plain_world setup (steps ++ delivering number ∷ []) in IsOwn setup w b → IsCopy setup w GatewayEnd b.text number →
+        AgentHasRoom setup after → IsTaken setup w after b.id }
 {}
