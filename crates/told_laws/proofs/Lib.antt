@@ -49,6 +49,7 @@ pub mod BareTurns
 pub mod BareWorlds
 pub mod AgentAnyway
 pub mod TakenAnyway
+pub mod BroughtAnyway
 pub mod DeliveryLemmas
 pub mod SetupLemmas
 pub mod Computing

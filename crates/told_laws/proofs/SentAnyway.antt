@@ -50,7 +50,7 @@ use Rattle.told_laws.proofs.LineBounds.{who_began_is_there}
 
 -- What is said is posted
 
-abbrev AllPosted : Setup → World → Type 0
+abbrev pub AllPosted : Setup → World → Type 0
 AllPosted setup w =
     (text : List ℕ) (moment : ℕ) → OneOf (SaysAt text moment) (sent_of setup w.gateway_took) → OneOf (HasText text moment) w.posted
 
@@ -125,7 +125,7 @@ unfolding machine_after sent_from
 opening_posts setup set_up =
     record { fits = opening_fits setup set_up; kept = nothing_kept setup; all = λ text moment said. absurd said }
 
-all_posted : (setup : Setup) (steps : List WorldStep) → IsSetUp setup → AllPosted setup (plain_world setup steps)
+pub all_posted : (setup : Setup) (steps : List WorldStep) → IsSetUp setup → AllPosted setup (plain_world setup steps)
 all_posted setup steps set_up = (steps_post setup world_opening steps (opening_posts setup set_up)).all
 
 -- Each command of a line's own, by what the line has in flight

@@ -2,7 +2,7 @@
 //! needed (RFC 3435, 3.5).
 #![tactic(auto)]
 
-ghost use Rattle.std.specs.Prelude.{◌≡◌, ◌⊎◌, ◌≤◌, ◌+◌, ℕ, codes, List, [], ◌∷◌, ◌++◌, All, Any, slice_get, None, Some, true};
+ghost use Rattle.std.specs.Prelude.{◌≡◌, ◌⊎◌, ◌≤◌, ◌+◌, ◌*◌, ℕ, codes, List, [], ◌∷◌, ◌++◌, All, Any, slice_get, None, Some, true};
 ghost use Rattle.mgcp_text.specs.declared.message.Message.TheVariants as messages;
 ghost use Rattle.mgcp_text.specs.declared.message.Param.{Param};
 ghost use Rattle.mgcp_text.specs.declared.message.Verb.{Verb};
@@ -17,9 +17,11 @@ ghost use Rattle.machine_laws.specs.Saying.{Begun};
 ghost use Rattle.agent_core.specs.declared.packet.End.TheVariants.{AgentEnd, GatewayEnd};
 ghost use Rattle.agent_core.specs.declared.packet.Posted.{Posted};
 ghost use Rattle.agent_core.specs.World.{World, WorldStep, delivering, gateway_in, now_in, plain_world, steps_are_taken, world_opening};
+ghost use Rattle.world_laws.specs.Reached.{Reached, taken_in};
 ghost use Rattle.delivery_laws.specs.Asking.{KeepsAsking};
 ghost use Rattle.delivery_laws.specs.Chances.{chances};
 ghost use Rattle.delivery_laws.specs.Copies.{IsAnswered, IsCopy, IsIssued, IsServed, arrives};
+ghost use Rattle.delivery_laws.specs.Fairness.{AgentAlwaysHasRoom, GoesToAgent, IsFair};
 ghost use Rattle.delivery_laws.specs.OwnChances.{HasCome, IsOfLine, IsToldAfter};
 ghost use Rattle.delivery_laws.specs.Taking.{AgentHasRoom, IsConfirmedIn, IsOwn, IsTaken, agent_history};
 
@@ -77,4 +79,16 @@ pub fn a_delivered_notification_is_taken_anyway()
     ensures { (setup : Setup) (steps : List WorldStep) (number : ℕ) (b : Begun) → IsSetUp setup → let w = plain_world setup steps in
         let after = plain_world setup (steps ++ delivering number ∷ []) in IsOwn setup w b → IsCopy setup w GatewayEnd b.text number →
         AgentHasRoom setup after → IsTaken setup w after b.id }
+{}
+
+/// Over a network that hands each packet over at most so many ms after it was sent each notification and announcement that goes to the
+/// agent is taken in that time, whatever steps are refused, and a response to it comes back in twice the time, where the agent always has room
+/// (RFC 3435, 2.3.4 and 2.3.12).
+pub fn a_fair_network_brings_each_notification_anyway()
+    ensures taken { (setup : Setup) (steps : List WorldStep) (within : ℕ) (b : Begun) → IsSetUp setup → IsFair setup steps within →
+        AgentAlwaysHasRoom setup steps → let w = plain_world setup steps in IsOwn setup w b → GoesToAgent setup w b.text →
+        b.moment + within ≤ now_in setup w → Any (λ (one : Reached). one.asked.id ≡ b.id) (taken_in w) }
+    ensures answered { (setup : Setup) (steps : List WorldStep) (within : ℕ) (b : Begun) → IsSetUp setup → IsFair setup steps within →
+        AgentAlwaysHasRoom setup steps → let w = plain_world setup steps in IsOwn setup w b → GoesToAgent setup w b.text →
+        b.moment + 2 * within ≤ now_in setup w → HasCome w b.id }
 {}
