@@ -82,8 +82,8 @@ pub fn a_delivered_notification_is_taken_anyway()
 {}
 
 /// Over a network that hands each packet over at most so many ms after it was sent each notification and announcement that goes to the
-/// agent is taken in that time, whatever steps are refused, and a response to it comes back in twice the time, where the agent always has room
-/// (RFC 3435, 2.3.4 and 2.3.12).
+/// agent is taken in that time, whatever steps are refused, and a response to it comes back in twice the time, where the agent always has
+/// room (RFC 3435, 2.3.4 and 2.3.12).
 pub fn a_fair_network_brings_each_notification_anyway()
     ensures taken { (setup : Setup) (steps : List WorldStep) (within : ℕ) (b : Begun) → IsSetUp setup → IsFair setup steps within →
         AgentAlwaysHasRoom setup steps → let w = plain_world setup steps in IsOwn setup w b → GoesToAgent setup w b.text →

@@ -3,18 +3,21 @@
 
 ghost use Rattle.std.specs.Prelude.{◌≡◌, ◌≤◌, ℕ, codes, replicate, List, [], ◌∷◌, ◌++◌};
 ghost use Rattle.std.specs.declared.net.socket_addr.SocketAddrV4.{SocketAddrV4};
+ghost use Rattle.event_values.specs.declared.observed.Observed.{Observed};
+ghost use Rattle.event_requests.specs.declared.request.Request.{Request};
 ghost use Rattle.mgcp_text.specs.Reading.{read_text};
 ghost use Rattle.transmission.specs.Texts.{texts_of};
 ghost use Rattle.quarantine.specs.Held.{most_lost};
 ghost use Rattle.mg_line.specs.declared.phone.Act.TheVariants as acts;
 ghost use Rattle.mg_line.specs.declared.phone.Key.TheVariants as keys;
-ghost use Rattle.mg_line.specs.Line.{most_quarantined, opening_line};
+ghost use Rattle.mg_line.specs.Line.{LineState, most_quarantined, opening_line};
 ghost use Rattle.plain_machine.specs.declared.setup.Setup.{Setup};
 ghost use Rattle.plain_machine.specs.Event.{GatewayEvent, datagram, phone, tick};
 ghost use Rattle.plain_machine.specs.Example.{from_agent, ready, response, two_lines};
 ghost use Rattle.plain_machine.specs.Lists.{plain};
 ghost use Rattle.plain_machine.specs.Machine.{opening};
-ghost use Rattle.delivery_laws.specs.Course.{acts as does, accepted_at, accepts, course_from, notifies};
+ghost use Rattle.delivery_laws.specs.Course.{acts as does, accepted_at, accepts, course_from, notifies, CourseStep};
+ghost use Rattle.delivery_laws.specs.Dialled.{done_in};
 ghost use Rattle.delivery_laws.specs.OnceExample.{five, hung_up, line_then, six};
 ghost use Rattle.delivery_laws.specs.Rounds.{of_telephone};
 ghost use Rattle.told_laws.specs.Counting.{TellsButLost};
@@ -78,7 +81,8 @@ pub fn what_is_quarantined_just_before_a_request_is_told()
 {}
 
 /// A text alone in its datagram stands at a front of the events: what happens from there on is what happens by that event and those behind
-/// it. None was lost since where the count is the same, and isn't the greatest, at which it stays.
+/// it. None was lost since where the count is the same, and isn't the greatest, at which it stays: there what is told but for lost acts is
+/// told of all.
 pub fn a_text_alone_stands_at_a_front_of_the_events()
     ensures machine { (setup : Setup) (before : List GatewayEvent) (source : SocketAddrV4) →
         machine_amid setup before source [] ≡ plain setup before }
@@ -88,6 +92,9 @@ pub fn a_text_alone_stands_at_a_front_of_the_events()
     ensures as_many { NoneLostSince (counts has_lifting_told 1) (counts has_lifting_told 1) }
     ensures one_more { ¬ NoneLostSince (counts has_lifting_told 0) (counts has_lifting_told 1) }
     ensures greatest { ¬ NoneLostSince (counts has_lifting_told most_lost) (counts has_lifting_told most_lost) }
+    ensures of_all { (request : Request) (was is : LineState) (since : List CourseStep) (observed : List Observed) → NoneLostSince was is →
+        TellsButLost request was is since observed →
+        TellsOfHeld request (of_telephone was.quarantined.events) (done_in since) observed }
 {}
 
 /// Where there is no room, an end of timer T is lost, and counted as an end; an act is, and isn't counted as one; nor is anything else.

@@ -38,8 +38,8 @@ pub fn what_is_told_was_done_in_that_order()
 {}
 
 /// Each act is walked through by what the line tells: it is told, in its order, by a notification that tells all that R has told of a front
-/// of what waits; or it waits, accumulated or quarantined; or it was lost for want of room, and the line counts each, beside ends of
-/// signals and of timer T alone, so none where it counts none; or it was dropped: neither R nor T named it, and it isn't persistent; R gave
+/// of what waits; or it waits, accumulated or quarantined; or it was lost for want of room, and the line counts each, beside what it counts
+/// at other events, so none where it counts none; or it was dropped: neither R nor T named it, and it isn't persistent; R gave
 /// it nothing, or I; E without A took it, or emptied the list in which it was; or a request emptied that list, in which R had none told at
 /// once, and which was empty where the line waited for that request, in step; or it discards what is quarantined. R, T and Q of that moment
 /// are the line's own: where none is lost one walk goes through all events, and behind each of them its place is where the line stands,
