@@ -7,6 +7,7 @@ pub mod Example
 pub mod Premises
 pub mod LinePremises
 pub mod ToldBehindExample
+pub mod ToldExactlyExample
 pub mod ResponseExample
 pub mod ToldLaterExample
 pub mod ToldSinceExample

@@ -24,6 +24,7 @@ pub mod since_laws;
 pub mod since_then_examples;
 pub mod slow_examples;
 pub mod told_behind_examples;
+pub mod told_exactly_examples;
 pub mod told_later_examples;
 pub mod told_later_laws;
 pub mod told_since_examples;

@@ -1,4 +1,4 @@
-//! Worked examples of what is told a while behind an outage: a world in which each premise holds, and what is told as late as the law says;
+//! Worked examples of what is told a while behind an outage: a world in which each premise holds, and all is told by when the law says;
 //! and worlds in which one premise alone is missing, and the sentence fails.
 #![tactic(auto, unfolding(crate::proofs::Computing::on_examples))]
 
