@@ -1,5 +1,5 @@
 //! Worked examples of what is told a while behind an outage: a world in which each premise holds, and all is told by when the law says;
-//! and worlds in which one premise alone is missing, and the sentence fails.
+//! and worlds in which one premise alone is missing, or it is sooner, and the sentence fails.
 #![tactic(auto, unfolding(crate::proofs::Computing::on_examples))]
 
 ghost use Rattle.std.specs.Prelude.{◌≡◌, ◌≤◌, ◌<◌, ◌+◌, ◌*◌, ◌++◌, [], ◌∷◌, ℕ};
