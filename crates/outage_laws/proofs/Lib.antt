@@ -22,6 +22,7 @@ mod AnnouncesLemmas
 pub mod LineWindowLaws
 pub mod ServesFrontLaws
 pub mod YoungLemmas
+pub mod FullHistory
 pub mod ResponseListLaws
 pub mod CalmTicks
 pub mod LostLemmas

@@ -85,7 +85,7 @@ has_room firsts now later all old =
 -- As many fewer of them are young as grew old
 
 -- what isn't so old yet is young
-young_test : (moment later : ℕ) → later < moment + memory_time → is_young later moment ≡ true
+pub young_test : (moment later : ℕ) → later < moment + memory_time → is_young later moment ≡ true
 young_test moment later soon = by_test (is_young later moment) refl where
   by_test : (b : Bool) → nat_lt (later - moment) memory_time ≡ b → b ≡ true
   by_test true young = refl

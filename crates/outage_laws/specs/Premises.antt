@@ -2,6 +2,7 @@
 use Rattle.std.specs.Prelude.{ℕ, codes, List, [], ◌∷◌, ◌++◌, Option, None, Some, replicate}
 use Rattle.endpoint_names.specs.declared.entity.Entity.{Entity}
 use Rattle.history.specs.Arrival.{Arrival}
+use Rattle.history.specs.Memory.{most_firsts}
 use Rattle.mg_line.specs.declared.phone.Act.TheVariants.{OffHook}
 use Rattle.outbound.specs.Flight.{InFlight, sent_first}
 use Rattle.restart.specs.declared.restart.Restart.{Restart}
@@ -160,3 +161,7 @@ reported_elsewhere =
 -- A first that came at 40,000, later than another
 abbrev pub came_later : List Arrival
 came_later = came_at 40000 ∷ []
+
+-- as many as may be young at a time, each of which came at 1
+unfoldable pub full_at_1 : List Arrival
+full_at_1 = replicate most_firsts (came_at 1)

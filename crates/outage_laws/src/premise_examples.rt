@@ -1,10 +1,10 @@
 //! Worked examples in which one premise alone of a law is missing, and what the law says doesn't hold.
 #![tactic(auto, unfolding(crate::proofs::Computing::on_examples))]
 
-ghost use Rattle.std.specs.Prelude.{◌≡◌, ◌≤◌, ◌<◌, ◌+◌, ◌*◌, ◌∷◌, [], ℕ, Any, List, None, Some, false, length, map, true};
+ghost use Rattle.std.specs.Prelude.{◌≡◌, ◌≤◌, ◌<◌, ◌+◌, ◌*◌, ◌∷◌, [], ℕ, All, Any, List, None, Some, false, length, map, true};
 ghost use Rattle.history.specs.Arrival.{Arrival};
 ghost use Rattle.history.specs.Firsts.{young_of};
-ghost use Rattle.history.specs.Memory.{memory_time};
+ghost use Rattle.history.specs.Memory.{memory_time, most_firsts};
 ghost use Rattle.outbound.specs.Sends.{most_repeats};
 ghost use Rattle.outbound.specs.Flight.{reply_of};
 ghost use Rattle.outbound.specs.declared.reply.Reply.TheVariants.{Answered, Provisional, Stranger};
@@ -22,7 +22,7 @@ ghost use Rattle.agent_core.specs.World.{gateway_in, now_in, plain_world, steps_
 ghost use Rattle.world_laws.specs.Reached.{key_reached, taken_in};
 ghost use Rattle.world_laws.specs.Example.{seconds, world};
 ghost use Rattle.delivery_laws.specs.Chances.{chances, last_chance};
-ghost use Rattle.delivery_laws.specs.Copies.{IsCopy, answer_wait};
+ghost use Rattle.delivery_laws.specs.Copies.{HasRoom, IsCopy, answer_wait};
 ghost use Rattle.delivery_laws.specs.Example.{dotted, endless, ids_come, lifted, notification, notified};
 ghost use Rattle.delivery_laws.specs.Fairness.{GoesToAgent};
 ghost use Rattle.delivery_laws.specs.OwnChances.{IsOfLine};
@@ -32,7 +32,7 @@ ghost use Rattle.outage_laws.specs.Alone.{HasBegun, HasResponse, IsSentAt};
 ghost use Rattle.outage_laws.specs.Carrying.{IsCarriedBack};
 ghost use Rattle.outage_laws.specs.Example.{all_lost, announcement, answered_late, came_at_1_and_2, found_again, unserved};
 ghost use Rattle.outage_laws.specs.Premises.{all_elsewhere, announced_anew, announced_four_times, answer_on_its_way, answered_too_late};
-ghost use Rattle.outage_laws.specs.Premises.{answered_untaken, answered_untaken_soon, came_later, idle_in, in_flight, lifted_late};
+ghost use Rattle.outage_laws.specs.Premises.{answered_untaken, answered_untaken_soon, came_later, full_at_1, idle_in, in_flight, lifted_late};
 ghost use Rattle.outage_laws.specs.Premises.{never_begun, notified_four_times, on_its_way, own_all_lost, own_answered_late};
 ghost use Rattle.outage_laws.specs.Premises.{own_answered_untaken, own_answered_untaken_soon, own_lost_at_first, own_on_its_way};
 ghost use Rattle.outage_laws.specs.Premises.{own_put_back, parted, parted_announcement, post_in, put_back, reported_elsewhere};
@@ -300,4 +300,16 @@ pub fn else_a_first_makes_no_room()
     ensures came_later { length (young_of 69999 came_later) ≡ 1 }
     ensures goes_on { (firsts : List Arrival) (now later : ℕ) (first : Arrival) →
         Any (λ (one : Arrival). one ≡ first) (young_of now firsts) → first.moment + memory_time ≤ later → now ≤ later }
+{}
+
+/// Where as many firsts are young as there may be, there is no room 30,000 ms behind a moment where they came later, nor behind their
+/// own 1 ms sooner than that; then there is.
+pub fn else_a_full_history_has_no_room()
+    ensures full { length (young_of 30000 full_at_1) ≡ most_firsts }
+    ensures no_room { ¬ HasRoom 30000 full_at_1 }
+    ensures came_later { ¬ All (λ (first : Arrival). first.moment ≤ 0) full_at_1 }
+    ensures so_long { 0 + memory_time ≡ 30000 }
+    ensures came_by_then { All (λ (first : Arrival). first.moment ≤ 1) full_at_1 }
+    ensures too_soon { 1 + memory_time ≡ 30000 + 1 }
+    ensures room { HasRoom 30001 full_at_1 }
 {}
