@@ -55,7 +55,8 @@ pub fn more_calls_are_meant_than_those_that_are_turns()
         after.wakes.items ≡ gateway.wakes.items → RunsAnyhow (goes_on_to true 100 ∷ []) gateway office after office }
 {}
 
-/// Nor do turns lead to a start at a moment that isn't one of 64 bits, or at which something is sent again 5,000 ms later already.
+/// Nor do turns lead to a start at a moment that isn't one of 64 bits, or at which something is sent again 5,000 ms later already; at which
+/// a line is put off that the gateway doesn't send again; or from an exchange of three lines to one of four.
 pub fn else_no_turns_lead_to_the_start()
     ensures past_the_clock { (gateway : Gateway) (office : Box Office) → gateway.ticked ≡ 2 ^ 64 → gateway.wakes.items ≡ [] →
         office.value.cares.items ≡ replicate 2 new_care →
@@ -68,5 +69,14 @@ pub fn else_no_turns_lead_to_the_start()
         ¬ ((turns : List AttendedTurn) × (attended_by 3 0 2 turns ≡ attended_of gateway office.value)) }
     ensures put_off_already_of_both { (gateway : Gateway) (office : Box Office) → gateway.ticked ≡ 0 →
         gateway.wakes.items ≡ wake_at 5000 0 ∷ [] → office.value.exchange ≡ opening 3 0 → office.value.cares.items ≡ replicate 2 new_care →
+        ¬ ((turns : List AttendedTurn) × (attended_by 3 0 2 turns ≡ attended_of gateway office.value)) }
+    ensures held_already { (lines : ℕ) (gateway : Gateway) (office : Box Office) → gateway.ticked ≡ 0 → gateway.wakes.items ≡ [] →
+        office.value.cares.items ≡ held_care 500 ∷ [] →
+        ¬ ((turns : List DeskTurn) × (after_turns (opening_desk lines) turns ≡ desk_of gateway office.value)) }
+    ensures held_already_of_both { (lines : ℕ) (gateway : Gateway) (office : Box Office) → gateway.ticked ≡ 0 → gateway.wakes.items ≡ [] →
+        office.value.exchange ≡ opening 3 0 → office.value.cares.items ≡ held_care 500 ∷ [] →
+        ¬ ((turns : List AttendedTurn) × (attended_by 3 0 lines turns ≡ attended_of gateway office.value)) }
+    ensures another_exchange_of_both { (gateway : Gateway) (office : Box Office) → gateway.ticked ≡ 0 → gateway.wakes.items ≡ [] →
+        office.value.exchange ≡ opening 4 0 → office.value.cares.items ≡ replicate 2 new_care →
         ¬ ((turns : List AttendedTurn) × (attended_by 3 0 2 turns ≡ attended_of gateway office.value)) }
 {}
