@@ -6,6 +6,7 @@ mod AnswerLemmas
 mod AnswerLaws
 mod StepLaws
 mod StepExampleLemmas
+mod HeldLemmas
 mod AttendedLemmas
 mod AttendedLaws
 mod AttendedCalls

@@ -1,10 +1,11 @@
 -- What the worked examples of the calls of live_agent speak of.
-use Rattle.std.specs.Prelude.{◌≡◌, ℕ, List, [], ◌∷◌, ◌++◌, Some}
+use Rattle.std.specs.Prelude.{◌≡◌, ℕ, true, List, [], ◌∷◌, ◌++◌, Some}
 use Rattle.live_agent.specs.declared.care.Care.{Care}
+use Rattle.live_agent.specs.declared.care.Duty.TheVariants.{Audit}
 use Rattle.live_agent.specs.declared.gateway.Gateway.{Gateway}
 use Rattle.live_agent.specs.declared.gateway.Wake.{Wake}
 use Rattle.live_agent.specs.declared.office.Office.{Office}
-use Rattle.live_agent.specs.Example.{deleted_later, deleted_now, wake_at}
+use Rattle.live_agent.specs.Example.{audited, deleted_later, deleted_now, wake_at}
 
 -- a gateway at this moment with these to which a command is sent again, and an exchange of whose lines this is kept
 pub record AreSo (gateway : Gateway) (office : Office) (now : ℕ) (cares : List Care) (wakes : List Wake) : Type 0 where
@@ -21,3 +22,8 @@ both_held = wake_at 1500 0 ∷ wake_at 1700 1 ∷ []
 
 abbrev pub held_once_more : List Wake
 held_once_more = both_held ++ wake_at 1500 0 ∷ []
+
+-- a line to which an audit of what its gateway was before is in flight, that is sent again all the same, and was put off once more than any
+-- line is
+abbrev pub held_in_flight : Care
+held_in_flight = record audited { flight = Some Audit; is_outlived = true; put_off = 31; again = Some 1500 }

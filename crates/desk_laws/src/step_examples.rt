@@ -2,8 +2,10 @@
 //! much is known.
 #![tactic(auto, unfolding(crate::proofs::Computing::on_examples))]
 
-ghost use Rattle.std.specs.Prelude.{◌≡◌, [], ◌∷◌, ℕ, List, true, false, Some, None, slice_get};
+ghost use Rattle.std.specs.Prelude.{◌≡◌, [], ◌∷◌, ℕ, Bool, List, true, false, Some, None, slice_get};
 ghost use Rattle.std.specs.Global.{Box};
+ghost use Rattle.call_routing.specs.declared.command.Outcome.{Outcome};
+ghost use Rattle.call_routing.specs.declared.told.Told.{Told};
 ghost use Rattle.live_agent.specs.declared.care.Duty.TheVariants.{Audit};
 ghost use Rattle.live_agent.specs.declared.gateway.Gateway.{Gateway};
 ghost use Rattle.live_agent.specs.declared.office.Office.{Office};
@@ -12,11 +14,12 @@ ghost use Rattle.live_agent.specs.Duties.{begun, lost, new_care, outlived, owed,
 ghost use Rattle.live_agent.specs.Example.{audited, deleted_later, deleted_now, wake_at};
 ghost use Rattle.live_agent.specs.Orders.{flight_of};
 ghost use Rattle.live_agent.specs.Steps.{Begins, OfOffice, Ticks};
+ghost use Rattle.desk_laws.specs.Attended.{attended_of, attended_one, attended_with, hears_answer};
 ghost use Rattle.desk_laws.specs.Desk.{DeskTurn, after_turns, announces, answers, begins, desk_of, happens};
 ghost use Rattle.desk_laws.specs.Desk.{lands, loses, opening_desk, owes_audit, tells, ticks, wakes_next};
 ghost use Rattle.desk_laws.specs.Example.{both_put_off};
 ghost use Rattle.desk_laws.specs.Steps.{Runs, Stands, issues_to};
-ghost use Rattle.desk_laws.specs.StepExample.{AreSo, both_held, both_later, held_once_more};
+ghost use Rattle.desk_laws.specs.StepExample.{AreSo, both_held, both_later, held_in_flight, held_once_more};
 
 /// An answer to a deletion that puts it off is one turn, whether that is kept or memory is refused for it; to what the gateway has outlived
 /// it counts as given up.
@@ -83,4 +86,24 @@ pub fn else_what_isnt_in_flight_is_answered()
         ≡ record { now = gateway.ticked; cares = is.cares.items; wakes = after.wakes.items })) }
     ensures else_not_from_the_start { (after : Gateway) (is : Office) → AreSo after is 700 both_later held_once_more →
         ¬ ((turns : List DeskTurn) × (after_turns (opening_desk 2) turns ≡ desk_of after is)) }
+{}
+
+/// Turns lead to no line to which a command is in flight, and that is put off all the same. From such a desk, where the line was put off more
+/// often than any is, an answer of what its gateway was before may leave what no turns do, nor one turn of both.
+pub fn else_an_answer_comes_where_no_turns_lead()
+    ensures no_turns { (lines : ℕ) (gateway : Gateway) (was : Office) → AreSo gateway was 500 (held_in_flight ∷ []) [] →
+        ¬ ((turns : List DeskTurn) × (after_turns (opening_desk lines) turns ≡ desk_of gateway was)) }
+    ensures there { (office : Office) → office.cares.items ≡ held_in_flight ∷ [] → slice_get office.cares.items 0 ≡ Some held_in_flight }
+    ensures flies { held_in_flight.flight ≡ Some Audit }
+    ensures answered { (code : ℕ) (text : List ℕ) (gateway after : Gateway) (was is : Office) →
+        AreSo gateway was 500 (held_in_flight ∷ []) [] → AreSo after is 500 (lost held_in_flight ∷ []) (wake_at 1500 0 ∷ []) →
+        is.exchange ≡ was.exchange → Answers 0 code text gateway was after is }
+    ensures else_not_turns { (gateway after : Gateway) (was is : Office) → AreSo gateway was 500 (held_in_flight ∷ []) [] →
+        AreSo after is 500 (lost held_in_flight ∷ []) (wake_at 1500 0 ∷ []) → ¬ ((more : List DeskTurn)
+        × (after_turns (desk_of gateway was) more ≡ record { now = gateway.ticked; cares = is.cares.items; wakes = after.wakes.items })) }
+    ensures else_not_one_of_both { (code : ℕ) (gateway after : Gateway) (was is : Office) →
+        AreSo gateway was 500 (held_in_flight ∷ []) [] → AreSo after is 500 (lost held_in_flight ∷ []) (wake_at 1500 0 ∷ []) →
+        ¬ ((outcome : Outcome) × ((hook : Told) × ((is_refused : Bool)
+        × (attended_one (attended_of gateway was) (hears_answer 0 code outcome hook is_refused)
+        ≡ attended_with is.exchange (record { now = gateway.ticked; cares = is.cares.items; wakes = after.wakes.items }))))) }
 {}
