@@ -22,7 +22,7 @@ audit_if true = Some Audit
 audit_if false = None
 
 abbrev held_with : Care → Option Duty → Care
-held_with care flight = record care { flight = flight; put_off = 31; again = Some 1500 }
+held_with care flight = record care { flight = flight; put_off = most_put_off + 1; again = Some 1500 }
 
 abbrev pub IsHeldSo : Care → Type 0
 IsHeldSo care = (one : Care) × ((flies : Bool) × (care ≡ held_with one (audit_if flies)))

@@ -1,5 +1,6 @@
 -- What the worked examples of the calls of live_agent speak of.
-use Rattle.std.specs.Prelude.{◌≡◌, ℕ, true, List, [], ◌∷◌, ◌++◌, Some}
+use Rattle.std.specs.Prelude.{◌≡◌, ℕ, ◌+◌, true, List, [], ◌∷◌, ◌++◌, Some}
+use Rattle.call_routing.specs.Fates.{most_put_off}
 use Rattle.live_agent.specs.declared.care.Care.{Care}
 use Rattle.live_agent.specs.declared.care.Duty.TheVariants.{Audit}
 use Rattle.live_agent.specs.declared.gateway.Gateway.{Gateway}
@@ -26,4 +27,4 @@ held_once_more = both_held ++ wake_at 1500 0 ∷ []
 -- a line to which an audit of what its gateway was before is in flight, that is sent again all the same, and was put off once more than any
 -- line is
 abbrev pub held_in_flight : Care
-held_in_flight = record audited { flight = Some Audit; is_outlived = true; put_off = 31; again = Some 1500 }
+held_in_flight = record audited { flight = Some Audit; is_outlived = true; put_off = most_put_off + 1; again = Some 1500 }

@@ -1,6 +1,7 @@
-use Rattle.std.proofs.Common.{◌≡◌, true, List, [], ◌∷◌, ◌++◌, inl, inr, refl, sym, ap, subst, ◌∙◌, arith}
+use Rattle.std.proofs.Common.{◌≡◌, ◌+◌, true, List, [], ◌∷◌, ◌++◌, inl, inr, refl, sym, ap, subst, ◌∙◌, arith}
 use Rattle.std.specs.Prelude.{slice_get}
 use Rattle.std.proofs.lemmas.Option.{none-some}
+use Rattle.call_routing.specs.Fates.{most_put_off}
 use Rattle.live_agent.specs.declared.care.Care.{Care}
 use Rattle.live_agent.specs.declared.care.Duty.TheVariants.{Audit}
 use Rattle.live_agent.specs.declared.gateway.Wake.{Wake}
@@ -26,7 +27,7 @@ not_given_up_so : (care : Care) → lost held_in_flight ∷ [] ≡ care ∷ [] �
 not_given_up_so care same (inl low) =
     absurd
     (let is : lost held_in_flight ≡ care = same_some (lost held_in_flight) care (ap (λ (cares : List Care). slice_get cares 0) same) in
-    let often : 31 ≡ care.put_off = ap (λ (one : Care). one.put_off) is in omega (arith, low, often))
+    let often : most_put_off + 1 ≡ care.put_off = ap (λ (one : Care). one.put_off) is in omega (arith, low, often))
 not_given_up_so care same (inr held) = none-some (wake_at 1500 0) (sym (ap (λ (wakes : List Wake). slice_get wakes 0) held.1))
 
 pub returns-clause-no_turns : goal.returns-clause-no_turns
