@@ -32,6 +32,7 @@ mod ToldAlike
 mod ToldAlikeLine
 mod ToldEarlier
 mod ToldEarlierLine
+mod ToldNever
 mod LivesPlaces
 mod OneLife
 mod StartedWorld

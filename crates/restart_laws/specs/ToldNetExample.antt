@@ -1,5 +1,5 @@
 -- The worlds of the worked examples of what is dialled in a new life where its network, its agent or its ids fail it: line 1 of a gateway
--- that started again is asked for all, and lifted, and the agent doesn't take what tells that as one of its life.
+-- that started again is asked for all, and lifted, and the agent doesn't take what tells that as one of its life; or it isn't lifted.
 use Rattle.std.specs.Prelude.{◌≡◌, ◌<◌, ◌+◌, ℕ, codes, false, List, [], ◌∷◌, ◌++◌, length, Some}
 use Rattle.mg_line.specs.declared.phone.Act.TheVariants.{Key, OffHook}
 use Rattle.mg_line.specs.declared.phone.Key.TheVariants.{Five}
@@ -11,6 +11,7 @@ use Rattle.machine_laws.specs.Belonging.{of_line}
 use Rattle.machine_laws.specs.Saying.{Begun}
 use Rattle.agent_core.specs.World.{WorldStep, delivering, dialling, issuing, ticking}
 use Rattle.world_laws.specs.Example.{announced}
+use Rattle.delivery_laws.specs.DialledExample.{asked as asked_for_all}
 use Rattle.delivery_laws.specs.Example.{line_with}
 use Rattle.delivery_laws.specs.GivenUp.{has_given_up}
 use Rattle.delivery_laws.specs.Rounds.{IsAnsweredWithin, IsAskedWithin, rounds_take}
@@ -105,3 +106,7 @@ key_untaken = dialling 1 (Key Five) ∷ delivering 8194 ∷ ticking 2 ∷ []
 
 abbrev pub untaken_key : List WorldStep
 untaken_key = full_front ++ key_untaken
+
+-- Line 1 of such a gateway is asked for all, and isn't lifted; a ms passes.
+abbrev pub never_lifted : List WorldStep
+never_lifted = asked_for_all ++ ticking 2 ∷ []

@@ -1,6 +1,6 @@
 //! Worked examples of what is dialled in a new life: worlds in which one premise alone is missing of those on its steps, its network, its
-//! agent and its ids, and what the law says isn't so. What it asks of the line itself holds in each (`TellsInTime`); a world in which all
-//! holds, and one in which the telephone does something since, are in told_examples.
+//! agent, its ids and its events, and what the law says isn't so. What it asks of the line itself holds in each (`TellsInTime`); a world
+//! in which all holds, and one in which the telephone does something since, are in told_examples.
 
 ghost use Rattle.std.specs.Prelude.{◌≡◌, ◌≤◌, ◌<◌, ◌+◌, ◌++◌, ℕ, List, [], ◌∷◌, Any, false};
 ghost use Rattle.plain_machine.specs.declared.setup.Setup.{Setup};
@@ -9,6 +9,9 @@ ghost use Rattle.plain_machine.specs.Example.{two_lines};
 ghost use Rattle.plain_machine.specs.Lists.{plain};
 ghost use Rattle.plain_machine.specs.Setup.{IsSetUp};
 ghost use Rattle.machine_laws.specs.Saying.{Begun};
+ghost use Rattle.delivery_laws.specs.Course.{course_from};
+ghost use Rattle.delivery_laws.specs.Dialled.{done_in};
+ghost use Rattle.delivery_laws.specs.DialledExample.{asked as asked_for_all};
 ghost use Rattle.delivery_laws.specs.Example.{took_first};
 ghost use Rattle.outage_laws.specs.Alone.{HasBegun};
 ghost use Rattle.outage_laws.specs.Roomless.{key_begun, key_only, next_key_number};
@@ -21,8 +24,8 @@ ghost use Rattle.restart_laws.specs.Example.{life_took, took_since};
 ghost use Rattle.restart_laws.specs.Roomless.{full_front, starting};
 ghost use Rattle.restart_laws.specs.ToldExample.{a_ms, asked_anew, from_twenty};
 ghost use Rattle.restart_laws.specs.ToldNetExample.{IsToldThen, TellsInTime, asked_alike, asked_elsewhere, asked_far, gone_there};
-ghost use Rattle.restart_laws.specs.ToldNetExample.{kept_anew, lifted_alike, lifting, lifting_far, put_back_far, repeated_alike};
-ghost use Rattle.restart_laws.specs.ToldNetExample.{untaken_key};
+ghost use Rattle.restart_laws.specs.ToldNetExample.{kept_anew, lifted_alike, lifting, lifting_far, never_lifted, put_back_far};
+ghost use Rattle.restart_laws.specs.ToldNetExample.{repeated_alike, untaken_key};
 
 /// What is asked of their line in these worlds is what the law asks of it, so that with the rest of its premises what is dialled is told.
 pub fn a_line_that_tells_in_time_is_told()
@@ -126,4 +129,24 @@ pub fn else_what_a_new_life_tells_finds_no_room()
     ensures none_taken { ¬ Any (λ (one : Brought). one.reached.asked.id ≡ (key_begun 1 next_key_number).id)
         (firsts_of_lives (lives (starting untaken_key))) }
     ensures untold { ¬ IsToldThen (lives (starting untaken_key)) 0 (took_first full_front) key_only a_ms }
+{}
+
+/// Nor does the agent take what a life never did: its line 1 isn't lifted, and of events in which it is, which that life didn't take, all
+/// else holds that the law asks; and the telephone rests since.
+pub fn else_what_a_new_life_never_did_is_not_taken()
+    ensures run { IsRunOfLives two_lines (starting never_lifted) }
+    ensures fair { LivesAreFairFrom two_lines (starting never_lifted) 0 0 }
+    ensures room { AgentHasRoomThen two_lines (starting never_lifted) 0 }
+    ensures goes { LineReachesTheAgentSince two_lines (lives (starting never_lifted)) 1 0 }
+    ensures apart { LieApart (lives_of (lives (starting never_lifted))) }
+    ensures life { (lives (starting never_lifted)).life ≡ record { setup = two_lines; start = 0; took = took_first never_lifted } }
+    ensures took { took_first never_lifted ≡ took_first asked_for_all ++ a_ms }
+    ensures of_another { (rest : List GatewayEvent) →
+        ¬ (took_first never_lifted ≡ ((took_first asked_for_all ++ lifting) ++ a_ms) ++ rest) }
+    ensures tells { TellsInTime two_lines (took_first asked_for_all) lifting a_ms 1 0 }
+    ensures rests { done_in (course_from two_lines (plain two_lines (took_first asked_for_all ++ lifting)) 1 a_ms) ≡ [] }
+    ensures by { (lives (starting never_lifted)).life.start + (plain two_lines ((took_first asked_for_all ++ lifting) ++ a_ms)).now + 0
+        ≤ clock_of two_lines (lives (starting never_lifted)) }
+    ensures not_taken { firsts_after (starting never_lifted) ≡ (1, 1) ∷ [] }
+    ensures untold { ¬ IsToldThen (lives (starting never_lifted)) 0 (took_first asked_for_all) lifting a_ms }
 {}
