@@ -88,8 +88,8 @@ pub fn else_what_isnt_in_flight_is_answered()
         ¬ ((turns : List DeskTurn) × (after_turns (opening_desk 2) turns ≡ desk_of after is)) }
 {}
 
-/// Turns lead to no line to which a command is in flight, and that is put off all the same. From such a desk, where the line was put off more
-/// often than any is, an answer of what its gateway was before may leave what no turns do, nor one turn of both.
+/// Turns lead to no line to which a command is in flight, and that is put off all the same. From such a desk, where the line was put off
+/// more often than any is, an answer of what its gateway was before may leave what no turns do, nor one turn of both.
 pub fn else_an_answer_comes_where_no_turns_lead()
     ensures no_turns { (lines : ℕ) (gateway : Gateway) (was : Office) → AreSo gateway was 500 (held_in_flight ∷ []) [] →
         ¬ ((turns : List DeskTurn) × (after_turns (opening_desk lines) turns ≡ desk_of gateway was)) }
