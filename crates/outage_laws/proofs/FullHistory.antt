@@ -1,5 +1,5 @@
 -- Where as many firsts are young as there may be, there is no room until they are old.
-use Rattle.std.proofs.Common.{◌≡◌, ℕ, zero, suc, ◌+◌, ◌<◌, ◌≤◌, Bool, if◌then◌else◌, List, ◌∷◌, length, replicate, refl, subst, ap, ◌∙◌, arith}
+use Rattle.std.proofs.Common.{◌≡◌, ℕ, zero, suc, ◌+◌, ◌<◌, ◌≤◌, Bool, if◌then◌else◌, ◌∷◌, length, replicate, refl, subst, ap, ◌∙◌, arith}
 use Rattle.std.specs.Prelude.{All}
 use Rattle.history.specs.Arrival.{Arrival}
 use Rattle.history.specs.Firsts.{young_of}

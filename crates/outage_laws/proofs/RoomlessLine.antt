@@ -606,12 +606,17 @@ given_up_stays = silent roomless at_22501 22501 23501 8202 e_22501 roomless_stay
 
 -- What is so of it
 
-pub is_fair : (steps : List WorldStep) (g : Machine) (t place : ℕ) (events : List GatewayEvent) → Stays steps g t place place events → IsFairFrom two_lines steps 0 0
-is_fair steps g t place events s = λ number post found past old.
+-- each packet that was sent is handed over at once
+pub is_gone : (steps : List WorldStep) (g : Machine) (t place : ℕ) (events : List GatewayEvent) → Stays steps g t place place events
+    → (number : ℕ) (post : Posted) → slice_get (plain_world two_lines steps).posted number ≡ Some post → IsGone steps number post
+is_gone steps g t place events s number post found =
     s.gone number post found
     (below_length number (length (plain_world two_lines steps).posted) place place (found_within (plain_world two_lines steps).posted number post found) (at_most (length (plain_world two_lines steps).posted) place s.posts) refl) where
       at_most : (x y : ℕ) → x ≡ y → x ≤ y
       at_most x y same = omega (arith, same)
+
+pub is_fair : (steps : List WorldStep) (g : Machine) (t place : ℕ) (events : List GatewayEvent) → Stays steps g t place place events → IsFairFrom two_lines steps 0 0
+is_fair steps g t place events s = λ number post found past old. is_gone steps g t place events s number post found
 
 pub goes : (steps : List WorldStep) (g : Machine) (t place : ℕ) (events : List GatewayEvent) → Stays steps g t place place events → (said : List ℕ) → GoesToAgent two_lines (plain_world two_lines steps) said
 goes steps g t place events s said = λ number post found from inside.

@@ -28,7 +28,7 @@ ghost use Rattle.delivery_laws.specs.Rounds.{IsAnsweredWithin, IsAskedWithin, ro
 ghost use Rattle.delivery_laws.specs.Taking.{IsTaken};
 ghost use Rattle.told_laws.specs.Stretch.{AnnouncesNothing, outliving, taken_meanwhile};
 ghost use Rattle.outage_laws.specs.AfterOutage.{IsFairFrom, IsWell, gap_of, longest_pause, well_by};
-ghost use Rattle.outage_laws.specs.Carrying.{IsHandedBack};
+ghost use Rattle.outage_laws.specs.Carrying.{IsCarriedBack, IsHandedBack};
 ghost use Rattle.outage_laws.specs.Example.{announcement};
 ghost use Rattle.outage_laws.specs.HadTime.{FlightGoesToAgent};
 ghost use Rattle.outage_laws.specs.LinePremises.{held_with, restart_with};
@@ -84,6 +84,22 @@ pub fn else_an_agent_has_no_room()
     ensures not_told { ¬ IsToldSince (line_with two_lines (took_first rested)).post.pending
         (told_along (course_of two_lines 1 (took_first rested))) (done_in (course_of two_lines 1 (took_first rested ++ key_only)))
         (taken_meanwhile two_lines 1 (world rested) (world untold)) }
+{}
+
+/// Each copy of that notification is handed over, and so would be each answer, at once; but none of them is carried, for want of room
+/// alone.
+pub fn else_no_copy_finds_room()
+    ensures run { IsRun two_lines roomless }
+    ensures of_line { IsOfLine two_lines (world roomless) 1 (key_begun 1 next_key_number) }
+    ensures goes { GoesToAgent two_lines (world roomless) (key_begun 1 next_key_number).text }
+    ensures late { (key_begun 1 next_key_number).moment + last_chance ≤ 22501 }
+    ensures now { now_in two_lines (world roomless) ≡ 22501 }
+    ensures handed { (number : ℕ) → IsCopy two_lines (world roomless) GatewayEnd (key_begun 1 next_key_number).text number →
+        IsHandedBack roomless number }
+    ensures at_once { IsFairFrom two_lines roomless 0 0 }
+    ensures not_carried { (number : ℕ) → ¬ IsCarriedBack two_lines roomless (key_begun 1 next_key_number) number }
+    ensures not_taken { ¬ Any (λ (one : Reached). one.asked.id ≡ (key_begun 1 next_key_number).id) (taken_in (world roomless)) }
+    ensures none_came { ¬ HasCome (world roomless) (key_begun 1 next_key_number).id }
 {}
 
 /// Before that it waits for its answer for longer than twice the network's time, what was quarantined is quarantined yet, and all isn't
