@@ -10,7 +10,6 @@ use Rattle.endpoint_names.specs.declared.name.Pattern.{Pattern}
 use Rattle.call_routing.specs.declared.command.Command.{Command}
 use Rattle.call_routing.specs.declared.told.Told.{Told}
 use Rattle.call_routing.specs.Exchange.{ExchangeState, due, opening, sent_by, sent_to}
-use Rattle.call_laws.specs.Turns.{is_in_flight}
 use Rattle.live_agent.specs.declared.care.Duty.{Duty}
 use Rattle.live_agent.specs.declared.care.Duty.TheVariants.{Clear, Audit, Route}
 use Rattle.live_agent.specs.declared.care.Care.{Care}
@@ -32,7 +31,7 @@ use Rattle.desk_laws.specs.Steps as calls
 use Rattle.desk_laws.specs.Steps.{Does, Runs, Stands, Step}
 use Rattle.desk_laws.proofs.AnswerLemmas.{desk_at, same_desk}
 use Rattle.desk_laws.proofs.AttendedCalls.{announced_so, gives_up_so, lets_pass_so, one_turn_at, refused_so, same_both, settled_audited, settled_cleared, settled_held, settled_nothing, settled_routed, shown_so, told_so, woken_so}
-use Rattle.desk_laws.proofs.AttendedLaws.{desk_all, has_no_more}
+use Rattle.desk_laws.proofs.AttendedLaws.{desk_all}
 use Rattle.desk_laws.proofs.CareLemmas.{same_some}
 use Rattle.desk_laws.proofs.DeskLaws.{IsSound, new_sound, turns_sound}
 
@@ -383,14 +382,3 @@ pub are_apart : (count last lines : ℕ) (steps : List Step) (gateway after : Ga
     → (turns : List AttendedTurn) × (AreApart anyone turns × (attended_by count last lines turns ≡ attended_of after is.value))
 are_apart count last lines steps gateway after was is clock none opens cares runs =
     let all = lead_apart count last lines steps gateway after was is clock none opens cares runs in (all.0, (all.1, all.2))
-
--- so what is in flight at the desk is so at the exchange
-pub no_more : (count last lines line : ℕ) (steps : List Step) (gateway after : Gateway) (was is : Box Office) → gateway.ticked ≡ 0
-    → gateway.wakes.items ≡ [] → was.value.exchange ≡ opening count last → was.value.cares.items ≡ replicate lines new_care
-    → Runs steps gateway was after is → flight_of (slice_get is.value.cares.items line) ≡ Some Route
-    → is_in_flight is.value.exchange line ≡ true
-no_more count last lines line steps gateway after was is clock none opens cares runs flies =
-    let all = lead_apart count last lines steps gateway after was is clock none opens cares runs in
-    sym (ap (λ (attended : Attended). is_in_flight attended.exchange line) all.2)
-    ∙ has_no_more anyone count last lines line all.0 all.1 refl
-    (ap (λ (attended : Attended). flight_of (slice_get attended.desk.cares line)) all.2 ∙ flies)

@@ -16,8 +16,7 @@ ghost use Rattle.desk_laws.specs.Attended.{AreApart, AttendedTurn, attended_by, 
 ghost use Rattle.desk_laws.specs.Desk.{GoesOn, desk_of};
 ghost use Rattle.desk_laws.specs.Steps.{Runs, RunsAnyhow, RunsForward, Step};
 
-/// Whatever calls are made, in any order: the exchange and the desk are then where turns of both lead, none of which is elsewhere. So what
-/// is in flight by what the desk keeps is so at the exchange.
+/// Whatever calls are made, in any order: the exchange and the desk are then where turns of both lead, none of which is elsewhere.
 pub fn what_calls_do_is_turns_of_both()
     ensures turns { (count last lines : ℕ) (steps : List Step) (gateway after : Gateway) (was is : Box Office) →
         gateway.ticked ≡ 0 → gateway.wakes.items ≡ [] → was.value.exchange ≡ opening count last →
@@ -27,10 +26,6 @@ pub fn what_calls_do_is_turns_of_both()
         gateway.ticked ≡ 0 → gateway.wakes.items ≡ [] → was.value.exchange ≡ opening count last →
         was.value.cares.items ≡ replicate lines new_care → Runs steps gateway was after is → (turns : List AttendedTurn)
         × (AreApart (λ line. true) turns × (attended_by count last lines turns ≡ attended_of after is.value)) }
-    ensures has_no_more { (count last lines line : ℕ) (steps : List Step) (gateway after : Gateway) (was is : Box Office) →
-        gateway.ticked ≡ 0 → gateway.wakes.items ≡ [] → was.value.exchange ≡ opening count last →
-        was.value.cares.items ≡ replicate lines new_care → Runs steps gateway was after is →
-        flight_of (slice_get is.value.cares.items line) ≡ Some Route → is_in_flight is.value.exchange line ≡ true }
 {}
 
 /// In each phase of each line, whatever its exchange has in flight: a command is in flight to it by what the desk keeps; or what was put

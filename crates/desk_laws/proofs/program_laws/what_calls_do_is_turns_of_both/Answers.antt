@@ -1,4 +1,4 @@
-use Rattle.desk_laws.proofs.AttendedRuns.{are_apart, are_turns, no_more}
+use Rattle.desk_laws.proofs.AttendedRuns.{are_apart, are_turns}
 use Rattle.desk_laws.proofs.program_laws.what_calls_do_is_turns_of_both.Goals as goal
 
 pub returns-clause-turns : goal.returns-clause-turns
@@ -6,6 +6,3 @@ returns-clause-turns c = are_turns
 
 pub returns-clause-apart : goal.returns-clause-apart
 returns-clause-apart c = are_apart
-
-pub returns-clause-has_no_more : goal.returns-clause-has_no_more
-returns-clause-has_no_more c = no_more
