@@ -1,5 +1,5 @@
 -- Where copies of a text of the gateway's are among the packets of a world, by its length; for worked examples, in which it computes.
-use Rattle.std.proofs.Common.{◌≡◌, ℕ, zero, suc, ◌+◌, Bool, true, false, ◌||◌, ◌&&◌, ◌==◌, if◌then◌else◌, List, [], ◌∷◌, length, Option, Some, inl, inr, refl, sym, ap, ◌∙◌, subst, arith}
+use Rattle.std.proofs.Common.{◌≡◌, ℕ, zero, suc, ◌+◌, Bool, true, false, ◌||◌, ◌&&◌, ◌==◌, if◌then◌else◌, List, [], ◌∷◌, ◌++◌, length, Option, Some, inl, inr, refl, sym, ap, ◌∙◌, subst, arith}
 use Rattle.std.specs.Prelude.{slice_get, unwrap_or}
 use Rattle.std.proofs.lemmas.Bool.Decides.{Decides-eqb}
 use Rattle.std.proofs.lemmas.Option.{none-some}
@@ -10,10 +10,10 @@ use Rattle.machine_laws.proofs.EachLemmas.{one_from_any}
 use Rattle.agent_core.specs.declared.packet.End.{End}
 use Rattle.agent_core.specs.declared.packet.End.TheVariants.{AgentEnd as agent_end, GatewayEnd as gateway_end}
 use Rattle.agent_core.specs.declared.packet.Posted.{Posted}
-use Rattle.agent_core.specs.World.{World, WorldStep, now_in, plain_world}
+use Rattle.agent_core.specs.World.{World, WorldStep, delivering, now_in, plain_world}
 use Rattle.delivery_laws.specs.Copies.{arrives, IsCopy}
 use Rattle.delivery_laws.proofs.ExampleLemmas.{hand_over, none_handed}
-use Rattle.outage_laws.specs.Carrying.{IsCarriedBack}
+use Rattle.outage_laws.specs.Carrying.{IsCarriedBack, IsHandedBack}
 
 abbrev is_gateway : End → Bool
 is_gateway agent_end = false
@@ -99,3 +99,12 @@ never_carried setup steps b number none carried =
       sent = carried.copy.found;
       soon = omega arith;
     })
+
+handed_there : (number : ℕ) (before later : List WorldStep) → hand_over number ((before ++ delivering number ∷ []) ++ later) ≡ true
+handed_there number [] later = ap (λ (b : Bool). b || hand_over number later) ((Decides-eqb number number).1 refl)
+handed_there number (step ∷ before) later =
+    either_true _ (hand_over number ((before ++ delivering number ∷ []) ++ later)) (handed_there number before later)
+
+pub never_handed : (rest : List WorldStep) (number : ℕ) → hand_over number rest ≡ false → IsHandedBack rest number → ⊥
+never_handed rest number none h =
+    absurd (let clash : false ≡ true = sym none ∙ ap (hand_over number) h.order ∙ handed_there number h.between h.later in cc)

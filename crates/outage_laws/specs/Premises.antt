@@ -14,7 +14,7 @@ use Rattle.machine_laws.specs.Saying.{Begun}
 use Rattle.agent_core.specs.World.{WorldStep, delivering, dialling, ticking}
 use Rattle.world_laws.specs.Example.{announced, seconds}
 use Rattle.delivery_laws.specs.Example.{lifted, notified, redirected, responds, up_to}
-use Rattle.outage_laws.specs.Example.{announcement, came_at}
+use Rattle.outage_laws.specs.Example.{announcement, came_at, last_copy}
 
 -- A gateway alone: a post that has its announcement in flight, and a response to that with this code, which names this entity
 
@@ -157,6 +157,14 @@ all_elsewhere = redirected ++ up_to 20
 abbrev pub reported_elsewhere : Begun
 reported_elsewhere =
     record { id = 10000000; moment = 1; text = codes "NTFY 10000000 aaln/1@rgw.example.net MGCP 1.0\r\nX: A0\r\nO: L/hd\r\n" }
+
+-- The answer to the last copy, packet 10, is lost, and the line gives its notification up
+
+abbrev pub unanswered_on : List WorldStep
+unanswered_on = ticking 21001 ∷ ticking 22001 ∷ ticking 23001 ∷ ticking 23501 ∷ []
+
+abbrev pub unanswered_copy : List WorldStep
+unanswered_copy = last_copy ++ delivering 9 ∷ unanswered_on
 
 -- A first that came at 40,000, later than another
 abbrev pub came_later : List Arrival
