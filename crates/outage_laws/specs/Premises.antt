@@ -166,6 +166,17 @@ unanswered_on = ticking 21001 ∷ ticking 22001 ∷ ticking 23001 ∷ ticking 23
 abbrev pub unanswered_copy : List WorldStep
 unanswered_copy = last_copy ++ delivering 9 ∷ unanswered_on
 
+-- So it is of the announcement of the gateway itself: the last copy is packet 7, and its answer packet 8
+
+abbrev pub own_last_copy : List WorldStep
+own_last_copy = seconds 20 ++ ticking 19501 ∷ []
+
+abbrev pub own_unanswered_on : List WorldStep
+own_unanswered_on = ticking 20501 ∷ ticking 21501 ∷ ticking 22501 ∷ ticking 23501 ∷ []
+
+abbrev pub own_unanswered_copy : List WorldStep
+own_unanswered_copy = own_last_copy ++ delivering 7 ∷ own_unanswered_on
+
 -- A first that came at 40,000, later than another
 abbrev pub came_later : List Arrival
 came_later = came_at 40000 ∷ []

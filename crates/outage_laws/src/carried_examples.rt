@@ -17,8 +17,8 @@ ghost use Rattle.delivery_laws.specs.Fairness.{GoesToAgent};
 ghost use Rattle.delivery_laws.specs.OwnChances.{HasCome, IsOfLine};
 ghost use Rattle.delivery_laws.specs.Taking.{AgentHasRoom, IsTaken};
 ghost use Rattle.outage_laws.specs.Carrying.{IsCarriedBack, IsHandedBack};
-ghost use Rattle.outage_laws.specs.Example.{last_copy, saved};
-ghost use Rattle.outage_laws.specs.Premises.{unanswered_copy, unanswered_on};
+ghost use Rattle.outage_laws.specs.Example.{announcement, last_copy, saved};
+ghost use Rattle.outage_laws.specs.Premises.{own_last_copy, own_unanswered_copy, own_unanswered_on, unanswered_copy, unanswered_on};
 
 /// Seven copies of a notification are lost, packets 2 to 8, and each that isn't is carried: the last one is, and its answer. All that the
 /// law asks for holds at once.
@@ -52,4 +52,24 @@ pub fn else_the_answer_to_a_copy_is_lost()
     ensures none_came { ids_come two_lines unanswered_copy ≡ Some 1 ∷ [] }
     ensures not_come { ¬ HasCome (world unanswered_copy) lifted.id }
     ensures given_up { (endpoint_then unanswered_copy).post.restart ≡ Waiting 28501 }
+{}
+
+/// So it is of the announcement of the gateway itself, whose answer is packet 8.
+pub fn else_the_answer_to_its_announcement_is_lost()
+    ensures run { IsRun two_lines own_unanswered_copy }
+    ensures own { IsOfLine two_lines (world own_unanswered_copy) 0 announcement }
+    ensures late { announcement.moment + last_chance ≤ now_in two_lines (world own_unanswered_copy) }
+    ensures seven { length {A = ℕ} (0 ∷ 1 ∷ 2 ∷ 3 ∷ 4 ∷ 5 ∷ 6 ∷ []) ≡ most_repeats }
+    ensures but_one { (number : ℕ) → IsCopy two_lines (world own_unanswered_copy) GatewayEnd announcement.text number →
+        ¬ Any (λ (n : ℕ). n ≡ number) (0 ∷ 1 ∷ 2 ∷ 3 ∷ 4 ∷ 5 ∷ 6 ∷ []) → number ≡ 7 }
+    ensures handed { own_unanswered_copy ≡ (own_last_copy ++ delivering 7 ∷ []) ++ own_unanswered_on }
+    ensures copy { IsCopy two_lines (world own_last_copy) GatewayEnd announcement.text 7 }
+    ensures room { AgentHasRoom two_lines (world (own_last_copy ++ delivering 7 ∷ [])) }
+    ensures answer { (taken : IsTaken two_lines (world own_last_copy) (world (own_last_copy ++ delivering 7 ∷ [])) announcement.id) →
+        taken.number ≡ 8 }
+    ensures not_back { ¬ IsHandedBack own_unanswered_on 8 }
+    ensures not_carried { ¬ IsCarriedBack two_lines own_unanswered_copy announcement 7 }
+    ensures taken { map key_reached (taken_in (world own_unanswered_copy)) ≡ (1, 19501) ∷ [] }
+    ensures none_came { ids_come two_lines own_unanswered_copy ≡ [] }
+    ensures not_come { ¬ HasCome (world own_unanswered_copy) announcement.id }
 {}
