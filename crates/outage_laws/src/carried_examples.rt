@@ -1,4 +1,4 @@
-//! Worked examples of one copy of eight: a world in which each premise of the law holds, and one in which the answer to the copy is lost.
+//! Worked examples of one copy of eight: a world in which each premise of the law holds, and two in which the answer to the copy is lost.
 #![tactic(auto, unfolding(crate::proofs::Computing::on_examples))]
 
 ghost use Rattle.std.specs.Prelude.{◌≡◌, ◌≤◌, ◌+◌, ◌++◌, ℕ, ◌∷◌, [], Any, Some, length, map};
