@@ -3,6 +3,8 @@ ghost use Rattle.std.specs.Prelude.{◌≡◌, ◌≢◌, List, codes, IfOk, IfE
 ghost use Rattle.plain_machine.specs.Event.{GatewayEvent};
 ghost use Rattle.gateway_core.specs.Stands.{Stands};
 ghost use Rattle.surroundings.specs.Hearing.{AnswersTo};
+ghost use Rattle.surroundings.specs.Requests.{requests_from};
+ghost use Rattle.surroundings.specs.Typing.{left_of, behind};
 ghost use Rattle.live_telephones.specs.Asking.{short_text};
 ghost use Rattle.live_telephones.specs.Paging.{TakesAct, ShowsPage};
 ghost use Rattle.live_play.specs.Running.{lines_shown};
@@ -76,6 +78,8 @@ pub fn answer_put<S: Surroundings>(
 )
     ensures answered { IfOk answer (λ text. AnswersTo S.answers lines.old.sender around.old text.items around.new) }
     ensures refused { IfErr answer (λ _. AnswersTo S.answers lines.old.sender around.old (codes "! 1 OutOfMemory\n") around.new) }
+    ensures left { left_of lines.new ≡ requests_from (behind (left_of lines.old)) }
+    ensures sender { lines.new.sender ≡ lines.old.sender }
     ensures traffic { S.traffic around.new ≡ S.traffic around.old }
 {
     match answer {
