@@ -1,5 +1,5 @@
 -- What is counted of looks for datagrams.
-use Rattle.std.proofs.Common.{inl, inr, ◌≡◌, ℕ, List, Option, ◌∙◌, ap}
+use Rattle.std.proofs.Common.{inr, ◌≡◌, ℕ, List, Option, ◌∙◌, ap}
 use Rattle.std.specs.Prelude.{Result}
 use Rattle.std.specs.declared.net.socket_addr.SocketAddrV4.{SocketAddrV4}
 use Rattle.surroundings.specs.declared.surroundings.Fault.{Fault}
