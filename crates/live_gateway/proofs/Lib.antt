@@ -3,6 +3,7 @@ pub mod HearingLemmas
 pub mod CountingLemmas
 pub mod EndingLemmas
 pub mod DeskLemmas
+pub mod AnsweringLemmas
 pub mod TurningLemmas
 pub mod LineLemmas
 mod ArrivingLemmas

@@ -1,21 +1,19 @@
 -- What a turn does, from what its calls say.
-use Rattle.std.proofs.Common.{◌≡◌, ◌⊎◌, inl, inr, ℕ, ◌<◌, ◌≤◌, ◌^◌, List, [], sym, ◌∙◌, ap, subst, arith}
-use Rattle.std.specs.Prelude.{not, is_ok, Result, Ok, Err, OnOk, OnErr, IfErr}
-use Rattle.mg_line.specs.declared.phone.Act.{Act}
+use Rattle.std.proofs.Common.{◌≡◌, ◌⊎◌, inl, inr, ℕ, ◌<◌, ◌≤◌, ◌^◌, [], sym, ◌∙◌, ap, subst, arith}
+use Rattle.std.specs.Prelude.{not, is_ok, Result, Ok, Err, OnOk, OnErr}
 use Rattle.gateway_core.specs.Wire.{counted}
-use Rattle.plain_machine.specs.Event.{GatewayEvent, phone}
-use Rattle.gateway_rules.specs.declared.refusal.Refusal.{Refusal}
-use Rattle.traces.specs.Writing.{Input, typed}
+use Rattle.plain_machine.specs.Event.{GatewayEvent}
+use Rattle.traces.specs.Writing.{Input}
 use Rattle.turns.specs.declared.schedule.Schedule.{Schedule}
 use Rattle.turns.specs.declared.situation.Situation.{Situation}
 use Rattle.turns.specs.declared.turn.Turn.{Turn}
 use Rattle.turns.specs.declared.turn.Turn.TheVariants.{Tick}
 use Rattle.turns.specs.Schedule.{next_of}
 use Rattle.turns.proofs.ScheduleLaws.{ticks_within}
-use Rattle.live_play.specs.Running.{Live, Ran, RanOf, Takes, Refuses, Asked}
+use Rattle.live_play.specs.Running.{Ran, Takes}
 use Rattle.live_gateway.specs.Desk.{Standing, with_input}
 use Rattle.live_play.specs.Readable.{first_unread}
-use Rattle.live_gateway.specs.Turning.{Tries, TriesAct, DoesLine}
+use Rattle.live_gateway.specs.Turning.{Tries}
 
 -- it was taken, or refused, and that is counted
 pub tries : {A B : Type 0} (input : Input) (event : GatewayEvent) (done : Result A B) (was mid is : Standing) → OnOk done (Takes was.live input event mid.live)
@@ -27,33 +25,6 @@ tries input event (Err why) was mid is takes misses counts same =
       subst (λ (s : Standing). Ran was.live [] s.live) (sym same) misses,
       ap (λ (s : Standing). s.came.refused) same ∙ ap (λ (n : ℕ). counted n 1) counts,
     )
-
--- so was an act, and why it was refused is told
-pub tries_act : {A : Type 0} (text : List ℕ) (line : ℕ) (act : Act) (done : Result A Refusal) (printed : List ℕ) (was mid is : Standing)
-    → OnOk done (Takes was.live (typed text) (phone line act) mid.live)
-    → IfErr done (λ refusal. Refuses was.live text (phone line act) refusal printed mid.live)
-    → mid.came.refused ≡ was.came.refused → is ≡ with_input (not (is_ok done)) mid → TriesAct text line act was is
-tries_act text line act (Ok done) printed was mid is takes misses counts same =
-    inl (subst (λ (s : Standing). Takes was.live (typed text) (phone line act) s.live) (sym same) takes, ap (λ (s : Standing). s.came.refused) same ∙ counts)
-tries_act text line act (Err refusal) printed was mid is takes misses counts same =
-    inr (
-      refusal,
-      printed,
-      subst (λ (s : Standing). Refuses was.live text (phone line act) refusal printed s.live) (sym same) misses,
-      ap (λ (s : Standing). s.came.refused) same ∙ ap (λ (n : ℕ). counted n 1) counts,
-    )
-
--- what a line is was told, unless memory was refused
-pub asks_of : {A B : Type 0} (text : List ℕ) (line : ℕ) (done : Result A B) (printed : List ℕ) (was is : Live)
-    → OnOk done (Asked was text line printed is) → RanOf (λ (input : Input). input ≡ typed text) was is
-    → ((told : List ℕ) × Asked was text line told is) ⊎ RanOf (λ (input : Input). input ≡ typed text) was is
-asks_of text line (Ok done) printed was is asked ran = inl (printed, asked)
-asks_of text line (Err why) printed was is asked ran = inr ran
-
--- what comes before and behind changes nothing of how it stands
-pub line_between : (was mid after is : Standing) → mid ≡ was → is ≡ after → DoesLine mid after → DoesLine was is
-line_between was mid after is before behind does =
-    subst (λ (s : Standing). DoesLine s is) before (subst (λ (s : Standing). DoesLine mid s) (sym behind) does)
 
 -- a tick that comes next goes on
 pub tick_is_later : (s : Schedule) (at : Situation) (turn : Turn) (next : Schedule) (to now : ℕ) → at.moment < 2 ^ 64 → (turn, next) ≡ next_of s at

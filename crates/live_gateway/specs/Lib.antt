@@ -5,4 +5,5 @@ pub mod Admitting
 pub mod Naming
 pub mod Desk
 pub mod Ending
+pub mod Answering
 pub mod Turning

@@ -1,26 +1,35 @@
 -- What a turn does, by its kind.
-use Rattle.std.specs.Prelude.{◌≡◌, ◌⊎◌, ℕ, List, [], Option, Some, Result}
+use Rattle.std.specs.Prelude.{◌≡◌, ◌⊎◌, ◌<◌, ℕ, Bool, true, ◌||◌, not, List, [], Option, option_map, Result}
+use Rattle.std.specs.declared.net.socket_addr.SocketAddr.{SocketAddr}
 use Rattle.std.specs.declared.net.socket_addr.SocketAddrV4.{SocketAddrV4}
-use Rattle.mg_bytes.specs.Words.{words}
-use Rattle.mg_line.specs.declared.phone.Act.{Act}
+use Rattle.mg_bytes.specs.Lists.{is_empty}
+use Rattle.gateway_core.specs.Stands.{Stands}
 use Rattle.gateway_core.specs.Wire.{counted}
-use Rattle.plain_machine.specs.Event.{GatewayEvent, datagram, phone, tick}
-use Rattle.gateway_rules.specs.declared.refusal.Refusal.{Refusal}
-use Rattle.rgw_scripts.specs.declared.step.ScriptStep.TheVariants.{Phone, Show}
-use Rattle.rgw_scripts.specs.declared.step.ScriptLine.TheVariants.{Whole}
-use Rattle.rgw_scripts.specs.Script.{line_in}
+use Rattle.plain_machine.specs.Event.{GatewayEvent, datagram, tick}
+use Rattle.plain_machine.specs.Falling.{first_due}
+use Rattle.plain_machine.specs.Lists.{plain}
+use Rattle.surroundings.specs.Hearing.{Hears}
+use Rattle.surroundings.specs.Sending.{Traffic}
+use Rattle.surroundings.specs.Typing.{left_of}
 use Rattle.surroundings.specs.declared.surroundings.Fault.{Fault}
-use Rattle.traces.specs.Writing.{Input, arrived, typed, passed}
+use Rattle.surroundings.specs.declared.surroundings.Told.{Told}
+use Rattle.traces.specs.Writing.{Input, arrived, passed}
+use Rattle.turns.specs.Clock.{earlier, has_come}
+use Rattle.turns.specs.declared.circle.Ready.{Ready}
 use Rattle.turns.specs.declared.situation.Situation.{Situation}
-use Rattle.turns.specs.declared.schedule.Schedule.{Schedule}
 use Rattle.turns.specs.declared.turn.Turn.{Turn}
 use Rattle.turns.specs.declared.turn.Turn.TheVariants.{End, Look, Wait, Tick, Command, Datagram, Visit, Note}
 use Rattle.turns.specs.Schedule.{next_of}
-use Rattle.live_play.specs.Running.{Ran, RanOf, Takes, Refuses, Asked}
+use Rattle.live_play.specs.Readable.{first_unread}
+use Rattle.live_play.specs.Running.{Ran, Takes}
+use Rattle.live_telephones.specs.Paging.{TakesAct}
+use Rattle.live_telephones.specs.Watching.{WatchesOn}
 use Rattle.live_gateway.specs.declared.admission.Admission.{Admission}
+use Rattle.live_gateway.specs.declared.desk.Desk.{Desk}
 use Rattle.live_gateway.specs.declared.exchange.Exchange.{Exchange}
-use Rattle.live_gateway.specs.Desk.{Standing, IsHeard}
-use Rattle.live_gateway.specs.Exchanging.{CountsReceived}
+use Rattle.live_gateway.specs.Answering.{DoesLine}
+use Rattle.live_gateway.specs.Desk.{Standing, at_desk, IsHeard}
+use Rattle.live_gateway.specs.Exchanging.{CountsReceived, next_due}
 
 -- the gateway took an event that came in so, as a play tells it; or refused it, which is counted, and nothing was told
 abbrev pub Tries : Input → GatewayEvent → Standing → Standing → Type 0
@@ -38,42 +47,83 @@ TriesHeard admission was is =
     ((is.live ≡ was.live) × (is.came.refused ≡ was.came.refused))
     ⊎ ((source : SocketAddrV4) × (bytes : List ℕ) × IsHeard admission source × Tries (arrived source bytes) (datagram source bytes) was is)
 
--- an act that a line says was done; or it was refused, as is told, and counted
-abbrev pub TriesAct : List ℕ → ℕ → Act → Standing → Standing → Type 0
-TriesAct text line act was is =
-    (Takes was.live (typed text) (phone line act) is.live × (is.came.refused ≡ was.came.refused))
-    ⊎ ((refusal : Refusal) × (printed : List ℕ) × Refuses was.live text (phone line act) refusal printed is.live
-    × (is.came.refused ≡ counted was.came.refused 1))
-
--- what a line is was asked, as a line says, and told, unless memory was refused for that
-abbrev pub Asks : List ℕ → ℕ → Standing → Standing → Type 0
-Asks text line was is =
-    ((printed : List ℕ) × Asked was.live text line printed is.live)
-    ⊎ RanOf (λ (input : Input). input ≡ typed text) was.live is.live
-
--- no line asked for anything of the gateway; or one did, for an act, or for what a line is
-abbrev pub DoesLine : Standing → Standing → Type 0
-DoesLine was is =
-    (is ≡ was)
-    ⊎ (((text : List ℕ) × (line : ℕ) × (act : Act) × (line_in (words text) ≡ Some (Whole (Phone line act))) × TriesAct text line act was is)
-    ⊎ ((text : List ℕ) × (line : ℕ) × (line_in (words text) ≡ Some (Whole (Show line))) × Asks text line was is))
+-- Lines are heard where none is left; the first that is left is done, and no other one. Where none is left then, the next act of the page
+-- may be.
+pub record DoesLines {S T : Type 0}
+    (told : T → Option (List ℕ)) (traffic : S → Traffic) (sockets : S → List SocketAddrV4)
+    (hears : S → Option (SocketAddr × ℕ) → List ℕ → S → Type 0) (answers : S → SocketAddr → List ℕ → S → Type 0) (was is : Desk S T)
+    : Type 0 where
+  pub heard : Desk S T
+  pub done : Desk S T
+  pub taken : Bool
+  pub hearing : Hears sockets hears was.exchange.around was.lines taken heard.exchange.around heard.lines
+  pub before : heard ≡ record was { exchange = heard.exchange; lines = heard.lines }
+  pub same : at_desk told traffic heard ≡ at_desk told traffic was
+  pub line : DoesLine told traffic answers heard done
+  pub behind : at_desk told traffic is ≡ at_desk told traffic done
+  pub around : is.exchange.around ≡ done.exchange.around
+  pub page : (is.lines ≡ done.lines)
+      ⊎ ((is_empty (left_of done.lines) ≡ true) × TakesAct done.exchange.journal done.lines true is.exchange.journal is.lines)
 
 -- what a turn of this kind does
 abbrev pub Does :
-    {S : Type 0} → (S → Result (Option (SocketAddrV4 × ℕ)) Fault → List ℕ → S → Type 0)
-    → Admission → Turn → Standing → Standing → Type 0
-Does receives admission End was is = is ≡ was
-Does receives admission Look was is = is ≡ was
-Does receives admission (Wait until) was is = is ≡ was
-Does receives admission (Tick moment) was is = Tries (passed moment) (tick moment) was is
-Does receives admission Command was is = DoesLine was is
-Does receives admission Datagram was is = LooksForOne receives × TriesHeard admission was is
-Does receives admission Visit was is = is ≡ was
-Does receives admission (Note pause) was is = is ≡ was
+    {S T : Type 0} → (T → Option (List ℕ)) → (S → Traffic) → (S → List SocketAddrV4)
+    → (S → Result (Option (SocketAddrV4 × ℕ)) Fault → List ℕ → S → Type 0)
+    → (S → Option (SocketAddr × ℕ) → List ℕ → S → Type 0) → (S → SocketAddr → List ℕ → S → Type 0)
+    → Turn → Desk S T → Desk S T → Type 0
+Does told traffic sockets receives hears answers End was is = at_desk told traffic is ≡ at_desk told traffic was
+Does told traffic sockets receives hears answers Look was is = at_desk told traffic is ≡ at_desk told traffic was
+Does told traffic sockets receives hears answers (Wait until) was is = at_desk told traffic is ≡ at_desk told traffic was
+Does told traffic sockets receives hears answers (Tick moment) was is =
+    Tries (passed moment) (tick moment) (at_desk told traffic was) (at_desk told traffic is)
+Does told traffic sockets receives hears answers Command was is = DoesLines told traffic sockets hears answers was is
+Does told traffic sockets receives hears answers Datagram was is =
+    LooksForOne receives × TriesHeard was.admission (at_desk told traffic was) (at_desk told traffic is)
+Does told traffic sockets receives hears answers Visit was is = at_desk told traffic is ≡ at_desk told traffic was
+Does told traffic sockets receives hears answers (Note pause) was is = at_desk told traffic is ≡ at_desk told traffic was
 
--- it does what comes next by this schedule, as things stand, and goes on with the schedule behind that
-abbrev pub DoesNext :
-    {S : Type 0} → (S → Result (Option (SocketAddrV4 × ℕ)) Fault → List ℕ → S → Type 0)
-    → Schedule → Schedule → Admission → Standing → Standing → Type 0
-DoesNext receives schedule next admission was is =
-    (at : Situation) × (turn : Turn) × ((turn, next) ≡ next_of schedule at) × Does receives admission turn was is
+-- What may have something: who types, where a line is left, or as was told of their socket; the network, where that which spoils it hands
+-- something out by now, or as was told of its socket; visitors, as they say.
+abbrev pub ready_at : Told → Bool → Option ℕ → ℕ → Bool → Ready
+ready_at told is_line_left network ticked is_visited = record {
+  commands = told.lines || is_line_left;
+  datagrams = told.datagrams || has_come network ticked;
+  visitors = is_visited;
+}
+
+-- How things stand at a desk. What sockets and visitors are told, and the clock, is no more than that.
+pub record IsSituation {S T : Type 0} (was : Desk S T) (at : Situation) : Type 0 where
+  pub told : Told
+  pub is_visited : Bool
+  pub own : Option ℕ
+  pub deadline : Option ℕ
+  pub moment : (at.moment < first_unread) ⊎ (at.moment ≡ at.ticked)
+  pub ticked : (events : List GatewayEvent) → Stands was.play.gateway.value events
+      → at.ticked ≡ (plain was.play.gateway.value.setup events).now
+  pub by_gateway : (events : List GatewayEvent) → Stands was.play.gateway.value events
+      → own ≡ option_map (λ item. item.moment) (first_due (plain was.play.gateway.value.setup events).endpoints)
+  pub due : at.due ≡ earlier (earlier own (next_due was.exchange.network)) deadline
+  pub end : at.end ≡ was.end
+  pub read : at.read ≡ was.exchange.read
+  pub ready : at.ready ≡ ready_at told (not (is_empty (left_of was.lines))) (next_due was.exchange.network) at.ticked is_visited
+
+-- It does what comes next by its schedule, as things stand, and goes on with the schedule behind that. Who watches is told then what
+-- changed.
+pub record DoesNext {S T : Type 0}
+    (told : T → Option (List ℕ)) (traffic : S → Traffic) (sockets : S → List SocketAddrV4)
+    (receives : S → Result (Option (SocketAddrV4 × ℕ)) Fault → List ℕ → S → Type 0)
+    (hears : S → Option (SocketAddr × ℕ) → List ℕ → S → Type 0) (answers : S → SocketAddr → List ℕ → S → Type 0) (was is : Desk S T)
+    : Type 0 where
+  pub at : Situation
+  pub turn : Turn
+  pub begun : Desk S T
+  pub done : Desk S T
+  pub situation : IsSituation was at
+  pub next : (turn, is.schedule) ≡ next_of was.schedule at
+  pub before : begun ≡ record was { exchange = begun.exchange; schedule = begun.schedule }
+  pub same : at_desk told traffic begun ≡ at_desk told traffic was
+  pub around : begun.exchange.around ≡ was.exchange.around
+  pub does : Does told traffic sockets receives hears answers turn begun done
+  pub behind : is ≡ record done { exchange = record done.exchange { around = is.exchange.around }; watch = is.watch }
+  pub kept : traffic is.exchange.around ≡ traffic done.exchange.around
+  pub watch : WatchesOn answers done.watch.watchers.places is.exchange.around is.watch.watchers.places

@@ -13,7 +13,8 @@ ghost use Rattle.surroundings.specs.Hearing.{AnswersTo};
 ghost use Rattle.live_gateway.specs.Desk.{at_desk, GoesOn};
 ghost use Rattle.live_gateway.specs.Ending.{EndsAt, WroteTimes, AsksForEnd};
 ghost use Rattle.live_play.specs.Readable.{first_unread};
-ghost use Rattle.live_gateway.specs.Turning.{Tries, TriesHeard, LooksForOne, DoesLine, Does, DoesNext};
+ghost use Rattle.live_gateway.specs.Answering.{DoesLine, AnswersRequest};
+ghost use Rattle.live_gateway.specs.Turning.{Tries, TriesHeard, LooksForOne, DoesLines, Does, DoesNext};
 ghost use Rattle.traces.specs.Writing.{passed};
 
 use crate::admission::Admission;
@@ -193,6 +194,7 @@ impl<S: Surroundings + Drop, T: Teller + Drop> Desk<S, T> {
     fn answer_request(&mut self, request: TelephoneRequest)
         requires { (said : Option ScriptLine) × AsksFor request said }
         ensures play { at_desk T.told S.traffic self.new ≡ at_desk T.told S.traffic self.old }
+        ensures answered { AnswersRequest S.answers request self.old self.new }
         ensures admission { self.new.admission ≡ self.old.admission }
         ensures schedule { self.new.schedule ≡ self.old.schedule }
     {
@@ -232,7 +234,7 @@ impl<S: Surroundings + Drop, T: Teller + Drop> Desk<S, T> {
     #[tactic(auto, using(crate::proofs::DeskLemmas::stays_so, crate::proofs::DeskLemmas::stays))]
     fn take_line(&mut self)
         ensures play { GoesOn T.told S.traffic self.old self.new }
-        ensures line { DoesLine (at_desk T.told S.traffic self.old) (at_desk T.told S.traffic self.new) }
+        ensures line { DoesLine T.told S.traffic S.answers self.old self.new }
         ensures schedule { self.new.schedule ≡ self.old.schedule }
     {
         let who = typist(&self.lines, self.admission.are_phones_open);
@@ -265,7 +267,7 @@ impl<S: Surroundings + Drop, T: Teller + Drop> Desk<S, T> {
     // A line is taken, if one is there. Who types and the page take turns: behind what was typed comes one act of the page's.
     fn command(&mut self)
         ensures play { GoesOn T.told S.traffic self.old self.new }
-        ensures line { DoesLine (at_desk T.told S.traffic self.old) (at_desk T.told S.traffic self.new) }
+        ensures lines { DoesLines T.told S.traffic S.sockets S.hears S.answers self.old self.new }
         ensures schedule { self.new.schedule ≡ self.old.schedule }
     {
         let was_page = self.is_of_page;
@@ -311,7 +313,7 @@ impl<S: Surroundings + Drop, T: Teller + Drop> Desk<S, T> {
             → (to < first_unread) × ((events : List GatewayEvent) → Stands self.old.play.gateway.value events
             → (plain self.old.play.gateway.value.setup events).now < to) }
         ensures play { GoesOn T.told S.traffic self.old self.new }
-        ensures does { Does S.receives self.old.admission turn (at_desk T.told S.traffic self.old) (at_desk T.told S.traffic self.new) }
+        ensures does { Does T.told S.traffic S.sockets S.receives S.hears S.answers turn self.old self.new }
         ensures over { is_end turn ≡ true → (self.new.play ≡ self.old.play) × (self.new.end ≡ self.old.end) }
         ensures schedule { self.new.schedule ≡ self.old.schedule }
     {
@@ -336,8 +338,7 @@ impl<S: Surroundings + Drop, T: Teller + Drop> Desk<S, T> {
     pub fn turn<V: Visitors<S>>(&mut self, visitors: &mut Option<Box<V>>) -> bool
         ensures play { GoesOn T.told S.traffic self.old self.new }
         ensures end { EndsAt self.old.end self.old.play.gateway.value (not result) }
-        ensures does { DoesNext S.receives self.old.schedule self.new.schedule self.old.admission
-            (at_desk T.told S.traffic self.old) (at_desk T.told S.traffic self.new) }
+        ensures does { DoesNext T.told S.traffic S.sockets S.receives S.hears S.answers self.old self.new }
         ensures over { result ≡ false → (self.new.play ≡ self.old.play) × (self.new.end ≡ self.old.end) }
     {
         let ticked = self.play.gateway.now();

@@ -1,8 +1,15 @@
 //! What a turn does that needs no gateway, but what that tells: who has one pays for the layout of all that it holds.
-ghost use Rattle.std.specs.Prelude.{◌≡◌, ◌<◌, ◌⊎◌, ℕ, Bool, true, Option, not};
-ghost use Rattle.turns.specs.Clock.{earlier};
-ghost use Rattle.live_telephones.specs.Admitting.{typist_of};
+ghost use Rattle.std.specs.Prelude.{◌≡◌, ◌<◌, ◌⊎◌, ℕ, Bool, true, List, None, Option, not};
+ghost use Rattle.mg_bytes.specs.Lists.{is_empty};
+ghost use Rattle.surroundings.specs.Hearing.{AnswersTo};
+ghost use Rattle.surroundings.specs.Requests.{requests_from};
+ghost use Rattle.surroundings.specs.Typing.{left_of, behind};
+ghost use Rattle.surroundings.specs.declared.surroundings.Told.{Told};
+ghost use Rattle.turns.specs.Clock.{earlier, has_come};
+ghost use Rattle.live_telephones.specs.Paging.{TakesAct};
+ghost use Rattle.live_gateway.specs.Answering.{IsTypist, IsActAnswer};
 ghost use Rattle.live_gateway.specs.Exchanging.{refusals, next_due};
+ghost use Rattle.live_gateway.specs.Turning.{ready_at};
 ghost use Rattle.live_play.specs.Readable.{first_unread};
 
 use crate::exchange::Exchange;
@@ -16,7 +23,9 @@ use surroundings::{Lines, Speakers, Surroundings};
 use turns::{Ready, Situation, earlier};
 
 // Whether something falls due by this moment.
-fn has_come(due: Option<u64>, moment: u64) -> bool {
+fn has_come(due: Option<u64>, moment: u64) -> bool
+    ensures { result ≡ has_come due moment }
+{
     matches!(due, Some(due) if due <= moment)
 }
 
@@ -38,7 +47,8 @@ pub(crate) fn situation<S: Surroundings + Drop, V: Visitors<S>>(
     ensures short { (result.moment < first_unread) ⊎ (result.moment ≡ ticked) }
     ensures due { (deadline : Option ℕ) × (result.due ≡ earlier (earlier due (next_due exchange.old.network)) deadline) }
     ensures read { result.read ≡ exchange.old.read }
-    ensures left { is_line_left ≡ true → result.ready.commands ≡ true }
+    ensures ready { (told : Told) × (is_visited : Bool)
+        × (result.ready ≡ ready_at told is_line_left (next_due exchange.old.network) ticked is_visited) }
 {
     let moment = exchange.moment(ticked);
     let network = exchange.network_due();
@@ -100,7 +110,7 @@ pub(crate) fn note_datagram<S: Surroundings + Drop>(
 
 /// Who typed the line that is answered next, where the telephones are open to other machines or not.
 pub(crate) fn typist(lines: &Lines, are_open: bool) -> Typist
-    ensures { (is_here is_afar : Bool) × (result ≡ typist_of is_here is_afar are_open) }
+    ensures { IsTypist lines.now are_open result }
 {
     let is_here = lines.is_from_loopback();
     let is_afar = lines.is_from_afar();
@@ -117,6 +127,10 @@ pub(crate) fn answer_act<S: Surroundings + Drop>(
     ensures network { exchange.new.network ≡ exchange.old.network }
     ensures traffic { S.traffic exchange.new.around ≡ S.traffic exchange.old.around }
     ensures faults { exchange.new.faults ≡ exchange.old.faults }
+    ensures answered { (answer : List ℕ) × IsActAnswer done printed.now answer
+        × AnswersTo S.answers lines.old.sender exchange.old.around answer exchange.new.around }
+    ensures left { left_of lines.new ≡ requests_from (behind (left_of lines.old)) }
+    ensures sender { lines.new.sender ≡ lines.old.sender }
 {
     let answer = act_answer(done, printed);
     let clock = exchange.now.clock;
@@ -136,6 +150,8 @@ pub(crate) fn take_from_page<S: Surroundings + Drop>(
     ensures network { exchange.new.network ≡ exchange.old.network }
     ensures around { exchange.new.around ≡ exchange.old.around }
     ensures faults { exchange.new.faults ≡ exchange.old.faults }
+    ensures lines { (lines.new ≡ lines.old) ⊎ ((is_empty (left_of lines.old) ≡ true)
+        × TakesAct exchange.old.journal lines.old true exchange.new.journal lines.new) }
 {
     let is_taken = is_its_turn || !exchange.around.told().lines;
     if is_taken && lines.is_empty() {

@@ -1,6 +1,5 @@
 use Rattle.std.proofs.Common.{refl}
 use Rattle.live_gateway.proofs.DeskLemmas.{between}
-use Rattle.live_gateway.proofs.TurningLemmas.{line_between}
 use Rattle.live_gateway.proofs.desk.Desk.command.Goals as goal
 
 pub returns-clause-play : goal.returns-clause-play
@@ -12,9 +11,16 @@ returns-clause-play g c =
     (rw (c.take_from_page-self.ensures.network, c.take_from_page-self.ensures.around, c.take_from_page-self.ensures.faults) refl)
     refl
 
-pub returns-clause-line : goal.returns-clause-line
-returns-clause-line g c =
-    line_between _ _ _ _
-    (rw (c.hear.ensures.network, c.hear.ensures.traffic, c.hear.ensures.faults) refl)
-    (rw (c.take_from_page-self.ensures.network, c.take_from_page-self.ensures.around, c.take_from_page-self.ensures.faults) refl)
-    c.take_line.ensures.line
+pub returns-clause-lines : goal.returns-clause-lines
+returns-clause-lines g c = record {
+  heard = record c.args.self.now { exchange = c.hear.new.self; lines = c.hear.new.lines };
+  done = c.take_line.new.self;
+  taken = c.hear.ensures.heard.0;
+  hearing = c.hear.ensures.heard.1;
+  before = refl;
+  same = rw (c.hear.ensures.network, c.hear.ensures.traffic, c.hear.ensures.faults) refl;
+  line = c.take_line.ensures.line;
+  behind = rw (c.take_from_page-self.ensures.network, c.take_from_page-self.ensures.around, c.take_from_page-self.ensures.faults) refl;
+  around = c.take_from_page-self.ensures.around;
+  page = c.take_from_page-self.ensures.lines;
+}

@@ -14,7 +14,7 @@ pub returns-in-Command-clause-play : goal.returns-in-Command-clause-play
 returns-in-Command-clause-play g c = c.command.ensures.play
 
 pub returns-in-Command-clause-does : goal.returns-in-Command-clause-does
-returns-in-Command-clause-does g c = rw (c.in-Command.is) c.command.ensures.line
+returns-in-Command-clause-does g c = rw (c.in-Command.is) c.command.ensures.lines
 
 pub returns-in-Datagram-clause-play : goal.returns-in-Datagram-clause-play
 returns-in-Datagram-clause-play g c = c.datagram.ensures.play

@@ -1,12 +1,13 @@
-use Rattle.std.proofs.Common.{◌≡◌, inl, inr, refl, ◌∙◌, ap}
+use Rattle.std.proofs.Common.{◌≡◌, inr, refl, ◌∙◌, ap}
 use Rattle.traces.specs.Writing.{Input, typed}
 use Rattle.message_counts.specs.declared.reporting.Faults.{Faults}
 use Rattle.live_play.specs.Coming.{Came}
+use Rattle.live_telephones.specs.declared.telephones.TelephoneRequest.TheVariants.{Act as AsksAct, Show}
 use Rattle.live_gateway.specs.Desk.{at_desk}
 use Rattle.live_gateway.specs.Exchanging.{handed_by}
 use Rattle.live_gateway.proofs.DeskLemmas.{standing_of, counted_so, acts, asks, line_is_quiet, line_is_still, line_is_line}
 use Rattle.live_gateway.proofs.LineLemmas.{taken_free}
-use Rattle.live_gateway.proofs.TurningLemmas.{tries_act, asks_of}
+use Rattle.live_gateway.proofs.AnsweringLemmas.{tries_act, asks_of}
 use Rattle.live_gateway.proofs.desk.Desk.take_line.Goals as goal
 
 pub returns-in-Show-clause-play : goal.returns-in-Show-clause-play
@@ -21,16 +22,34 @@ returns-in-Show-clause-play g c =
 
 pub returns-in-Show-clause-line : goal.returns-in-Show-clause-line
 returns-in-Show-clause-line g c =
-    inr (inr (
-      _,
-      _,
-      c.in-Show.ensures.said,
-      asks_of _ _ c.ask-asked.result c.ask-asked.new.self.printed.items _ _
-          (rw (c.answer.ensures.traffic)
-          (c.ask-asked.ensures.answered (handed_by c.args.self.now.exchange.network (g.S.Surroundings.traffic c.args.self.now.exchange.around).sent)))
-          (rw (c.answer.ensures.traffic)
-          (c.ask-asked.ensures.ran (handed_by c.args.self.now.exchange.network (g.S.Surroundings.traffic c.args.self.now.exchange.around).sent))),
-    ))
+    inr (
+      c.in-Some.text.now,
+      Show c.in-Show.line,
+      c.in-Some.ensures,
+      record {
+        who = c.typist-who.result;
+        typist = c.typist-who.ensures;
+        said = c.in-Show.ensures.said;
+        asked = c.in-Show.ensures.request;
+        memory = c.in-Show.ensures.memory;
+      },
+      (
+        c.question_answer-answer.result.now,
+        record {
+          answered = c.answer.ensures.answered;
+          left = c.answer.ensures.left;
+          sender = c.answer.ensures.sender;
+          rest = refl;
+        },
+        asks_of _ _ c.ask-asked.result c.ask-asked.new.self.printed.items _ _ _
+            (rw (c.answer.ensures.traffic)
+            (c.ask-asked.ensures.answered (handed_by c.args.self.now.exchange.network (g.S.Surroundings.traffic c.args.self.now.exchange.around).sent)))
+            (rw (c.answer.ensures.traffic)
+            (c.ask-asked.ensures.ran (handed_by c.args.self.now.exchange.network (g.S.Surroundings.traffic c.args.self.now.exchange.around).sent)))
+            (rw (c.printed.ensures) at c.question_answer-answer.ensures.asked)
+            c.question_answer-answer.ensures.memory,
+      ),
+    )
 
 pub returns-in-Act-clause-play : goal.returns-in-Act-clause-play
 returns-in-Act-clause-play g c =
@@ -50,16 +69,36 @@ pub returns-in-Act-clause-line : goal.returns-in-Act-clause-line
 returns-in-Act-clause-line g c =
     let told = g.T.Teller.told in
     let traffic = g.S.Surroundings.traffic in
-    inr (inl (
-      _,
-      _,
-      _,
-      c.in-Act.ensures.said,
-      tries_act _ _ _ c.act-done.result _ (at_desk told traffic c.args.self.now) (standing_of told traffic c.act-done.new.self c.act-done.new.out) _
-          c.act-done.ensures.taken
-          c.act-done.ensures.refused
-          (ap (λ (x : Came). x.refused) c.act-done.ensures.came)
-          (counted_so told traffic c.act-done.new.self c.act-done.new.out c.answer_act.new.exchange _
-          (c.answer_act.ensures.network ∙ c.note_taken.ensures.network) (c.answer_act.ensures.traffic ∙ ap traffic c.note_taken.ensures.around)
-          (ap (λ (x : Faults). x.refused) c.answer_act.ensures.faults ∙ (rw (c.is_ok.ensures.value) at c.note_taken.ensures.refused))),
-    ))
+    let answered = c.answer_act.ensures.answered in
+    inr (
+      c.in-Some.text.now,
+      AsksAct c.in-Act.line c.in-Act.act,
+      c.in-Some.ensures,
+      record {
+        who = c.typist-who.result;
+        typist = c.typist-who.ensures;
+        said = c.in-Act.ensures.said;
+        asked = c.in-Act.ensures.request;
+        memory = c.in-Act.ensures.memory;
+      },
+      (
+        c.note_taken.new.exchange.around,
+        answered.0,
+        record {
+          answered = answered.2;
+          left = c.answer_act.ensures.left;
+          sender = c.answer_act.ensures.sender;
+          rest = refl;
+        },
+        c.answer_act.ensures.traffic,
+        tries_act _ _ _ c.act-done.result _ answered.0 (at_desk told traffic c.args.self.now)
+            (standing_of told traffic c.act-done.new.self c.act-done.new.out) _
+            c.act-done.ensures.taken
+            c.act-done.ensures.refused
+            (ap (λ (x : Came). x.refused) c.act-done.ensures.came)
+            (counted_so told traffic c.act-done.new.self c.act-done.new.out c.answer_act.new.exchange _
+            (c.answer_act.ensures.network ∙ c.note_taken.ensures.network) (c.answer_act.ensures.traffic ∙ ap traffic c.note_taken.ensures.around)
+            (ap (λ (x : Faults). x.refused) c.answer_act.ensures.faults ∙ (rw (c.is_ok.ensures.value) at c.note_taken.ensures.refused)))
+            (rw (c.printed-printed.ensures) at answered.1),
+      ),
+    )

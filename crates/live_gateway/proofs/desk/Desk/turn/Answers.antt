@@ -1,9 +1,10 @@
-use Rattle.std.proofs.Common.{◌≡◌, ◌<◌, ◌^◌, List, refl, ◌∙◌, ap, subst, sym, rules}
+use Rattle.std.proofs.Common.{◌≡◌, ◌<◌, ◌⊎◌, ◌^◌, ℕ, List, refl, ◌∙◌, ap, subst, sym, rules}
 use Rattle.std.specs.Prelude.{not}
 use Rattle.plain_machine.specs.Event.{GatewayEvent}
 use Rattle.plain_machine.specs.Lists.{plain}
 use Rattle.gateway_core.specs.GatewayState.{GatewayState}
 use Rattle.gateway_core.specs.Stands.{Stands}
+use Rattle.live_play.specs.Readable.{first_unread}
 use Rattle.live_gateway.proofs.DeskLemmas.{between}
 use Rattle.live_gateway.proofs.EndingLemmas.{turn_ends}
 use Rattle.live_gateway.proofs.TurningLemmas.{tick_is_later, tick_is_short}
@@ -44,17 +45,43 @@ returns-clause-end g c =
     (ap not c.is_end.ensures)
 
 pub returns-clause-does : goal.returns-clause-does
-returns-clause-does g c = (
-  c.situation-at.result,
-  c.next-turn.result,
-  rw (c.do_turn.ensures.schedule) c.next-turn.ensures,
-  rw (
-    c.begin.ensures.network,
-    c.begin.ensures.around,
-    c.begin.ensures.faults,
-    c.situation-at.ensures.network,
-    c.situation-at.ensures.around,
-    c.situation-at.ensures.refused,
-    sym c.tell.ensures.traffic,
-  ) at c.do_turn.ensures.does,
-)
+returns-clause-does g c =
+    let here : (events : List GatewayEvent) → Stands c.args.self.now.play.gateway.value events
+    → c.now-ticked.result ≡ (plain c.args.self.now.play.gateway.value.setup events).now =
+    subst (λ (gateway : GatewayState). (events : List GatewayEvent) → Stands gateway events → c.now-ticked.result ≡ (plain gateway.setup events).now)
+    c.deref.ensures c.now-ticked.ensures.value in
+    let at = c.situation-at.result in
+    record {
+      at = at;
+      turn = c.next-turn.result;
+      begun = record c.args.self.now { exchange = c.begin.new.self; schedule = c.next-turn.new.self };
+      done = c.do_turn.new.self;
+      situation = record {
+        told = c.situation-at.ensures.ready.0;
+        is_visited = c.situation-at.ensures.ready.1;
+        own = c.next_due-due.result;
+        deadline = c.situation-at.ensures.due.0;
+        moment = subst (λ (n : ℕ). (at.moment < first_unread) ⊎ (at.moment ≡ n)) (sym c.situation-at.ensures.ticked) c.situation-at.ensures.short;
+        ticked = λ events stands. c.situation-at.ensures.ticked ∙ here events stands;
+        by_gateway = rw (c.deref-2.ensures) at c.next_due-due.ensures;
+        due = c.situation-at.ensures.due.1;
+        end = c.situation-at.ensures.end;
+        read = c.situation-at.ensures.read;
+        ready = rw (sym c.is_empty-is_line_left.ensures, c.situation-at.ensures.ticked) c.situation-at.ensures.ready.2;
+      };
+      next = rw (c.do_turn.ensures.schedule) c.next-turn.ensures;
+      before = refl;
+      same = rw (
+        c.begin.ensures.network,
+        c.begin.ensures.around,
+        c.begin.ensures.faults,
+        c.situation-at.ensures.network,
+        c.situation-at.ensures.around,
+        c.situation-at.ensures.refused,
+      ) refl;
+      around = c.begin.ensures.around ∙ c.situation-at.ensures.around;
+      does = c.do_turn.ensures.does;
+      behind = refl;
+      kept = c.tell.ensures.traffic;
+      watch = c.tell.ensures.watchers;
+    }

@@ -1,0 +1,67 @@
+-- What is done of a line, from what the calls of its turn say.
+use Rattle.std.proofs.Common.{◌≡◌, inl, inr, ℕ, List, Option, None, Some, refl, sym, ◌∙◌, ap, subst}
+use Rattle.std.specs.Prelude.{not, is_ok, Result, Ok, Err, OnOk, IfOk, IfErr}
+use Rattle.std.specs.declared.net.socket_addr.SocketAddrV4.{SocketAddrV4}
+use Rattle.mg_line.specs.declared.phone.Act.{Act}
+use Rattle.gateway_core.specs.GatewayState.{GatewayState}
+use Rattle.gateway_core.specs.Stands.{Stands}
+use Rattle.gateway_core.specs.Wire.{counted}
+use Rattle.plain_machine.specs.Event.{GatewayEvent, phone}
+use Rattle.plain_machine.specs.Lists.{plain}
+use Rattle.gateway_rules.specs.declared.refusal.Refusal.{Refusal}
+use Rattle.traces.specs.Writing.{Input, typed}
+use Rattle.live_play.specs.Running.{Live, RanOf, Takes, Refuses, Asked}
+use Rattle.live_telephones.specs.Asking.{usage}
+use Rattle.live_telephones.specs.Watching.{AnswersWatch}
+use Rattle.live_telephones.specs.declared.watch.Watch.{Watch}
+use Rattle.live_gateway.specs.Desk.{Standing, with_input}
+use Rattle.live_gateway.specs.Answering.{no_memory, IsActAnswer, TriesAct, Asks, IsPut, AsksToWatch}
+
+-- an act was taken, or refused, and that is answered
+pub tries_act : {A : Type 0} (text : List ℕ) (line : ℕ) (act : Act) (done : Result A Refusal) (printed answer : List ℕ) (was mid is : Standing)
+    → OnOk done (Takes was.live (typed text) (phone line act) mid.live)
+    → IfErr done (λ refusal. Refuses was.live text (phone line act) refusal printed mid.live)
+    → mid.came.refused ≡ was.came.refused → is ≡ with_input (not (is_ok done)) mid → IsActAnswer done printed answer
+    → TriesAct text line act answer was is
+tries_act text line act (Ok done) printed answer was mid is takes misses counts same says =
+    inl (
+      subst (λ (s : Standing). Takes was.live (typed text) (phone line act) s.live) (sym same) takes,
+      ap (λ (s : Standing). s.came.refused) same ∙ counts,
+      says.done_so,
+    )
+tries_act text line act (Err refusal) printed answer was mid is takes misses counts same says =
+    inr (
+      refusal,
+      printed,
+      subst (λ (s : Standing). Refuses was.live text (phone line act) refusal printed s.live) (sym same) misses,
+      ap (λ (s : Standing). s.came.refused) same ∙ ap (λ (n : ℕ). counted n 1) counts,
+      λ e. says.memory (rw e refl),
+      says.refused,
+    )
+
+-- what a line is was told and answered, or memory was refused
+pub asks_of : {A B : Type 0} (text : List ℕ) (line : ℕ) (done : Result A B) (printed answer : List ℕ) (was is : Live)
+    → OnOk done (Asked was text line printed is) → RanOf (λ (input : Input). input ≡ typed text) was is
+    → IfOk done (λ a. answer ≡ printed) → IfErr done (λ b. answer ≡ no_memory) → Asks text line answer was is
+asks_of text line (Ok done) printed answer was is asked ran says memory =
+    inl (subst (λ (told : List ℕ). Asked was text line told is) (sym says) asked)
+asks_of text line (Err why) printed answer was is asked ran says memory = inr (ran, memory)
+
+-- what was put is answered, or that memory was refused for it
+pub put_so : {V E : Type 0} (items : V → List ℕ) (put : Result V E) (gateway : GatewayState) (text : List GatewayEvent → List ℕ)
+    (tells : List ℕ → Type 0) → ((events : List GatewayEvent) → Stands gateway events → IfOk put (λ v. items v ≡ text events))
+    → IfOk put (λ v. tells (items v)) → IfErr put (λ e. tells no_memory) → (answer : List ℕ) × IsPut gateway text answer × tells answer
+put_so items (Ok v) gateway text tells says told memory = (items v, inr says, told)
+put_so items (Err why) gateway text tells says told memory = (no_memory, inl refl, memory)
+
+-- so is who asks to watch
+pub watch_so : {V E : Type 0} (items : V → List ℕ) (put : Result V E) (sender : Option SocketAddrV4) (gateway : GatewayState) (seconds : ℕ)
+    (was is : Watch) (tells : List ℕ → Type 0) → (sender ≡ None → (is ≡ was) × IfOk put (λ v. items v ≡ usage))
+    → ((events : List GatewayEvent) (address : SocketAddrV4) → Stands gateway events → sender ≡ Some address
+    → IfOk put (λ v. AnswersWatch was.watchers.places address (plain gateway.setup events).now seconds was.told.number (items v) is.watchers.places))
+    → IfErr put (λ e. is.watchers ≡ was.watchers) → IfOk put (λ v. tells (items v)) → IfErr put (λ e. tells no_memory)
+    → (answer : List ℕ) × AsksToWatch sender gateway seconds answer was is × tells answer
+watch_so items (Ok v) None gateway seconds was is tells nobody some kept told memory = (items v, inr (nobody refl), told)
+watch_so items (Ok v) (Some address) gateway seconds was is tells nobody some kept told memory =
+    (items v, inr (λ events stands. some events address stands refl), told)
+watch_so items (Err why) sender gateway seconds was is tells nobody some kept told memory = (no_memory, inl (refl, kept), memory)

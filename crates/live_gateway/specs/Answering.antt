@@ -1,0 +1,165 @@
+-- What is done of a line that is left, and what who typed it is answered.
+use Rattle.std.specs.Prelude.{◌≡◌, ◌≢◌, ◌↔◌, ◌⊎◌, ℕ, Bool, codes, List, [], ◌∷◌, Option, None, Some, Result, Err, IfOk, IfErr, IsTrue, IsSomeAnd, true}
+use Rattle.std.specs.Net.Addr.{IsLoopbackV4, IsLoopbackV6, MatchIp}
+use Rattle.std.specs.Net.Socket.{socket_ip}
+use Rattle.std.specs.declared.net.socket_addr.SocketAddr.{SocketAddr}
+use Rattle.std.specs.declared.net.socket_addr.SocketAddrV4.{SocketAddrV4}
+use Rattle.mg_bytes.specs.Lines.{line_of}
+use Rattle.mg_bytes.specs.Words.{words}
+use Rattle.mg_line.specs.declared.phone.Act.{Act}
+use Rattle.surroundings.specs.Hearing.{AnswersTo}
+use Rattle.surroundings.specs.Requests.{requests_from}
+use Rattle.surroundings.specs.Sending.{Traffic}
+use Rattle.surroundings.specs.Typing.{left_of, behind, v4_of}
+use Rattle.surroundings.specs.declared.lines.Lines.{Lines}
+use Rattle.plain_machine.specs.Event.{GatewayEvent, phone}
+use Rattle.plain_machine.specs.Lists.{plain}
+use Rattle.gateway_core.specs.GatewayState.{GatewayState}
+use Rattle.gateway_core.specs.Stands.{Stands}
+use Rattle.gateway_core.specs.Wire.{counted}
+use Rattle.gateway_rules.specs.declared.refusal.Refusal.{Refusal}
+use Rattle.gateway_rules.specs.declared.refusal.Refusal.TheVariants as refusals
+use Rattle.rgw_scripts.specs.Script.{line_in}
+use Rattle.traces.specs.Writing.{Input, typed}
+use Rattle.live_play.specs.Running.{Live, RanOf, Takes, Refuses, Asked, lines_shown}
+use Rattle.live_telephones.specs.Admitting.{typist_of}
+use Rattle.live_telephones.specs.Asking.{AsksFor, request_in, short_text, usage, wants_memory}
+use Rattle.live_telephones.specs.Losses.{counts_text}
+use Rattle.live_telephones.specs.Watching.{AnswersWatch}
+use Rattle.live_telephones.specs.declared.telephones.Typist.{Typist}
+use Rattle.live_telephones.specs.declared.telephones.TelephoneRequest.{TelephoneRequest}
+use Rattle.live_telephones.specs.declared.telephones.TelephoneRequest.TheVariants.{Act as AsksAct, Show, ShowAll, Watch as AsksWatch, Counts, Stop, StopFromAfar, Refused, Unknown, OutOfMemory}
+use Rattle.live_telephones.specs.declared.watch.Watch.{Watch}
+use Rattle.live_gateway.specs.declared.desk.Desk.{Desk}
+use Rattle.live_gateway.specs.Desk.{Standing, at_desk}
+
+-- The line, and what it asks for
+
+-- the line that is answered next is this one: the first of those that are left
+abbrev pub IsFirst : Lines → List ℕ → Type 0
+IsFirst lines text = (piece : List ℕ) × (left_of lines ≡ piece ∷ behind (left_of lines)) × (text ≡ line_of piece)
+
+-- who typed the lines: whoever sends from the loopback is at this machine, whoever has another address may be at another one
+pub record IsTypist (lines : Lines) (are_open : Bool) (who : Typist) : Type 0 where
+  pub is_here : Bool
+  pub is_afar : Bool
+  pub here : IsTrue is_here ↔ IsSomeAnd lines.sender (λ s. MatchIp (socket_ip s) IsLoopbackV4 IsLoopbackV6)
+  pub afar : IsTrue is_afar ↔ IsSomeAnd lines.sender (λ s. MatchIp (socket_ip s) IsLoopbackV4 IsLoopbackV6 → ⊥)
+  pub by : who ≡ typist_of is_here is_afar are_open
+
+-- this is what a line asks for of who typed it, unless memory is refused to read it
+pub record IsRequest (lines : Lines) (are_open : Bool) (text : List ℕ) (request : TelephoneRequest) : Type 0 where
+  pub who : Typist
+  pub typist : IsTypist lines are_open who
+  pub said : AsksFor request (line_in (words text))
+  pub asked : (request ≡ request_in who text) ⊎ (request ≡ OutOfMemory)
+  pub memory : request ≡ OutOfMemory → wants_memory (request_in who text) ≡ true
+
+-- The answer
+
+-- what is answered where memory is refused
+abbrev pub no_memory : List ℕ
+no_memory = codes "! 1 OutOfMemory\n"
+
+-- what is answered from afar, where the telephones aren't open to that
+abbrev pub not_from_afar : List ℕ
+not_from_afar = codes "! the telephones are for a loopback address alone, 127.0.0.0/8, but with --phones-open\n"
+
+-- Who typed the line is answered this, by surroundings as they were so far. Its line is left no more, and nothing else of the desk
+-- changed but what the line asked for.
+pub record Answers {S T : Type 0} (answers : S → SocketAddr → List ℕ → S → Type 0) (before : S) (answer : List ℕ) (was is : Desk S T)
+    : Type 0 where
+  pub answered : AnswersTo answers was.lines.sender before answer is.exchange.around
+  pub left : left_of is.lines ≡ requests_from (behind (left_of was.lines))
+  pub sender : is.lines.sender ≡ was.lines.sender
+  pub rest : is ≡ record was { play = is.play; exchange = is.exchange; lines = is.lines; watch = is.watch }
+
+-- What is done
+
+-- what is answered to an act: that it was done; why it was refused, as that is printed; or want of memory
+pub record IsActAnswer {A : Type 0} (done : Result A Refusal) (printed answer : List ℕ) : Type 0 where
+  pub done_so : IfOk done (λ a. answer ≡ codes "done\n")
+  pub memory : done ≡ Err refusals.OutOfMemory → answer ≡ no_memory
+  pub refused : IfErr done (λ refusal. refusal ≢ refusals.OutOfMemory → answer ≡ printed)
+
+-- an act that a line says was done, and that is answered; or it was refused, as is told, answered and counted
+abbrev pub TriesAct : List ℕ → ℕ → Act → List ℕ → Standing → Standing → Type 0
+TriesAct text line act answer was is =
+    (Takes was.live (typed text) (phone line act) is.live × (is.came.refused ≡ was.came.refused) × (answer ≡ codes "done\n"))
+    ⊎ ((refusal : Refusal) × (printed : List ℕ) × Refuses was.live text (phone line act) refusal printed is.live
+    × (is.came.refused ≡ counted was.came.refused 1)
+    × (refusal ≡ refusals.OutOfMemory → answer ≡ no_memory) × (refusal ≢ refusals.OutOfMemory → answer ≡ printed))
+
+-- what a line is was asked, as a line says, and is told and answered; or memory was refused for that, and it is answered
+abbrev pub Asks : List ℕ → ℕ → List ℕ → Live → Live → Type 0
+Asks text line answer was is =
+    Asked was text line answer is
+    ⊎ (RanOf (λ (input : Input). input ≡ typed text) was is × (answer ≡ no_memory))
+
+-- it is a text by all events that the gateway stands for, or memory was refused for it
+abbrev pub IsPut : GatewayState → (List GatewayEvent → List ℕ) → List ℕ → Type 0
+IsPut gateway text answer = (answer ≡ no_memory) ⊎ ((events : List GatewayEvent) → Stands gateway events → answer ≡ text events)
+
+-- who asks to watch does, or is told why not; nobody, as the page, can't be told what changes
+abbrev pub WatchesFor : Option SocketAddrV4 → GatewayState → ℕ → List ℕ → Watch → Watch → Type 0
+WatchesFor None gateway seconds answer was is = (is ≡ was) × (answer ≡ usage)
+WatchesFor (Some address) gateway seconds answer was is = (events : List GatewayEvent) → Stands gateway events →
+    AnswersWatch was.watchers.places address (plain gateway.setup events).now seconds was.told.number answer is.watchers.places
+
+-- so it is, or memory is refused, and nobody's watch changes
+abbrev pub AsksToWatch : Option SocketAddrV4 → GatewayState → ℕ → List ℕ → Watch → Watch → Type 0
+AsksToWatch sender gateway seconds answer was is =
+    ((answer ≡ no_memory) × (is.watchers ≡ was.watchers)) ⊎ WatchesFor sender gateway seconds answer was is
+
+-- what is answered to what asks neither for an act nor for what a line is; who asks for the end is answered when that has come
+abbrev pub AnswersRequest : {S T : Type 0} → (S → SocketAddr → List ℕ → S → Type 0) → TelephoneRequest → Desk S T → Desk S T → Type 0
+AnswersRequest answers ShowAll was is = (answer : List ℕ) × Answers answers was.exchange.around answer was is × IsPut was.play.gateway.value
+    (λ events. lines_shown was.play.gateway.value.setup events was.play.gateway.value.setup.names.lines) answer
+AnswersRequest answers (AsksWatch seconds) was is = (answer : List ℕ) × Answers answers was.exchange.around answer was is
+    × AsksToWatch (v4_of was.lines.sender) was.play.gateway.value seconds answer was.watch is.watch
+AnswersRequest answers Counts was is = (answer : List ℕ) × Answers answers was.exchange.around answer was is × IsPut was.play.gateway.value
+    (λ events. counts_text was.exchange.journal was.exchange.faults was.play.gateway.value.setup
+    (plain was.play.gateway.value.setup events)) answer
+AnswersRequest answers Stop was is = is ≡ record was { end = Some 0 }
+AnswersRequest answers Refused was is = AnswersTo answers was.lines.sender was.exchange.around not_from_afar is.exchange.around
+    × (left_of is.lines ≡ [])
+AnswersRequest answers (AsksAct line act) was is = Answers answers was.exchange.around (short_text (AsksAct line act)) was is
+AnswersRequest answers (Show line) was is = Answers answers was.exchange.around (short_text (Show line)) was is
+AnswersRequest answers StopFromAfar was is = Answers answers was.exchange.around (short_text StopFromAfar) was is
+AnswersRequest answers Unknown was is = Answers answers was.exchange.around (short_text Unknown) was is
+AnswersRequest answers OutOfMemory was is = Answers answers was.exchange.around (short_text OutOfMemory) was is
+
+-- the gateway does nothing, and what the line asks for is answered
+abbrev pub OnlyAnswers :
+    {S T : Type 0} → (T → Option (List ℕ)) → (S → Traffic) → (S → SocketAddr → List ℕ → S → Type 0)
+    → TelephoneRequest → Desk S T → Desk S T → Type 0
+OnlyAnswers told traffic answers request was is =
+    (at_desk told traffic is ≡ at_desk told traffic was) × AnswersRequest answers request was is
+
+-- What a line asks for is done, and answered to who typed it. What goes out at an act goes before its answer.
+abbrev pub DoesRequest :
+    {S T : Type 0} → (T → Option (List ℕ)) → (S → Traffic) → (S → SocketAddr → List ℕ → S → Type 0)
+    → List ℕ → TelephoneRequest → Desk S T → Desk S T → Type 0
+DoesRequest {S} told traffic answers text (AsksAct line act) was is = (before : S) × (answer : List ℕ)
+    × Answers answers before answer was is × (traffic is.exchange.around ≡ traffic before)
+    × TriesAct text line act answer (at_desk told traffic was) (at_desk told traffic is)
+DoesRequest told traffic answers text (Show line) was is = (answer : List ℕ) × Answers answers was.exchange.around answer was is
+    × Asks text line answer (at_desk told traffic was).live (at_desk told traffic is).live
+DoesRequest told traffic answers text ShowAll was is = OnlyAnswers told traffic answers ShowAll was is
+DoesRequest told traffic answers text (AsksWatch seconds) was is = OnlyAnswers told traffic answers (AsksWatch seconds) was is
+DoesRequest told traffic answers text Counts was is = OnlyAnswers told traffic answers Counts was is
+DoesRequest told traffic answers text Stop was is = OnlyAnswers told traffic answers Stop was is
+DoesRequest told traffic answers text StopFromAfar was is = OnlyAnswers told traffic answers StopFromAfar was is
+DoesRequest told traffic answers text Refused was is = OnlyAnswers told traffic answers Refused was is
+DoesRequest told traffic answers text Unknown was is = OnlyAnswers told traffic answers Unknown was is
+DoesRequest told traffic answers text OutOfMemory was is = OnlyAnswers told traffic answers OutOfMemory was is
+
+-- No line is left, and nothing is done. Or what the first one asks for is, and nothing else: no act is done that nobody typed, and nobody
+-- is answered another text than that line's.
+abbrev pub DoesLine :
+    {S T : Type 0} → (T → Option (List ℕ)) → (S → Traffic) → (S → SocketAddr → List ℕ → S → Type 0)
+    → Desk S T → Desk S T → Type 0
+DoesLine told traffic answers was is =
+    ((left_of was.lines ≡ []) × (is ≡ was))
+    ⊎ ((text : List ℕ) × (request : TelephoneRequest) × IsFirst was.lines text
+    × IsRequest was.lines was.admission.are_phones_open text request × DoesRequest told traffic answers text request was is)

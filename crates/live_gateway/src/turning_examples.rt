@@ -1,0 +1,34 @@
+//! Worked examples of what a turn does, as theorems.
+#![tactic(auto)]
+
+ghost use Rattle.std.specs.Prelude.{◌≡◌, codes, true, false, ℕ, List, Some, None, Result, Ok, Err};
+ghost use Rattle.gateway_rules.specs.declared.refusal.Refusal.{Refusal as Why};
+ghost use Rattle.live_gateway.specs.Answering.{IsActAnswer};
+ghost use Rattle.live_gateway.specs.Turning.{ready_at};
+
+/// Who types may have something where a line is left, or as was told of their socket; the network where one that spoils it hands something
+/// out by now, or as was told of its own; visitors as they say.
+pub fn what_may_have_something_has_examples()
+    ensures nothing { ready_at (record { lines = false; datagrams = false }) false None 5 false
+        ≡ record { commands = false; datagrams = false; visitors = false } }
+    ensures left { ready_at (record { lines = false; datagrams = false }) true None 5 false
+        ≡ record { commands = true; datagrams = false; visitors = false } }
+    ensures typed { ready_at (record { lines = true; datagrams = false }) false None 5 false
+        ≡ record { commands = true; datagrams = false; visitors = false } }
+    ensures come { ready_at (record { lines = false; datagrams = true }) false None 5 false
+        ≡ record { commands = false; datagrams = true; visitors = false } }
+    ensures held { ready_at (record { lines = false; datagrams = false }) false (Some 5) 5 false
+        ≡ record { commands = false; datagrams = true; visitors = false } }
+    ensures later { ready_at (record { lines = false; datagrams = false }) false (Some 6) 5 false
+        ≡ record { commands = false; datagrams = false; visitors = false } }
+    ensures visited { ready_at (record { lines = false; datagrams = false }) false None 5 true
+        ≡ record { commands = false; datagrams = false; visitors = true } }
+{}
+
+/// An act is answered by what came of it: that it was done, want of memory, or why it was refused, as that is printed.
+pub fn an_act_is_answered_by_what_came_of_it()
+    ensures done { (printed answer : List ℕ) → IsActAnswer {A = ℕ} (Ok 0) printed answer → answer ≡ codes "done\n" }
+    ensures memory { (printed answer : List ℕ) → IsActAnswer {A = ℕ} (Err Why.OutOfMemory) printed answer
+        → answer ≡ codes "! 1 OutOfMemory\n" }
+    ensures refused { (printed answer : List ℕ) → IsActAnswer {A = ℕ} (Err Why.PhoneState) printed answer → answer ≡ printed }
+{}
