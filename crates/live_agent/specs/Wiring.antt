@@ -1,9 +1,16 @@
 -- What calls of a wire give and leave.
-use Rattle.std.specs.Prelude.{ℕ, ◌+◌, ◌-◌, ◌^◌, Bool, true, false, min, nat_lt, if◌then◌else◌, Option, Some, None, Result, Ok, Err}
+use Rattle.std.specs.Prelude.{◌≡◌, ℕ, ◌+◌, ◌-◌, ◌^◌, Bool, true, false, ◌||◌, not, min, nat_lt, if◌then◌else◌, Option, Some, None, Result, Ok, Err}
 use Rattle.std.specs.declared.net.socket_addr.SocketAddrV4.{SocketAddrV4}
 use Rattle.bad_network.specs.declared.network.BadNetwork.{BadNetwork}
 use Rattle.bad_network.specs.Waiting.{first_due}
+use Rattle.mg_bytes.specs.Lists.{is_empty}
+use Rattle.surroundings.specs.Typing.{left_of}
 use Rattle.surroundings.specs.declared.surroundings.Fault.{Fault}
+use Rattle.surroundings.specs.declared.surroundings.Told.{Told}
+use Rattle.turns.specs.Clock.{has_come}
+use Rattle.turns.specs.declared.circle.Ready.{Ready}
+use Rattle.turns.specs.declared.situation.Situation.{Situation}
+use Rattle.live_agent.specs.declared.wire.Wire.{Wire}
 
 -- one more; a number of 64 bits goes no further than its last
 abbrev pub one_more : ℕ → ℕ
@@ -34,3 +41,20 @@ abbrev pub heard_at : Result (Option (SocketAddrV4 × ℕ)) Fault → Option (So
 heard_at (Ok None) = None
 heard_at (Ok (Some found)) = answerable found
 heard_at (Err fault) = None
+
+-- What may have something: who types, where a line is left, or as was told of their socket; the network, where that which spoils it hands
+-- something out by now, or as was told of its socket. Nobody visits.
+abbrev pub ready_by : Told → Bool → Option ℕ → ℕ → Ready
+ready_by told is_line_left network clock = record {
+  commands = told.lines || is_line_left;
+  datagrams = told.datagrams || has_come network clock;
+  visitors = false;
+}
+
+-- how things stand over a wire
+pub record IsSituation {S : Type 0} (wire : Wire S) (at : Situation) : Type 0 where
+  pub told : Told
+  pub ticked : at.ticked ≡ wire.now.clock
+  pub end : at.end ≡ wire.end
+  pub read : at.read ≡ wire.read
+  pub ready : at.ready ≡ ready_by told (not (is_empty (left_of wire.lines))) (due_of wire.network) wire.now.clock

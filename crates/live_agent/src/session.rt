@@ -1,6 +1,7 @@
 //! Serves gateways and whoever types commands, a turn at a time, as a schedule says what comes next.
-ghost use Rattle.std.specs.Prelude.{◌≡◌};
+ghost use Rattle.std.specs.Prelude.{◌≡◌, IfOk};
 ghost use Rattle.live_agent.specs.Clock.{is_behind};
+ghost use Rattle.live_agent.specs.Wiring.{IsSituation};
 
 use crate::loading::count_came;
 use crate::recorder::Recorder;
@@ -314,7 +315,9 @@ fn tick<S: Surroundings + Drop>(board: &mut Switchboard, wire: &mut Wire<S>, to:
 fn situation<S: Surroundings + Drop>(
     board: &Switchboard,
     wire: &Wire<S>,
-) -> Result<Situation, Fault> {
+) -> Result<Situation, Fault>
+    ensures { IfOk result (λ at. IsSituation wire.entry.now at) }
+{
     let Ok(moment) = wire.around.moment() else {
         return Err(Fault);
     };

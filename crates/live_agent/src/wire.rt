@@ -1,12 +1,14 @@
 //! The wire: what datagrams and typed lines come over, and a bad network, where one lies between; and the journal of what goes over it.
-ghost use Rattle.std.specs.Prelude.{◌≡◌, ◌≤◌, ◌∷◌, ℕ, Bool, Option, Result, [], true, false, length, is_some, IfOk, IfSome};
+ghost use Rattle.std.specs.Prelude.{◌≡◌, ◌≤◌, ◌∷◌, ℕ, Bool, Option, Result, [], true, false, not, length, is_some, IfOk, IfSome};
 ghost use Rattle.std.specs.declared.net.socket_addr.SocketAddrV4.{SocketAddrV4 as Peer};
-ghost use Rattle.live_agent.specs.Wiring.{due_of, with_read, read_at, heard_at};
+ghost use Rattle.mg_bytes.specs.Lists.{is_empty};
+ghost use Rattle.live_agent.specs.Wiring.{due_of, with_read, read_at, heard_at, ready_by};
 ghost use Rattle.surroundings.specs.Hearing.{Hears, AnswersTo};
 ghost use Rattle.surroundings.specs.Requests.{requests_from};
 ghost use Rattle.surroundings.specs.Sending.{Grows};
 ghost use Rattle.surroundings.specs.Typing.{left_of, behind};
 ghost use Rattle.surroundings.specs.declared.surroundings.Fault.{Fault};
+ghost use Rattle.surroundings.specs.declared.surroundings.Told.{Told};
 
 use crate::loading::{Load, count_sent};
 use agent_texts::{Journal, count};
@@ -134,7 +136,11 @@ impl<S: Surroundings + Drop> Wire<S> {
     }
 
     /// What may come now.
-    pub(crate) fn ready(&self) -> Ready {
+    pub(crate) fn ready(&self) -> Ready
+        ensures { (told : Told)
+            × (result ≡ ready_by told (not (is_empty (left_of self.entry.now.lines))) (due_of self.entry.now.network)
+            self.entry.now.now.clock) }
+    {
         let told = self.around.told();
         let is_due = match self.network_due() {
             Some(due) => due <= self.now.clock,
