@@ -8,8 +8,12 @@ use Rattle.surroundings.specs.Typing.{left_of}
 use Rattle.surroundings.specs.declared.surroundings.Fault.{Fault}
 use Rattle.surroundings.specs.declared.surroundings.Told.{Told}
 use Rattle.turns.specs.Clock.{has_come}
+use Rattle.turns.specs.Runs.{is_end}
+use Rattle.turns.specs.Schedule.{next_of}
 use Rattle.turns.specs.declared.circle.Ready.{Ready}
+use Rattle.turns.specs.declared.schedule.Schedule.{Schedule}
 use Rattle.turns.specs.declared.situation.Situation.{Situation}
+use Rattle.turns.specs.declared.turn.Turn.{Turn}
 use Rattle.live_agent.specs.declared.wire.Wire.{Wire}
 
 -- one more; a number of 64 bits goes no further than its last
@@ -58,3 +62,11 @@ pub record IsSituation {S : Type 0} (wire : Wire S) (at : Situation) : Type 0 wh
   pub end : at.end ≡ wire.end
   pub read : at.read ≡ wire.read
   pub ready : at.ready ≡ ready_by told (not (is_empty (left_of wire.lines))) (due_of wire.network) wire.now.clock
+
+-- what comes next by a schedule, as things stand, has its turn, until that is the end; and the schedule behind that is the next
+pub record AsksNext {S : Type 0} (wire : Wire S) (schedule : Schedule) (goes_on : Bool) (next : Schedule) : Type 0 where
+  pub at : Situation
+  pub turn : Turn
+  pub situation : IsSituation wire at
+  pub comes : (turn, next) ≡ next_of schedule at
+  pub goes : goes_on ≡ not (is_end turn)

@@ -1,7 +1,7 @@
 //! Serves gateways and whoever types commands, a turn at a time, as a schedule says what comes next.
-ghost use Rattle.std.specs.Prelude.{◌≡◌, IfOk};
+ghost use Rattle.std.specs.Prelude.{◌≡◌, false, IfOk, IfErr};
 ghost use Rattle.live_agent.specs.Clock.{is_behind};
-ghost use Rattle.live_agent.specs.Wiring.{IsSituation};
+ghost use Rattle.live_agent.specs.Wiring.{IsSituation, AsksNext};
 
 use crate::loading::count_came;
 use crate::recorder::Recorder;
@@ -389,7 +389,11 @@ fn turn<S: Surroundings + Drop>(
     board: &mut Switchboard,
     wire: &mut Wire<S>,
     schedule: &mut Schedule,
-) -> Result<bool, Fault> {
+) -> Result<bool, Fault>
+    ensures next { IfOk result (λ goes_on. AsksNext wire.old schedule.old goes_on schedule.new) }
+    ensures ended { IfOk result (λ goes_on. goes_on ≡ false → (wire.new ≡ wire.old) × (board.new ≡ board.old)) }
+    ensures fault { IfErr result (λ _. (wire.new ≡ wire.old) × (board.new ≡ board.old) × (schedule.new ≡ schedule.old)) }
+{
     let at = match situation(board, wire) {
         Ok(at) => at,
         Err(fault) => return Err(fault),
