@@ -56,17 +56,20 @@ ready_by told is_line_left network clock = record {
 }
 
 -- how things stand over a wire
-pub record IsSituation {S : Type 0} (wire : Wire S) (at : Situation) : Type 0 where
+pub record IsSituation {S : Type 0} (passes : S → Result ℕ Fault → Type 0) (tells : S → Told → Type 0) (wire : Wire S) (at : Situation)
+    : Type 0 where
   pub told : Told
+  pub told_so : tells wire.around told
+  pub read_so : passes wire.around (Ok at.moment)
   pub ticked : at.ticked ≡ wire.now.clock
   pub end : at.end ≡ wire.end
   pub read : at.read ≡ wire.read
   pub ready : at.ready ≡ ready_by told (not (is_empty (left_of wire.lines))) (due_of wire.network) wire.now.clock
 
 -- what comes next by a schedule, as things stand, has its turn, until that is the end; and the schedule behind that is the next
-pub record AsksNext {S : Type 0} (wire : Wire S) (schedule : Schedule) (goes_on : Bool) (next : Schedule) : Type 0 where
+pub record AsksNext {S : Type 0} (passes : S → Result ℕ Fault → Type 0) (tells : S → Told → Type 0) (wire : Wire S) (schedule : Schedule) (goes_on : Bool) (next : Schedule) : Type 0 where
   pub at : Situation
   pub turn : Turn
-  pub situation : IsSituation wire at
+  pub situation : IsSituation passes tells wire at
   pub comes : (turn, next) ≡ next_of schedule at
   pub goes : goes_on ≡ not (is_end turn)

@@ -316,7 +316,7 @@ fn situation<S: Surroundings + Drop>(
     board: &Switchboard,
     wire: &Wire<S>,
 ) -> Result<Situation, Fault>
-    ensures { IfOk result (λ at. IsSituation wire.entry.now at) }
+    ensures { IfOk result (λ at. IsSituation S.passes S.tells wire.entry.now at) }
 {
     let Ok(moment) = wire.around.moment() else {
         return Err(Fault);
@@ -390,7 +390,7 @@ fn turn<S: Surroundings + Drop>(
     wire: &mut Wire<S>,
     schedule: &mut Schedule,
 ) -> Result<bool, Fault>
-    ensures next { IfOk result (λ goes_on. AsksNext wire.old schedule.old goes_on schedule.new) }
+    ensures next { IfOk result (λ goes_on. AsksNext S.passes S.tells wire.old schedule.old goes_on schedule.new) }
     ensures ended { IfOk result (λ goes_on. goes_on ≡ false → (wire.new ≡ wire.old) × (board.new ≡ board.old)) }
     ensures fault { IfErr result (λ _. (wire.new ≡ wire.old) × (board.new ≡ board.old) × (schedule.new ≡ schedule.old)) }
 {

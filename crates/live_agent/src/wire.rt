@@ -137,7 +137,7 @@ impl<S: Surroundings + Drop> Wire<S> {
 
     /// What may come now.
     pub(crate) fn ready(&self) -> Ready
-        ensures { (told : Told)
+        ensures { (told : Told) × S.tells self.entry.now.around told
             × (result ≡ ready_by told (not (is_empty (left_of self.entry.now.lines))) (due_of self.entry.now.network)
             self.entry.now.now.clock) }
     {

@@ -148,6 +148,10 @@ impl<R: Net + Clock> Surroundings for Live<'_, R> {
 
     ghost sockets = { λ live. live.own };
 
+    ghost passes = { λ live given. ⊤ };
+
+    ghost tells = { λ live given. ⊤ };
+
     ghost receives = { λ was given room is. ⊤ };
 
     ghost sends = { λ was to bytes outcome is. ⊤ };

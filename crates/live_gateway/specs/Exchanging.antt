@@ -1,10 +1,11 @@
 -- What was handed to an exchange: to the sockets, or to the bad network before them; and what came to it.
-use Rattle.std.specs.Prelude.{◌≡◌, ◌⊎◌, ℕ, Bool, true, false, List, Option, Some, None, IsSome, is_some, Result, Ok, Err}
+use Rattle.std.specs.Prelude.{◌≡◌, ◌⊎◌, ℕ, nat_lt, if◌then◌else◌, Bool, true, false, List, Option, Some, None, IsSome, is_some, Result, Ok, Err}
 use Rattle.std.specs.Global.{Box}
 use Rattle.bad_network.specs.Waiting.{first_due}
 use Rattle.gateway_core.specs.Wire.{counted}
 use Rattle.message_counts.specs.declared.reporting.Faults.{Faults}
 use Rattle.live_play.specs.Coming.{Came}
+use Rattle.live_play.specs.Readable.{first_unread}
 use Rattle.std.specs.declared.net.socket_addr.SocketAddrV4.{SocketAddrV4}
 use Rattle.surroundings.specs.Sending.{Sent, Received, Traffic}
 use Rattle.surroundings.specs.declared.surroundings.Fault.{Fault}
@@ -35,6 +36,11 @@ came_by traffic exchange = record {
 abbrev pub next_due : Option (Box SpoiltWay) → Option ℕ
 next_due None = None
 next_due (Some way) = first_due way.value.network.waiting.items
+
+-- the moment that the clock tells; where it fails, or tells one that no trace has read again, the one to which ticks have come
+abbrev pub moment_at : Result ℕ Fault → ℕ → ℕ
+moment_at (Ok moment) ticked = if nat_lt moment first_unread then moment else ticked
+moment_at (Err fault) ticked = ticked
 
 -- so many inputs were refused, with one that was refused or taken
 abbrev pub refusals : Bool → ℕ → ℕ

@@ -1,5 +1,5 @@
 -- What a turn does, by its kind.
-use Rattle.std.specs.Prelude.{◌≡◌, ◌⊎◌, ◌<◌, ℕ, Bool, true, ◌||◌, not, List, [], Option, option_map, Result}
+use Rattle.std.specs.Prelude.{◌≡◌, ◌⊎◌, ℕ, Bool, true, ◌||◌, not, List, [], Option, option_map, Result}
 use Rattle.std.specs.declared.net.socket_addr.SocketAddr.{SocketAddr}
 use Rattle.std.specs.declared.net.socket_addr.SocketAddrV4.{SocketAddrV4}
 use Rattle.mg_bytes.specs.Lists.{is_empty}
@@ -20,7 +20,6 @@ use Rattle.turns.specs.declared.situation.Situation.{Situation}
 use Rattle.turns.specs.declared.turn.Turn.{Turn}
 use Rattle.turns.specs.declared.turn.Turn.TheVariants.{End, Look, Wait, Tick, Command, Datagram, Visit, Note}
 use Rattle.turns.specs.Schedule.{next_of}
-use Rattle.live_play.specs.Readable.{first_unread}
 use Rattle.live_play.specs.Running.{Ran, Takes}
 use Rattle.live_telephones.specs.Paging.{TakesAct}
 use Rattle.live_telephones.specs.Watching.{WatchesOn}
@@ -29,7 +28,7 @@ use Rattle.live_gateway.specs.declared.desk.Desk.{Desk}
 use Rattle.live_gateway.specs.declared.exchange.Exchange.{Exchange}
 use Rattle.live_gateway.specs.Answering.{DoesLine}
 use Rattle.live_gateway.specs.Desk.{Standing, at_desk, IsHeard}
-use Rattle.live_gateway.specs.Exchanging.{CountsReceived, next_due}
+use Rattle.live_gateway.specs.Exchanging.{CountsReceived, next_due, moment_at}
 
 -- the gateway took an event that came in so, as a play tells it; or refused it, which is counted, and nothing was told
 abbrev pub Tries : Input → GatewayEvent → Standing → Standing → Type 0
@@ -91,13 +90,17 @@ ready_at told is_line_left network ticked is_visited = record {
   visitors = is_visited;
 }
 
--- How things stand at a desk. What sockets and visitors are told, and the clock, is no more than that.
-pub record IsSituation {S T : Type 0} (was : Desk S T) (at : Situation) : Type 0 where
+-- How things stand at a desk: by what the clock and the sockets told when they were asked, and visitors.
+pub record IsSituation {S T : Type 0} (passes : S → Result ℕ Fault → Type 0) (tells : S → Told → Type 0) (was : Desk S T) (at : Situation)
+    : Type 0 where
+  pub clock : Result ℕ Fault
+  pub read_so : passes was.exchange.around clock
   pub told : Told
+  pub told_so : tells was.exchange.around told
   pub is_visited : Bool
   pub own : Option ℕ
   pub deadline : Option ℕ
-  pub moment : (at.moment < first_unread) ⊎ (at.moment ≡ at.ticked)
+  pub moment : at.moment ≡ moment_at clock at.ticked
   pub ticked : (events : List GatewayEvent) → Stands was.play.gateway.value events
       → at.ticked ≡ (plain was.play.gateway.value.setup events).now
   pub by_gateway : (events : List GatewayEvent) → Stands was.play.gateway.value events
@@ -111,6 +114,7 @@ pub record IsSituation {S T : Type 0} (was : Desk S T) (at : Situation) : Type 0
 -- changed.
 pub record DoesNext {S T : Type 0}
     (told : T → Option (List ℕ)) (traffic : S → Traffic) (sockets : S → List SocketAddrV4)
+    (passes : S → Result ℕ Fault → Type 0) (tells : S → Told → Type 0)
     (receives : S → Result (Option (SocketAddrV4 × ℕ)) Fault → List ℕ → S → Type 0)
     (hears : S → Option (SocketAddr × ℕ) → List ℕ → S → Type 0) (answers : S → SocketAddr → List ℕ → S → Type 0) (was is : Desk S T)
     : Type 0 where
@@ -118,7 +122,7 @@ pub record DoesNext {S T : Type 0}
   pub turn : Turn
   pub begun : Desk S T
   pub done : Desk S T
-  pub situation : IsSituation was at
+  pub situation : IsSituation passes tells was at
   pub next : (turn, is.schedule) ≡ next_of was.schedule at
   pub before : begun ≡ record was { exchange = begun.exchange; schedule = begun.schedule }
   pub same : at_desk told traffic begun ≡ at_desk told traffic was

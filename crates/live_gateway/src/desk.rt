@@ -338,7 +338,7 @@ impl<S: Surroundings + Drop, T: Teller + Drop> Desk<S, T> {
     pub fn turn<V: Visitors<S>>(&mut self, visitors: &mut Option<Box<V>>) -> bool
         ensures play { GoesOn T.told S.traffic self.old self.new }
         ensures end { EndsAt self.old.end self.old.play.gateway.value (not result) }
-        ensures does { DoesNext T.told S.traffic S.sockets S.receives S.hears S.answers self.old self.new }
+        ensures does { DoesNext T.told S.traffic S.sockets S.passes S.tells S.receives S.hears S.answers self.old self.new }
         ensures over { result ≡ false → (self.new.play ≡ self.old.play) × (self.new.end ≡ self.old.end) }
     {
         let ticked = self.play.gateway.now();

@@ -1,5 +1,5 @@
 //! What goes between the gateway and others: over sockets, behind a bad network where one is asked for; and its journal.
-ghost use Rattle.std.specs.Prelude.{◌≡◌, ◌<◌, ◌≤◌, ◌∷◌, ◌⊎◌, ⊤, [], true, false, length, Bool, List, Option, Result, IfSome, is_some, map};
+ghost use Rattle.std.specs.Prelude.{◌≡◌, ◌<◌, ◌≤◌, ◌∷◌, ◌⊎◌, ⊤, [], true, false, length, ℕ, Bool, List, Option, Result, IfSome, is_some, map};
 ghost use Rattle.small_rules.specs.Counting.{counted};
 ghost use Rattle.message_counts.specs.Counting.{counts_in, with_texts};
 ghost use Rattle.message_counts.specs.SentCounting.{tally_in, with_sent, with_given_up};
@@ -11,7 +11,7 @@ ghost use Rattle.surroundings.specs.Hearing.{Hears};
 ghost use Rattle.surroundings.specs.Sending.{Sent, Grows, found_by};
 ghost use Rattle.live_gateway.specs.Admitting.{is_heard, HeardSince};
 ghost use Rattle.live_gateway.specs.Offering.{brought};
-ghost use Rattle.live_gateway.specs.Exchanging.{handed_by, received_by, came_by, next_due, faultless, refusals, with_refused, with_mark, with_unreceived, with_read, IsSameTurn, LooksOnce, CountsReceived};
+ghost use Rattle.live_gateway.specs.Exchanging.{handed_by, received_by, came_by, next_due, moment_at, faultless, refusals, with_refused, with_mark, with_unreceived, with_read, IsSameTurn, LooksOnce, CountsReceived};
 ghost use Rattle.live_gateway.specs.Noting.{TurnsAway, NotesLate};
 ghost use Rattle.live_play.specs.Readable.{first_unread};
 
@@ -153,6 +153,7 @@ impl<S: Surroundings + Drop> Exchange<S> {
         ensures around { self.new.around ≡ self.old.around }
         ensures faults { (self.new.faults ≡ self.old.faults) ⊎ ((self.new.faults ≡ with_unreceived self.old.faults) × (result ≡ ticked)) }
         ensures short { (result < first_unread) ⊎ (result ≡ ticked) }
+        ensures clock { (clock : Result ℕ Fault) × S.passes self.old.around clock × (result ≡ moment_at clock ticked) }
         ensures refused { self.new.faults.refused ≡ self.old.faults.refused }
         ensures journal { self.new.journal ≡ self.old.journal }
         ensures read { self.new.read ≡ self.old.read }

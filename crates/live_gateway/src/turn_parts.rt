@@ -1,14 +1,15 @@
 //! What a turn does that needs no gateway, but what that tells: who has one pays for the layout of all that it holds.
-ghost use Rattle.std.specs.Prelude.{◌≡◌, ◌<◌, ◌⊎◌, ℕ, Bool, true, List, None, Option, not};
+ghost use Rattle.std.specs.Prelude.{◌≡◌, ◌<◌, ◌⊎◌, ℕ, Bool, true, List, Option, Result, not};
 ghost use Rattle.mg_bytes.specs.Lists.{is_empty};
 ghost use Rattle.surroundings.specs.Hearing.{AnswersTo};
 ghost use Rattle.surroundings.specs.Requests.{requests_from};
 ghost use Rattle.surroundings.specs.Typing.{left_of, behind};
+ghost use Rattle.surroundings.specs.declared.surroundings.Fault.{Fault};
 ghost use Rattle.surroundings.specs.declared.surroundings.Told.{Told};
 ghost use Rattle.turns.specs.Clock.{earlier, has_come};
 ghost use Rattle.live_telephones.specs.Paging.{TakesAct};
 ghost use Rattle.live_gateway.specs.Answering.{IsTypist, IsActAnswer};
-ghost use Rattle.live_gateway.specs.Exchanging.{refusals, next_due};
+ghost use Rattle.live_gateway.specs.Exchanging.{refusals, next_due, moment_at};
 ghost use Rattle.live_gateway.specs.Turning.{ready_at};
 ghost use Rattle.live_play.specs.Readable.{first_unread};
 
@@ -47,7 +48,8 @@ pub(crate) fn situation<S: Surroundings + Drop, V: Visitors<S>>(
     ensures short { (result.moment < first_unread) ⊎ (result.moment ≡ ticked) }
     ensures due { (deadline : Option ℕ) × (result.due ≡ earlier (earlier due (next_due exchange.old.network)) deadline) }
     ensures read { result.read ≡ exchange.old.read }
-    ensures ready { (told : Told) × (is_visited : Bool)
+    ensures clock { (clock : Result ℕ Fault) × S.passes exchange.old.around clock × (result.moment ≡ moment_at clock ticked) }
+    ensures ready { (told : Told) × (is_visited : Bool) × S.tells exchange.old.around told
         × (result.ready ≡ ready_at told is_line_left (next_due exchange.old.network) ticked is_visited) }
 {
     let moment = exchange.moment(ticked);

@@ -265,6 +265,10 @@ impl Surroundings for Scripted {
 
     ghost sockets = { λ around. around.own };
 
+    ghost passes = { λ around given. ⊤ };
+
+    ghost tells = { λ around given. ⊤ };
+
     ghost receives = { λ was given room is. ⊤ };
 
     ghost sends = { λ was to bytes outcome is. ⊤ };

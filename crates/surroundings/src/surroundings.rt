@@ -26,12 +26,19 @@ pub trait Surroundings {
     ghost use Rattle.std.specs.declared.net.socket_addr.SocketAddrV4.{SocketAddrV4};
     ghost use Rattle.surroundings.specs.Sending.{Traffic};
     ghost use Rattle.surroundings.specs.declared.surroundings.Fault.{Fault};
+    ghost use Rattle.surroundings.specs.declared.surroundings.Told.{Told};
 
     /// All datagrams that were handed to it to be sent, and all that were received of it, each in their order, where it tells.
     ghost traffic: { Self → Traffic };
 
     /// The addresses of its sockets.
     ghost sockets: { Self → List SocketAddrV4 };
+
+    /// It was asked how long it is since the start: that gave this.
+    ghost passes: { Self → Result ℕ Fault → Type 0 };
+
+    /// It was asked of which sockets it was told that something may have come: that gave this.
+    ghost tells: { Self → Told → Type 0 };
 
     /// It was looked for a datagram: that gave this, and left the room so.
     ghost receives: { Self → Result (Option (SocketAddrV4 × ℕ)) Fault → List ℕ → Self → Type 0 };
@@ -46,7 +53,8 @@ pub trait Surroundings {
     ghost answers: { Self → SocketAddr → List ℕ → Self → Type 0 };
 
     /// How long it is since the start, in ms.
-    fn moment(&self) -> Result<u64, Fault>;
+    fn moment(&self) -> Result<u64, Fault>
+        ensures { passes self.now result };
 
     /// What time it is, in microseconds since 1970 began, in UTC. A change of the time of day since the start isn't in it.
     fn time(&self) -> u64;
@@ -56,7 +64,8 @@ pub trait Surroundings {
         ensures { result ≡ sockets self.now };
 
     /// Of which sockets it was told that something may have come.
-    fn told(&self) -> Told;
+    fn told(&self) -> Told
+        ensures { tells self.now result };
 
     /// Waits until something comes, but no longer than this, in ms; at 0 it only asks what has come.
     fn wait(&mut self, longest: u64) -> Result<(), Fault>

@@ -270,6 +270,10 @@ impl Surroundings for Machine<'_> {
 
     ghost sockets = { λ machine. machine.sockets.own };
 
+    ghost passes = { λ machine given. ⊤ };
+
+    ghost tells = { λ machine given. ⊤ };
+
     ghost receives = { λ was given room is. ⊤ };
 
     ghost sends = { λ was to bytes outcome is. ⊤ };

@@ -1,10 +1,10 @@
-use Rattle.std.proofs.Common.{◌≡◌, ◌<◌, ◌⊎◌, ◌^◌, ℕ, List, refl, ◌∙◌, ap, subst, sym, rules}
+use Rattle.std.proofs.Common.{◌≡◌, ◌<◌, ◌^◌, ℕ, List, refl, ◌∙◌, ap, subst, sym, rules}
 use Rattle.std.specs.Prelude.{not}
 use Rattle.plain_machine.specs.Event.{GatewayEvent}
 use Rattle.plain_machine.specs.Lists.{plain}
 use Rattle.gateway_core.specs.GatewayState.{GatewayState}
 use Rattle.gateway_core.specs.Stands.{Stands}
-use Rattle.live_play.specs.Readable.{first_unread}
+use Rattle.live_gateway.specs.Exchanging.{moment_at}
 use Rattle.live_gateway.proofs.DeskLemmas.{between}
 use Rattle.live_gateway.proofs.EndingLemmas.{turn_ends}
 use Rattle.live_gateway.proofs.TurningLemmas.{tick_is_later, tick_is_short}
@@ -57,17 +57,20 @@ returns-clause-does g c =
       begun = record c.args.self.now { exchange = c.begin.new.self; schedule = c.next-turn.new.self };
       done = c.do_turn.new.self;
       situation = record {
+        clock = c.situation-at.ensures.clock.0;
+        read_so = c.situation-at.ensures.clock.1;
         told = c.situation-at.ensures.ready.0;
+        told_so = c.situation-at.ensures.ready.2;
         is_visited = c.situation-at.ensures.ready.1;
         own = c.next_due-due.result;
         deadline = c.situation-at.ensures.due.0;
-        moment = subst (λ (n : ℕ). (at.moment < first_unread) ⊎ (at.moment ≡ n)) (sym c.situation-at.ensures.ticked) c.situation-at.ensures.short;
+        moment = subst (λ (n : ℕ). at.moment ≡ moment_at c.situation-at.ensures.clock.0 n) (sym c.situation-at.ensures.ticked) c.situation-at.ensures.clock.2;
         ticked = λ events stands. c.situation-at.ensures.ticked ∙ here events stands;
         by_gateway = rw (c.deref-2.ensures) at c.next_due-due.ensures;
         due = c.situation-at.ensures.due.1;
         end = c.situation-at.ensures.end;
         read = c.situation-at.ensures.read;
-        ready = rw (sym c.is_empty-is_line_left.ensures, c.situation-at.ensures.ticked) c.situation-at.ensures.ready.2;
+        ready = rw (sym c.is_empty-is_line_left.ensures, c.situation-at.ensures.ticked) c.situation-at.ensures.ready.3;
       };
       next = rw (c.do_turn.ensures.schedule) c.next-turn.ensures;
       before = refl;
