@@ -20,10 +20,10 @@ use Rattle.plain_machine.specs.Happening.{effect}
 use Rattle.gateway_core.specs.Wire.{counted}
 use Rattle.message_counts.specs.SentCounting.{Tally, one_more_at, place_of, with_what, with_message, with_sent, is_of_gateway, is_of_line, with_own_given_up, with_line_given_up, with_one_given_up, with_given_up, tally_after, given_up_from, has_verb_at, is_command_at, has_again_at, is_sent_again_at, has_code, is_answer_with, is_again, is_given_again}
 
-counted_on : (n a b : ℕ) → counted (counted n a) b ≡ counted n (a + b)
+pub counted_on : (n a b : ℕ) → counted (counted n a) b ≡ counted n (a + b)
 counted_on n a b = omega arith
 
-counted_none : (n : ℕ) → n ≡ counted n 0
+pub counted_none : (n : ℕ) → n ≡ counted n 0
 counted_none n = omega arith
 
 -- a count gains as many as there are of its messages, where one message adds at most one, within its list
@@ -40,7 +40,7 @@ sums f size p place keeps step t (one ∷ sent) inside =
 -- ---- one message more
 
 -- one more at a place is one more there alone
-at_place : (numbers : List ℕ) (at place : ℕ) → place < length numbers → get_or (one_more_at numbers at) place 0 ≡ counted (get_or numbers place 0) (cond (at == place) 1 0)
+pub at_place : (numbers : List ℕ) (at place : ℕ) → place < length numbers → get_or (one_more_at numbers at) place 0 ≡ counted (get_or numbers place 0) (cond (at == place) 1 0)
 at_place numbers at place inside = by_test (eqb_tells at place) where
   by_test : (((at == place) ≡ true) × (at ≡ place)) ⊎ (((at == place) ≡ false) × (at ≢ place))
       → get_or (one_more_at numbers at) place 0 ≡ counted (get_or numbers place 0) (cond (at == place) 1 0)

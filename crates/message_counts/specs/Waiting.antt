@@ -1,10 +1,16 @@
 -- Since when the agent owes an answer.
-use Rattle.std.specs.Prelude.{ℕ, Bool, true, false, if◌then◌else◌, List, find, Option, Some, None, option_map}
+use Rattle.std.specs.Prelude.{ℕ, Bool, true, false, if◌then◌else◌, List, [], ◌∷◌, find, Option, Some, None, option_map}
 use Rattle.std.specs.List.{list_any}
 use Rattle.gateway_texts.specs.declared.outcome.TextOutcome.{TextOutcome}
+use Rattle.gateway_texts.specs.Outcomes.{outcomes_of}
 use Rattle.plain_machine.specs.declared.label.SentMessage.{SentMessage}
 use Rattle.plain_machine.specs.declared.label.What.{What}
 use Rattle.plain_machine.specs.declared.label.What.TheVariants as whats
+use Rattle.plain_machine.specs.declared.setup.Setup.{Setup}
+use Rattle.plain_machine.specs.Event.{GatewayEvent}
+use Rattle.plain_machine.specs.Labelling.{labels_of}
+use Rattle.plain_machine.specs.Machine.{Machine}
+use Rattle.plain_machine.specs.Happening.{effect}
 use Rattle.message_counts.specs.Counting.{is_response}
 
 -- a command of the gateway's own, sent or sent again: whoever it goes to is to answer
@@ -32,3 +38,10 @@ owed_behind (Some since) sent = Some since
 -- asked before, from then on it owes an answer to what the gateway asks behind it.
 abbrev pub unanswered_after : Option ℕ → List TextOutcome → List SentMessage → Option ℕ
 unanswered_after since outcomes sent = owed_behind (if list_any is_response outcomes then None else since) sent
+
+-- events came, one after the other
+unfoldable pub owed_after : Setup → Machine → Option ℕ → List GatewayEvent → Option ℕ
+owed_after setup m since [] = since
+owed_after setup m since (event ∷ events) =
+    owed_after setup (effect setup m event).value
+    (unanswered_after since (outcomes_of setup m event) (labels_of (effect setup m event).sent)) events

@@ -6,6 +6,7 @@ pub mod examples;
 pub mod laws;
 mod message_tally;
 mod place_counts;
+pub mod place_laws;
 mod reporting;
 mod sent_counts;
 pub mod sent_examples;

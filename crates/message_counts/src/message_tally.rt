@@ -1,9 +1,9 @@
 //! Counts what goes over the wire, as the gateway tells it. A count stays at its greatest value.
 ghost use Rattle.std.specs.Prelude.{◌≡◌, IfOk, None};
-ghost use Rattle.small_rules.specs.Counting.{counted};
 ghost use Rattle.message_counts.specs.Counting.{counts_in, no_counts, with_texts};
-ghost use Rattle.message_counts.specs.Places.{with_sends};
+ghost use Rattle.message_counts.specs.Places.{no_sends, with_sends};
 ghost use Rattle.message_counts.specs.SentCounting.{tally_in, no_tally, with_sent, with_given_up};
+ghost use Rattle.message_counts.specs.Tallying.{with_received, with_handed_out, with_stranger, CountsNoDatagram};
 ghost use Rattle.message_counts.specs.Waiting.{unanswered_after};
 
 use crate::place_counts::PlaceCounts;
@@ -56,6 +56,7 @@ impl MessageTally {
         ensures strangers { IfOk result (λ tally. tally.strangers ≡ 0) }
         ensures texts { IfOk result (λ tally. counts_in tally.texts ≡ no_counts) }
         ensures sent { IfOk result (λ tally. tally_in tally.sent ≡ no_tally) }
+        ensures places { IfOk result (λ tally. tally.places.sends ≡ no_sends) }
         ensures unanswered { IfOk result (λ tally. tally.unanswered_since ≡ None) }
     {
         Ok(MessageTally {
@@ -71,24 +72,14 @@ impl MessageTally {
 
     /// A datagram came.
     pub fn received(&mut self)
-        ensures datagrams { self.new.datagrams_in ≡ counted self.old.datagrams_in 1 }
-        ensures handed_out { self.new.datagrams_out ≡ self.old.datagrams_out }
-        ensures strangers { self.new.strangers ≡ self.old.strangers }
-        ensures texts { self.new.texts ≡ self.old.texts }
-        ensures sent { self.new.sent ≡ self.old.sent }
-        ensures unanswered { self.new.unanswered_since ≡ self.old.unanswered_since }
+        ensures { self.new ≡ with_received self.old }
     {
         count(&mut self.datagrams_in);
     }
 
     /// A datagram came from who may not speak.
     pub fn stranger(&mut self)
-        ensures strangers { self.new.strangers ≡ counted self.old.strangers 1 }
-        ensures received { self.new.datagrams_in ≡ self.old.datagrams_in }
-        ensures handed_out { self.new.datagrams_out ≡ self.old.datagrams_out }
-        ensures texts { self.new.texts ≡ self.old.texts }
-        ensures sent { self.new.sent ≡ self.old.sent }
-        ensures unanswered { self.new.unanswered_since ≡ self.old.unanswered_since }
+        ensures { self.new ≡ with_stranger self.old }
     {
         count(&mut self.strangers);
     }
@@ -99,9 +90,7 @@ impl MessageTally {
         ensures sent { tally_in self.new.sent
             ≡ with_given_up (with_sent (tally_in self.old.sent) taken.now.sent.now) taken.now.given_up.now }
         ensures places { self.new.places.sends ≡ with_sends taken.now.route.now self.old.places.sends taken.now.sent.now }
-        ensures received { self.new.datagrams_in ≡ self.old.datagrams_in }
-        ensures handed_out { self.new.datagrams_out ≡ self.old.datagrams_out }
-        ensures strangers { self.new.strangers ≡ self.old.strangers }
+        ensures datagrams { CountsNoDatagram self.old self.new }
         ensures unanswered { self.new.unanswered_since
             ≡ unanswered_after self.old.unanswered_since taken.now.outcomes.now taken.now.sent.now }
     {
@@ -114,12 +103,7 @@ impl MessageTally {
 
     /// A datagram is sent. The messages in it were counted with the event.
     pub fn handed_out(&mut self)
-        ensures datagrams { self.new.datagrams_out ≡ counted self.old.datagrams_out 1 }
-        ensures received { self.new.datagrams_in ≡ self.old.datagrams_in }
-        ensures strangers { self.new.strangers ≡ self.old.strangers }
-        ensures texts { self.new.texts ≡ self.old.texts }
-        ensures sent { self.new.sent ≡ self.old.sent }
-        ensures unanswered { self.new.unanswered_since ≡ self.old.unanswered_since }
+        ensures { self.new ≡ with_handed_out self.old }
     {
         count(&mut self.datagrams_out);
     }

@@ -1,8 +1,7 @@
 //! Counts the sends of the gateway's own commands by which of its agent's addresses they go to. A count stays at its greatest value.
-ghost use Rattle.std.specs.Prelude.{◌≡◌, replicate};
+ghost use Rattle.std.specs.Prelude.{◌≡◌};
 ghost use Rattle.std.specs.List.{position};
-ghost use Rattle.page_answers.specs.declared.counts.TheConstants.{PLACES};
-ghost use Rattle.message_counts.specs.Places.{is_same, place_in, place_among, with_send, with_sends};
+ghost use Rattle.message_counts.specs.Places.{is_same, no_sends, place_in, place_among, with_send, with_sends};
 
 use crate::waiting::is_own;
 use endpoint_names::Route;
@@ -61,7 +60,7 @@ fn place_among(route: &Route<SocketAddrV4>, to: SocketAddrV4) -> usize
 impl PlaceCounts {
     /// Nothing was counted.
     pub fn new() -> PlaceCounts
-        ensures { result.sends ≡ replicate PLACES 0 }
+        ensures { result.sends ≡ no_sends }
     {
         PlaceCounts { sends: [0; PLACES] }
     }
