@@ -1,9 +1,9 @@
 //! What is kept of what goes between a gateway and others: its counts and its records.
 ghost use Rattle.std.specs.Prelude.{◌≡◌, map};
-ghost use Rattle.small_rules.specs.Counting.{counted};
 ghost use Rattle.message_counts.specs.Counting.{counts_in, with_texts};
 ghost use Rattle.message_counts.specs.Places.{with_sends};
 ghost use Rattle.message_counts.specs.SentCounting.{tally_in, with_sent, with_given_up};
+ghost use Rattle.message_counts.specs.Tallying.{with_received, with_handed_out, with_stranger, CountsNoDatagram};
 ghost use Rattle.message_counts.specs.Waiting.{unanswered_after};
 ghost use Rattle.page_answers.specs.declared.ring.Kind.TheVariants.{Received, Sent, Act, Told};
 ghost use Rattle.told_messages.specs.Labelling.{sent_label};
@@ -64,14 +64,16 @@ impl Journal {
 
     /// A line of the telephones is given to the gateway.
     pub fn act(&mut self, now: Now, line: &[u8])
-        ensures { GoesOn (Happened now.clock Act of_nobody line.now) self.old.board self.new.board }
+        ensures shown { GoesOn (Happened now.clock Act of_nobody line.now) self.old.board self.new.board }
+        ensures rest { self.new ≡ record self.old { board = self.new.board } }
     {
         self.show(now.clock, Kind::Act, nobody(), line);
     }
 
     /// The line of the telephones that was given is answered.
     pub fn answered(&mut self, moment: u64, text: &[u8])
-        ensures { GoesOn (Happened moment Told of_nobody text.now) self.old.board self.new.board }
+        ensures shown { GoesOn (Happened moment Told of_nobody text.now) self.old.board self.new.board }
+        ensures rest { self.new ≡ record self.old { board = self.new.board } }
     {
         self.show(moment, Kind::Told, nobody(), text);
     }
@@ -79,7 +81,8 @@ impl Journal {
     /// A datagram comes for the gateway, so late, in ms.
     pub fn came(&mut self, now: Now, source: SocketAddrV4, bytes: &[u8], late: u64)
         ensures shown { GoesOn (Happened now.clock Received source bytes.now) self.old.board self.new.board }
-        ensures counted { self.new.tally.value.datagrams_in ≡ counted self.old.tally.value.datagrams_in 1 }
+        ensures counted { self.new.tally.value ≡ with_received self.old.tally.value }
+        ensures written { self.new.written ≡ self.old.written }
     {
         self.tally.received();
         self.log.receive(now, source, bytes, late);
@@ -89,7 +92,7 @@ impl Journal {
 
     /// A datagram came from who may not speak: it is counted, and noted at most once a second.
     pub fn stranger(&mut self, now: Now, source: SocketAddrV4)
-        ensures counted { self.new.tally.value.strangers ≡ counted self.old.tally.value.strangers 1 }
+        ensures counted { self.new.tally.value ≡ with_stranger self.old.tally.value }
         ensures told { Records self.old.log.value.record
             (stranger_text self.old.log.value.quiet now.time source) self.new.log.value.record }
         ensures quiet { self.new.log.value.quiet ≡ quiet_after self.old.log.value.quiet now.time }
@@ -109,6 +112,8 @@ impl Journal {
             ≡ with_sends taken.now.route.now self.old.tally.value.places.sends taken.now.sent.now }
         ensures unanswered { self.new.tally.value.unanswered_since
             ≡ unanswered_after self.old.tally.value.unanswered_since taken.now.outcomes.now taken.now.sent.now }
+        ensures datagrams { CountsNoDatagram self.old.tally.value self.new.tally.value }
+        ensures rest { (self.new.capture ≡ self.old.capture) × (self.new.written ≡ self.old.written) }
     {
         self.tally.turned(taken);
         self.log.turned(now, taken);
@@ -119,14 +124,17 @@ impl Journal {
     }
 
     /// A datagram that was sent to the gateway isn't taken, for this reason: a bad network lost it, or memory was refused.
-    pub fn untaken(&mut self, now: Now, source: SocketAddrV4, bytes: &[u8], why: Note) {
+    pub fn untaken(&mut self, now: Now, source: SocketAddrV4, bytes: &[u8], why: Note)
+        ensures { self.new ≡ record self.old { log = self.new.log } }
+    {
         self.log.leave(now, source, bytes, why);
     }
 
     /// A datagram is sent that has these messages.
     pub fn sent(&mut self, now: Now, to: SocketAddrV4, bytes: &[u8], messages: &[SentMessage])
         ensures shown { GoesOn (HappenedWith now.clock Sent to bytes.now (map sent_label messages.now)) self.old.board self.new.board }
-        ensures counted { self.new.tally.value.datagrams_out ≡ counted self.old.tally.value.datagrams_out 1 }
+        ensures counted { self.new.tally.value ≡ with_handed_out self.old.tally.value }
+        ensures written { self.new.written ≡ self.old.written }
     {
         self.tally.handed_out();
         self.log.send(now, to, bytes, messages);

@@ -24,6 +24,7 @@ impl Journal {
     /// be called when a turn is over: what the trace was told at it had its place already, and gets room for the next.
     pub fn write<F: Write + Drop>(&mut self, trace: &mut Trace, outlets: &mut Outlets<F>, time: u64)
         ensures room { trace.new.room ≡ room_left TEXT_ROOM outlets.new.output.value.backlog }
+        ensures rest { (self.new.tally ≡ self.old.tally) × (self.new.board ≡ self.old.board) }
     {
         trace.keep(&mut outlets.output);
         keep_log(&mut outlets.error, &mut self.log.record, time);
