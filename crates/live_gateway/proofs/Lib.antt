@@ -7,3 +7,4 @@ pub mod AnsweringLemmas
 pub mod TurningLemmas
 pub mod LineLemmas
 mod ArrivingLemmas
+pub mod ArrivalLemmas

@@ -1,15 +1,19 @@
--- What a journal gets of a datagram that isn't heard, and of one that couldn't be sent.
-use Rattle.std.specs.Prelude.{◌≡◌, ⊤, ℕ, true, false, nat_lt, Result, Ok, Err}
+-- What a journal gets of a datagram that comes, of one that isn't heard, and of one that couldn't be sent.
+use Rattle.std.specs.Prelude.{◌≡◌, ⊤, ℕ, true, false, nat_lt, Option, Some, None, Result, Ok, Err}
 use Rattle.std.specs.declared.net.socket_addr.SocketAddrV4.{SocketAddrV4}
 use Rattle.gateway_core.specs.Wire.{counted}
 use Rattle.surroundings.specs.declared.surroundings.Fault.{Fault}
 use Rattle.told_messages.specs.Recording.{Records, unsent_text}
 use Rattle.told_messages.specs.Strangers.{quiet_after, stranger_text}
 use Rattle.live_journal.specs.declared.journal.Journal.{Journal}
+use Rattle.message_counts.specs.Tallying.{with_received, with_stranger}
+use Rattle.message_counts.specs.declared.message_tally.MessageTally.{MessageTally}
+use Rattle.live_gateway.specs.declared.admission.Admission.{Admission}
+use Rattle.live_gateway.specs.Admitting.{is_heard}
 
 -- a stranger's datagram is counted, and told of at most once a second
 pub record NotesStranger (was : Journal) (time : ℕ) (source : SocketAddrV4) (is : Journal) : Type 0 where
-  pub strangers : is.tally.value.strangers ≡ counted was.tally.value.strangers 1
+  pub tally : is.tally.value ≡ with_stranger was.tally.value
   pub told : Records was.log.value.record (stranger_text was.log.value.quiet time source) is.log.value.record
   pub quiet : is.log.value.quiet ≡ quiet_after was.log.value.quiet time
   pub rest : (is.capture ≡ was.capture) × (is.board ≡ was.board) × (is.written ≡ was.written)
@@ -18,6 +22,25 @@ pub record NotesStranger (was : Journal) (time : ℕ) (source : SocketAddrV4) (i
 pub record TurnsAway (was : Journal) (time : ℕ) (source : SocketAddrV4) (is : Journal) : Type 0 where
   pub port : nat_lt 0 source.port ≡ true → NotesStranger was time source is
   pub portless : nat_lt 0 source.port ≡ false → is ≡ was
+
+-- a datagram that comes is counted once where it is heard, and no other count changes; a stranger's is turned away
+pub record NotesArrival (admission : Admission) (was : Journal) (time : ℕ) (source : SocketAddrV4) (is : Journal) : Type 0 where
+  pub heard : is_heard admission source ≡ true → is.tally.value ≡ with_received was.tally.value
+  pub strange : is_heard admission source ≡ false → TurnsAway was time source is
+
+-- so many datagrams of strangers were counted
+abbrev pub with_strangers : ℕ → MessageTally → MessageTally
+with_strangers count tally = record tally { strangers = counted tally.strangers count }
+
+-- a datagram that was found for the gateway is counted, if one was
+abbrev pub with_found : Option (SocketAddrV4 × ℕ) → MessageTally → MessageTally
+with_found None tally = tally
+with_found (Some found) tally = with_received tally
+
+-- a look for a datagram counts the one that it finds, once, and those of strangers that it meets; no other count changes
+pub record CountsFound (was : MessageTally) (found : Option (SocketAddrV4 × ℕ)) (is : MessageTally) : Type 0 where
+  pub strangers : ℕ
+  pub tally : is ≡ with_found found (with_strangers strangers was)
 
 -- a datagram that couldn't be sent is noted
 pub record NotesUnsent (was : Journal) (time : ℕ) (to : SocketAddrV4) (is : Journal) : Type 0 where

@@ -2,7 +2,10 @@
 ghost use Rattle.std.specs.Prelude.{◌≡◌, ◌<◌, ◌≤◌, ◌∷◌, ◌⊎◌, ⊤, [], true, false, length, ℕ, Bool, List, Option, Result, IfSome, is_some, map};
 ghost use Rattle.small_rules.specs.Counting.{counted};
 ghost use Rattle.message_counts.specs.Counting.{counts_in, with_texts};
+ghost use Rattle.message_counts.specs.Places.{with_sends};
 ghost use Rattle.message_counts.specs.SentCounting.{tally_in, with_sent, with_given_up};
+ghost use Rattle.message_counts.specs.Tallying.{with_handed_out, CountsNoDatagram};
+ghost use Rattle.message_counts.specs.Waiting.{unanswered_after};
 ghost use Rattle.page_answers.specs.declared.ring.Kind.TheVariants.{Sent as OfSent};
 ghost use Rattle.told_messages.specs.Labelling.{sent_label};
 ghost use Rattle.told_messages.specs.Showing.{GoesOn, HappenedWith, Turned};
@@ -12,7 +15,7 @@ ghost use Rattle.surroundings.specs.Sending.{Sent, Grows, found_by};
 ghost use Rattle.live_gateway.specs.Admitting.{is_heard, HeardSince};
 ghost use Rattle.live_gateway.specs.Offering.{brought};
 ghost use Rattle.live_gateway.specs.Exchanging.{handed_by, received_by, came_by, next_due, moment_at, faultless, refusals, with_refused, with_mark, with_unreceived, with_read, IsSameTurn, LooksOnce, CountsReceived};
-ghost use Rattle.live_gateway.specs.Noting.{TurnsAway, NotesLate};
+ghost use Rattle.live_gateway.specs.Noting.{TurnsAway, NotesArrival, NotesLate, CountsFound};
 ghost use Rattle.live_play.specs.Readable.{first_unread};
 
 use crate::admission::Admission;
@@ -175,6 +178,7 @@ impl<S: Surroundings + Drop> Exchange<S> {
         ensures faults { self.new.faults ≡ self.old.faults }
         ensures read { self.new.read ≡ self.old.read }
         ensures turn { IsSameTurn self.old self.new }
+        ensures journal { self.new.journal ≡ record self.old.journal { board = self.new.journal.board } }
     {
         if let Some(visitors) = visitors {
             if let Some(board) = &mut self.journal.board {
@@ -238,6 +242,7 @@ impl<S: Surroundings + Drop> Exchange<S> {
             handed_by self.new.network sent ≡ handed_by self.old.network (S.traffic self.old.around).sent) }
         ensures came { Grows (received_by self.old.network (S.traffic self.old.around).received) (brought result room.new)
             (received_by self.new.network (S.traffic self.new.around).received) }
+        ensures journal { self.new.journal ≡ self.old.journal }
     {
         match &mut self.network {
             Some(network) => network.take_due(self.now.clock, room),
@@ -268,6 +273,7 @@ impl<S: Surroundings + Drop> Exchange<S> {
         ensures faults { self.new.faults ≡ self.old.faults }
         ensures read { self.new.read ≡ self.old.read }
         ensures turn { IsSameTurn self.old self.new }
+        ensures noted { NotesArrival admission.now self.old.journal self.old.now.time source self.new.journal }
     {
         if !admission.hears(source) {
             self.turn_away(source);
@@ -285,6 +291,7 @@ impl<S: Surroundings + Drop> Exchange<S> {
         ensures read { self.new.read ≡ self.old.read }
         ensures turn { IsSameTurn self.old self.new }
         ensures noted { NotesLate self.old.journal self.old.now.time to sent self.new.journal }
+        ensures tally { self.new.journal.tally ≡ self.old.journal.tally }
     {
         match sent {
             Ok(()) => {}
@@ -301,6 +308,7 @@ impl<S: Surroundings + Drop> Exchange<S> {
         ensures turn { IsSameTurn self.old self.new }
         ensures noted { (sent : Result ⊤ Fault) × S.sends self.old.around to bytes.now sent self.new.around
             × NotesLate self.old.journal self.old.now.time to sent self.new.journal }
+        ensures tally { self.new.journal.tally ≡ self.old.journal.tally }
     {
         let sent = self.around.send(to, bytes);
         self.note_late(to, sent);
@@ -324,6 +332,7 @@ impl<S: Surroundings + Drop> Exchange<S> {
         ensures came { HeardSince admission.now
             (received_by self.old.network (S.traffic self.old.around).received) (found_by result room.new)
             (received_by self.new.network (S.traffic self.new.around).received) }
+        ensures tally { CountsFound self.old.journal.tally.value result self.new.journal.tally.value }
     {
         for _ in 0..u16::MAX {
             let (packet, len) = self.take_due(room)?;
@@ -350,6 +359,7 @@ impl<S: Surroundings + Drop> Exchange<S> {
         ensures read { self.new.read ≡ self.old.read }
         ensures turn { IsSameTurn self.old self.new }
         ensures spoilt { is_some self.new.network ≡ is_some self.old.network }
+        ensures journal { self.new.journal ≡ self.old.journal }
     {
         let now = self.now.clock;
         match &mut self.network {
@@ -383,6 +393,7 @@ impl<S: Surroundings + Drop> Exchange<S> {
         ensures came { HeardSince admission.now
             (received_by self.old.network (S.traffic self.old.around).received) (found_by result room.new)
             (received_by self.new.network (S.traffic self.new.around).received) }
+        ensures tally { CountsFound self.old.journal.tally.value result self.new.journal.tally.value }
     {
         if self.is_lost(source, &room[..len]) {
             self.journal
@@ -402,6 +413,7 @@ impl<S: Surroundings + Drop> Exchange<S> {
         ensures refused { self.new.faults.refused ≡ self.old.faults.refused }
         ensures counts { LooksOnce S.receives self.old self.new }
         ensures turn { IsSameTurn self.old self.new }
+        ensures journal { self.new.journal ≡ self.old.journal }
     {
         match self.around.receive(room) {
             Ok(Some(found)) => {
@@ -434,6 +446,7 @@ impl<S: Surroundings + Drop> Exchange<S> {
         ensures came { HeardSince admission.now
             (received_by self.old.network (S.traffic self.old.around).received) (found_by result room.new)
             (received_by self.new.network (S.traffic self.new.around).received) }
+        ensures tally { CountsFound self.old.journal.tally.value result self.new.journal.tally.value }
     {
         let (source, len) = self.read_socket(room)?;
         if self.come(admission, source, &room[..len], 0) {
@@ -461,6 +474,7 @@ impl<S: Surroundings + Drop> Exchange<S> {
         ensures came { HeardSince admission.now
             (received_by self.old.network (S.traffic self.old.around).received) (found_by result room.new)
             (received_by self.new.network (S.traffic self.new.around).received) }
+        ensures tally { CountsFound self.old.journal.tally.value result self.new.journal.tally.value }
     {
         if let Some(found) = self.handed_over(admission, room) {
             return Some(found);
@@ -492,6 +506,7 @@ impl<S: Surroundings + Drop> Exchange<S> {
         ensures came { HeardSince admission.now
             (received_by self.old.network (S.traffic self.old.around).received) (found_by result room.new)
             (received_by self.new.network (S.traffic self.new.around).received) }
+        ensures tally { CountsFound self.old.journal.tally.value result self.new.journal.tally.value }
     {
         if self.network.is_some() {
             self.receive_spoilt(admission, room)
@@ -537,6 +552,11 @@ impl<S: Surroundings + Drop> Outlet for Exchange<S> {
             ≡ with_texts (counts_in self.old.journal.tally.value.texts) gateway.now.outcomes }
         ensures counted { tally_in self.new.journal.tally.value.sent
             ≡ with_given_up (with_sent (tally_in self.old.journal.tally.value.sent) gateway.now.account.sent) gateway.now.account.given_up }
+        ensures places { self.new.journal.tally.value.places.sends
+            ≡ with_sends gateway.now.setup.agent.route self.old.journal.tally.value.places.sends gateway.now.account.sent }
+        ensures unanswered { self.new.journal.tally.value.unanswered_since
+            ≡ unanswered_after self.old.journal.tally.value.unanswered_since gateway.now.outcomes gateway.now.account.sent }
+        ensures datagrams { CountsNoDatagram self.old.journal.tally.value self.new.journal.tally.value }
         ensures rest { self.new ≡ record self.old { journal = self.new.journal } }
     {
         self.journal.turned(self.now, &taken_of(gateway));
@@ -548,7 +568,7 @@ impl<S: Surroundings + Drop> Outlet for Exchange<S> {
         ensures came { came_by S.traffic self.new ≡ came_by S.traffic self.old }
         ensures shown { GoesOn (HappenedWith self.old.now.clock OfSent to bytes.now (map sent_label messages.now))
             self.old.journal.board self.new.journal.board }
-        ensures counted { self.new.journal.tally.value.datagrams_out ≡ counted self.old.journal.tally.value.datagrams_out 1 }
+        ensures counted { self.new.journal.tally.value ≡ with_handed_out self.old.journal.tally.value }
         ensures faults { self.new.faults ≡ with_mark result self.old.faults }
     {
         self.journal.sent(self.now, to, bytes, messages);

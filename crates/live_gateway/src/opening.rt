@@ -3,6 +3,7 @@
 //! function that has it.
 ghost use Rattle.std.specs.Prelude.{◌≡◌, is_some, IfOk};
 ghost use Rattle.live_journal.specs.Recording.{trace_head, Begins};
+ghost use Rattle.live_gateway.specs.Opening.{CountsNothing};
 
 use crate::admission::Admission;
 use crate::desk::Desk;
@@ -38,7 +39,9 @@ pub struct DeskSettings<'a> {
     pub end: Option<u64>,
 }
 
-fn tally_of(alloc: Global) -> Result<Box<MessageTally>, AllocError> {
+fn tally_of(alloc: Global) -> Result<Box<MessageTally>, AllocError>
+    ensures { IfOk result (λ tally. CountsNothing tally.value) }
+{
     boxed(alloc, MessageTally::new(alloc)?)
 }
 
@@ -65,7 +68,8 @@ fn journal_of(
     settings: &DeskSettings<'_>,
     domain: &[u8],
 ) -> Result<Journal, AllocError>
-    ensures { IfOk result (λ journal. is_some journal.board ≡ settings.now.has_page) }
+    ensures page { IfOk result (λ journal. is_some journal.board ≡ settings.now.has_page) }
+    ensures counted { IfOk result (λ journal. CountsNothing journal.tally.value) }
 {
     Ok(Journal {
         tally: tally_of(alloc)?,
@@ -110,6 +114,7 @@ fn exchange_of<S: Surroundings + Drop>(
     ensures around { IfOk result (λ exchange. exchange.around ≡ around.value) }
     ensures spoilt { IfOk result (λ exchange. is_some exchange.network ≡ is_some settings.now.network) }
     ensures page { IfOk result (λ exchange. is_some exchange.journal.board ≡ settings.now.has_page) }
+    ensures counted { IfOk result (λ exchange. CountsNothing exchange.journal.tally.value) }
 {
     let network = network_of(alloc, settings.network, domain)?;
     let journal = journal_of(alloc, settings, domain)?;
@@ -148,6 +153,7 @@ pub fn open_desk<S: Surroundings + Drop>(
         desk.value.play.teller.record) }
     ensures spoilt { IfOk result (λ desk. is_some desk.value.exchange.network ≡ is_some settings.now.network) }
     ensures page { IfOk result (λ desk. is_some desk.value.exchange.journal.board ≡ settings.now.has_page) }
+    ensures counted { IfOk result (λ desk. CountsNothing desk.value.exchange.journal.tally.value) }
 {
     let lines = Lines::new(alloc)?;
     let domain = gateway.setup().names.domain.as_bytes();

@@ -51,6 +51,7 @@ pub(crate) fn situation<S: Surroundings + Drop, V: Visitors<S>>(
     ensures clock { (clock : Result ℕ Fault) × S.passes exchange.old.around clock × (result.moment ≡ moment_at clock ticked) }
     ensures ready { (told : Told) × (is_visited : Bool) × S.tells exchange.old.around told
         × (result.ready ≡ ready_at told is_line_left (next_due exchange.old.network) ticked is_visited) }
+    ensures tally { exchange.new.journal.tally ≡ exchange.old.journal.tally }
 {
     let moment = exchange.moment(ticked);
     let network = exchange.network_due();
@@ -80,6 +81,7 @@ pub(crate) fn note_taken<S: Surroundings + Drop>(
     ensures network { exchange.new.network ≡ exchange.old.network }
     ensures around { exchange.new.around ≡ exchange.old.around }
     ensures refused { exchange.new.faults.refused ≡ refusals (not is_taken) exchange.old.faults.refused }
+    ensures tally { exchange.new.journal.tally ≡ exchange.old.journal.tally }
 {
     exchange.count_refused(!is_taken);
     if is_taken {
@@ -100,6 +102,7 @@ pub(crate) fn note_datagram<S: Surroundings + Drop>(
     ensures network { exchange.new.network ≡ exchange.old.network }
     ensures around { exchange.new.around ≡ exchange.old.around }
     ensures faults { exchange.new.faults ≡ exchange.old.faults }
+    ensures tally { exchange.new.journal.tally ≡ exchange.old.journal.tally }
 {
     let now = exchange.now;
     let journal = &mut exchange.journal;
@@ -133,6 +136,7 @@ pub(crate) fn answer_act<S: Surroundings + Drop>(
         × AnswersTo S.answers lines.old.sender exchange.old.around answer exchange.new.around }
     ensures left { left_of lines.new ≡ requests_from (behind (left_of lines.old)) }
     ensures sender { lines.new.sender ≡ lines.old.sender }
+    ensures tally { exchange.new.journal.tally ≡ exchange.old.journal.tally }
 {
     let answer = act_answer(done, printed);
     let clock = exchange.now.clock;
@@ -154,6 +158,7 @@ pub(crate) fn take_from_page<S: Surroundings + Drop>(
     ensures faults { exchange.new.faults ≡ exchange.old.faults }
     ensures lines { (lines.new ≡ lines.old) ⊎ ((is_empty (left_of lines.old) ≡ true)
         × TakesAct exchange.old.journal lines.old true exchange.new.journal lines.new) }
+    ensures tally { exchange.new.journal.tally ≡ exchange.old.journal.tally }
 {
     let is_taken = is_its_turn || !exchange.around.told().lines;
     if is_taken && lines.is_empty() {

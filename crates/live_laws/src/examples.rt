@@ -11,6 +11,8 @@ ghost use Rattle.small_rules.specs.Counting.{counted};
 ghost use Rattle.told_messages.specs.Recording.{Records, unsent_text};
 ghost use Rattle.told_messages.specs.Strangers.{stranger_text};
 ghost use Rattle.live_journal.specs.declared.journal.Journal.{Journal};
+ghost use Rattle.std.specs.declared.net.socket_addr.SocketAddrV4.{SocketAddrV4};
+ghost use Rattle.message_counts.specs.Tallying.{with_received, with_stranger};
 ghost use Rattle.message_counts.specs.declared.message_tally.MessageTally.{MessageTally};
 ghost use Rattle.message_counts.specs.declared.reporting.Faults.{Faults};
 ghost use Rattle.page_answers.specs.declared.counts.Counts.{Counts as Counted};
@@ -39,7 +41,8 @@ ghost use Rattle.live_gateway.specs.declared.exchange.Exchange.{Exchange};
 ghost use Rattle.live_gateway.specs.declared.spoilt_way.SpoiltWay.{SpoiltWay};
 ghost use Rattle.live_gateway.specs.Offering.{came_from, came_over, brought};
 ghost use Rattle.live_gateway.specs.Exchanging.{faultless, received_by, refusals, with_refused, with_mark, with_unreceived, IsSameTurn};
-ghost use Rattle.live_gateway.specs.Noting.{TurnsAway, NotesLate};
+ghost use Rattle.live_gateway.specs.Opening.{CountsNothing};
+ghost use Rattle.live_gateway.specs.Noting.{TurnsAway, NotesArrival, NotesLate, with_strangers, with_found, CountsFound};
 
 /// Each sentence at an example.
 pub fn each_sentence_has_an_example()
@@ -96,7 +99,7 @@ pub fn each_sentence_has_an_example()
 pub fn what_isnt_heard_or_sent_is_noted()
     // A stranger's datagram is counted and noted, one without a port isn't; one that couldn't be sent late is noted, and no other one.
     ensures stranger_counts { (was is : Journal) → TurnsAway was 5 (at_port 9 2727) is
-        → is.tally.value.strangers ≡ counted was.tally.value.strangers 1 }
+        → is.tally.value ≡ with_stranger was.tally.value }
     ensures stranger_told { (was is : Journal) → TurnsAway was 5 (at_port 9 2727) is
         → Records was.log.value.record (stranger_text was.log.value.quiet 5 (at_port 9 2727)) is.log.value.record }
     ensures portless_stranger { (was is : Journal) → TurnsAway was 5 (at_port 9 0) is → is ≡ was }
@@ -107,6 +110,22 @@ pub fn what_isnt_heard_or_sent_is_noted()
     ensures unsent { (faults : Faults) → with_mark (Some Unsent) (record faults { send = 4 }) ≡ record faults { send = 5 } }
     ensures lost { (faults : Faults) → with_mark (Some Lost) faults ≡ faults }
     ensures sent { (faults : Faults) → with_mark None faults ≡ faults }
+{}
+
+/// What is counted of datagrams that come: one that is heard once, those of strangers apart, and nothing else.
+pub fn what_comes_is_counted_once()
+    ensures heard { (admission : Admission) (was is : Journal) → is_heard admission (at_port 9 2727) ≡ true →
+        NotesArrival admission was 5 (at_port 9 2727) is → is.tally.value ≡ with_received was.tally.value }
+    ensures stranger { (admission : Admission) (was is : Journal) → is_heard admission (at_port 9 2727) ≡ false →
+        NotesArrival admission was 5 (at_port 9 2727) is → TurnsAway was 5 (at_port 9 2727) is }
+    ensures strangers { (tally : MessageTally) → with_strangers 2 (record tally { strangers = 3 }) ≡ record tally { strangers = 5 } }
+    ensures found { (tally : MessageTally) → with_found (Some (at_port 9 2727, 100)) tally ≡ with_received tally }
+    ensures found_none { (tally : MessageTally) → with_found None tally ≡ tally }
+    ensures once { (was is : MessageTally) → CountsFound was (Some (at_port 9 2727, 100)) is →
+        is.datagrams_in ≡ counted was.datagrams_in 1 }
+    ensures none { (was is : MessageTally) → CountsFound was None is → is.datagrams_in ≡ was.datagrams_in }
+    ensures rest { (was is : MessageTally) (found : Option (SocketAddrV4 × ℕ)) → CountsFound was found is → is.sent ≡ was.sent }
+    ensures at_first { (tally : MessageTally) → CountsNothing tally → tally.places.sends ≡ replicate 5 0 }
 {}
 
 /// Each sentence at an example.

@@ -1,7 +1,8 @@
-use Rattle.std.proofs.Common.{◌≡◌, length, []}
+use Rattle.std.proofs.Common.{◌≡◌, length, [], None}
 use Rattle.std.specs.Prelude.{is_some}
 use Rattle.live_gateway.specs.Admitting.{HeardSince}
 use Rattle.live_gateway.specs.Exchanging.{handed_by, received_by, IsSameTurn}
+use Rattle.live_gateway.specs.Noting.{CountsFound}
 use Rattle.live_gateway.proofs.exchange.Exchange.handed_over.Given as goal
 
 abbrev pub invariant-loop : goal.invariant-loop
@@ -15,4 +16,5 @@ invariant-loop g l = record {
   spoilt : is_some l.self.network ≡ is_some l.fn.self.network;
   came : HeardSince l.fn.admission (received_by l.fn.self.network (g.S.Surroundings.traffic l.fn.self.around).received) []
       (received_by l.self.network (g.S.Surroundings.traffic l.self.around).received);
+  tally : CountsFound l.fn.self.journal.tally.value None l.self.journal.tally.value;
 }

@@ -1,4 +1,5 @@
 use Rattle.std.proofs.Common.{refl, sym, ◌∙◌}
+use Rattle.live_gateway.proofs.ArrivalLemmas.{found_none, found_between, arrival_found, arrival_strange, tally_of}
 use Rattle.live_gateway.proofs.HearingLemmas.{heard_still, hears_nothing, hears_one, passes_over}
 use Rattle.live_gateway.proofs.CountingLemmas.{looked_before}
 use Rattle.live_gateway.proofs.exchange.Exchange.receive_directly.Goals as goal
@@ -36,3 +37,16 @@ returns-clause-counts g c = looked_before _ _ _ _ c.read_socket.ensures.counts c
 pub returns-clause-turn : goal.returns-clause-turn
 returns-clause-turn g c =
     (c.come.ensures.turn.0 ∙ c.read_socket.ensures.turn.0, c.come.ensures.turn.1 ∙ c.read_socket.ensures.turn.1)
+
+pub returns-in_err-source-clause-tally : goal.returns-in_err-source-clause-tally
+returns-in_err-source-clause-tally g c = rw (c.from_residual.ensures) (found_none _ _ (tally_of _ _ c.read_socket.ensures.journal))
+
+pub returns-then-come-clause-tally : goal.returns-then-come-clause-tally
+returns-then-come-clause-tally g c =
+    found_between _ _ _ _ _ (tally_of _ _ c.read_socket.ensures.journal)
+    (arrival_found _ _ _ _ _ _ c.come.ensures.noted (sym c.come.ensures.heard ∙ c.if-come.true)) refl
+
+pub returns-clause-tally : goal.returns-clause-tally
+returns-clause-tally g c =
+    found_between _ _ _ _ _ (tally_of _ _ c.read_socket.ensures.journal)
+    (arrival_strange _ _ _ _ _ c.come.ensures.noted (sym c.come.ensures.heard ∙ c.if-come.false)) refl

@@ -1,4 +1,5 @@
 use Rattle.std.proofs.Common.{None, inl, refl, ◌∙◌}
+use Rattle.live_gateway.proofs.ArrivalLemmas.{found_between, found_behind, strange_found, tally_of}
 use Rattle.live_gateway.proofs.HearingLemmas.{heard_still, hears_past_a_look, still_over}
 use Rattle.live_gateway.proofs.CountingLemmas.{read_behind_others}
 use Rattle.live_gateway.proofs.exchange.Exchange.receive_spoilt.Goals as goal
@@ -52,3 +53,17 @@ returns-clause-turn g c = (
   c.pass.ensures.turn.0 ∙ c.read_socket.ensures.turn.0 ∙ c.handed_over.ensures.turn.0,
   c.pass.ensures.turn.1 ∙ c.read_socket.ensures.turn.1 ∙ c.handed_over.ensures.turn.1,
 )
+
+pub returns-in_err-source-clause-tally : goal.returns-in_err-source-clause-tally
+returns-in_err-source-clause-tally g c =
+    rw (c.from_residual.ensures) (found_between _ _ _ _ _ refl c.in_default.ensures.tally (tally_of _ _ c.read_socket.ensures.journal))
+
+pub returns-then-not-hears-clause-tally : goal.returns-then-not-hears-clause-tally
+returns-then-not-hears-clause-tally g c =
+    found_behind _ _ _ _ (found_between _ _ _ _ _ refl c.in_default.ensures.tally (tally_of _ _ c.read_socket.ensures.journal))
+    (strange_found _ _ _ _ c.turn_away.ensures.noted)
+
+pub returns-clause-tally : goal.returns-clause-tally
+returns-clause-tally g c =
+    found_behind _ _ _ _ (found_between _ _ _ _ _ refl c.in_default.ensures.tally (tally_of _ _ c.read_socket.ensures.journal))
+    c.pass.ensures.tally
