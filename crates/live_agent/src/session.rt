@@ -11,7 +11,7 @@ use crate::wire::Wire;
 use agent_texts::count;
 use bad_network::Way;
 use call_agent::Issued;
-use live_ends::STOP_FROM_AFAR;
+use live_ends::{DONE, NO_MEMORY, STOP_FROM_AFAR};
 use mg_bytes::{Draft, OutOfMemory};
 use plain_machine::{Outputs, Refusal};
 use std::alloc::Global;
@@ -25,11 +25,6 @@ const ROOM: usize = 4001;
 
 // By a clock that is further behind, in ms, no command is issued: it would be sent again too early, and given up.
 const LONGEST_LAG: u64 = 100;
-
-// What is answered to who types.
-const DONE: &[u8] = b"done\n";
-
-const OUT_OF_MEMORY: &[u8] = b"! 1 OutOfMemory\n";
 
 // A command was issued.
 fn send_issued<S: Surroundings + Drop>(wire: &mut Wire<S>, issued: &Issued) {
@@ -157,7 +152,7 @@ fn take_datagram<S: Surroundings + Drop>(board: &mut Switchboard, wire: &mut Wir
 // What is answered where a command isn't issued.
 fn fault_text(fault: TypedFault) -> &'static [u8] {
     match fault {
-        TypedFault::OutOfMemory => OUT_OF_MEMORY,
+        TypedFault::OutOfMemory => NO_MEMORY,
         TypedFault::NoMoreIds => b"! 2 NoMoreIds\n",
         TypedFault::BadCommand => b"! 3 BadCommand\n",
         TypedFault::NoSuchGateway => b"! 4 NoSuchGateway\n",
@@ -186,7 +181,7 @@ fn answer_typed<S: Surroundings + Drop>(
             send_issued(wire, &issued);
             match issued_text(alloc, issued.id) {
                 Ok(text) => wire.answer_all(text.as_slice()),
-                Err(_) => wire.answer_all(OUT_OF_MEMORY),
+                Err(_) => wire.answer_all(NO_MEMORY),
             }
         }
         Err(fault) => wire.answer_all(fault_text(fault)),
@@ -197,7 +192,7 @@ fn answer_typed<S: Surroundings + Drop>(
 fn answer_counts<S: Surroundings + Drop>(wire: &mut Wire<S>) {
     match wire.journal.counts() {
         Ok(text) => wire.answer(text.as_slice()),
-        Err(_) => wire.answer(OUT_OF_MEMORY),
+        Err(_) => wire.answer(NO_MEMORY),
     }
 }
 
@@ -244,7 +239,7 @@ fn answer_command<S: Surroundings + Drop>(
 ) {
     match command_in(alloc, &wire.lines) {
         Ok(text) => answer_typed(alloc, board, wire, text.as_slice()),
-        Err(_) => wire.answer_all(OUT_OF_MEMORY),
+        Err(_) => wire.answer_all(NO_MEMORY),
     }
 }
 

@@ -5,6 +5,7 @@
 #![tactic(auto)]
 
 mod address_words;
+mod answers;
 mod asking;
 mod backlog;
 mod boxing;
@@ -30,13 +31,14 @@ mod wording;
 mod written;
 
 pub use crate::address_words::AddressWord;
+pub use crate::answers::{DONE, NO_MEMORY, STOP_FROM_AFAR};
 pub use crate::asking::{AskFault, ask};
 pub use crate::backlog::{Backlog, MOST_KEPT, NOTE_ROOM, TEXT_ROOM, lines_ended};
 pub use crate::boxing::boxed;
 pub use crate::clock::{LiveClock, time_of_day};
 pub use crate::ending::{About, CommonEnding, FileNames, VERSION, address_in, network_in};
 pub use crate::files::read_file;
-pub use crate::live::{Live, STOP_FROM_AFAR, SocketWanted, bind};
+pub use crate::live::{Live, SocketWanted, bind};
 pub use crate::now::Now;
 pub use crate::outlet::{Outlet, OutletState};
 pub use crate::outlets::{NEXT_OFFER, Outlets};

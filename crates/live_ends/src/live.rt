@@ -14,9 +14,6 @@ use std::net::{Ipv4Addr, Net, SocketAddr, SocketAddrV4};
 use std::rt::Clock;
 use surroundings::{Fault, Surroundings, Told};
 
-/// What is answered to a line that asks for the program's end, and isn't from the loopback.
-pub const STOP_FROM_AFAR: &[u8] = b"! stop is taken from a loopback address alone, 127.0.0.0/8\n";
-
 /// A socket for datagrams, another for lines of who types, and the machine's clock. What went over sockets isn't told.
 pub struct Live<'a, R> {
     pub rt: &'a R,

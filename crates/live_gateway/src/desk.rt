@@ -23,11 +23,12 @@ use crate::exchange::Exchange;
 use crate::turn_parts::{answer_act, note_datagram, note_taken, situation, take_from_page, typist};
 use crate::visitors::Visitors;
 use gateway_core::DATAGRAM_ROOM;
+use live_ends::DONE;
 use live_journal::{Recorder, report_with};
 use live_play::LivePlay;
 use live_telephones::{
-    DONE, PHONES_FROM_AFAR, TelephoneRequest, Watch, all_shown, answer_put, lost_of,
-    question_answer, request_in, short_answer, show,
+    PHONES_FROM_AFAR, TelephoneRequest, Watch, all_shown, answer_put, lost_of, question_answer,
+    request_in, short_answer, show,
 };
 use std::alloc::{AllocError, Global};
 use surroundings::{Lines, Surroundings, Teller};

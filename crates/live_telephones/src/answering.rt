@@ -14,16 +14,13 @@ use crate::picture::picture_of;
 use crate::telephones::TelephoneRequest;
 use gateway_core::{Gateway, Refusal};
 use line_changes::MOST_WATCHERS;
-use live_ends::STOP_FROM_AFAR;
+use live_ends::{DONE, NO_MEMORY, STOP_FROM_AFAR};
 use live_journal::Journal;
 use live_play::put_shown;
 use message_counts::Faults;
 use mg_bytes::{Draft, OutOfMemory};
 use std::alloc::Global;
 use surroundings::{Lines, Surroundings};
-
-/// The answer to an act that was done.
-pub const DONE: &[u8] = b"done\n";
 
 /// The answer to a line that says nothing that can be done.
 pub const UNKNOWN: &[u8] =
@@ -32,9 +29,6 @@ pub const UNKNOWN: &[u8] =
 /// The answer to whatever comes from another machine, where the telephones aren't open to that.
 pub const PHONES_FROM_AFAR: &[u8] =
     b"! the telephones are for a loopback address alone, 127.0.0.0/8, but with --phones-open\n";
-
-/// The answer where memory is refused for any other, and what who watches is told then.
-pub const OUT_OF_MEMORY: &[u8] = b"! 1 OutOfMemory\n";
 
 /// The answer to who wants to watch where as many watch as may.
 pub(crate) fn full_answer(alloc: Global) -> Result<Vec<u8>, OutOfMemory>
@@ -65,7 +59,7 @@ pub fn short_answer(request: TelephoneRequest) -> &'static [u8]
 {
     match request {
         TelephoneRequest::StopFromAfar => STOP_FROM_AFAR,
-        TelephoneRequest::OutOfMemory => OUT_OF_MEMORY,
+        TelephoneRequest::OutOfMemory => NO_MEMORY,
         _ => UNKNOWN,
     }
 }
@@ -84,7 +78,7 @@ pub fn answer_put<S: Surroundings>(
 {
     match answer {
         Ok(answer) => lines.answer(around, answer.as_slice()),
-        Err(_) => lines.answer(around, OUT_OF_MEMORY),
+        Err(_) => lines.answer(around, NO_MEMORY),
     }
 }
 
@@ -96,7 +90,7 @@ pub fn act_answer(done: Result<(), Refusal>, printed: &[u8]) -> &[u8]
 {
     match done {
         Ok(()) => DONE,
-        Err(Refusal::OutOfMemory) => OUT_OF_MEMORY,
+        Err(Refusal::OutOfMemory) => NO_MEMORY,
         Err(_) => printed,
     }
 }
@@ -108,7 +102,7 @@ pub fn question_answer(asked: Result<(), OutOfMemory>, printed: &[u8]) -> &[u8]
 {
     match asked {
         Ok(()) => printed,
-        Err(_) => OUT_OF_MEMORY,
+        Err(_) => NO_MEMORY,
     }
 }
 

@@ -11,7 +11,7 @@ pub mod view_examples;
 mod watch;
 
 pub use crate::answering::{
-    DONE, PHONES_FROM_AFAR, act_answer, all_shown, answer_put, question_answer, short_answer, show,
+    PHONES_FROM_AFAR, act_answer, all_shown, answer_put, question_answer, short_answer, show,
     take_act,
 };
 pub use crate::losses::lost_of;

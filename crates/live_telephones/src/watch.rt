@@ -9,12 +9,13 @@ ghost use Rattle.surroundings.specs.Hearing.{AnswersTo};
 ghost use Rattle.live_telephones.specs.Asking.{usage};
 ghost use Rattle.live_telephones.specs.Watching.{changes_behind, sender_at, TellsEach, WatchesOn, AnswersWatch};
 
-use crate::answering::{OUT_OF_MEMORY, UNKNOWN, full_answer};
+use crate::answering::{UNKNOWN, full_answer};
 use crate::seeing::seen_line;
 use gateway_core::Gateway;
 use line_changes::{
     Change, ChangeText, SeenLine, Watcher, Watchers, put_changes, put_watching, told_at,
 };
+use live_ends::NO_MEMORY;
 use mg_bytes::OutOfMemory;
 use std::alloc::Global;
 use std::net::{SocketAddr, SocketAddrV4};
@@ -236,7 +237,7 @@ impl Watch {
         match self.tell_lines(alloc, around, gateway) {
             Ok(()) => {}
             Err(_) => {
-                tell_all(around, &self.watchers.places, now, OUT_OF_MEMORY);
+                tell_all(around, &self.watchers.places, now, NO_MEMORY);
                 self.watchers.clear();
             }
         }
