@@ -1,5 +1,5 @@
 -- How a program ends, as far as programs have that in common.
-use Rattle.std.specs.Prelude.{ℕ, Bool, true, false, codes, List, [], ◌∷◌}
+use Rattle.std.specs.Prelude.{ℕ, nat_lt, Bool, true, false, if◌then◌else◌, codes, List, [], ◌∷◌}
 use Rattle.std.specs.List.{flat_map}
 use Rattle.std.specs.Net.Text.{socket_v4_text}
 use Rattle.std.specs.declared.io.ErrorKind.{ErrorKind}
@@ -31,6 +31,10 @@ status_of (Unbound word address kind) = 3
 status_of Clock = 3
 status_of Write = 3
 status_of OutOfMemory = 3
+
+-- So it ends that served: memory was refused for something that is recorded; or a record couldn't be written; or all is written
+abbrev pub served_ending : Bool → ℕ → CommonEnding
+served_ending is_refused faults = if is_refused then OutOfMemory else (if nat_lt 0 faults then Write else Served)
 
 -- What is said
 

@@ -2,12 +2,14 @@
 ghost use Rattle.std.specs.Prelude.{◌≡◌, ◌≢◌, ◌++◌, Ok, Err, Some, None, OnOk, IfOk, IfErr, IfSome};
 ghost use Rattle.std.specs.Net.Grammar.{IsSocketV4Text};
 ghost use Rattle.bad_network.specs.Parts.{spoiling_of};
-ghost use Rattle.live_ends.specs.Ending.{status_of, is_asked, bad_address_text, bad_network_text, refused_text, unbound_text, ending_text};
+ghost use Rattle.live_ends.specs.Written.{faults_in};
+ghost use Rattle.live_ends.specs.Ending.{status_of, is_asked, served_ending, bad_address_text, bad_network_text, refused_text, unbound_text, ending_text};
 
 use crate::address_words::AddressWord;
 use crate::network_faults::wanted_by;
 use crate::reasons::reason_of;
 use crate::wording::put_pieces;
+use crate::written::Written;
 use bad_network::{Spoiling, SpoilingFault};
 use exchange_log::peer_text;
 use mg_bytes::OutOfMemory;
@@ -121,6 +123,20 @@ impl CommonEnding {
             | CommonEnding::Write
             | CommonEnding::OutOfMemory => false,
         }
+    }
+
+    /// It served, and memory was refused for something that is recorded, or wasn't; this became of what was recorded. Of a record that
+    /// couldn't be written it was said at once.
+    pub fn of_records(is_refused: bool, written: Written) -> CommonEnding
+        ensures { result ≡ served_ending is_refused (faults_in written) }
+    {
+        if is_refused {
+            return CommonEnding::OutOfMemory;
+        }
+        if written.faults() > 0 {
+            return CommonEnding::Write;
+        }
+        CommonEnding::Served
     }
 
     /// The system doesn't give it its words, by an error of this kind: unless memory was refused it is as if they were other words.

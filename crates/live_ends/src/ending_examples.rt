@@ -14,7 +14,7 @@ ghost use Rattle.live_ends.specs.declared.ending.About.{About};
 ghost use Rattle.live_ends.specs.declared.ending.FileNames.{FileNames};
 ghost use Rattle.live_ends.specs.declared.ending.CommonEnding.TheVariants.{Served, Help, Version, Usage, Told, BadAddress, BadNetwork, Unreadable, Unwritable, Unbound, Clock, Write, OutOfMemory};
 ghost use Rattle.live_ends.specs.AddressWords.{word_text};
-ghost use Rattle.live_ends.specs.Ending.{status_of, is_asked, ending_text};
+ghost use Rattle.live_ends.specs.Ending.{status_of, is_asked, served_ending, ending_text};
 ghost use Rattle.live_ends.specs.NetworkFaults.{wanted_by};
 ghost use Rattle.live_ends.specs.Reasons.{reason_of};
 ghost use Rattle.live_ends.specs.Wording.{piece_text};
@@ -41,6 +41,15 @@ pub fn each_sentence_has_an_example()
     ensures words_ask_for_help_and_version_unwritten { (kind : ErrorKind) → is_asked (Unwritable kind) ≡ false }
     ensures words_ask_for_help_and_version_unbound { (word : AddressWord) (address : SocketAddrV4) (kind : ErrorKind) →
         is_asked (Unbound word address kind) ≡ false }
+{}
+
+/// How it ends that served, at examples.
+pub fn each_way_to_have_served_has_an_example()
+    ensures all_is_written { served_ending false 0 ≡ Served }
+    ensures one_record_failed { served_ending false 1 ≡ Write }
+    ensures more_failed { served_ending false 3 ≡ Write }
+    ensures memory_was_refused { served_ending true 0 ≡ OutOfMemory }
+    ensures memory_is_told_first { served_ending true 1 ≡ OutOfMemory }
 {}
 
 /// Each sentence at an example.
