@@ -1,5 +1,5 @@
--- When a desk comes to its end.
-use Rattle.std.specs.Prelude.{◌≡◌, ℕ, zero, suc, Bool, true, false, bytes_eq, codes, List, [], ◌∷◌, Option, IsSomeAnd}
+-- When a desk comes to its end, and how the program ends then.
+use Rattle.std.specs.Prelude.{◌≡◌, ◌⊎◌, ◌||◌, ℕ, zero, suc, Bool, true, false, bytes_eq, codes, List, [], ◌∷◌, Option, IsSomeAnd}
 use Rattle.std.specs.Net.Addr.{IsLoopbackV4, IsLoopbackV6, MatchIp}
 use Rattle.std.specs.Net.Socket.{socket_ip}
 use Rattle.mg_bytes.specs.Lines.{line_of}
@@ -10,6 +10,14 @@ use Rattle.plain_machine.specs.Lists.{plain}
 use Rattle.gateway_core.specs.GatewayState.{GatewayState}
 use Rattle.gateway_core.specs.Stands.{Stands}
 use Rattle.turns.specs.Clock.{has_come}
+use Rattle.live_ends.specs.declared.ending.CommonEnding.{CommonEnding}
+use Rattle.live_ends.specs.declared.ending.CommonEnding.TheVariants.{OutOfMemory}
+use Rattle.live_ends.specs.declared.written.Written.{Written}
+use Rattle.live_ends.specs.Ending.{served_ending}
+use Rattle.live_ends.specs.Recording.{is_refused}
+use Rattle.live_ends.specs.Written.{faults_in}
+use Rattle.live_journal.specs.declared.journal.Journal.{Journal}
+use Rattle.live_journal.specs.declared.trace.Trace.{Trace}
 
 -- ticks of the gateway have come to the end, or they haven't, whatever events it stands for
 abbrev pub EndsAt : Option ℕ → GatewayState → Bool → Type 0
@@ -30,3 +38,14 @@ abbrev pub AsksForEnd : Lines → Type 0
 AsksForEnd lines =
     (is_stop (left_of lines) ≡ true)
     × IsSomeAnd lines.sender (λ sender. MatchIp (socket_ip sender) IsLoopbackV4 IsLoopbackV6)
+
+-- memory was refused for something that is recorded: for the trace, the log or the capture
+abbrev pub is_record_refused : Trace → Journal → Bool
+is_record_refused trace journal =
+    is_refused trace.record.state || (is_refused journal.log.value.record.state || is_refused journal.capture.value.record.state)
+
+-- what was recorded is written to its end by who was told these last words; or memory was refused for them, and nobody is told any
+abbrev pub EndsWith : {W : Type 0} → (List ℕ → W → Written → W → Type 0) → Bool → W → W → CommonEnding → Type 0
+EndsWith ends is_refused was is ending =
+    ((is ≡ was) × (ending ≡ OutOfMemory))
+    ⊎ ((last : List ℕ) × (written : Written) × ends last was written is × (ending ≡ served_ending is_refused (faults_in written)))

@@ -8,6 +8,7 @@
 mod admission;
 mod arriving;
 mod desk;
+mod ending;
 mod exchange;
 mod naming;
 mod opening;
@@ -18,6 +19,7 @@ mod visitors;
 
 pub use crate::admission::{Admission, speakers_of};
 pub use crate::desk::Desk;
+pub use crate::ending::end_desk;
 pub use crate::exchange::Exchange;
 pub use crate::naming::agents_line;
 pub use crate::opening::{DeskSettings, open_desk};

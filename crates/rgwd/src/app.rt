@@ -12,18 +12,17 @@ use crate::words::read_words;
 use exchange_log::put_peer;
 use gateway_core::Gateway;
 use live_ends::{
-    CaptureFiles, CommonEnding, Live, LiveClock, Outlets, Parting, begin, end, open_capture,
-    read_file,
+    CaptureFiles, CommonEnding, Live, LiveClock, Parting, begin, end, open_capture, read_file,
 };
-use live_gateway::{Desk, agents_line, boxed, open_desk};
-use live_journal::{Journal, Trace};
+use live_gateway::{Desk, agents_line, boxed, end_desk, open_desk};
+use live_journal::Trace;
 use live_page::{PageProgram, Reception, run_with_site};
 use mg_bytes::Draft;
 use rgw_scenes::{flaw_of, read_config, told, told_setup};
 use rgw_scripts::LIMIT;
 use rgwd_words::{Begun, Ending, Said, Settings, Start};
 use std::alloc::{AllocError, Global};
-use std::io::{ErrorKind, Write};
+use std::io::ErrorKind;
 use std::net::{Net, SocketAddrV4};
 use std::os::fd::AsRawFd;
 use std::random::RandomSource;
@@ -86,32 +85,6 @@ fn begin_records<R: Files + Alloc + Clone + Drop>(
     Ok(())
 }
 
-// Writes what was recorded, says what was counted, and gives how the program ends that served: whether all its records were written to
-// their ends. Of one that couldn't be written it was said at once.
-fn finish<R: Clock, F: Write + Drop>(
-    rt: &R,
-    counts: Result<Vec<u8>, AllocError>,
-    journal: &Journal,
-    trace: &Trace,
-    time: u64,
-    outlets: &mut Outlets<F>,
-) -> Ending {
-    let Ok(counts) = counts else {
-        return Ending::Common(CommonEnding::OutOfMemory);
-    };
-    outlets.finish(rt, counts.as_slice(), time);
-    if trace.record.is_refused()
-        || journal.log.record.is_refused()
-        || journal.capture.record.is_refused()
-    {
-        return Ending::Common(CommonEnding::OutOfMemory);
-    }
-    if outlets.written().faults() > 0 {
-        return Ending::Common(CommonEnding::Write);
-    }
-    Ending::Common(CommonEnding::Served)
-}
-
 // Waits as long as a start waits, before its clock begins: so what is recorded of the gateway doesn't tell it. Whether the clock began.
 fn wait_first<R: Clock>(rt: &R, clock: &mut LiveClock<'_, R>, begun: Begun) -> bool {
     match begun.waits {
@@ -135,22 +108,7 @@ fn serve_desk<R: Files + Net + Clock + RandomSource, P: Reception>(
         return Ending::Common(CommonEnding::Clock);
     }
     desk.run(visitors, recording);
-    desk.play.end();
-    desk.write(recording);
-    let counts = desk.counts();
-    let exchange = &desk.exchange;
-    let time = exchange.now.time;
-    let outlets = &mut recording.outlets;
-    let ending = finish(
-        rt,
-        counts,
-        &exchange.journal,
-        &desk.play.teller,
-        time,
-        outlets,
-    );
-    desk.answer_stop();
-    ending
+    Ending::Common(end_desk(rt, desk, recording))
 }
 
 // What this gateway will be, who may speak to it, and its sockets.

@@ -2,10 +2,10 @@
 ghost use Rattle.std.specs.Prelude.{◌≡◌, ◌&&◌, not};
 ghost use Rattle.mg_bytes.specs.Lists.{is_empty};
 
-use live_ends::{CaptureFiles, Outlets};
+use live_ends::{CaptureFiles, Finisher, Outlets, Written};
 use live_journal::{Journal, Recorder, Trace};
 use std::io::Write;
-use std::rt::Files;
+use std::rt::{Clock, Files};
 
 /// The outlets of a program, and the files of its gateway's capture, where that is parted; and what makes these.
 #[derive(Drop)]
@@ -89,5 +89,15 @@ impl<R: Files> Recorder<Trace> for Recording<R> {
             && is_empty self.now.outlets.error.value.backlog.waiting) }
     {
         !self.outlets.are_taken()
+    }
+}
+
+impl<R: Files> Finisher for Recording<R> {
+    ghost use Rattle.std.specs.Prelude.{⊤};
+
+    ghost ends = { λ last was written is. ⊤ };
+
+    fn end_with<C: Clock>(&mut self, rt: &C, last: &[u8], moment: u64) -> Written {
+        self.outlets.end_with(rt, last, moment)
     }
 }
