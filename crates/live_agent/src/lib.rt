@@ -37,6 +37,6 @@ pub use crate::json::fault_text;
 pub use crate::loading::{LoadEnding, load_agent, load_over};
 pub use crate::phones::{Played, play_phones};
 pub use crate::recorder::Recorder;
-pub use crate::serving::{WireSettings, serve_agent, serve_config, wire_over};
+pub use crate::serving::{WireSettings, serve_agent, serve_over, wire_over};
 pub use crate::telephone::Telephone;
 pub use crate::wire::Wire;

@@ -1,5 +1,7 @@
 //! Serves a call agent from its opening to its end.
 ghost use Rattle.std.specs.Prelude.{◌≡◌, IfOk};
+ghost use Rattle.live_agent.specs.Ending.{is_record_refused, ending_of};
+ghost use Rattle.live_ends.specs.Written.{faults_in};
 
 use crate::recorder::Recorder;
 use crate::session::serve;
@@ -8,7 +10,9 @@ use crate::wire::Wire;
 use agent_texts::{AgentConfig, Journal};
 use bad_network::{BadNetwork, Spoiling};
 use exchange_log::put_peer;
-use live_ends::{CommonEnding, Live, Outlets, SocketWanted, boxed, open_capture};
+use live_ends::{
+    CommonEnding, Finisher, Live, Outlets, SocketWanted, Written, boxed, open_capture,
+};
 use mg_bytes::{Draft, OutOfMemory};
 use std::alloc::Global;
 use std::io::Write;
@@ -81,25 +85,105 @@ pub(crate) fn open_wire<'a, R: Net + Clock>(
     }
 }
 
+// The desk of a configuration's gateways, which routes calls between their lines where that is asked for; or how the program ends where
+// there is none.
+fn board_of<S: Surroundings + Drop>(
+    alloc: Global,
+    config: &AgentConfig,
+    is_routed: bool,
+    wire: &Wire<S>,
+) -> Result<Switchboard, CommonEnding> {
+    let time = wire.now.time / MICROSECONDS;
+    match Switchboard::of(alloc, config, is_routed, time) {
+        Ok(board) => Ok(board),
+        Err(_) => Err(CommonEnding::OutOfMemory),
+    }
+}
+
 /// Serves the gateways of a configuration over a wire until the end, and routes calls between their lines where that is asked for. What
 /// is recorded is written after each turn. How the program ends then.
-pub fn serve_config<S: Surroundings + Drop, W: Recorder>(
+pub(crate) fn serve_config<S: Surroundings + Drop, W: Recorder>(
     alloc: Global,
     config: &AgentConfig,
     is_routed: bool,
     wire: &mut Wire<S>,
     recorder: &mut W,
 ) -> CommonEnding {
-    let time = wire.now.time / MICROSECONDS;
-    let mut board = match Switchboard::of(alloc, config, is_routed, time) {
+    let mut board = match board_of(alloc, config, is_routed, wire) {
         Ok(board) => board,
-        Err(_) => return CommonEnding::OutOfMemory,
+        Err(ending) => return ending,
     };
     let served = serve(alloc, &mut board, wire, recorder);
     board.close();
     match served {
         Ok(()) => CommonEnding::Served,
         Err(_) => CommonEnding::Clock,
+    }
+}
+
+// Whether memory was refused for something that is recorded.
+fn is_record_refused(journal: &Journal) -> bool
+    ensures { result ≡ is_record_refused journal.now }
+{
+    journal.told.is_refused() || journal.log.is_refused() || journal.capture.is_refused()
+}
+
+// How the program ends, where the clock has failed or hasn't, and memory was refused for something that is recorded, or wasn't; this became
+// of what was recorded. Of a record that couldn't be written it was said at once.
+fn ending_of(has_failed: bool, is_refused: bool, written: Written) -> CommonEnding
+    ensures { result ≡ ending_of has_failed is_refused (faults_in written) }
+{
+    if has_failed {
+        return CommonEnding::Clock;
+    }
+    CommonEnding::of_records(is_refused, written)
+}
+
+// Writes what was recorded to its end, and behind it what was counted: how the program ends, where the clock has failed or hasn't.
+fn finish<R: Clock, W: Recorder + Finisher>(
+    rt: &R,
+    journal: &mut Journal,
+    recorder: &mut W,
+    time: u64,
+    has_failed: bool,
+) -> CommonEnding {
+    recorder.write(journal, time);
+    let Ok(counts) = journal.counts() else {
+        return CommonEnding::OutOfMemory;
+    };
+    let written = recorder.end_with(rt, counts.as_slice(), time);
+    ending_of(has_failed, is_record_refused(journal), written)
+}
+
+// Serves with this desk until the end, and writes what was recorded to its end, and behind it what was counted: how the program ends. The
+// desk is let go.
+fn serve_to_end<R: Clock, S: Surroundings + Drop, W: Recorder + Finisher>(
+    rt: &R,
+    alloc: Global,
+    mut board: Switchboard,
+    wire: &mut Wire<S>,
+    recorder: &mut W,
+) -> CommonEnding {
+    let served = serve(alloc, &mut board, wire, recorder);
+    board.close();
+    let time = wire.around.time();
+    finish(rt, &mut wire.journal, recorder, time, served.is_err())
+}
+
+/// Serves the gateways of a configuration over a wire until the end, and routes calls between their lines where that is asked for. What
+/// is recorded is written after each turn, and at the end to its end, and behind it what was counted, for as long as this clock lets wait
+/// for that. How the program ends then.
+pub fn serve_over<R: Clock, S: Surroundings + Drop, W: Recorder + Finisher>(
+    rt: &R,
+    alloc: Global,
+    config: &AgentConfig,
+    is_routed: bool,
+    wire: &mut Wire<S>,
+    recorder: &mut W,
+) -> CommonEnding {
+    match board_of(alloc, config, is_routed, wire) {
+        Ok(board) => serve_to_end(rt, alloc, board, wire, recorder),
+        Err(ending) => ending,
     }
 }
 
@@ -125,50 +209,6 @@ fn tell_addresses<R: Net + Clock, F: Write + Drop>(
     outlets.offer();
 }
 
-// How the program ends that served: whether all records were written to their ends. Of one that couldn't be written it was said at once.
-fn served_ending<F: Write + Drop>(journal: &Journal, outlets: &Outlets<F>) -> CommonEnding {
-    if journal.told.is_refused() || journal.log.is_refused() || journal.capture.is_refused() {
-        return CommonEnding::OutOfMemory;
-    }
-    if outlets.written().faults() > 0 {
-        return CommonEnding::Write;
-    }
-    CommonEnding::Served
-}
-
-// Writes what was recorded to its end, and says on standard error what was counted: how the program ends, where the clock hasn't failed or
-// has.
-fn finish<R: Clock, F: Write + Drop>(
-    rt: &R,
-    journal: &mut Journal,
-    outlets: &mut Outlets<F>,
-    time: u64,
-    has_failed: bool,
-) -> CommonEnding {
-    journal.write(outlets, time);
-    let Ok(counts) = journal.counts() else {
-        return CommonEnding::OutOfMemory;
-    };
-    outlets.finish(rt, counts.as_slice(), time);
-    if has_failed {
-        return CommonEnding::Clock;
-    }
-    served_ending(journal, outlets)
-}
-
-// Serves until the end.
-fn serve_to_end<R: Net + Clock, F: Write + Drop>(
-    rt: &R,
-    alloc: Global,
-    board: &mut Switchboard,
-    wire: &mut Wire<Live<'_, R>>,
-    outlets: &mut Outlets<F>,
-) -> CommonEnding {
-    let served = serve(alloc, board, wire, outlets);
-    let time = wire.around.time();
-    finish(rt, &mut wire.journal, outlets, time, served.is_err())
-}
-
 // Makes the file of a capture, if one is asked for: how the program ends where there is none.
 fn begin_capture<R: Files>(
     rt: &R,
@@ -188,16 +228,17 @@ fn begin_capture<R: Files>(
     None
 }
 
-// Makes the file of a capture, if one is asked for, once the sockets are had, and serves.
+// Makes the file of a capture, if one is asked for, once the sockets are had, and serves with this desk, which is let go.
 fn serve_captured<R: Files + Net + Clock>(
     rt: &R,
     alloc: Global,
-    board: &mut Switchboard,
+    board: Switchboard,
     wire: &mut Wire<Live<'_, R>>,
     capture: Option<&str>,
     outlets: &mut Outlets<R::File>,
 ) -> CommonEnding {
     if let Some(ending) = begin_capture(rt, alloc, &mut wire.journal, capture, outlets) {
+        board.close();
         return ending;
     }
     tell_addresses(alloc, &wire.around, outlets);
@@ -220,12 +261,9 @@ pub fn serve_agent<R: Files + Net + Clock>(
         Ok(wire) => wire,
         Err(ending) => return ending,
     };
-    let time = wire.now.time / MICROSECONDS;
-    let mut board = match Switchboard::of(alloc, config, is_routed, time) {
+    let board = match board_of(alloc, config, is_routed, &wire) {
         Ok(board) => board,
-        Err(_) => return CommonEnding::OutOfMemory,
+        Err(ending) => return ending,
     };
-    let ending = serve_captured(rt, alloc, &mut board, &mut wire, capture, outlets);
-    board.close();
-    ending
+    serve_captured(rt, alloc, board, &mut wire, capture, outlets)
 }
