@@ -8,17 +8,16 @@
 //! - `print ..` a line of standard output.
 use crate::loads::{asked_in, play_load};
 use crate::stories::{
-    Clocks, Machine, Place, Program, Records, Story, Transcript, Words, told, words_in,
+    Clocks, EndClock, Machine, Place, Program, Records, Story, Transcript, Words, told, words_in,
 };
 use agent_texts::{AgentConfig, ConfigRefusal, Journal, read_config};
-use live_agent::{Recorder, Wire, WireSettings, serve_config, wire_over};
-use live_ends::{AddressWord, CommonEnding, SocketWanted, Written};
+use live_agent::{Recorder, Wire, WireSettings, serve_over, wire_over};
+use live_ends::{AddressWord, CommonEnding, SocketWanted};
 use mg_bytes::OutOfMemory;
 use scenario_files::{Report, Titled};
 use std::alloc::{AllocError, Global};
 use std::net::{Ipv4Addr, Net, SocketAddrV4};
 use std::rc::Rc;
-use surroundings::Surroundings;
 
 // The configuration where a story says no other.
 const USUAL: &str = "own = \"127.0.0.1:2727\"
@@ -91,7 +90,8 @@ pub(crate) fn wire_of<'c>(
     Ok(wire)
 }
 
-// Serves with this configuration to the end, and puts what is given, with what was counted, where that is asked for.
+// Serves with this configuration to the end, as the program does, and puts what is given, with what was counted and the exit status, where
+// these are asked for.
 fn run(
     alloc: Global,
     config: &AgentConfig,
@@ -100,19 +100,14 @@ fn run(
     story: &Story,
     given: &mut Transcript,
 ) -> Result<bool, OutOfMemory> {
-    let mut records = Records::new(alloc, story.clocks.clone()?, Written::ALL);
-    let served = serve_config(alloc, config, is_routed, wire, &mut records);
-    if matches!(served, CommonEnding::OutOfMemory) {
+    let mut records = Records::new(alloc, story.clocks.clone()?, story.written);
+    records.is_counted = story.is_counted;
+    let clock = EndClock::over(story.clocks.as_ref());
+    let ending = serve_over(&clock, alloc, config, is_routed, wire, &mut records);
+    if matches!(ending, CommonEnding::OutOfMemory) {
         return Err(AllocError);
     }
-    let time = wire.around.time();
-    records.write(&mut wire.journal, time);
-    if story.is_counted {
-        match wire.journal.counts() {
-            Ok(counts) => records.tell(b"count ", counts.as_slice()),
-            Err(_) => given.refuse(),
-        }
-    }
+    records.tell_status(ending, story);
     given.append(&mut wire.around.given);
     records.put_given(given);
     Ok(true)

@@ -18,7 +18,7 @@
 //!   `read trace` the trace is; where the log is read late, nobody reads the trace without that.
 //! - `answer done` an answer to who usually types, `answer 10.0.0.9:5000 done` to somebody else, in a datagram of its own, of which
 //!   `and ..` is each further line; `page ..` a line of what a visitor gets; `log ..`, `trace ..`, `capture ..` what is recorded;
-//!   `count ..` what is counted at the end, and `replay ..` what a replay of the trace finds.
+//!   `count ..` what is counted at the end, `replay ..` what a replay of the trace finds, and `status 0` the exit status.
 //! - `order` of what is given at one moment lines of all kinds stand in the order in which they come; else those of each kind do.
 //! - `words --tell 127.0.0.1:2428 phone 1 off` this line is sent to these telephones, which answer by `raw ..`; `print ..` is printed of
 //!   that.
@@ -29,10 +29,12 @@ use crate::live::browsers::Browsers;
 use crate::live::telling::play_telling;
 use crate::played::settings_with;
 use crate::stories::{
-    Clocks, LateLog, Machine, Place, Program, Records, Story, Transcript, Words, told, words_in,
+    Clocks, EndClock, LateLog, Machine, Place, Program, Records, Story, Transcript, Words, told,
+    words_in,
 };
 use gateway_core::{ConfigFault, Gateway};
-use live_gateway::{Admission, Desk, DeskSettings, boxed, open_desk, speakers_of};
+use live_ends::CommonEnding;
+use live_gateway::{Admission, Desk, DeskSettings, boxed, end_desk, open_desk, speakers_of};
 use live_journal::{Journal, Recorder, Trace};
 use live_page::HostNames;
 use mg_bytes::OutOfMemory;
@@ -43,7 +45,6 @@ use std::collections::VecDeque;
 use std::mem;
 use std::net::{Ipv4Addr, Net, SocketAddrV4};
 use std::rc::Rc;
-use traces::{put_verdict, replay};
 
 /// The program `rgwd`.
 #[derive(Clone, Copy)]
@@ -151,21 +152,6 @@ fn visitors_of(
     Ok(Some(boxed(alloc, browsers)?))
 }
 
-// Puts what a replay finds of a trace, if there is one.
-fn tell_replay(alloc: Global, records: &mut Records) {
-    if records.trace.is_empty() {
-        return;
-    }
-    let Ok(verdict) = replay(alloc, records.trace.as_slice()) else {
-        return records.given.refuse();
-    };
-    let mut text = Vec::new(alloc);
-    if put_verdict(alloc, &mut text, &verdict).is_err() {
-        records.given.refuse();
-    }
-    records.tell(b"replay ", text.as_slice());
-}
-
 // The outlets of a program whose log is read late, where a story says so.
 fn late_log_of(alloc: Global, story: &Story) -> Result<Option<Box<LateLog>>, AllocError> {
     match story.reading {
@@ -180,28 +166,24 @@ fn late_log_of(alloc: Global, story: &Story) -> Result<Option<Box<LateLog>>, All
 // What becomes of what is recorded, as a story says it.
 fn records_of(alloc: Global, story: &Story) -> Result<Records, AllocError> {
     let mut records = Records::new(alloc, story.clocks.clone()?, story.written);
+    records.is_counted = story.is_counted;
     records.room = story.room;
     records.late_log = late_log_of(alloc, story)?;
     Ok(records)
 }
 
-// It has ended: what is recorded of that, what a replay of its trace finds, and what was counted, where that is asked for, or is read.
+// It has ended, as the program does; and its status is told, where a story asks for that. The only error is want of memory.
 fn end(
-    alloc: Global,
     desk: &mut Desk<Machine<'_>, Trace>,
     records: &mut Records,
-    is_counted: bool,
-) {
-    desk.play.end();
-    desk.write(records);
-    tell_replay(alloc, records);
-    if !is_counted && records.late_log.is_none() {
-        return;
+    story: &Story,
+) -> Result<(), OutOfMemory> {
+    let ending = end_desk(&EndClock::over(story.clocks.as_ref()), desk, records);
+    if matches!(ending, CommonEnding::OutOfMemory) {
+        return Err(AllocError);
     }
-    match desk.counts() {
-        Ok(counts) => records.finish(counts.as_slice(), desk.exchange.now.time),
-        Err(_) => records.given.refuse(),
-    }
+    records.tell_status(ending, story);
+    Ok(())
 }
 
 // Runs a gateway by a story, and puts what it gives. Where its end is told it tells what the program tells then. Who asked for the end is
@@ -216,10 +198,11 @@ fn run(
 ) -> Result<bool, OutOfMemory> {
     let mut records = records_of(alloc, story)?;
     desk.run(visitors, &mut records);
-    if is_ended || story.is_counted {
-        end(alloc, desk, &mut records, story.is_counted);
+    if is_ended || story.is_counted || story.has_status {
+        end(desk, &mut records, story)?;
+    } else {
+        desk.answer_stop();
     }
-    desk.answer_stop();
     given.append(&mut desk.exchange.around.given);
     if let Some(browsers) = visitors {
         given.append(&mut browsers.given);

@@ -11,7 +11,7 @@ mod story;
 mod transcript;
 mod words;
 
-pub use crate::stories::clocks::Clocks;
+pub use crate::stories::clocks::{Clocks, EndClock};
 pub use crate::stories::given::put_sent;
 pub use crate::stories::late_log::LateLog;
 pub use crate::stories::machine::{Machine, Plan};

@@ -1,12 +1,13 @@
 //! A log and a trace that are kept as the program keeps them, and read late, or never.
-use crate::stories::clocks::{Clocks, EndClock};
+use crate::stories::clocks::Clocks;
 use crate::stories::transcript::Transcript;
-use live_ends::{Outlet, Outlets, Stream};
+use live_ends::{Finisher, Outlet, Outlets, Stream, Written};
 use live_journal::{Journal, Trace};
 use std::alloc::{AllocError, Global};
 use std::cell::Cell;
 use std::io::{self, ErrorKind, Write};
 use std::rc::Rc;
+use std::rt::Clock;
 
 /// When somebody begins to read, in ms, and how many bytes wait for that from the start.
 #[derive(Clone, Copy)]
@@ -146,8 +147,8 @@ impl LateLog {
     }
 
     /// Offers what waits, and behind it these last words, as the program does at its end, at this time.
-    pub fn finish(&mut self, clocks: &Clocks, last: &[u8], time: u64) {
-        self.outlets.finish(&EndClock::over(clocks), last, time);
+    pub fn end_with<R: Clock>(&mut self, rt: &R, last: &[u8], time: u64) -> Written {
+        self.outlets.end_with(rt, last, time)
     }
 
     /// Whether something waits to be read.

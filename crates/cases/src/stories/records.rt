@@ -2,11 +2,14 @@
 use crate::stories::Transcript;
 use crate::stories::clocks::Clocks;
 use crate::stories::late_log::LateLog;
-use live_ends::{Record, TEXT_ROOM, Written};
+use crate::stories::story::Story;
+use live_ends::{CommonEnding, Finisher, Record, TEXT_ROOM, Written};
 use live_journal::{Journal, Trace};
+use mg_bytes::Draft;
 use std::alloc::Global;
 use std::rc::Rc;
-use traces::broken_off_line;
+use std::rt::Clock;
+use traces::{broken_off_line, put_verdict, replay};
 
 /// What was recorded.
 #[derive(Drop)]
@@ -20,6 +23,8 @@ pub struct Records {
     pub room: usize,
     /// What is said to become of it.
     pub written: Written,
+    /// Whether it is told what was counted at the end.
+    pub is_counted: bool,
     /// A log and a trace that are read late.
     pub late_log: Option<Box<LateLog>>,
 }
@@ -34,6 +39,7 @@ impl Records {
             trace: Vec::new(alloc),
             room: TEXT_ROOM,
             written,
+            is_counted: false,
             late_log: None,
         }
     }
@@ -86,13 +92,30 @@ impl Records {
         record.out.clear();
     }
 
-    /// It ends at this time, with these last words on standard error, which are what was counted.
-    pub fn finish(&mut self, counts: &[u8], time: u64) {
-        if let Some(late_log) = &mut self.late_log {
-            late_log.finish(self.clocks.as_ref(), counts, time);
+    // Tells what a replay finds of a trace, if there is one.
+    fn tell_replay(&mut self) {
+        if self.trace.is_empty() {
             return;
         }
-        self.tell(b"count ", counts);
+        let Ok(verdict) = replay(self.alloc, self.trace.as_slice()) else {
+            return self.given.refuse();
+        };
+        let mut text = Vec::new(self.alloc);
+        if put_verdict(self.alloc, &mut text, &verdict).is_err() {
+            self.given.refuse();
+        }
+        self.tell(b"replay ", text.as_slice());
+    }
+
+    /// Tells with which status the program ends, where a story asks for that.
+    pub fn tell_status(&mut self, ending: CommonEnding, story: &Story) {
+        if story.has_status {
+            let mut text = Draft::new(self.alloc);
+            text.put(b"status ");
+            text.put_decimal(u64::from(ending.status()));
+            text.put(b"\n");
+            self.given.put(self.clocks.stamp(), text);
+        }
     }
 
     /// Puts what was given.
@@ -101,5 +124,22 @@ impl Records {
             late_log.put_read(given);
         }
         given.append(&mut self.given);
+    }
+}
+
+impl Finisher for Records {
+    ghost use Rattle.std.specs.Prelude.{⊤};
+
+    ghost ends = { λ last was written is. ⊤ };
+
+    fn end_with<R: Clock>(&mut self, rt: &R, last: &[u8], moment: u64) -> Written {
+        self.tell_replay();
+        if let Some(late_log) = &mut self.late_log {
+            return late_log.end_with(rt, last, moment);
+        }
+        if self.is_counted {
+            self.tell(b"count ", last);
+        }
+        self.written
     }
 }

@@ -61,6 +61,8 @@ pub struct Story {
     places: u64,
     /// Whether it is said what was counted at the end.
     pub is_counted: bool,
+    /// Whether it is said with which status it ends.
+    pub has_status: bool,
     /// The moment of which was told last, in ms.
     pub moment: u64,
     // Where the next line stands.
@@ -205,6 +207,7 @@ impl Story {
             is_ordered: false,
             places: 0,
             is_counted: false,
+            has_status: false,
             moment: 0,
             place: LinePlace::Between,
             usual: at.peer,
@@ -359,6 +362,7 @@ impl Story {
     // This is to be given.
     fn want(&mut self, word: &str, line: &str) {
         self.is_counted = self.is_counted || is_word(word, "count");
+        self.has_status = self.has_status || is_word(word, "status");
         let at = self.stamp();
         self.wanted.tell(at, b"", line.as_bytes());
     }

@@ -4,8 +4,8 @@ use mg_bytes::{Draft, OutOfMemory};
 use std::alloc::{AllocError, Global};
 
 // What stands before the lines of each kind, in the order in which those of one moment are told, behind what is sent and answered.
-const KINDS: [&str; 7] = [
-    "page ", "trace ", "print ", "log ", "capture ", "replay ", "count ",
+const KINDS: [&str; 8] = [
+    "page ", "trace ", "print ", "log ", "capture ", "replay ", "count ", "status ",
 ];
 
 // What is given at a moment, in ms, behind so much that was given before: whole lines of one kind, which has this place among the kinds.
