@@ -1,32 +1,14 @@
 //! Plays steps at a gateway, and prints what they show.
-ghost use Rattle.std.specs.Prelude.{◌≡◌, ◌≤◌, ◌∷◌, [], List, length, OnOk, Some, replicate};
-ghost use Rattle.plain_machine.specs.Event.{GatewayEvent, datagram, event_of};
-ghost use Rattle.plain_machine.specs.Lists.{plain};
-ghost use Rattle.gateway_core.specs.Stands.{Stands};
-ghost use Rattle.rgw_scripts.specs.Status.{status_of};
+ghost use Rattle.std.specs.Prelude.{◌≡◌, ◌≤◌, ◌∷◌, [], length, OnOk, replicate};
+ghost use Rattle.plain_machine.specs.Event.{datagram, event_of};
 ghost use Rattle.rgw_scripts.specs.Moves.{give, pass, ask, sends, refuses, moves_of_wait, moves_of, all_moves};
 
 use gateway_core::{Event, Gateway, Outputs, Refusal};
+use line_status::status_of;
 use mg_bytes::OutOfMemory;
-use rgw_scripts::{LineStatus, Link, ScriptStep, StepFault, put_datagrams, put_line, put_refusal};
+use rgw_scripts::{Link, ScriptStep, StepFault, put_datagrams, put_line, put_refusal};
 use std::alloc::Global;
 use std::net::SocketAddrV4;
-
-// What a line, from 1 to the number of lines, is.
-fn status_of(gateway: &Gateway, line: u16) -> LineStatus<'_>
-    requires low { 1 ≤ line }
-    requires high { line ≤ gateway.now.setup.names.lines }
-    ensures { (events : List GatewayEvent) → Stands gateway.now events →
-        status_of (plain gateway.now.setup events) line ≡ Some result }
-{
-    LineStatus {
-        line,
-        hook: gateway.hook(line),
-        signals: gateway.signals(line),
-        connections: gateway.connections(line),
-        lost: gateway.lost(line),
-    }
-}
 
 /// Plays steps at a gateway and prints what they show. After an error it isn't used again.
 #[derive(Drop)]

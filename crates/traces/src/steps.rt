@@ -1,17 +1,15 @@
 //! What a gateway shows at the steps of a trace, as a trace has it.
-ghost use Rattle.std.specs.Prelude.{◌≡◌, ◌≢◌, ◌≤◌, List, None, Some, IfOk, MatchOption, MatchResult};
+ghost use Rattle.std.specs.Prelude.{◌≡◌, ◌≢◌, ◌≤◌, None, IfOk, MatchOption, MatchResult};
 ghost use Rattle.std.specs.List.{flat_map};
-ghost use Rattle.plain_machine.specs.Event.{GatewayEvent, event_of};
-ghost use Rattle.plain_machine.specs.Lists.{plain};
-ghost use Rattle.gateway_core.specs.Stands.{Stands};
+ghost use Rattle.plain_machine.specs.Event.{event_of};
 ghost use Rattle.rgw_scripts.specs.Moves.{give, ask};
 ghost use Rattle.rgw_scripts.specs.Printing.{printed_line, refusal_line, shown_line};
-ghost use Rattle.rgw_scripts.specs.Status.{status_of};
 ghost use Rattle.traces.specs.Telling.{told_output, told_text};
 ghost use Rattle.traces.specs.Replaying.{move_in, Showed, Plays};
 
 use crate::telling::{put_outputs, put_shown};
 use gateway_core::{Event, Gateway, OutDatagram, Outputs, Refusal};
+use line_status::status_of;
 use mg_bytes::{Draft, OutOfMemory};
 use rgw_scripts::{LineStatus, ScriptStep, put_line, put_refusal};
 use std::alloc::{AllocError, Global};
@@ -74,22 +72,6 @@ pub(crate) fn event_text(
 {
     let given = gateway.step(event);
     given_text(alloc, given)
-}
-
-// What a line, from 1 to the number of lines, is.
-fn status_of(gateway: &Gateway, line: u16) -> LineStatus<'_>
-    requires low { 1 ≤ line }
-    requires high { line ≤ gateway.now.setup.names.lines }
-    ensures { (events : List GatewayEvent) → Stands gateway.now events →
-        status_of (plain gateway.now.setup events) line ≡ Some result }
-{
-    LineStatus {
-        line,
-        hook: gateway.hook(line),
-        signals: gateway.signals(line),
-        connections: gateway.connections(line),
-        lost: gateway.lost(line),
-    }
 }
 
 // What a trace has of the answer to the question what this line is.
