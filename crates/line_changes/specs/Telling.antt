@@ -2,24 +2,14 @@
 use Rattle.std.specs.Prelude.{ℕ, ◌+◌, ◌-◌, ◌^◌, min, codes, decimal, List, [], ◌∷◌, ◌++◌, fold, Option, Some, None}
 use Rattle.std.specs.Net.Text.{socket_v4_text}
 use Rattle.std.specs.declared.net.socket_addr.SocketAddrV4.{SocketAddrV4}
-use Rattle.mg_packages.specs.declared.hook.Hook.{Hook}
-use Rattle.mg_packages.specs.declared.hook.Hook.TheVariants.{OnHook, OffHook}
 use Rattle.mg_packages.specs.Looking.{signal_name}
 use Rattle.connections.specs.Modes.{mode_text}
 use Rattle.connections.specs.Numbers.{number_text}
+use Rattle.rgw_scripts.specs.Printing.{hook_word, end_shown}
 use Rattle.line_changes.specs.declared.seen.SeenConnection.{SeenConnection}
 use Rattle.line_changes.specs.declared.change.Change.{Change}
 use Rattle.line_changes.specs.declared.change.Change.TheVariants as changes
 use Rattle.line_changes.specs.Changes.{codec_text}
-
-abbrev pub hook_word : Hook → List ℕ
-hook_word OffHook = codes "off"
-hook_word OnHook = codes "on"
-
--- `-` where no time ends a signal
-abbrev pub end_text : Option ℕ → List ℕ
-end_text None = codes "-"
-end_text (Some end) = decimal end
 
 -- `-` where the other end isn't known
 abbrev pub remote_text : Option SocketAddrV4 → List ℕ
@@ -47,7 +37,7 @@ connection_text connection = mode_part connection ++ ends_text connection ++ med
 unfoldable pub what_text : Change → List ℕ
 what_text (changes.Hook hook) = hook_word hook
 what_text (changes.Ends signal) = codes "ends " ++ signal_name signal
-what_text (changes.Begins active) = codes "begins " ++ signal_name active.signal ++ codes " until " ++ end_text active.end
+what_text (changes.Begins active) = codes "begins " ++ signal_name active.signal ++ codes " until " ++ end_shown active.end
 what_text (changes.Over number) = codes "connection " ++ number_text number ++ codes " over"
 what_text (changes.Stands connection) = connection_text connection
 

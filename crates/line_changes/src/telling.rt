@@ -1,36 +1,19 @@
 //! Tells what changed, a line for each change.
 ghost use Rattle.std.specs.Prelude.{◌≡◌, ◌++◌, [], OnOk};
 ghost use Rattle.connections.specs.Numbers.{number_text};
-ghost use Rattle.line_changes.specs.Telling.{hook_word, end_text, remote_text, ends_text, media_text, mode_part, connection_text, what_text, head_text, change_line, with_change, with_changes, watching_line};
+ghost use Rattle.line_changes.specs.Telling.{remote_text, ends_text, media_text, mode_part, connection_text, what_text, head_text, change_line, with_change, with_changes, watching_line};
 
 use crate::change::{Change, codec_text};
 use crate::seen::SeenConnection;
 use connections::{mode_text, write_number};
 use exchange_log::put_peer;
 use mg_bytes::{Draft, OutOfMemory};
-use mg_packages::{Hook, signal_name};
+use mg_packages::signal_name;
+use rgw_scripts::{hook_word, put_end};
 use signals::ActiveSignal;
 use std::alloc::Global;
 use std::marker::Model;
 use std::net::SocketAddrV4;
-
-fn hook_word(hook: Hook) -> &'static [u8]
-    ensures { result.now ≡ hook_word hook }
-{
-    match hook {
-        Hook::OffHook => b"off",
-        Hook::OnHook => b"on",
-    }
-}
-
-fn put_end(out: &mut Draft, end: Option<u64>)
-    ensures { out.new ≡ out.old ++ end_text end }
-{
-    match end {
-        Some(end) => out.put_decimal(end),
-        None => out.put(b"-"),
-    }
-}
 
 fn put_remote(out: &mut Draft, address: Option<SocketAddrV4>)
     ensures { out.new ≡ out.old ++ remote_text address }

@@ -38,6 +38,7 @@ abbrev pub hook_word : Hook → List ℕ
 hook_word OffHook = codes "off"
 hook_word OnHook = codes "on"
 
+-- `-` where no time ends a signal
 abbrev pub end_shown : Option ℕ → List ℕ
 end_shown None = codes "-"
 end_shown (Some end) = decimal end

@@ -23,7 +23,7 @@ pub use crate::acts::key_with;
 pub use crate::input::{Parts, is_too_long, parts_of, read_limited};
 pub use crate::link::{Direct, Link};
 pub use crate::played::{LinkFault, PlayFault, Played, StepFault, name_of_config_fault};
-pub use crate::printing::{put_datagrams, put_line, put_refusal};
+pub use crate::printing::{hook_word, put_datagrams, put_end, put_line, put_refusal};
 pub use crate::script::{ScriptFault, read_script};
 pub use crate::status::LineStatus;
 pub use crate::step::{ScriptLine, ScriptStep};

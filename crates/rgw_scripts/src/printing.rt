@@ -111,7 +111,8 @@ pub fn put_refusal(alloc: Global, out: &mut Vec<u8>, refusal: Refusal) -> Result
     line.append_to(out)
 }
 
-fn hook_word(hook: Hook) -> &'static [u8]
+/// The word by which it is shown how a hook is.
+pub fn hook_word(hook: Hook) -> &'static [u8]
     ensures { result.now ≡ hook_word hook }
 {
     match hook {
@@ -120,7 +121,8 @@ fn hook_word(hook: Hook) -> &'static [u8]
     }
 }
 
-fn put_end(out: &mut Draft, end: Option<u64>)
+/// Puts when a signal ends, in ms, or `-` where no time ends it.
+pub fn put_end(out: &mut Draft, end: Option<u64>)
     ensures { out.new ≡ out.old ++ end_shown end }
 {
     match end {
