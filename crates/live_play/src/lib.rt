@@ -4,14 +4,14 @@
 
 mod ends;
 mod handing;
-mod line_status;
 mod placed;
 mod play;
+mod shown_line;
 mod telling;
 mod trace_text;
 
 pub use crate::ends::Outlet;
 pub use crate::handing::FIRST_UNREAD;
-pub use crate::line_status::put_shown;
 pub use crate::play::LivePlay;
+pub use crate::shown_line::put_shown;
 pub use crate::trace_text::TraceText;

@@ -15,8 +15,8 @@ ghost use Rattle.live_play.specs.Running.{live, Ran, RanOf, HandsOut, Takes, Ref
 
 use crate::ends::Outlet;
 use crate::handing::hand_all;
-use crate::line_status::put_shown;
 use crate::placed::{Placed, tell_trace};
+use crate::shown_line::put_shown;
 use crate::telling::{refuse, tell_act, tell_answered, tell_datagram, tell_tick};
 use gateway_core::{Event, Gateway, OutDatagram, Outputs, Refusal};
 use mg_bytes::{Draft, OutOfMemory};

@@ -1,5 +1,5 @@
 use Rattle.live_play.proofs.RunLemmas.{shows_line}
-use Rattle.live_play.proofs.line_status.put_shown.Goals as goal
+use Rattle.live_play.proofs.shown_line.put_shown.Goals as goal
 
 -- what was printed of the line is what is shown of it
 pub returns : goal.returns
