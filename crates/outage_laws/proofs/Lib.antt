@@ -73,20 +73,11 @@ pub mod UnservedRoom
 pub mod UnservedSends
 pub mod EachLine
 pub mod NextDue
-mod RoomlessMachine
+pub mod RoomlessMachine
 pub mod RoomlessRounds
 pub mod RoomlessTicks
 pub mod RoomlessLine
 pub mod RoomlessHeld
-mod RoomlessFull
-mod RoomlessSteps
-mod RoomlessAnew
-mod RoomlessLate
-mod RoomlessOwn
-mod RoomlessRest
-mod RoomlessTold
-mod RoomlessEver
-mod RoomlessCopies
 pub mod CrowdedMachine
 mod CrowdedRounds
 pub mod CrowdedWorld

@@ -6,15 +6,8 @@ pub mod ToldSince
 pub mod Example
 pub mod Premises
 pub mod LinePremises
-pub mod ToldBehindExample
-pub mod ToldExactlyExample
-pub mod ResponseExample
 pub mod ToldLaterExample
-pub mod ToldSinceExample
 pub mod SinceThenExample
 pub mod Roomless
 pub mod MorePremises
-pub mod SlowExample
-pub mod SlowerExample
-pub mod SinceExample
 pub mod Crowded

@@ -3,11 +3,10 @@
 //!
 //! Nothing here runs: each law is a function without a body, whose clauses are proved for every setup and every list of steps, or of
 //! events. `specs/` says what a command of the gateway's own is sent at, what is carried, and when a network is fair from a moment on.
+//! Worked examples whose worlds no other crate uses are in `law_examples`.
 #![tactic(auto)]
 
 pub mod alone_laws;
-pub mod apart_examples;
-pub mod carried_examples;
 pub mod carrying_laws;
 pub mod examples;
 pub mod line_examples;
@@ -15,19 +14,10 @@ pub mod line_laws;
 pub mod line_premise_examples;
 pub mod more_premise_examples;
 pub mod premise_examples;
-pub mod response_examples;
 pub mod response_laws;
-pub mod roomless_examples;
-pub mod sent_examples;
-pub mod since_examples;
 pub mod since_laws;
 pub mod since_then_examples;
-pub mod slow_examples;
-pub mod told_behind_examples;
-pub mod told_exactly_examples;
 pub mod told_later_examples;
 pub mod told_later_laws;
-pub mod told_since_examples;
 pub mod told_since_laws;
-pub mod well_examples;
 pub mod well_laws;

@@ -1,0 +1,10 @@
+pub mod Computing
+mod RoomlessFull
+mod RoomlessSteps
+mod RoomlessAnew
+mod RoomlessLate
+mod RoomlessOwn
+mod RoomlessRest
+mod RoomlessTold
+mod RoomlessEver
+mod RoomlessCopies

@@ -1,0 +1,79 @@
+use Rattle.std.proofs.Common.{[], ◌∷◌, drop, refl}
+use Rattle.std.proofs.lemmas.Bool.{leb-true, ltb-true}
+use Rattle.plain_machine.specs.Event.{tick}
+use Rattle.plain_machine.specs.Example.{two_lines}
+use Rattle.world_laws.specs.Example.{world}
+use Rattle.delivery_laws.specs.DialledExample.{endpoint_then}
+use Rattle.delivery_laws.specs.Example.{asked_in_step, took_between, took_first}
+use Rattle.delivery_laws.specs.Rounds.{IsAnsweredWithin, IsAskedWithin}
+use Rattle.delivery_laws.proofs.AskingLemmas.{notifies_each}
+use Rattle.delivery_laws.proofs.ExampleLemmas.{to_agent, took_split}
+use Rattle.delivery_laws.proofs.FrontLemmas.{agent_has_room, answered_within, asked_within, not_answered}
+use Rattle.outage_laws.specs.AfterOutage.{AgentHasRoomFrom, IsFairFrom}
+use Rattle.outage_laws.specs.SinceThenExample.{KeptAllSince}
+use Rattle.law_examples.specs.ToldSinceExample.{dialled_since, rested_since, underway_since}
+use Rattle.outage_laws.specs.ToldSince.{loses_none}
+use Rattle.law_examples.proofs.Computing.{on_examples}
+use Rattle.outage_laws.proofs.FairFromExamples.{fair_from_is, room_from}
+use Rattle.outage_laws.proofs.HadTimeExamples.{flight_since}
+use Rattle.law_examples.proofs.told_since_examples.what_was_dialled_since_is_told_no_sooner.Goals as goal
+
+fair_then : IsFairFrom two_lines underway_since 28502 300
+unfolding on_examples
+fair_then = fair_from_is two_lines underway_since 28502 300 refl
+
+room_then : AgentHasRoomFrom two_lines underway_since 28502
+unfolding on_examples
+room_then = room_from two_lines underway_since 28502 (agent_has_room two_lines underway_since refl)
+
+answered_then : IsAnsweredWithin two_lines 1 (took_first dialled_since) (took_between dialled_since underway_since) 600
+unfolding on_examples
+answered_then = answered_within two_lines 1 (took_first dialled_since) (took_between dialled_since underway_since) 600 refl
+
+asked_then : IsAskedWithin two_lines 1 (took_first dialled_since) (took_between dialled_since underway_since) 100
+unfolding on_examples
+asked_then = asked_within two_lines 1 (took_first dialled_since) (took_between dialled_since underway_since) 100 refl
+
+not_at_once_then : IsAnsweredWithin two_lines 1 (took_first dialled_since) (took_between dialled_since underway_since) 0 → ⊥
+unfolding on_examples
+not_at_once_then =
+    not_answered two_lines 1 (took_first dialled_since) (took_between dialled_since underway_since) (tick 40301 ∷ []) (drop 1 (took_between dialled_since underway_since)) 0 refl refl
+
+kept_all : KeptAllSince rested_since dialled_since underway_since
+unfolding on_examples loses_none
+kept_all = record {
+  keeps = record { asked = notifies_each _ refl refl; untimed = refl; accumulated = refl; of_phone = tt; normal = λ is. refl };
+  since = (record { requested = notifies_each _ refl refl; quarantined = refl }, tt);
+  none_lost = refl;
+}
+
+pub returns : goal.returns
+unfolding on_examples
+returns c = record {
+  steps = refl;
+  calm_since = (refl, refl);
+  events = took_split two_lines asked_in_step underway_since refl;
+  asked = record {
+    undone = refl;
+    asked = record { requested = notifies_each _ refl refl; quarantined = refl };
+    since = (
+      record { requested = notifies_each _ refl refl; quarantined = refl },
+      (record { requested = notifies_each _ refl refl; quarantined = refl }, tt),
+    );
+    none_lost = refl;
+  };
+  asked_since = kept_all;
+  fair = fair_then;
+  room = room_then;
+  flew = flight_since two_lines (world underway_since) 28502 (endpoint_then underway_since).post.pending (λ text. to_agent two_lines underway_since text refl) refl;
+  split = took_split two_lines dialled_since underway_since refl;
+  answered = answered_then;
+  not_at_once = not_at_once_then;
+  asked_again = asked_then;
+  late = ltb-true _ _ refl;
+  too_soon = refl;
+  late_for_none = leb-true _ _ refl;
+  done = refl;
+  done_since = refl;
+  taken = refl;
+}

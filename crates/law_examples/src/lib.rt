@@ -1,0 +1,16 @@
+//! Worked examples of the laws of `outage_laws`: those whose worlds no other crate uses.
+//!
+//! Nothing here runs: each example is a function without a body, whose clauses are proved. `specs/` has their worlds.
+#![tactic(auto)]
+
+pub mod apart_examples;
+pub mod carried_examples;
+pub mod response_examples;
+pub mod roomless_examples;
+pub mod sent_examples;
+pub mod since_examples;
+pub mod slow_examples;
+pub mod told_behind_examples;
+pub mod told_exactly_examples;
+pub mod told_since_examples;
+pub mod well_examples;
