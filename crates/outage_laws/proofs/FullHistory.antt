@@ -1,5 +1,5 @@
 -- Where as many firsts are young as there may be, there is no room until they are old.
-use Rattle.std.proofs.Common.{◌≡◌, ℕ, zero, suc, ◌+◌, ◌<◌, ◌≤◌, Bool, if◌then◌else◌, ◌∷◌, length, replicate, refl, subst, ap, ◌∙◌, arith}
+use Rattle.std.proofs.Common.{◌≡◌, ℕ, zero, suc, ◌+◌, ◌-◌, ◌<◌, ◌≤◌, Bool, if◌then◌else◌, ◌∷◌, length, replicate, refl, subst, ap, ◌∙◌, arith}
 use Rattle.std.specs.Prelude.{All}
 use Rattle.history.specs.Arrival.{Arrival}
 use Rattle.history.specs.Firsts.{young_of}
@@ -22,13 +22,13 @@ young_at : (now : ℕ) → now < 1 + memory_time → length (young_of now full_a
 unfolding full_at_1
 young_at now soon = all_young most_firsts now 1 soon
 
-pub full_then : length (young_of 30000 full_at_1) ≡ most_firsts
-full_then = young_at 30000 (omega arith)
+pub full_then : length (young_of memory_time full_at_1) ≡ most_firsts
+full_then = young_at memory_time (omega arith)
 
 not_below : (n : ℕ) → n < n → ⊥
 not_below n less = omega (arith, less)
 
-pub no_room_then : HasRoom 30000 full_at_1 → ⊥
+pub no_room_then : HasRoom memory_time full_at_1 → ⊥
 no_room_then room = not_below most_firsts (subst (λ (n : ℕ). n < most_firsts) full_then room)
 
 each_at : (count moment : ℕ) → Each (λ (first : Arrival). first.moment ≤ moment) (replicate count (came_at moment))
@@ -47,10 +47,10 @@ none_before count all = let sooner : 1 ≤ 0 = all.0 in omega (arith, sooner)
 
 none_there : Each (λ (first : Arrival). first.moment ≤ 0) full_at_1 → ⊥
 unfolding full_at_1
-none_there all = none_before 4095 all
+none_there all = none_before (most_firsts - 1) all
 
 pub not_all_before : All (λ (first : Arrival). first.moment ≤ 0) full_at_1 → ⊥
 not_all_before all = none_there (each_from_all (λ (first : Arrival). first.moment ≤ 0) full_at_1 all)
 
-pub room_then : HasRoom 30001 full_at_1
-room_then = has_room full_at_1 1 30001 all_there (omega arith)
+pub room_then : HasRoom (1 + memory_time) full_at_1
+room_then = has_room full_at_1 1 (1 + memory_time) all_there (omega arith)
