@@ -7,8 +7,8 @@ ghost use Rattle.gateway_texts.specs.declared.outcome.Reply.TheVariants.{Silence
 ghost use Rattle.gateway_texts.specs.declared.outcome.TextOutcome.TheVariants.{NoMessage, Command, Response};
 ghost use Rattle.plain_machine.specs.declared.label.What.TheVariants as whats;
 ghost use Rattle.message_counts.specs.Example.{host, said};
-ghost use Rattle.endpoint_names.specs.declared.route.Route.TheVariants.{Two};
-ghost use Rattle.message_counts.specs.Places.{no_sends, is_sent_to};
+ghost use Rattle.endpoint_names.specs.declared.route.Route.TheVariants.{One, Two};
+ghost use Rattle.message_counts.specs.Places.{no_sends, is_sent_to, place_among, with_send, with_sends};
 ghost use Rattle.message_counts.specs.Tallying.{with_received, with_handed_out, with_stranger, CountsNoDatagram};
 ghost use Rattle.message_counts.specs.declared.message_tally.MessageTally.{MessageTally};
 ghost use Rattle.message_counts.specs.Waiting.{unanswered_after};
@@ -45,4 +45,19 @@ pub fn a_send_counts_where_it_goes()
     ensures elsewhere { is_sent_to (Two (host 7) (host 8)) 0 (said (host 8) (whats.Command Ntfy)) ≡ false }
     ensures nowhere { is_sent_to (Two (host 7) (host 8)) 4 (said (host 9) (whats.Command Ntfy)) ≡ true }
     ensures answer { is_sent_to (Two (host 7) (host 8)) 1 (said (host 8) (whats.Answer 200)) ≡ false }
+{}
+
+/// A send of a command of its own counts at the first place that its receiver has among the agent's addresses, or behind them.
+pub fn a_send_counts_at_one_place()
+    ensures first { with_send (Two (host 7) (host 8)) (replicate 5 0) (said (host 7) (whats.Command Ntfy))
+        ≡ 1 ∷ 0 ∷ 0 ∷ 0 ∷ 0 ∷ [] }
+    ensures second { with_send (Two (host 7) (host 8)) (replicate 5 0) (said (host 8) (whats.Resent Ntfy 3)) ≡ 0 ∷ 1 ∷ 0 ∷ 0 ∷ 0 ∷ [] }
+    ensures other { with_send (Two (host 7) (host 8)) (replicate 5 0) (said (host 9) (whats.Command Ntfy))
+        ≡ 0 ∷ 0 ∷ 0 ∷ 0 ∷ 1 ∷ [] }
+    ensures twice { with_send (Two (host 7) (host 7)) (replicate 5 0) (said (host 7) (whats.Command Ntfy)) ≡ 1 ∷ 0 ∷ 0 ∷ 0 ∷ 0 ∷ [] }
+    ensures answer { with_send (One (host 7)) (replicate 5 0) (said (host 7) (whats.Answer 200))
+        ≡ replicate 5 0 }
+    ensures two { with_sends (One (host 7)) (replicate 5 0) (said (host 7) (whats.Command Ntfy) ∷ said (host 7) (whats.Resent Ntfy 2) ∷ [])
+        ≡ 2 ∷ 0 ∷ 0 ∷ 0 ∷ 0 ∷ [] }
+    ensures other_port { place_among (One (host 7)) (record (host 7) { port = 2728 }) ≡ 4 }
 {}

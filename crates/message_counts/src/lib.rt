@@ -12,6 +12,7 @@ mod sent_counts;
 pub mod sent_examples;
 pub mod sent_laws;
 mod taken;
+pub mod telling_examples;
 mod text_counts;
 mod waiting;
 

@@ -6,6 +6,7 @@ pub mod examples;
 mod explaining;
 mod labelling;
 mod log;
+pub mod noting_examples;
 mod showing;
 pub mod showing_examples;
 mod spoiling;
