@@ -1,5 +1,5 @@
 -- What was counted, as it is told: a kind a line.
-use Rattle.std.specs.Prelude.{ℕ, ◌+◌, min, codes, decimal, List, [], ◌∷◌, ◌++◌}
+use Rattle.std.specs.Prelude.{ℕ, Bool, if◌then◌else◌, ◌+◌, min, codes, decimal, List, [], ◌∷◌, ◌++◌}
 use Rattle.std.specs.List.{flat_map}
 use Rattle.std.specs.Borrow.{Bor}
 use Rattle.agent_texts.specs.declared.tally.Tally.{Tally}
@@ -36,6 +36,34 @@ nothing_counted = record {
   refused = 0;
   receive_faults = 0;
   send_faults = 0;
+}
+
+-- a command was answered, a notification taken; an announcement came, or a command under a name that its gateway doesn't have; a command
+-- was given up
+abbrev pub with_answer : Tally → Tally
+with_answer tally = record tally { answered = one_more tally.answered }
+
+abbrev pub with_notification : Tally → Tally
+with_notification tally = record tally { notifications = one_more tally.notifications }
+
+abbrev pub with_announcement : Tally → Tally
+with_announcement tally = record tally { announcements = one_more tally.announcements }
+
+abbrev pub with_strange_name : Tally → Tally
+with_strange_name tally = record tally { strange_names = one_more tally.strange_names }
+
+abbrev pub with_given_up : Tally → Tally
+with_given_up tally = record tally { given_up = one_more tally.given_up }
+
+-- a datagram came
+abbrev pub with_received : Tally → Tally
+with_received tally = record tally { datagrams_in = one_more tally.datagrams_in }
+
+-- a datagram was sent, again or for the first time
+abbrev pub with_handed_out : Bool → Tally → Tally
+with_handed_out is_repeat tally = record tally {
+  datagrams_out = one_more tally.datagrams_out;
+  again = if is_repeat then one_more tally.again else tally.again;
 }
 
 -- a number with what stands before it

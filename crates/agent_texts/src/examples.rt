@@ -10,7 +10,8 @@ ghost use Rattle.exchange_log.specs.declared.note.Note.TheVariants.{Unreadable, 
 ghost use Rattle.agent_texts.specs.declared.config_fault.ValueFault.TheVariants as faults;
 ghost use Rattle.agent_texts.specs.declared.standing.Progress.TheVariants.{Ringing, Answered, Connected};
 ghost use Rattle.agent_texts.specs.declared.standing.Standing.TheVariants.{Rest, Dialling, Busy, Reorder, Caller, Called};
-ghost use Rattle.agent_texts.specs.Counts.{greatest_count, one_more, nothing_counted, told, counts_text};
+ghost use Rattle.agent_texts.specs.Counts.{greatest_count, one_more, nothing_counted, told, counts_text, with_answer, with_notification, with_announcement};
+ghost use Rattle.agent_texts.specs.Counts.{with_strange_name, with_given_up, with_received, with_handed_out};
 ghost use Rattle.agent_texts.specs.ConfigFaults.{place_by, value_text, fault_text, missing_line, unknown_line, value_line, count_line, name_line, limit_line};
 ghost use Rattle.agent_texts.specs.Standings.{stands_for, standing_of, with_change};
 ghost use Rattle.agent_texts.specs.Stations.{number_at};
@@ -149,4 +150,16 @@ pub fn texts_are_noted_by_their_headers()
     ensures bad_body_again { text_note true (codes "AUEP 7 a@b MGCP 1.0\nnoise\n") ≡ Some (SentAgain 7) }
     ensures response { text_note false (codes "200 7 OK\n") ≡ None }
     ensures response_again { text_note true (codes "200 7 OK\n") ≡ None }
+{}
+
+/// What happens counts once, and nothing else with it.
+pub fn what_happens_counts_once()
+    ensures answer { with_answer each_counted ≡ record each_counted { answered = 13 } }
+    ensures notification { with_notification each_counted ≡ record each_counted { notifications = 15 } }
+    ensures announcement { with_announcement each_counted ≡ record each_counted { announcements = 16 } }
+    ensures strange_name { with_strange_name each_counted ≡ record each_counted { strange_names = 17 } }
+    ensures given_up { with_given_up each_counted ≡ record each_counted { given_up = 14 } }
+    ensures received { with_received each_counted ≡ record each_counted { datagrams_in = 8 } }
+    ensures handed_out { with_handed_out false each_counted ≡ record each_counted { datagrams_out = 10 } }
+    ensures again { with_handed_out true each_counted ≡ record each_counted { datagrams_out = 10; again = 11 } }
 {}

@@ -4,7 +4,8 @@ ghost use Rattle.live_ends.specs.declared.record.RecordState.TheVariants as stat
 ghost use Rattle.live_ends.specs.Recording.{state_when};
 ghost use Rattle.exchange_log.specs.File.{file_head};
 ghost use Rattle.live_ends.specs.Written.{faults_in, written_line};
-ghost use Rattle.agent_texts.specs.Counts.{counts_text, nothing_counted};
+ghost use Rattle.agent_texts.specs.Counts.{counts_text, nothing_counted, with_answer, with_notification, with_announcement, with_strange_name};
+ghost use Rattle.agent_texts.specs.Counts.{with_given_up, with_received, with_handed_out};
 ghost use Rattle.agent_texts.specs.Telling.{plain, line_of_pieces, Tells};
 
 use crate::noting::text_note;
@@ -101,6 +102,50 @@ fn joined(alloc: Global, text: &[u8]) -> Result<Vec<u8>, OutOfMemory> {
     all.end()
 }
 
+// Puts a note into the log.
+fn log_note(alloc: Global, log: &mut Record, stamp: Stamp, note: Note) {
+    if log.is_on() && put_note(alloc, &mut log.out, stamp, note).is_err() {
+        log.refuse();
+    }
+}
+
+// Puts a text that came or is sent into the log.
+fn log_text(alloc: Global, log: &mut Record, stamp: Stamp, way: Way, is_repeat: bool, text: &[u8]) {
+    let note = match text_note(alloc, is_repeat, text) {
+        Ok(note) => note,
+        Err(_) => {
+            log.refuse();
+            return;
+        }
+    };
+    if let Some(note) = note {
+        log_note(alloc, log, stamp, note);
+        return;
+    }
+    if put_message(alloc, &mut log.out, NO_DOMAIN, stamp, way, text, None).is_err() {
+        log.refuse();
+    }
+}
+
+// Puts a datagram that came into the log, text by text.
+fn log_came(alloc: Global, log: &mut Record, stamp: Stamp, bytes: &[u8]) {
+    let Some(mut rest) = texts(bytes) else {
+        let length = bytes.len();
+        log_note(alloc, log, stamp, Note::TooLong { length });
+        return;
+    };
+    while let Some(text) = rest.next() {
+        log_text(alloc, log, stamp, Way::Came, false, text);
+    }
+}
+
+// Puts a datagram that is sent into the log, text by text.
+fn log_sent(alloc: Global, log: &mut Record, stamp: Stamp, is_repeat: bool, bytes: &[u8]) {
+    for text in parts(bytes) {
+        log_text(alloc, log, stamp, Way::Sent, is_repeat, text);
+    }
+}
+
 impl Journal {
     /// A journal with a log and a capture where they are asked for; the socket for gateways is here.
     pub fn new(alloc: Global, has_log: bool, has_capture: bool, here: SocketAddrV4) -> Journal
@@ -182,7 +227,10 @@ impl Journal {
     }
 
     /// A command was answered by this text.
-    pub fn tell_answer(&mut self, command: &[u8], text: &[u8]) {
+    pub fn tell_answer(&mut self, command: &[u8], text: &[u8])
+        ensures tally { self.new.tally ≡ with_answer self.old.tally }
+        ensures rest { self.new ≡ record self.old { tally = self.new.tally; told = self.new.told } }
+    {
         count(&mut self.tally.answered);
         match joined(self.alloc, text) {
             Ok(text) => {
@@ -199,7 +247,10 @@ impl Journal {
     }
 
     /// A notification of an endpoint was taken.
-    pub fn tell_notification(&mut self, name: &[u8], observed: &[Observed]) {
+    pub fn tell_notification(&mut self, name: &[u8], observed: &[Observed])
+        ensures tally { self.new.tally ≡ with_notification self.old.tally }
+        ensures rest { self.new ≡ record self.old { tally = self.new.tally; told = self.new.told } }
+    {
         count(&mut self.tally.notifications);
         match write_observed(self.alloc, observed) {
             Ok(events) => {
@@ -215,13 +266,19 @@ impl Journal {
     }
 
     /// An announcement of endpoints came, of this kind.
-    pub fn tell_announcement(&mut self, name: &[u8], method: &[u8]) {
+    pub fn tell_announcement(&mut self, name: &[u8], method: &[u8])
+        ensures tally { self.new.tally ≡ with_announcement self.old.tally }
+        ensures rest { self.new ≡ record self.old { tally = self.new.tally; told = self.new.told } }
+    {
         count(&mut self.tally.announcements);
         self.tell(&[b"announce ".as_slice(), name, b" ".as_slice(), method]);
     }
 
     /// A command came under a name that its gateway doesn't have.
-    pub fn tell_strange(&mut self, command: &[u8]) {
+    pub fn tell_strange(&mut self, command: &[u8])
+        ensures tally { self.new.tally ≡ with_strange_name self.old.tally }
+        ensures rest { self.new ≡ record self.old { tally = self.new.tally; told = self.new.told } }
+    {
         count(&mut self.tally.strange_names);
         self.tell(&[
             b"strange ".as_slice(),
@@ -232,7 +289,10 @@ impl Journal {
     }
 
     /// A command was given up, which went to this address.
-    pub fn tell_given_up(&mut self, time: u64, to: SocketAddrV4, command: &[u8]) {
+    pub fn tell_given_up(&mut self, time: u64, to: SocketAddrV4, command: &[u8])
+        ensures tally { self.new.tally ≡ with_given_up self.old.tally }
+        ensures rest { self.new ≡ record self.old { tally = self.new.tally; told = self.new.told; log = self.new.log } }
+    {
         count(&mut self.tally.given_up);
         self.tell(&[
             b"given up ".as_slice(),
@@ -254,32 +314,15 @@ impl Journal {
     }
 
     /// Puts a note into the log.
-    pub fn note(&mut self, stamp: Stamp, note: Note) {
-        if self.log.is_on() && put_note(self.alloc, &mut self.log.out, stamp, note).is_err() {
-            self.log.refuse();
-        }
+    pub fn note(&mut self, stamp: Stamp, note: Note)
+        ensures rest { self.new ≡ record self.old { log = self.new.log } }
+    {
+        log_note(self.alloc, &mut self.log, stamp, note);
     }
 
-    // Puts a text that came or is sent into the log.
-    fn log_text(&mut self, stamp: Stamp, way: Way, is_repeat: bool, text: &[u8]) {
-        let note = match text_note(self.alloc, is_repeat, text) {
-            Ok(note) => note,
-            Err(_) => {
-                self.log.refuse();
-                return;
-            }
-        };
-        if let Some(note) = note {
-            self.note(stamp, note);
-            return;
-        }
-        let out = &mut self.log.out;
-        if put_message(self.alloc, out, NO_DOMAIN, stamp, way, text, None).is_err() {
-            self.log.refuse();
-        }
-    }
-
-    fn put_capture(&mut self, moment: u64, from: SocketAddrV4, to: SocketAddrV4, bytes: &[u8]) {
+    fn put_capture(&mut self, moment: u64, from: SocketAddrV4, to: SocketAddrV4, bytes: &[u8])
+        ensures rest { self.new ≡ record self.old { capture = self.new.capture } }
+    {
         let packet = Packet {
             moment,
             from,
@@ -292,25 +335,24 @@ impl Journal {
     }
 
     /// A datagram came. The time is microseconds since 1970.
-    pub fn came(&mut self, time: u64, peer: SocketAddrV4, bytes: &[u8]) {
+    pub fn came(&mut self, time: u64, peer: SocketAddrV4, bytes: &[u8])
+        ensures tally { self.new.tally ≡ with_received self.old.tally }
+        ensures rest { self.new ≡ record self.old { tally = self.new.tally; log = self.new.log; capture = self.new.capture } }
+    {
         count(&mut self.tally.datagrams_in);
         self.put_capture(time, peer, self.here, bytes);
         if !self.log.is_on() {
             return;
         }
         let stamp = Stamp { moment: time, peer };
-        let Some(mut rest) = texts(bytes) else {
-            let length = bytes.len();
-            self.note(stamp, Note::TooLong { length });
-            return;
-        };
-        while let Some(text) = rest.next() {
-            self.log_text(stamp, Way::Came, false, text);
-        }
+        log_came(self.alloc, &mut self.log, stamp, bytes);
     }
 
     /// A datagram is sent, again or for the first time. The time is microseconds since 1970.
-    pub fn sent(&mut self, time: u64, peer: SocketAddrV4, bytes: &[u8], is_repeat: bool) {
+    pub fn sent(&mut self, time: u64, peer: SocketAddrV4, bytes: &[u8], is_repeat: bool)
+        ensures tally { self.new.tally ≡ with_handed_out is_repeat self.old.tally }
+        ensures rest { self.new ≡ record self.old { tally = self.new.tally; log = self.new.log; capture = self.new.capture } }
+    {
         count(&mut self.tally.datagrams_out);
         if is_repeat {
             count(&mut self.tally.again);
@@ -320,8 +362,6 @@ impl Journal {
             return;
         }
         let stamp = Stamp { moment: time, peer };
-        for text in parts(bytes) {
-            self.log_text(stamp, Way::Sent, is_repeat, text);
-        }
+        log_sent(self.alloc, &mut self.log, stamp, is_repeat, bytes);
     }
 }
