@@ -312,7 +312,12 @@ impl<'a, R: Net + Clock> Ends<'a, R> {
         for _ in 0..u64::MAX {
             match told_by(&self.sockets.third, telephone) {
                 Told::Done(is_done) => return is_done,
-                Told::Other => {}
+                // However many come, the moment passes.
+                Told::Other => {
+                    if self.now() >= until {
+                        return false;
+                    }
+                }
                 Told::Nothing => {
                     if self.now() >= until || self.fault.is_some() {
                         return false;
