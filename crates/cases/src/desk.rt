@@ -6,13 +6,16 @@
 //! - `<`, `>` a datagram comes from the first gateway, 127.0.0.1:2427, or goes there, or from and to the address behind them.
 //! - `type AUEP ..` this is typed at the socket for commands.
 //! - `print ..` a line of standard output.
+//! - `read print` what is printed is read from here on, and `read print 1048413` so many bytes wait for that from the start; where the log
+//!   is read late, nobody reads that without it.
 use crate::loads::{asked_in, play_load};
 use crate::stories::{
-    Clocks, EndClock, Machine, Place, Program, Records, Story, Transcript, Words, told, words_in,
+    Clocks, EndClock, LateRecord, Machine, Place, Program, Records, Story, Transcript, Words, told,
+    words_in,
 };
 use agent_texts::{AgentConfig, ConfigRefusal, Journal, read_config};
 use live_agent::{Recorder, Wire, WireSettings, serve_over, wire_over};
-use live_ends::{AddressWord, CommonEnding, SocketWanted};
+use live_ends::{AddressWord, SocketWanted};
 use mg_bytes::OutOfMemory;
 use scenario_files::{Report, Titled};
 use std::alloc::{AllocError, Global};
@@ -35,14 +38,17 @@ numbers = [\"203\", \"204\"]
 pub struct CallAgent;
 
 impl Recorder for Records {
-    fn write(&mut self, journal: &mut Journal, _time: u64) {
+    fn write(&mut self, journal: &mut Journal, time: u64) {
+        if self.keep_agent_late(journal, time) {
+            return;
+        }
         self.keep(b"print ", &mut journal.told);
         self.keep(b"log ", &mut journal.log);
         self.keep_capture(&mut journal.capture);
     }
 
     fn is_offering(&self) -> bool {
-        false
+        self.waits_to_be_read()
     }
 }
 
@@ -100,13 +106,9 @@ fn run(
     story: &Story,
     given: &mut Transcript,
 ) -> Result<bool, OutOfMemory> {
-    let mut records = Records::new(alloc, story.clocks.clone()?, story.written);
-    records.is_counted = story.is_counted;
+    let mut records = Records::of_story(alloc, story, LateRecord::Print)?;
     let clock = EndClock::over(story.clocks.as_ref());
     let ending = serve_over(&clock, alloc, config, is_routed, wire, &mut records);
-    if matches!(ending, CommonEnding::OutOfMemory) {
-        return Err(AllocError);
-    }
     records.tell_status(ending, story);
     given.append(&mut wire.around.given);
     records.put_given(given);

@@ -29,11 +29,10 @@ use crate::live::browsers::Browsers;
 use crate::live::telling::play_telling;
 use crate::played::settings_with;
 use crate::stories::{
-    Clocks, EndClock, LateLog, Machine, Place, Program, Records, Story, Transcript, Words, told,
+    Clocks, EndClock, LateRecord, Machine, Place, Program, Records, Story, Transcript, Words, told,
     words_in,
 };
 use gateway_core::{ConfigFault, Gateway};
-use live_ends::CommonEnding;
 use live_gateway::{Admission, Desk, DeskSettings, boxed, end_desk, open_desk, speakers_of};
 use live_journal::{Journal, Recorder, Trace};
 use live_page::HostNames;
@@ -66,10 +65,7 @@ impl Recorder<Trace> for Records {
     }
 
     fn is_offering(&self) -> bool {
-        match &self.late_log {
-            Some(late_log) => late_log.is_offering(),
-            None => false,
-        }
+        self.waits_to_be_read()
     }
 }
 
@@ -152,38 +148,10 @@ fn visitors_of(
     Ok(Some(boxed(alloc, browsers)?))
 }
 
-// The outlets of a program whose log is read late, where a story says so.
-fn late_log_of(alloc: Global, story: &Story) -> Result<Option<Box<LateLog>>, AllocError> {
-    match story.reading {
-        Some(reading) => {
-            let late_log = LateLog::new(alloc, reading, &story.clocks)?;
-            Ok(Some(boxed(alloc, late_log)?))
-        }
-        None => Ok(None),
-    }
-}
-
-// What becomes of what is recorded, as a story says it.
-fn records_of(alloc: Global, story: &Story) -> Result<Records, AllocError> {
-    let mut records = Records::new(alloc, story.clocks.clone()?, story.written);
-    records.is_counted = story.is_counted;
-    records.room = story.room;
-    records.late_log = late_log_of(alloc, story)?;
-    Ok(records)
-}
-
-// It has ended, as the program does; and its status is told, where a story asks for that. The only error is want of memory.
-fn end(
-    desk: &mut Desk<Machine<'_>, Trace>,
-    records: &mut Records,
-    story: &Story,
-) -> Result<(), OutOfMemory> {
+// It has ended, as the program does; and its status is told, where a story asks for that.
+fn end(desk: &mut Desk<Machine<'_>, Trace>, records: &mut Records, story: &Story) {
     let ending = end_desk(&EndClock::over(story.clocks.as_ref()), desk, records);
-    if matches!(ending, CommonEnding::OutOfMemory) {
-        return Err(AllocError);
-    }
     records.tell_status(ending, story);
-    Ok(())
 }
 
 // Runs a gateway by a story, and puts what it gives. Where its end is told it tells what the program tells then. Who asked for the end is
@@ -196,10 +164,10 @@ fn run(
     is_ended: bool,
     given: &mut Transcript,
 ) -> Result<bool, OutOfMemory> {
-    let mut records = records_of(alloc, story)?;
+    let mut records = Records::of_story(alloc, story, LateRecord::Trace)?;
     desk.run(visitors, &mut records);
     if is_ended || story.is_counted || story.has_status {
-        end(desk, &mut records, story)?;
+        end(desk, &mut records, story);
     } else {
         desk.answer_stop();
     }

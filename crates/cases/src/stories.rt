@@ -13,7 +13,7 @@ mod words;
 
 pub use crate::stories::clocks::{Clocks, EndClock};
 pub use crate::stories::given::put_sent;
-pub use crate::stories::late_log::LateLog;
+pub use crate::stories::late_log::LateRecord;
 pub use crate::stories::machine::{Machine, Plan};
 pub use crate::stories::records::Records;
 use crate::stories::story::read_story;

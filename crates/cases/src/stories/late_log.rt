@@ -1,4 +1,4 @@
-//! A log and a trace that are kept as the program keeps them, and read late, or never.
+//! What a program records, kept as the program keeps it, and read late, or never.
 use crate::stories::clocks::Clocks;
 use crate::stories::transcript::Transcript;
 use live_ends::{Finisher, Outlet, Outlets, Stream, Written};
@@ -9,22 +9,31 @@ use std::io::{self, ErrorKind, Write};
 use std::rc::Rc;
 use std::rt::Clock;
 
-/// When somebody begins to read, in ms, and how many bytes wait for that from the start.
+/// When somebody begins to read a record, in ms, if anybody does, and how many bytes wait for that from the start.
+#[derive(Clone, Copy)]
+pub struct Late {
+    pub from: Option<u64>,
+    pub waiting: usize,
+}
+
+/// When the log is read, and what goes to standard output.
 #[derive(Clone, Copy)]
 pub struct Reading {
-    /// The log, if anybody does.
-    pub log: Option<u64>,
-    pub waiting: usize,
-    /// The trace, if anybody does.
-    pub trace: Option<u64>,
+    pub log: Late,
+    pub output: Late,
 }
+
+// Nobody ever does, and nothing waits.
+const NOBODY: Late = Late {
+    from: None,
+    waiting: 0,
+};
 
 impl Reading {
     /// Nobody ever does, and nothing waits.
     pub const NEVER: Reading = Reading {
-        log: None,
-        waiting: 0,
-        trace: None,
+        log: NOBODY,
+        output: NOBODY,
     };
 }
 
@@ -40,11 +49,12 @@ pub struct Pipe {
     read: Read,
 }
 
-// What is read late.
+/// What is read late.
 #[derive(Clone, Copy)]
-enum LateRecord {
+pub enum LateRecord {
     Log,
     Trace,
+    Print,
 }
 
 // What stands before each line of it. No text is held: a type that holds one for ever can't be that of a loop's recorder.
@@ -52,6 +62,7 @@ fn before(record: LateRecord) -> &'static [u8] {
     match record {
         LateRecord::Log => b"log ",
         LateRecord::Trace => b"trace ",
+        LateRecord::Print => b"print ",
     }
 }
 
@@ -90,37 +101,41 @@ pub struct LateLog {
     outlets: Outlets<Pipe>,
 }
 
+// The outlet of this name. What waits there are empty lines.
 fn outlet_of(
     alloc: Global,
     name: &str,
     record: LateRecord,
-    from: Option<u64>,
+    late: Late,
     clocks: &Rc<Clocks>,
     read: &Read,
 ) -> Result<Box<Outlet<Pipe>>, AllocError> {
     let pipe = Pipe {
         clocks: clocks.clone()?,
-        from,
+        from: late.from,
         record,
         read: read.clone()?,
     };
-    Outlet::new(alloc, name, Stream::over(pipe))
+    let mut outlet = Outlet::new(alloc, name, Stream::over(pipe))?;
+    let empty_lines = vec![in alloc; b'\n'; late.waiting]?;
+    outlet.say(empty_lines.as_slice());
+    Ok(outlet)
 }
 
 impl LateLog {
-    /// So many bytes wait, which are empty lines, and nobody reads yet.
+    /// Outlets of which this is standard output. So much waits there as is said, and nobody reads yet.
     pub fn new(
         alloc: Global,
         reading: Reading,
+        output: LateRecord,
         clocks: &Rc<Clocks>,
     ) -> Result<LateLog, AllocError> {
-        let empty_lines = vec![in alloc; b'\n'; reading.waiting]?;
         let read: Read = Rc::new(alloc, Cell::new(Some(Transcript::new(alloc))))?;
         let output = outlet_of(
             alloc,
             "standard output",
-            LateRecord::Trace,
-            reading.trace,
+            output,
+            reading.output,
             clocks,
             &read,
         )?;
@@ -132,18 +147,22 @@ impl LateLog {
             clocks,
             &read,
         )?;
-        let mut outlets = Outlets {
+        let outlets = Outlets {
             output,
             error,
             capture: None,
         };
-        outlets.error.say(empty_lines.as_slice());
         Ok(LateLog { read, outlets })
     }
 
     /// Keeps what was recorded, at this time, as the program does.
     pub fn write(&mut self, journal: &mut Journal, trace: &mut Trace, time: u64) {
         journal.write(trace, &mut self.outlets, time);
+    }
+
+    /// Keeps what a call agent recorded, at this time, as that does.
+    pub fn write_agent(&mut self, journal: &mut agent_texts::Journal, time: u64) {
+        journal.write(&mut self.outlets, time);
     }
 
     /// Offers what waits, and behind it these last words, as the program does at its end, at this time.

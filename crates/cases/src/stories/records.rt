@@ -1,12 +1,12 @@
 //! What a program records, kept as it is written.
 use crate::stories::Transcript;
 use crate::stories::clocks::Clocks;
-use crate::stories::late_log::LateLog;
+use crate::stories::late_log::{LateLog, LateRecord};
 use crate::stories::story::Story;
-use live_ends::{CommonEnding, Finisher, Record, TEXT_ROOM, Written};
+use live_ends::{CommonEnding, Finisher, Record, TEXT_ROOM, Written, boxed};
 use live_journal::{Journal, Trace};
 use mg_bytes::Draft;
-use std::alloc::Global;
+use std::alloc::{AllocError, Global};
 use std::rc::Rc;
 use std::rt::Clock;
 use traces::{broken_off_line, put_verdict, replay};
@@ -25,8 +25,23 @@ pub struct Records {
     pub written: Written,
     /// Whether it is told what was counted at the end.
     pub is_counted: bool,
-    /// A log and a trace that are read late.
-    pub late_log: Option<Box<LateLog>>,
+    /// Records that are read late.
+    late_log: Option<Box<LateLog>>,
+}
+
+// The outlets of a program whose records are read late, where a story says so. What goes to standard output is this.
+fn late_log_of(
+    alloc: Global,
+    story: &Story,
+    output: LateRecord,
+) -> Result<Option<Box<LateLog>>, AllocError> {
+    match story.reading {
+        Some(reading) => {
+            let late_log = LateLog::new(alloc, reading, output, &story.clocks)?;
+            Ok(Some(boxed(alloc, late_log)?))
+        }
+        None => Ok(None),
+    }
 }
 
 impl Records {
@@ -42,6 +57,19 @@ impl Records {
             is_counted: false,
             late_log: None,
         }
+    }
+
+    /// Nothing yet; what becomes of what is recorded is as a story says it. What goes to standard output is this.
+    pub fn of_story(
+        alloc: Global,
+        story: &Story,
+        output: LateRecord,
+    ) -> Result<Records, AllocError> {
+        let mut records = Records::new(alloc, story.clocks.clone()?, story.written);
+        records.is_counted = story.is_counted;
+        records.room = story.room;
+        records.late_log = late_log_of(alloc, story, output)?;
+        Ok(records)
     }
 
     /// These lines are given now, each behind this.
@@ -81,6 +109,23 @@ impl Records {
         };
         late_log.write(journal, trace, time);
         true
+    }
+
+    /// Keeps what a call agent recorded at this time as that does, where that is read late: whether it is.
+    pub fn keep_agent_late(&mut self, journal: &mut agent_texts::Journal, time: u64) -> bool {
+        let Some(late_log) = &mut self.late_log else {
+            return false;
+        };
+        late_log.write_agent(journal, time);
+        true
+    }
+
+    /// Whether something waits to be read.
+    pub fn waits_to_be_read(&self) -> bool {
+        match &self.late_log {
+            Some(late_log) => late_log.is_offering(),
+            None => false,
+        }
     }
 
     /// Keeps what was put together of a capture, in hexadecimal digits.

@@ -1,7 +1,7 @@
 //! A story as it is written: what a program is called with, what comes, and what it gives.
 use crate::stories::clocks::{Clocks, Stamp};
 use crate::stories::given::typist;
-use crate::stories::late_log::Reading;
+use crate::stories::late_log::{Late, Reading};
 use crate::stories::machine::{Change, Changing, Machine, Plan};
 use crate::stories::transcript::Transcript;
 use exchange_log::put_peer;
@@ -52,7 +52,7 @@ pub struct Story {
     pub written: Written,
     /// So many bytes of a trace find room.
     pub room: usize,
-    /// When its log and its trace are read first, where that is said.
+    /// When its log is read first, and what goes to standard output, where that is said.
     pub reading: Option<Reading>,
     pub wanted: Transcript,
     /// Whether what is given at one moment is told as it comes, whatever its kind.
@@ -311,14 +311,23 @@ impl Story {
         }
     }
 
-    // `1048385`: the log is read from now on, and so many bytes waited for that; `trace`: the trace is.
+    // It is read from now on, and so many bytes waited for that.
+    fn late(&self, waiting: &str) -> Late {
+        Late {
+            from: Some(self.moment),
+            waiting: number_in(waiting) as usize,
+        }
+    }
+
+    // `1048385`: the log is read from now on, and so many bytes waited for that; `trace`, `print`: what is traced, or printed, is, and
+    // `print 1048413` the same.
     fn read_from_now(&mut self, rest: &str) {
         let mut reading = self.reading.unwrap_or(Reading::NEVER);
-        if is_word(rest, "trace") {
-            reading.trace = Some(self.moment);
+        let (record, waiting) = parted(rest, " ");
+        if is_word(record, "trace") || is_word(record, "print") {
+            reading.output = self.late(waiting);
         } else {
-            reading.log = Some(self.moment);
-            reading.waiting = number_in(rest) as usize;
+            reading.log = self.late(record);
         }
         self.reading = Some(reading);
     }
