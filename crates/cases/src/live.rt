@@ -24,26 +24,30 @@
 //!   that.
 mod browsers;
 mod telling;
+mod words;
 
 use crate::live::browsers::Browsers;
 use crate::live::telling::play_telling;
+use crate::live::words::{line_of, settings_by};
 use crate::played::settings_with;
 use crate::stories::{
-    Clocks, EndClock, LateRecord, Machine, Place, Program, Records, Story, Transcript, Words, told,
-    words_in,
+    Clocks, EndClock, LateRecord, Machine, Place, Program, Records, Story, Transcript, told,
 };
 use gateway_core::{ConfigFault, Gateway};
 use live_gateway::{Admission, Desk, DeskSettings, boxed, end_desk, open_desk, speakers_of};
 use live_journal::{Journal, Recorder, Trace};
 use live_page::HostNames;
 use mg_bytes::OutOfMemory;
+use new_start::FirstNumber;
 use rgw_scenes::read_config;
+use rgwd_words::{Settings, hosts_in, speakers_in};
 use scenario_files::{Report, Titled};
 use std::alloc::{AllocError, Global};
 use std::collections::VecDeque;
 use std::mem;
 use std::net::{Ipv4Addr, Net, SocketAddrV4};
 use std::rc::Rc;
+use surroundings::Speakers;
 
 /// The program `rgwd`.
 #[derive(Clone, Copy)]
@@ -69,16 +73,17 @@ impl Recorder<Trace> for Records {
     }
 }
 
-// A gateway of a configuration; nothing where that has a fault.
+// A gateway of a configuration; nothing where that has a fault. Its ids begin with 0 where no word says with which number.
 fn gateway_in(
     alloc: Global,
     config: &str,
-    words: &Words,
+    settings: &Settings<'_>,
 ) -> Result<Option<Box<Gateway>>, OutOfMemory> {
     let Some(config) = read_config(alloc, config.as_bytes())? else {
         return Ok(None);
     };
-    match Gateway::starting_at(alloc, config, words.first.number()) {
+    let first = settings.first.unwrap_or(FirstNumber::zero());
+    match Gateway::starting_at(alloc, config, first.number()) {
         Ok(gateway) => Ok(Some(boxed(alloc, gateway)?)),
         Err(ConfigFault::OutOfMemory) => Err(AllocError),
         Err(_) => Ok(None),
@@ -86,45 +91,54 @@ fn gateway_in(
 }
 
 // What is asked of a gateway, which ends behind what comes where no word says when.
-fn settings_of<'w>(words: &'w Words, story: &Story) -> DeskSettings<'w> {
-    let capture = match &words.capture {
-        Some(file) => Some(file.as_str()),
-        None => None,
-    };
+fn desk_settings<'w>(settings: &Settings<'w>, story: &Story) -> DeskSettings<'w> {
+    let end = story.moment.saturating_add(1);
     DeskSettings {
-        has_trace: words.has_trace,
-        has_log: words.has_log,
-        capture,
-        here: words.own[0],
-        has_page: words.http.is_some(),
-        network: words.network,
-        end: Some(words.stop_after.unwrap_or(story.moment.saturating_add(1))),
+        has_trace: settings.trace,
+        has_log: settings.log,
+        capture: settings.capture,
+        here: settings.sockets.listen,
+        has_page: settings.sockets.http.is_some(),
+        network: settings.network,
+        end: Some(settings.stop_after.unwrap_or(end)),
+    }
+}
+
+// Who may speak to a gateway. What says no speakers was refused with the words, so the only error is want of memory.
+fn speakers_by(
+    alloc: Global,
+    agents: Option<&str>,
+    gateway: &Gateway,
+) -> Result<Speakers, AllocError> {
+    match agents {
+        Some(text) => match speakers_in(alloc, text) {
+            Ok(speakers) => Ok(speakers),
+            Err(_) => Err(AllocError),
+        },
+        None => speakers_of(alloc, gateway.setup()),
     }
 }
 
 // A gateway that runs, over what a story has of sockets and a clock.
 fn desk_of<'c>(
     alloc: Global,
-    words: &mut Words,
+    settings: &Settings<'_>,
     config: &str,
     gateway: Box<Gateway>,
     story: &mut Story,
     clocks: &'c Rc<Clocks>,
 ) -> Result<Box<Desk<Machine<'c>, Trace>>, AllocError> {
-    let speakers = match words.agents.take() {
-        Some(speakers) => speakers,
-        None => speakers_of(alloc, gateway.setup())?,
-    };
+    let own = [settings.sockets.listen, settings.sockets.phones];
     let admission = Admission {
-        speakers,
-        own: words.own,
-        are_phones_open: words.are_phones_open,
+        speakers: speakers_by(alloc, settings.sockets.agents, &gateway)?,
+        own,
+        are_phones_open: settings.sockets.phones_open,
     };
-    let around = story.take_machine(words.own, clocks)?;
-    let settings = settings_of(words, story);
+    let around = story.take_machine(own, clocks)?;
+    let asked = desk_settings(settings, story);
     open_desk(
         alloc,
-        &settings,
+        &asked,
         config.as_bytes(),
         gateway,
         around,
@@ -132,17 +146,28 @@ fn desk_of<'c>(
     )
 }
 
+// The further names of the page. What is no list of names was refused with the words, so the only error is want of memory.
+fn names_by(alloc: Global, hosts: Option<&str>) -> Result<HostNames, AllocError> {
+    match hosts {
+        Some(text) => match hosts_in(alloc, text) {
+            Ok(names) => Ok(names),
+            Err(_) => Err(AllocError),
+        },
+        None => Ok(HostNames::none(alloc)),
+    }
+}
+
 // Who visits the page, if there is one.
 fn visitors_of(
     alloc: Global,
-    words: &mut Words,
+    settings: &Settings<'_>,
     story: &mut Story,
 ) -> Result<Option<Box<Browsers>>, AllocError> {
-    let Some(site) = words.http else {
+    let Some(site) = settings.sockets.http else {
         return Ok(None);
     };
     let visits = mem::replace(&mut story.visits, VecDeque::new(alloc));
-    let names = words.http_hosts.take().unwrap_or(HostNames::none(alloc));
+    let names = names_by(alloc, settings.sockets.http_hosts)?;
     let clocks = story.clocks.clone()?;
     let browsers = Browsers::new(alloc, clocks, site, names, visits);
     Ok(Some(boxed(alloc, browsers)?))
@@ -182,29 +207,29 @@ fn run(
 // Plays a story with a gateway of this configuration.
 fn play_with(
     alloc: Global,
-    words: &mut Words,
+    settings: &Settings<'_>,
     config: &str,
     gateway: Box<Gateway>,
     story: &mut Story,
     given: &mut Transcript,
 ) -> Result<bool, OutOfMemory> {
     let clocks = story.clocks.clone()?;
-    let mut desk = desk_of(alloc, words, config, gateway, story, &clocks)?;
-    let mut visitors = visitors_of(alloc, words, story)?;
-    let is_ended = words.stop_after.is_some();
+    let mut desk = desk_of(alloc, settings, config, gateway, story, &clocks)?;
+    let mut visitors = visitors_of(alloc, settings, story)?;
+    let is_ended = settings.stop_after.is_some();
     run(alloc, &mut desk, &mut visitors, story, is_ended, given)
 }
 
 // Plays a story where the program is called with these words.
 fn play_asked(
     alloc: Global,
-    words: &mut Words,
+    settings: &Settings<'_>,
     story: &mut Story,
     given: &mut Transcript,
 ) -> Result<bool, OutOfMemory> {
     let config = settings_with(alloc, story.settings.as_str())?;
-    match gateway_in(alloc, config.as_str(), words)? {
-        Some(gateway) => play_with(alloc, words, config.as_str(), gateway, story, given),
+    match gateway_in(alloc, config.as_str(), settings)? {
+        Some(gateway) => play_with(alloc, settings, config.as_str(), gateway, story, given),
         None => Ok(false),
     }
 }
@@ -229,8 +254,9 @@ impl Program for Live {
             return Ok(is_sent);
         }
         let alloc = rt.alloc();
-        match words_in(alloc, story.words.as_slice(), Live::place().own)? {
-            Some(mut words) => play_asked(alloc, &mut words, story, given),
+        let line = line_of(alloc, story.words.as_slice())?;
+        match settings_by(alloc, line.as_slice())? {
+            Some(settings) => play_asked(alloc, &settings, story, given),
             None => Ok(false),
         }
     }

@@ -1,29 +1,20 @@
-//! The words that a program is called with, as far as its loop asks for them.
+//! The words that a call agent is called with, as far as its loop asks for them.
 use bad_network::Spoiling;
 use live_gateway::boxed;
-use live_page::HostNames;
 use mg_bytes::{OutOfMemory, decimal};
-use new_start::FirstNumber;
 use scenario_files::parted;
 use std::alloc::Global;
 use std::net::{Ipv4Addr, SocketAddrV4};
-use surroundings::Speakers;
 
 /// What the words ask for.
 #[derive(Drop)]
 pub struct Words {
     /// The addresses of its sockets: for datagrams, and for who types.
     pub own: [SocketAddrV4; 2],
-    pub http: Option<SocketAddrV4>,
-    pub http_hosts: Option<HostNames>,
-    pub agents: Option<Speakers>,
-    pub are_phones_open: bool,
     pub has_log: bool,
-    pub has_trace: bool,
     pub is_routed: bool,
     pub capture: Option<String>,
     pub network: Option<Spoiling>,
-    pub first: FirstNumber,
     pub stop_after: Option<u64>,
 }
 
@@ -39,20 +30,11 @@ impl Words {
     fn take(&mut self, alloc: Global, name: &str, value: &str) -> Result<bool, OutOfMemory> {
         match name {
             "--listen" => self.own[0] = address_in(value),
-            "--phones" | "--control" => self.own[1] = address_in(value),
-            "--http" => self.http = Some(address_in(value)),
-            "--http-host" => self.http_hosts = HostNames::read(alloc, value.as_bytes())?,
-            "--agents" => self.agents = Speakers::read(alloc, value.as_bytes())?,
-            "--phones-open" => self.are_phones_open = true,
+            "--control" => self.own[1] = address_in(value),
             "--log" => self.has_log = true,
-            "--trace" => self.has_trace = true,
             "--route" => self.is_routed = true,
             "--capture" => self.capture = Some(value.to_string(alloc)?),
             "--network" => self.network = Spoiling::read(value.as_bytes()).ok(),
-            "--first" => match FirstNumber::read(value.as_bytes()) {
-                Some(first) => self.first = first,
-                None => return Ok(false),
-            },
             "--stop-after" => self.stop_after = decimal(value.as_bytes()),
             _ => return Ok(false),
         }
@@ -69,16 +51,10 @@ pub fn words_in(
 ) -> Result<Option<Box<Words>>, OutOfMemory> {
     let asked = Words {
         own,
-        http: None,
-        http_hosts: None,
-        agents: None,
-        are_phones_open: false,
         has_log: false,
-        has_trace: false,
         is_routed: false,
         capture: None,
         network: None,
-        first: FirstNumber::zero(),
         stop_after: None,
     };
     let mut asked = boxed(alloc, asked)?;
