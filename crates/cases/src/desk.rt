@@ -1,4 +1,4 @@
-//! Stories of `rgca`: its loop, from its words and its configuration on.
+//! Stories of `rgca`: its loop, from its configuration on. Its words are read here, as far as the loop asks for them.
 //!
 //! Their lines are those of `live`, but for these:
 //!
