@@ -11,7 +11,7 @@
 //! - `pause 31000` the program is stopped, for so many ms.
 //! - `work 2` from here on each datagram that is read, and each that is sent to an agent, takes so many ms first.
 //! - `clock -2000` the machine's clock is set back, by so many ms; `day +3600000`, `day -3600000` its time of day is set on, or back.
-//! - `fault send` the next datagram can't be sent; `fault receive` none can be received.
+//! - `fault send` the next datagram can't be sent; `fault receive` none can be received; `fault clock` the clock can't be read any more.
 //! - `dropped 12` so many lines of the log are said not to be kept; `failed calls.pcap` a record is said not to be written.
 //! - `room 300` so many bytes of the trace find room, and no more, since nobody takes any.
 //! - `read 1048385` the log is read from here on; before, nobody does, and so many bytes wait for that from the start, which aren't told.
@@ -136,14 +136,7 @@ fn desk_of<'c>(
     };
     let around = story.take_machine(own, clocks)?;
     let asked = desk_settings(settings, story);
-    open_desk(
-        alloc,
-        &asked,
-        config.as_bytes(),
-        gateway,
-        around,
-        admission,
-    )
+    open_desk(alloc, &asked, config.as_bytes(), gateway, around, admission)
 }
 
 // The further names of the page. What is no list of names was refused with the words, so the only error is want of memory.
