@@ -21,6 +21,8 @@ pub struct Clocks {
     // The moment that it has come to, in ms, and so much the program's clock was set back.
     moment: Cell<u64>,
     back: Cell<u64>,
+    // Whether the program's clock can't be read any more.
+    has_failed: Cell<bool>,
     // The time of day at moment 0, in ms since 1970.
     opened: Cell<u64>,
     // So much was given.
@@ -33,6 +35,7 @@ impl Clocks {
         Clocks {
             moment: Cell::new(0),
             back: Cell::new(0),
+            has_failed: Cell::new(false),
             opened: Cell::new(OPENED),
             given: Cell::new(0),
         }
@@ -51,6 +54,11 @@ impl Clocks {
     /// The program's clock is set back, by so many ms.
     pub fn set_back(&self, ms: u64) {
         self.back.set(self.back.get().saturating_add(ms));
+    }
+
+    /// The program's clock can't be read any more.
+    pub fn fail(&self) {
+        self.has_failed.set(true);
     }
 
     /// The time of day is set on, by so many ms.
@@ -76,6 +84,9 @@ impl Clocks {
 
 impl Clock for Clocks {
     fn monotonic(&self) -> io::Result<Duration> {
+        if self.has_failed.get() {
+            return Err(io::Error::from(io::ErrorKind::Unsupported));
+        }
         let passed = self.moment.get().saturating_sub(self.back.get());
         Ok(Duration::from_millis(passed))
     }

@@ -23,6 +23,8 @@ pub enum Change {
     Work { ms: u64 },
     /// The clock is set back, by so many ms.
     ClockBack { ms: u64 },
+    /// The clock can't be read any more.
+    ClockFails,
     /// The time of day is set on, by so many ms.
     DayOn { ms: u64 },
     /// The time of day is set back, by so many ms.
@@ -107,6 +109,7 @@ fn change_all(changing: &mut VecDeque<Changing>, clocks: &Clocks, work: &mut u64
         match what {
             Change::Work { ms } => *work = ms,
             Change::ClockBack { ms } => clocks.set_back(ms),
+            Change::ClockFails => clocks.fail(),
             Change::DayOn { ms } => clocks.set_day_on(ms),
             Change::DayBack { ms } => clocks.set_day_back(ms),
         }

@@ -293,8 +293,11 @@ impl Story {
         Ok(self.words.push(word)?)
     }
 
-    // A socket fails.
+    // A socket fails, or the clock.
     fn put_fault(&mut self, rest: &str) -> Result<(), OutOfMemory> {
+        if is_word(rest, "clock") {
+            return self.change(Change::ClockFails);
+        }
         self.add(if is_word(rest, "send") {
             Happening::SendFault
         } else {
