@@ -315,7 +315,7 @@ impl Story {
     }
 
     // It is read from now on, and so many bytes waited for that.
-    fn late(&self, waiting: &str) -> Late {
+    fn from_now(&self, waiting: &str) -> Late {
         Late {
             from: Some(self.moment),
             waiting: number_in(waiting) as usize,
@@ -328,9 +328,9 @@ impl Story {
         let mut reading = self.reading.unwrap_or(Reading::NEVER);
         let (record, waiting) = parted(rest, " ");
         if is_word(record, "trace") || is_word(record, "print") {
-            reading.output = self.late(waiting);
+            reading.output = self.from_now(waiting);
         } else {
-            reading.log = self.late(record);
+            reading.log = self.from_now(record);
         }
         self.reading = Some(reading);
     }
