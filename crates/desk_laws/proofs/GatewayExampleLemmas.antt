@@ -32,7 +32,7 @@ pub has_so : (first lines line : ℕ) → first ≤ line → line < first + line
 has_so first lines line past before gateway = (past, before)
 
 -- what is so of an exchange, and of what is kept of its lines, is so of an office of which they are
-carried : (Does : ExchangeState → List Care → ExchangeState → List Care → Type 0) (was is : Box Office) (exchange after : ExchangeState)
+pub carried : (Does : ExchangeState → List Care → ExchangeState → List Care → Type 0) (was is : Box Office) (exchange after : ExchangeState)
     (cares kept : List Care) → IsOffice was exchange cares → IsOffice is after kept → Does exchange cares after kept
     → Does was.value.exchange was.value.cares.items is.value.exchange is.value.cares.items
 carried Does was is exchange after cares kept of_was of_is does =

@@ -16,5 +16,6 @@ mod LineLemmas
 mod GatewayLemmas
 mod GatewayRuns
 mod GatewayExampleLemmas
+mod GatewayPremiseLemmas
 mod ExchangeRuns
 mod GatewayWakes

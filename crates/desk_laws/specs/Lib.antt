@@ -7,3 +7,4 @@ pub mod HappeningExample
 pub mod StepExample
 pub mod AttendedExample
 pub mod GatewaysExample
+pub mod GatewayPremises

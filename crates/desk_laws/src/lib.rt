@@ -9,6 +9,7 @@ pub mod attended_laws;
 pub mod examples;
 pub mod gateway_examples;
 pub mod gateway_laws;
+pub mod gateway_premise_examples;
 pub mod happening_examples;
 pub mod laws;
 pub mod program_examples;
