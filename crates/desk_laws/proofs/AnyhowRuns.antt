@@ -2,7 +2,7 @@
 use Rattle.std.proofs.Common.{◌≡◌, ◌≢◌, ℕ, ◌≤◌, Bool, true, false, if◌then◌else◌, List, [], ◌∷◌, ◌++◌, Option, Some, None, inl, inr, refl, sym, ap, subst, ◌∙◌, arith}
 use Rattle.std.specs.Prelude.{◌⊎◌, replicate, slice_get, slice_set}
 use Rattle.std.specs.Global.{Box}
-use Rattle.std.proofs.lemmas.Bool.{cases_eq}
+use Rattle.std.proofs.lemmas.Bool.{cases_eq, true≢false}
 use Rattle.std.proofs.lemmas.Option.{none-some}
 use Rattle.call_routing.specs.declared.command.Outcome.{Outcome}
 use Rattle.call_routing.specs.declared.command.Outcome.TheVariants.{GivenUp}
@@ -13,7 +13,7 @@ use Rattle.call_routing.specs.declared.told.Told.TheVariants.{Flash}
 use Rattle.call_routing.specs.Exchange.{ExchangeState, line_of, opening, phase_of, put_off_at}
 use Rattle.call_laws.specs.Turns as calls
 use Rattle.call_laws.specs.Turns.{Turn, after_one, is_in_flight}
-use Rattle.call_laws.proofs.FlightLaws.{clear_by, tell_by}
+use Rattle.call_laws.proofs.FlightLaws.{clear_by, new_free, tell_by}
 use Rattle.live_agent.specs.declared.care.Duty.{Duty}
 use Rattle.live_agent.specs.declared.care.Duty.TheVariants.{Clear, Audit, Route}
 use Rattle.live_agent.specs.declared.care.Care.{Care}
@@ -30,11 +30,12 @@ use Rattle.desk_laws.specs.Desk.{GoesOn, StandsAmong, desk_of}
 use Rattle.desk_laws.specs.Steps as steps
 use Rattle.desk_laws.specs.Steps.{DoesAnyhow, Runs, RunsAnyhow, RunsForward, Step}
 use Rattle.desk_laws.proofs.AnswerLemmas.{desk_at, same_desk}
-use Rattle.desk_laws.proofs.AttendedLaws.{Agree, all_agree, goes_on_at_both, is_routed, opening_agrees, routed_flight}
+use Rattle.desk_laws.proofs.AttendedLaws.{Knows, goes_on_at_both, is_routed}
 use Rattle.desk_laws.proofs.AttendedLemmas.{answered_here, care_here, care_other, flight_at, lands_here, lost_here, none_by, turn_elsewhere, woken_keeps}
-use Rattle.desk_laws.proofs.AttendedRuns.{Leads, announced_all, anyone, does_lead, given_up, heard, issued, set_same, settled_so, sound_then, stood, told_of_it, woken_next}
+use Rattle.desk_laws.proofs.AttendedRuns.{Leads, announced_all, does_lead, given_up, heard, issued, set_same, settled_so, sound_then, stood, told_of_it, woken_next}
 use Rattle.desk_laws.proofs.CareLemmas.{IsAlone, Was, after_care, answered_flight, woken_alone}
 use Rattle.desk_laws.proofs.DeskLaws.{IsSound, new_sound}
+use Rattle.desk_laws.proofs.KnownTurns.{all_know}
 use Rattle.desk_laws.proofs.WakeLemmas.{stands_front, wake_of}
 
 -- What an answer ends, whatever was in flight
@@ -63,12 +64,17 @@ ends_turn was is turn idle same =
     subst (λ (exchange : ExchangeState). EndsAt was exchange (line_in turn)) (sym same)
     (record { here = idle; far = λ line apart. turn_elsewhere was turn line apart })
 
-ends_forsaken : (was is : ExchangeState) (of : ℕ) (flight : Option Duty) → is_in_flight was of ≡ is_routed flight → is ≡ forsaken was of flight
-    → EndsAt was is of
-ends_forsaken was is of None idle same = ends_same was is of idle same
-ends_forsaken was is of (Some Clear) idle same = ends_same was is of idle same
-ends_forsaken was is of (Some Audit) idle same = ends_same was is of idle same
-ends_forsaken was is of (Some Route) flies same = ends_turn was is (calls.answers of GivenUp) (answered_here was of GivenUp) same
+-- where something else is in flight by what is kept, or nothing, none is at the exchange
+idle_by : (b : Bool) (flight : Option Duty) → is_routed flight ≡ false → (b ≡ true → flight ≡ Some Route) → b ≡ false
+idle_by true flight other knows = absurd (true≢false (sym (ap is_routed (knows refl)) ∙ other))
+idle_by false flight other knows = refl
+
+ends_forsaken : (was is : ExchangeState) (of : ℕ) (flight : Option Duty) → (is_in_flight was of ≡ true → flight ≡ Some Route)
+    → is ≡ forsaken was of flight → EndsAt was is of
+ends_forsaken was is of None knows same = ends_same was is of (idle_by (is_in_flight was of) None refl knows) same
+ends_forsaken was is of (Some Clear) knows same = ends_same was is of (idle_by (is_in_flight was of) (Some Clear) refl knows) same
+ends_forsaken was is of (Some Audit) knows same = ends_same was is of (idle_by (is_in_flight was of) (Some Audit) refl knows) same
+ends_forsaken was is of (Some Route) knows same = ends_turn was is (calls.answers of GivenUp) (answered_here was of GivenUp) same
 
 ends_cleared : (was is : ExchangeState) (of code : ℕ) (b : Bool) → is_in_flight was of ≡ false → is ≡ cleared_by b was of code → EndsAt was is of
 ends_cleared was is of code true idle same = ends_same was is of idle same
@@ -130,25 +136,28 @@ module _ (of now code : ℕ) (text : List ℕ) (was is : ExchangeState) (cares :
         (λ care none. answered_flight Route now code (put_off_at was of outcome) care none) landed_frees routes.1;
   }
 
-  response_ends : (flight : Option Duty) (kept : List Care) → is_in_flight was of ≡ is_routed flight
+  response_ends : (flight : Option Duty) (kept : List Care) → (is_in_flight was of ≡ true → flight ≡ Some Route)
       → TakesResponse flight of now code text was settled is kept → EndsBoth was cares is kept of
-  response_ends None kept idle takes =
-      record { at_exchange = ends_same was is of idle takes.0; at_desk = same_frees settled kept landed_frees takes.1 }
-  response_ends (Some Clear) kept idle takes = record {
-    at_exchange = ends_cleared was is of code (is_put_off_in code (slice_get settled of)) idle takes.0;
+  response_ends None kept knows takes = record {
+    at_exchange = ends_same was is of (idle_by (is_in_flight was of) None refl knows) takes.0;
+    at_desk = same_frees settled kept landed_frees takes.1;
+  }
+  response_ends (Some Clear) kept knows takes = record {
+    at_exchange = ends_cleared was is of code (is_put_off_in code (slice_get settled of)) (idle_by (is_in_flight was of) (Some Clear) refl knows) takes.0;
     at_desk = frees_then (duty_answered now code Clear) settled kept (λ care none. answered_flight Clear now code None care none) landed_frees takes.1;
   }
-  response_ends (Some Audit) kept idle takes = audit_ends (is_put_off_in code (slice_get settled of)) kept idle takes
-  response_ends (Some Route) kept flies (inl routes) = routes_end (outcome_with was of code text) kept routes
-  response_ends (Some Route) kept flies (inr routes) = routes_end GivenUp kept routes
+  response_ends (Some Audit) kept knows takes =
+      audit_ends (is_put_off_in code (slice_get settled of)) kept (idle_by (is_in_flight was of) (Some Audit) refl knows) takes
+  response_ends (Some Route) kept knows (inl routes) = routes_end (outcome_with was of code text) kept routes
+  response_ends (Some Route) kept knows (inr routes) = routes_end GivenUp kept routes
 
-  answer_ends : (b : Bool) (kept : List Care) → is_in_flight was of ≡ is_routed (flight_at cares of)
+  answer_ends : (b : Bool) (kept : List Care) → (is_in_flight was of ≡ true → flight_at cares of ≡ Some Route)
       → TakesAnswer b of now code text was cares is kept → EndsBoth was cares is kept of
-  answer_ends true kept agree takes = record {
-    at_exchange = ends_forsaken was is of (flight_at cares of) agree takes.0;
+  answer_ends true kept knows takes = record {
+    at_exchange = ends_forsaken was is of (flight_at cares of) knows takes.0;
     at_desk = same_frees (cared lost cares of) kept lost_frees takes.1;
   }
-  answer_ends false kept agree takes = response_ends (flight_at cares of) kept agree takes
+  answer_ends false kept knows takes = response_ends (flight_at cares of) kept knows takes
 
   held_frees : (again : Option ℕ) (mid kept : List Care) (wakes held : List Wake) → FreesAt cares mid of → Holds again of mid wakes kept held
       → FreesAt cares kept of
@@ -157,23 +166,23 @@ module _ (of now code : ℕ) (text : List ℕ) (was is : ExchangeState) (cares :
   held_frees (Some moment) mid kept wakes held frees (inr woke) =
       frees_then (woken moment) mid kept (λ care none. woken_keeps moment care ∙ none) frees woke.0
 
--- so both agree behind it where they did
-ended_agrees : (was is : ExchangeState) (cares kept : List Care) (of line : ℕ) → EndsAt was is of → FreesAt cares kept of
-    → is_in_flight was line ≡ is_routed (flight_at cares line) → ((of ≡ line) ⊎ (of ≡ line → ⊥))
-    → is_in_flight is line ≡ is_routed (flight_at kept line)
-ended_agrees was is cares kept of line ends frees agree (inl same) =
-    subst (λ (n : ℕ). is_in_flight is n ≡ is_routed (flight_at kept n)) same (ends.here ∙ sym (ap is_routed frees.none))
-ended_agrees was is cares kept of line ends frees agree (inr apart) =
-    ends.far line apart ∙ (agree ∙ ap is_routed (sym (frees.others line apart)))
+-- so what the exchange has in flight is known behind it where it was
+ended_knows : (was is : ExchangeState) (cares kept : List Care) (of line : ℕ) → EndsAt was is of → FreesAt cares kept of
+    → (is_in_flight was line ≡ true → flight_at cares line ≡ Some Route) → ((of ≡ line) ⊎ (of ≡ line → ⊥))
+    → is_in_flight is line ≡ true → flight_at kept line ≡ Some Route
+ended_knows was is cares kept of line ends frees knows (inl same) flies =
+    absurd (true≢false (sym flies ∙ subst (λ (n : ℕ). is_in_flight is n ≡ false) same ends.here))
+ended_knows was is cares kept of line ends frees knows (inr apart) flies =
+    frees.others line apart ∙ knows (sym (ends.far line apart) ∙ flies)
 
-answer_agrees : (of line code : ℕ) (text : List ℕ) (gateway after : Gateway) (was is : Office) → Answers of code text gateway was after is
-    → ((each : ℕ) → Agree was.exchange (desk_of gateway was) each) → Agree is.exchange (desk_of after is) line
-answer_agrees of line code text gateway after was is answers agree =
-    let ends = answer_ends of gateway.ticked code text was.exchange is.exchange was.cares.items (is_outlived (slice_get was.cares.items of)) answers.0 (agree of) answers.1 in
-    ended_agrees was.exchange is.exchange was.cares.items is.cares.items of line ends.at_exchange
+answer_knows : (of line code : ℕ) (text : List ℕ) (gateway after : Gateway) (was is : Office) → Answers of code text gateway was after is
+    → ((each : ℕ) → Knows was.exchange (desk_of gateway was) each) → Knows is.exchange (desk_of after is) line
+answer_knows of line code text gateway after was is answers knows =
+    let ends = answer_ends of gateway.ticked code text was.exchange is.exchange was.cares.items (is_outlived (slice_get was.cares.items of)) answers.0 (knows of) answers.1 in
+    ended_knows was.exchange is.exchange was.cares.items is.cares.items of line ends.at_exchange
     (held_frees of gateway.ticked code text was.exchange is.exchange was.cares.items (again_of (slice_get answers.0 of)) answers.0 is.cares.items
     gateway.wakes.items after.wakes.items ends.at_desk answers.2)
-    (agree line) (cases_eq of line)
+    (knows line) (cases_eq of line)
 
 -- Where nothing is in flight an answer says nothing
 
@@ -258,43 +267,42 @@ unheard_sound line code text gateway after was is s clock none answers =
 
 -- One call
 
-agrees_by : (was is : Attended) (line : ℕ) → Leads was is → Agree was.exchange was.desk line → Agree is.exchange is.desk line
-agrees_by was is line leads agree =
-    subst (λ (attended : Attended). Agree attended.exchange attended.desk line) leads.2
-    (all_agree anyone was leads.0 line leads.1 refl agree)
+knows_by : (was is : Attended) (line : ℕ) → Leads was is → Knows was.exchange was.desk line → Knows is.exchange is.desk line
+knows_by was is line leads knows =
+    subst (λ (attended : Attended). Knows attended.exchange attended.desk line) leads.2 (all_know was leads.0 line leads.1 knows)
 
-abbrev pub AgreesIn : Gateway → Box Office → ℕ → Type 0
-AgreesIn gateway office line = Agree office.value.exchange (desk_of gateway office.value) line
+abbrev pub KnowsIn : Gateway → Box Office → ℕ → Type 0
+KnowsIn gateway office line = Knows office.value.exchange (desk_of gateway office.value) line
 
 module _ (gateway after : Gateway) (was is : Box Office) where
-  stood_agrees : (line : ℕ) → steps.Stands gateway after → Leads (attended_of gateway was.value) (attended_of gateway is.value)
-      → AgreesIn gateway was line → AgreesIn after is line
-  stood_agrees line stands leads agree =
-      agrees_by (attended_of gateway was.value) (attended_of after is.value) line (stood gateway after was.value is.value stands leads) agree
+  stood_knows : (line : ℕ) → steps.Stands gateway after → Leads (attended_of gateway was.value) (attended_of gateway is.value)
+      → KnowsIn gateway was line → KnowsIn after is line
+  stood_knows line stands leads knows =
+      knows_by (attended_of gateway was.value) (attended_of after is.value) line (stood gateway after was.value is.value stands leads) knows
 
-  pub step_agrees : (step : Step) → DoesAnyhow step gateway was after is → ((line : ℕ) → AgreesIn gateway was line) → (line : ℕ) → AgreesIn after is line
-  step_agrees (steps.gives_up of) does agree line =
-      stood_agrees line does.0
-      (given_up of gateway.ticked was.value.exchange is.value.exchange was.value.cares.items is.value.cares.items gateway.wakes.items does.1) (agree line)
-  step_agrees (steps.announces_lines is_restart pattern first many) does agree line =
-      stood_agrees line does.0
+  pub step_knows : (step : Step) → DoesAnyhow step gateway was after is → ((line : ℕ) → KnowsIn gateway was line) → (line : ℕ) → KnowsIn after is line
+  step_knows (steps.gives_up of) does knows line =
+      stood_knows line does.0
+      (given_up of gateway.ticked was.value.exchange is.value.exchange was.value.cares.items is.value.cares.items gateway.wakes.items does.1) (knows line)
+  step_knows (steps.announces_lines is_restart pattern first many) does knows line =
+      stood_knows line does.0
       (announced_all is_restart pattern first many gateway.ticked was.value.exchange is.value.exchange was.value.cares.items is.value.cares.items
-      gateway.wakes.items does.1) (agree line)
-  step_agrees (steps.hears_line of) does agree line =
+      gateway.wakes.items does.1) (knows line)
+  step_knows (steps.hears_line of) does knows line =
       let hears = does.1 in
-      stood_agrees line does.0
+      stood_knows line does.0
       (heard hears.0 of gateway.ticked was.value.exchange is.value.exchange was.value.cares.items is.value.cares.items gateway.wakes.items hears.1)
-      (agree line)
-  step_agrees (steps.tells_of of) does agree line =
-      stood_agrees line does.0
-      (told_of_it of gateway.ticked was.value.exchange is.value.exchange was.value.cares.items is.value.cares.items gateway.wakes.items does.1) (agree line)
-  step_agrees (steps.issues_to fails of) does agree line = stood_agrees line does.0 (issued fails of gateway was is does.1) (agree line)
-  step_agrees steps.settles does agree line = stood_agrees line does.0 (settled_so gateway was is does.1) (agree line)
-  step_agrees (steps.takes_answer of code text) does agree line = answer_agrees of line code text gateway after was.value is.value does.1 agree
-  step_agrees steps.wakens does agree line =
-      agrees_by (attended_of gateway was.value) (attended_of after is.value) line (woken_next gateway after was is does.0 does.1) (agree line)
-  step_agrees (steps.goes_on_to done moment) does agree line =
-      subst (λ (office : Box Office). AgreesIn after office line) (sym does.1) (agree line)
+      (knows line)
+  step_knows (steps.tells_of of) does knows line =
+      stood_knows line does.0
+      (told_of_it of gateway.ticked was.value.exchange is.value.exchange was.value.cares.items is.value.cares.items gateway.wakes.items does.1) (knows line)
+  step_knows (steps.issues_to fails of) does knows line = stood_knows line does.0 (issued fails of gateway was is does.1) (knows line)
+  step_knows steps.settles does knows line = stood_knows line does.0 (settled_so gateway was is does.1) (knows line)
+  step_knows (steps.takes_answer of code text) does knows line = answer_knows of line code text gateway after was.value is.value does.1 knows
+  step_knows steps.wakens does knows line =
+      knows_by (attended_of gateway was.value) (attended_of after is.value) line (woken_next gateway after was is does.0 does.1) (knows line)
+  step_knows (steps.goes_on_to done moment) does knows line =
+      subst (λ (office : Box Office). KnowsIn after office line) (sym does.1) (knows line)
 
   sound_by : (step : Step) → steps.Does step gateway was after is → IsSound (desk_of gateway was.value) → IsSound (desk_of after is.value)
   sound_by step does s =
@@ -332,12 +340,12 @@ module _ (gateway after : Gateway) (was is : Box Office) where
 
 -- All of them
 
-anyhow_agree : (steps : List Step) (gateway after : Gateway) (was is : Box Office) → RunsAnyhow steps gateway was after is
-    → ((line : ℕ) → AgreesIn gateway was line) → (line : ℕ) → AgreesIn after is line
-anyhow_agree [] gateway after was is ends agree line =
-    subst (λ (office : Box Office). AgreesIn after office line) (sym ends.1) (agree line)
-anyhow_agree (step ∷ steps) gateway after was is runs agree line =
-    anyhow_agree steps runs.0 after runs.1 is runs.3 (step_agrees gateway runs.0 was runs.1 step runs.2 agree) line
+anyhow_know : (steps : List Step) (gateway after : Gateway) (was is : Box Office) → RunsAnyhow steps gateway was after is
+    → ((line : ℕ) → KnowsIn gateway was line) → (line : ℕ) → KnowsIn after is line
+anyhow_know [] gateway after was is ends knows line =
+    subst (λ (office : Box Office). KnowsIn after office line) (sym ends.1) (knows line)
+anyhow_know (step ∷ steps) gateway after was is runs knows line =
+    anyhow_know steps runs.0 after runs.1 is runs.3 (step_knows gateway runs.0 was runs.1 step runs.2 knows) line
 
 forward_sound : (steps : List Step) (gateway after : Gateway) (was is : Box Office) → RunsForward steps gateway was after is
     → IsSound (desk_of gateway was.value) → IsSound (desk_of after is.value)
@@ -382,32 +390,31 @@ runs_forward (step ∷ steps) gateway after was is runs =
     (runs.0, runs.1, one.0, one.1, runs_forward steps runs.0 after runs.1 is runs.3)
 
 -- an exchange and lines as they are at the start, whatever the clock is, and whatever is sent again
-module _ (count last lines : ℕ) (gateway : Gateway) (was : Box Office) (opens : was.value.exchange ≡ opening count last)
-    (cares : was.value.cares.items ≡ replicate lines new_care) where
-  start_sound : IsSound (desk_of gateway was.value)
-  start_sound =
-      subst (λ (kept : List Care). IsSound (desk_at gateway.ticked kept gateway.wakes.items)) (sym cares)
-      (new_sound lines gateway.ticked gateway.wakes.items)
+start_sound : (lines : ℕ) (gateway : Gateway) (was : Box Office) → was.value.cares.items ≡ replicate lines new_care → IsSound (desk_of gateway was.value)
+start_sound lines gateway was cares =
+    subst (λ (kept : List Care). IsSound (desk_at gateway.ticked kept gateway.wakes.items)) (sym cares)
+    (new_sound lines gateway.ticked gateway.wakes.items)
 
-  start_agrees : (line : ℕ) → AgreesIn gateway was line
-  start_agrees line =
-      ap (λ (exchange : ExchangeState). is_in_flight exchange line) opens
-      ∙ (opening_agrees count last lines line gateway.ticked gateway.wakes.items
-      ∙ ap (λ (kept : List Care). is_routed (flight_of (slice_get kept line))) (sym cares))
+-- an exchange that opens has nothing in flight
+opening_idle : (count last line : ℕ) (was : Box Office) → was.value.exchange ≡ opening count last → is_in_flight was.value.exchange line ≡ false
+opening_idle count last line was opens = ap (λ (exchange : ExchangeState). is_in_flight exchange line) opens ∙ new_free count line
+
+pub start_knows : (count last line : ℕ) (was : Box Office) → was.value.exchange ≡ opening count last → is_in_flight was.value.exchange line ≡ true
+    → flight_at was.value.cares.items line ≡ Some Route
+start_knows count last line was opens flies = absurd (true≢false (sym flies ∙ opening_idle count last line was opens))
+
+pub flies_too : (count last line : ℕ) (steps : List Step) (gateway after : Gateway) (was is : Box Office) → was.value.exchange ≡ opening count last
+    → RunsAnyhow steps gateway was after is → KnowsIn after is line
+flies_too count last line steps gateway after was is opens runs =
+    anyhow_know steps gateway after was is runs
+    (λ (each : ℕ) (flies : is_in_flight was.value.exchange each ≡ true). start_knows count last each was opens flies) line
 
 module _ (count last lines line : ℕ) (steps : List Step) (gateway after : Gateway) (was is : Box Office)
     (opens : was.value.exchange ≡ opening count last) (cares : was.value.cares.items ≡ replicate lines new_care) where
-  agrees_then : RunsAnyhow steps gateway was after is → AgreesIn after is line
-  agrees_then runs = anyhow_agree steps gateway after was is runs (start_agrees count last lines gateway was opens cares) line
-
-  pub flies_too : RunsAnyhow steps gateway was after is → is_in_flight is.value.exchange line ≡ true
-      → flight_of (slice_get is.value.cares.items line) ≡ Some Route
-  flies_too runs flies = routed_flight (flight_of (slice_get is.value.cares.items line)) (sym (agrees_then runs) ∙ flies)
-
   pub goes_on_then : (care : Care) (map : List ℕ) (phase : Phase) (of : Line) → RunsForward steps gateway was after is
       → slice_get is.value.cares.items line ≡ Some care → phase_of is.value.exchange line ≡ Some phase → line_of is.value.exchange line ≡ Some of
       → GoesOn (desk_of after is.value) line care is.value.exchange map phase of.asked
   goes_on_then care map phase of runs there here known =
       goes_on_at_both (attended_of after is.value) line care map phase of
-      (forward_sound steps gateway after was is runs (start_sound count last lines gateway was opens cares))
-      (agrees_then (forward_anyhow steps gateway after was is runs)) there here known
+      (forward_sound steps gateway after was is runs (start_sound lines gateway was cares))
+      (flies_too count last line steps gateway after was is opens (forward_anyhow steps gateway after was is runs)) there here known

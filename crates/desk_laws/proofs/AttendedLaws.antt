@@ -45,6 +45,10 @@ is_routed (Some Route) = true
 abbrev pub Agree : ExchangeState → Desk → ℕ → Type 0
 Agree exchange desk line = is_in_flight exchange line ≡ is_routed (flight_at desk.cares line)
 
+-- what the exchange has in flight at a line the desk has in flight to it; whatever else that has
+abbrev pub Knows : ExchangeState → Desk → ℕ → Type 0
+Knows exchange desk line = is_in_flight exchange line ≡ true → flight_at desk.cares line ≡ Some Route
+
 -- A line is settled
 
 due_agrees : (exchange : ExchangeState) (desk : Desk) (line : ℕ) (command : Option Command) → due exchange line ≡ command
@@ -138,7 +142,7 @@ module _ (exchange : ExchangeState) (desk : Desk) (line code : ℕ) (outcome : O
 -- At another line
 
 module _ (of line : ℕ) (apart : of ≢ line) where
-  sent_far : (duty : Option Duty) → AreElsewhere (sent_for duty of) line
+  pub sent_far : (duty : Option Duty) → AreElsewhere (sent_for duty of) line
   sent_far None = tt
   sent_far (Some Clear) = tt
   sent_far (Some Audit) = tt
@@ -154,7 +158,7 @@ module _ (of line : ℕ) (apart : of ≢ line) where
   begun_far (Some Audit) exchange = (apart, tt)
   begun_far (Some Route) exchange = (apart, landed_far (due exchange of))
 
-  forsaken_far : (flight : Option Duty) → AreElsewhere (forsaken_for flight of) line
+  pub forsaken_far : (flight : Option Duty) → AreElsewhere (forsaken_for flight of) line
   forsaken_far None = tt
   forsaken_far (Some Clear) = tt
   forsaken_far (Some Audit) = tt
@@ -182,7 +186,7 @@ module _ (of line : ℕ) (apart : of ≢ line) where
   believed_far true duty code outcome hook care = forsaken_far (Some duty)
   believed_far false duty code outcome hook care = answered_far duty code outcome hook care
 
-  heard_far : (flight : Option Duty) (code : ℕ) (outcome : Outcome) (hook : Told) (care : Option Care) → AreElsewhere (heard_for flight of code outcome hook care) line
+  pub heard_far : (flight : Option Duty) (code : ℕ) (outcome : Outcome) (hook : Told) (care : Option Care) → AreElsewhere (heard_for flight of code outcome hook care) line
   heard_far None code outcome hook care = tt
   heard_far (Some duty) code outcome hook care = believed_far (is_outlived care) duty code outcome hook care
 
@@ -216,12 +220,12 @@ far attended turn line agree apart others =
     (turns_elsewhere attended.exchange (exchange_turns attended turn) line apart)
     (desk_of_others attended.desk (desk_turns attended turn) line others)
 
-told_same : (exchange : ExchangeState) (of line : ℕ) (event : Option Told) → is_in_flight (after exchange (told_for of event)) line ≡ is_in_flight exchange line
+pub told_same : (exchange : ExchangeState) (of line : ℕ) (event : Option Told) → is_in_flight (after exchange (told_for of event)) line ≡ is_in_flight exchange line
 unfolding after
 told_same exchange of line None = refl
 told_same exchange of line (Some event) = tell_by line of exchange event (cases_eq of line)
 
-announced_same : (exchange : ExchangeState) (of line : ℕ) (b : Bool)
+pub announced_same : (exchange : ExchangeState) (of line : ℕ) (b : Bool)
     → is_in_flight (after exchange (if b then calls.tells of Restarted ∷ [] else [])) line ≡ is_in_flight exchange line
 unfolding after
 announced_same exchange of line true = tell_by line of exchange Restarted (cases_eq of line)
@@ -262,7 +266,7 @@ answer_at attended of line code outcome hook is_refused agree (inr apart) =
 not_own : (own : ℕ → Bool) (of line : ℕ) → not (own of) ≡ true → own line ≡ true → of ≢ line
 not_own own of line apart mine = λ (same : of ≡ line). true≢false (sym (ap own same ∙ mine) ∙ not-true (own of) apart)
 
-turn_agrees : (own : ℕ → Bool) (attended : Attended) (turn : AttendedTurn) (line : ℕ) → is_apart own turn ≡ true → own line ≡ true
+pub turn_agrees : (own : ℕ → Bool) (attended : Attended) (turn : AttendedTurn) (line : ℕ) → is_apart own turn ≡ true → own line ≡ true
     → Agree attended.exchange attended.desk line → AgreesBehind attended turn line
 unfolding after after_turns
 turn_agrees own attended (settles of) line apart mine agree = settles_at attended of line agree (cases_eq of line)
@@ -370,11 +374,11 @@ is_of_the_exchange count last lines turns = exchange_all (opening_attended count
 -- A line goes on, whatever is in flight
 
 pub goes_on_at_both : (attended : Attended) (line : ℕ) (care : Care) (map : List ℕ) (phase : Phase) (is : Line) → IsSound attended.desk
-    → Agree attended.exchange attended.desk line → care_in attended line ≡ Some care → phase_of attended.exchange line ≡ Some phase
+    → Knows attended.exchange attended.desk line → care_in attended line ≡ Some care → phase_of attended.exchange line ≡ Some phase
     → line_of attended.exchange line ≡ Some is → GoesOn attended.desk line care attended.exchange map phase is.asked
-goes_on_at_both attended line care map phase is s agree there here known = by_flight (is_in_flight attended.exchange line) refl where
+goes_on_at_both attended line care map phase is s knows there here known = by_flight (is_in_flight attended.exchange line) refl where
   by_flight : (b : Bool) → is_in_flight attended.exchange line ≡ b → GoesOn attended.desk line care attended.exchange map phase is.asked
-  by_flight true flies = inl (Route, sym (ap flight_of there) ∙ routed_flight (flight_of (care_in attended line)) (sym agree ∙ flies))
+  by_flight true flies = inl (Route, sym (ap flight_of there) ∙ knows flies)
   by_flight false idle = goes_on_at attended.desk line care attended.exchange map phase is s there here known idle
 
 pub goes_on_attended : (own : ℕ → Bool) (count last lines line : ℕ) (turns : List AttendedTurn) (care : Care) (map : List ℕ) (phase : Phase) (is : Line)
@@ -384,7 +388,7 @@ pub goes_on_attended : (own : ℕ → Bool) (count last lines line : ℕ) (turns
 goes_on_attended own count last lines line turns care map phase is apart mine there here known =
     let of_desk = is_of_the_desk count last lines turns in
     goes_on_at_both (attended_by count last lines turns) line care map phase is (subst IsSound (sym of_desk.1) (sound lines of_desk.0))
-    (always_agree own count last lines line turns apart mine) there here known
+    (has_it_too own count last lines line turns apart mine) there here known
 
 -- A line that was just settled is sent nothing
 

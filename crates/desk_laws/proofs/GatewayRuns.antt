@@ -21,8 +21,8 @@ use Rattle.desk_laws.specs.Desk.{GoesOn, IsHeldUntil, StandsAmong, desk_of}
 use Rattle.desk_laws.specs.Gateways.{DoesOwn, Doing, Has, HaveLines, IsOwn, KeepsLines, Rests, ShareNoLine, StepAt, StepDoes, StepsDo, at_gateway}
 use Rattle.desk_laws.specs.Steps as steps
 use Rattle.desk_laws.specs.Steps.{DoesAnyhow, Step}
-use Rattle.desk_laws.proofs.AnyhowRuns.{step_agrees}
-use Rattle.desk_laws.proofs.AttendedLaws.{FliesOrNone, is_routed, opening_agrees, routed_flight, settled_sends, waits_by}
+use Rattle.desk_laws.proofs.AnyhowRuns.{start_knows, step_knows}
+use Rattle.desk_laws.proofs.AttendedLaws.{FliesOrNone, settled_sends, waits_by}
 use Rattle.desk_laws.proofs.AttendedLemmas.{flight_at}
 use Rattle.desk_laws.proofs.AttendedRuns.{begun_turn}
 use Rattle.desk_laws.proofs.DeskLaws.{goes_on_held}
@@ -243,17 +243,17 @@ own_anyhow (one ∷ ones) were are was is runs = (
   own_anyhow ones runs.0 are runs.1 is runs.3,
 )
 
--- what the exchange has in flight at a line is in flight to it by what is kept of it, and no more
-abbrev AgreesOf : Box Office → ℕ → Type 0
-AgreesOf office line = is_in_flight office.value.exchange line ≡ is_routed (flight_at office.value.cares.items line)
+-- what the exchange has in flight at a line is in flight to it by what is kept of it
+abbrev KnowsOf : Box Office → ℕ → Type 0
+KnowsOf office line = is_in_flight office.value.exchange line ≡ true → flight_at office.value.cares.items line ≡ Some Route
 
-agree_then : (ones : List StepAt) (were are : List Gateway) (was is : Box Office) → StepsDo DoesAnyhow ones were was are is
-    → ((line : ℕ) → AgreesOf was line) → (line : ℕ) → AgreesOf is line
-agree_then [] were are was is ends agree line = subst (λ (office : Box Office). AgreesOf office line) (sym ends.1) (agree line)
-agree_then (one ∷ ones) were are was is runs agree line =
+know_then : (ones : List StepAt) (were are : List Gateway) (was is : Box Office) → StepsDo DoesAnyhow ones were was are is
+    → ((line : ℕ) → KnowsOf was line) → (line : ℕ) → KnowsOf is line
+know_then [] were are was is ends knows line = subst (λ (office : Box Office). KnowsOf office line) (sym ends.1) (knows line)
+know_then (one ∷ ones) were are was is runs knows line =
     let caller = called (λ (gateway after : Gateway). DoesAnyhow one.step gateway was after runs.1) were runs.0 one.place runs.2 in
-    agree_then ones runs.0 are runs.1 is runs.3
-    (λ (of : ℕ). step_agrees caller.before caller.behind was runs.1 one.step caller.did agree of) line
+    know_then ones runs.0 are runs.1 is runs.3
+    (λ (of : ℕ). step_knows caller.before caller.behind was runs.1 one.step caller.did knows of) line
 
 -- the exchange comes there by turns
 led_then : (ones : List StepAt) (were are : List Gateway) (was is : Box Office) → StepsDo DoesAnyhow ones were was are is
@@ -272,24 +272,18 @@ are_turns count last ones were are was is opens runs =
 
 -- From the start on
 
-module _ (count last lines : ℕ) (was : Box Office) (opens : was.value.exchange ≡ opening count last)
-    (cares : was.value.cares.items ≡ replicate lines new_care) where
-  start_agrees : (line : ℕ) → AgreesOf was line
-  start_agrees line =
-      ap (λ (exchange : ExchangeState). is_in_flight exchange line) opens
-      ∙ (opening_agrees count last lines line 0 [] ∙ ap (λ (kept : List Care). is_routed (flight_at kept line)) (sym cares))
-
-  pub start_sound : (Stands : Standing) (place line : ℕ) (gateway : Gateway) → SoundOf Stands gateway was line
-  start_sound Stands place line gateway =
-      subst (λ (kept : List Care). InCare (LineSound Stands line gateway.ticked gateway.wakes.items) (slice_get kept line)) (sym cares)
-      (new_sound Stands lines line line gateway.ticked gateway.wakes.items)
+pub start_sound : (lines : ℕ) (was : Box Office) → was.value.cares.items ≡ replicate lines new_care → (Stands : Standing) (line : ℕ) (gateway : Gateway)
+    → SoundOf Stands gateway was line
+start_sound lines was cares Stands line gateway =
+    subst (λ (kept : List Care). InCare (LineSound Stands line gateway.ticked gateway.wakes.items) (slice_get kept line)) (sym cares)
+    (new_sound Stands lines line line gateway.ticked gateway.wakes.items)
 
 -- What that comes to
 
 goes_on_by : (gateway : Gateway) (office : Box Office) (line : ℕ) (care : Care) (map : List ℕ) (phase : Phase) (of : Line)
-    → SoundOf StandsAmong gateway office line → AgreesOf office line → slice_get office.value.cares.items line ≡ Some care → phase_of office.value.exchange line ≡ Some phase
+    → SoundOf StandsAmong gateway office line → KnowsOf office line → slice_get office.value.cares.items line ≡ Some care → phase_of office.value.exchange line ≡ Some phase
     → line_of office.value.exchange line ≡ Some of → GoesOn (desk_of gateway office.value) line care office.value.exchange map phase of.asked
-goes_on_by gateway office line care map phase of sound agree there here known = by_flight (is_in_flight office.value.exchange line) refl where
+goes_on_by gateway office line care map phase of sound knows there here known = by_flight (is_in_flight office.value.exchange line) refl where
   of_care : LineSound StandsAmong line gateway.ticked gateway.wakes.items care
   of_care = subst (InCare (LineSound StandsAmong line gateway.ticked gateway.wakes.items)) there sound
 
@@ -298,16 +292,15 @@ goes_on_by gateway office line care map phase of sound agree there here known = 
 
   by_flight : (b : Bool) → is_in_flight office.value.exchange line ≡ b
       → GoesOn (desk_of gateway office.value) line care office.value.exchange map phase of.asked
-  by_flight true flies =
-      inl (Route, sym (ap flight_of there) ∙ routed_flight (flight_at office.value.cares.items line) (sym agree ∙ flies))
+  by_flight true flies = inl (Route, sym (ap flight_of there) ∙ knows flies)
   by_flight false idle = goes_on_held (desk_of gateway office.value) line care office.value.exchange map phase of until here known idle
 
-pub flies_there : (count last lines line : ℕ) (ones : List StepAt) (were are : List Gateway) (was is : Box Office)
-    → was.value.exchange ≡ opening count last → was.value.cares.items ≡ replicate lines new_care → StepsDo DoesAnyhow ones were was are is
-    → is_in_flight is.value.exchange line ≡ true → flight_of (slice_get is.value.cares.items line) ≡ Some Route
-flies_there count last lines line ones were are was is opens cares runs flies =
-    routed_flight (flight_at is.value.cares.items line)
-    (sym (agree_then ones were are was is runs (start_agrees count last lines was opens cares) line) ∙ flies)
+pub flies_there : (count last line : ℕ) (ones : List StepAt) (were are : List Gateway) (was is : Box Office)
+    → was.value.exchange ≡ opening count last → StepsDo DoesAnyhow ones were was are is → is_in_flight is.value.exchange line ≡ true
+    → flight_of (slice_get is.value.cares.items line) ≡ Some Route
+flies_there count last line ones were are was is opens runs =
+    know_then ones were are was is runs
+    (λ (each : ℕ) (flies : is_in_flight was.value.exchange each ≡ true). start_knows count last each was opens flies) line
 
 pub goes_on_there : (count last lines place line : ℕ) (ones : List StepAt) (were are : List Gateway) (gateway : Gateway) (was is : Box Office) (care : Care)
     (map : List ℕ) (phase : Phase) (of : Line) → was.value.exchange ≡ opening count last → was.value.cares.items ≡ replicate lines new_care
@@ -318,9 +311,9 @@ goes_on_there count last lines place line ones were are gateway was is care map 
     goes_on_by gateway is line care map phase of
     (sound_then ones were are was is apart runs
     (λ (some each : ℕ) (one : Gateway) (found : slice_get were some ≡ Some one) (owned : Has one each).
-    start_sound count last lines was opens cares StandsAmong some each one)
+    start_sound lines was cares StandsAmong each one)
     place line gateway at has)
-    (agree_then ones were are was is (own_anyhow ones were are was is runs) (start_agrees count last lines was opens cares) line) there here known
+    (flies_there count last line ones were are was is opens (own_anyhow ones were are was is runs)) there here known
 
 -- each line of the exchange is of one of the gateways
 pub lines_stay : (count : ℕ) (ones : List StepAt) (were are : List Gateway) (was is : Box Office) → HaveLines 0 count were

@@ -4,7 +4,6 @@ use Rattle.std.specs.Prelude.{◌⊎◌, nat_le, replicate, slice_get}
 use Rattle.std.specs.Global.{Box}
 use Rattle.std.proofs.lemmas.Bool.{leb-false}
 use Rattle.std.proofs.lemmas.Option.{none-some}
-use Rattle.call_routing.specs.Exchange.{opening}
 use Rattle.live_agent.specs.declared.care.Care.{Care}
 use Rattle.live_agent.specs.declared.gateway.Gateway.{Gateway}
 use Rattle.live_agent.specs.declared.gateway.Wake.{Wake}
@@ -148,33 +147,33 @@ none_soon gateway none = subst (λ (all : List Wake). AllBy (again_at gateway.ti
 
 -- What that comes to
 
-pub held_there : (count last lines place line moment : ℕ) (ones : List StepAt) (were are : List Gateway) (gateway : Gateway) (was is : Box Office)
-    (care : Care) → was.value.exchange ≡ opening count last → was.value.cares.items ≡ replicate lines new_care → ShareNoLine were
-    → StepsDo DoesOwn ones were was are is → slice_get are place ≡ Some gateway → Has gateway line
+pub held_there : (lines place line moment : ℕ) (ones : List StepAt) (were are : List Gateway) (gateway : Gateway) (was is : Box Office)
+    (care : Care) → was.value.cares.items ≡ replicate lines new_care → ShareNoLine were → StepsDo DoesOwn ones were was are is
+    → slice_get are place ≡ Some gateway → Has gateway line
     → slice_get is.value.cares.items line ≡ Some care → care.again ≡ Some moment
     → IsHeldUntil (desk_of gateway is.value) line care moment × (care.flight ≡ None)
-held_there count last lines place line moment ones were are gateway was is care opens cares apart runs at has there again =
+held_there lines place line moment ones were are gateway was is care cares apart runs at has there again =
     (record { again = again; stands = of_care.stands moment again; soon = of_care.soon moment again }, of_care.alone moment again) where
       of_care : LineSound StandsAmong line gateway.ticked gateway.wakes.items care
       of_care =
           subst (InCare (LineSound StandsAmong line gateway.ticked gateway.wakes.items)) there
           (sound_then ones were are was is apart runs
           (λ (some each : ℕ) (one : Gateway) (found : slice_get were some ≡ Some one) (owned : Has one each).
-          start_sound count last lines was opens cares StandsAmong some each one)
+          start_sound lines was cares StandsAmong each one)
           place line gateway at has)
 
-pub comes_later : (count last lines place line moment : ℕ) (ones : List StepAt) (were are : List Gateway) (gateway : Gateway) (was is : Box Office)
-    (care : Care) → was.value.exchange ≡ opening count last → was.value.cares.items ≡ replicate lines new_care → ShareNoLine were
+pub comes_later : (lines place line moment : ℕ) (ones : List StepAt) (were are : List Gateway) (gateway : Gateway) (was is : Box Office)
+    (care : Care) → was.value.cares.items ≡ replicate lines new_care → ShareNoLine were
     → ((some : ℕ) (one : Gateway) → slice_get were some ≡ Some one → one.wakes.items ≡ []) → StepsDo DoesOwn ones were was are is
     → slice_get are place ≡ Some gateway → Has gateway line → slice_get is.value.cares.items line ≡ Some care → care.again ≡ Some moment
     → first_woken gateway.ticked gateway.wakes.items ≡ None → gateway.ticked < moment
-comes_later count last lines place line moment ones were are gateway was is care opens cares apart none runs at has there again woken =
+comes_later lines place line moment ones were are gateway was is care cares apart none runs at has there again woken =
     not_come gateway.ticked (wake_of moment line) gateway.wakes.items (of_care.stands moment again) woken where
       of_care : LineSound InTurn line gateway.ticked gateway.wakes.items care
       of_care =
           subst (InCare (LineSound InTurn line gateway.ticked gateway.wakes.items)) there
           (turn_then ones were are was is apart runs
           (λ (some each : ℕ) (one : Gateway) (found : slice_get were some ≡ Some one) (owned : Has one each).
-          start_sound count last lines was opens cares InTurn some each one)
+          start_sound lines was cares InTurn each one)
           (λ (some : ℕ) (one : Gateway) (found : slice_get were some ≡ Some one). none_soon one (none some one found))
           place line gateway at has)

@@ -11,6 +11,7 @@ mod AttendedLemmas
 mod AttendedLaws
 mod AttendedCalls
 mod AttendedRuns
+mod KnownTurns
 mod AnyhowRuns
 mod LineLemmas
 mod GatewayLemmas

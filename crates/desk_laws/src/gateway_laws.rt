@@ -27,14 +27,14 @@ pub fn what_calls_do_to_the_exchange_is_turns_of_it()
 {}
 
 /// Whichever gateway each call is of, and whichever gateway has the lines to which it does something. What the exchange has in flight at a
-/// line is in flight to it by what is kept of it. In each phase of a line of a gateway a command is in flight to it; or what was put off of
-/// it stands among what that gateway sends again, within 1,000 ms by that gateway's clock; or something is to be sent to it now; or it is
-/// asked for what it tells in that phase, so that its telephone is waited for. Once it is sent what it is to be sent, nothing is to be sent
-/// to it now. No line is of two gateways, an answer comes from the gateway that has the line, and no gateway's clock goes back.
+/// line is in flight to it by what is kept of it, whatever was kept at the start. In each phase of a line of a gateway a command is in
+/// flight to it; or what was put off of it stands among what that gateway sends again, within 1,000 ms by that gateway's clock; or
+/// something is to be sent to it now; or it is asked for what it tells in that phase, so that its telephone is waited for. Once it is sent
+/// what it is to be sent, nothing is to be sent to it now. No line is of two gateways, an answer comes from the gateway that has the line,
+/// and no gateway's clock goes back.
 pub fn a_line_of_any_gateway_goes_on()
-    ensures in_flight { (count last lines line : ℕ) (steps : List StepAt) (were are : List Gateway) (was is : Box Office) →
-        was.value.exchange ≡ opening count last → was.value.cares.items ≡ replicate lines new_care →
-        StepsDo DoesAnyhow steps were was are is →
+    ensures in_flight { (count last line : ℕ) (steps : List StepAt) (were are : List Gateway) (was is : Box Office) →
+        was.value.exchange ≡ opening count last → StepsDo DoesAnyhow steps were was are is →
         is_in_flight is.value.exchange line ≡ true → flight_of (slice_get is.value.cares.items line) ≡ Some Route }
     ensures goes_on { (count last lines place line : ℕ) (steps : List StepAt) (were are : List Gateway) (gateway : Gateway)
         (was is : Box Office) (care : Care) (map : List ℕ) (phase : Phase) (of : Line) → was.value.exchange ≡ opening count last →
@@ -51,18 +51,18 @@ pub fn a_line_of_any_gateway_goes_on()
         WaitsFor (desk_of gateway is.value) line care phase of.asked }
 {}
 
-/// Then what was put off of a line of a gateway stands among what that gateway sends again, within 1,000 ms by its clock, and nothing is
-/// in flight to the line meanwhile. Where at the start no gateway sends anything again: once all were woken of a gateway whose moment has
-/// come, one that is held still is so until later.
+/// Whatever the exchange was at the start: what was put off of a line of a gateway stands among what that gateway sends again, within
+/// 1,000 ms by its clock, and nothing is in flight to the line meanwhile. Where at the start no gateway sends anything again: once all were
+/// woken of a gateway whose moment has come, one that is held still is so until later.
 pub fn what_was_put_off_at_any_gateway_wakes_when_its_moment_comes()
-    ensures stands { (count last lines place line moment : ℕ) (steps : List StepAt) (were are : List Gateway) (gateway : Gateway)
-        (was is : Box Office) (care : Care) → was.value.exchange ≡ opening count last → was.value.cares.items ≡ replicate lines new_care →
-        ShareNoLine were → StepsDo DoesOwn steps were was are is → slice_get are place ≡ Some gateway → Has gateway line →
+    ensures stands { (lines place line moment : ℕ) (steps : List StepAt) (were are : List Gateway) (gateway : Gateway)
+        (was is : Box Office) (care : Care) → was.value.cares.items ≡ replicate lines new_care → ShareNoLine were →
+        StepsDo DoesOwn steps were was are is → slice_get are place ≡ Some gateway → Has gateway line →
         slice_get is.value.cares.items line ≡ Some care → care.again ≡ Some moment →
         IsHeldUntil (desk_of gateway is.value) line care moment × (care.flight ≡ None) }
-    ensures later { (count last lines place line moment : ℕ) (steps : List StepAt) (were are : List Gateway) (gateway : Gateway)
-        (was is : Box Office) (care : Care) → was.value.exchange ≡ opening count last → was.value.cares.items ≡ replicate lines new_care →
-        ShareNoLine were → ((some : ℕ) (one : Gateway) → slice_get were some ≡ Some one → one.wakes.items ≡ []) →
+    ensures later { (lines place line moment : ℕ) (steps : List StepAt) (were are : List Gateway) (gateway : Gateway)
+        (was is : Box Office) (care : Care) → was.value.cares.items ≡ replicate lines new_care → ShareNoLine were →
+        ((some : ℕ) (one : Gateway) → slice_get were some ≡ Some one → one.wakes.items ≡ []) →
         StepsDo DoesOwn steps were was are is → slice_get are place ≡ Some gateway → Has gateway line →
         slice_get is.value.cares.items line ≡ Some care → care.again ≡ Some moment →
         first_woken gateway.ticked gateway.wakes.items ≡ None → gateway.ticked < moment }

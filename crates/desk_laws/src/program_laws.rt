@@ -31,10 +31,11 @@ pub fn what_calls_do_is_turns_of_both()
 /// In each phase of each line, whatever its exchange has in flight: a command is in flight to it by what the desk keeps; or what was put
 /// off of it is sent again, within 1,000 ms; or something is to be sent to it now; or it is asked for what it tells in that phase, so that
 /// its telephone is waited for. It is so whatever the clock was at the start, whatever was sent again, and whether or not anything was in
-/// flight to a line that was answered. That what is in flight at the exchange is so at the desk holds wherever the clock goes, too.
+/// flight to a line that was answered. That what is in flight at the exchange is so at the desk holds wherever the clock goes, too, and
+/// whatever was kept of the lines at the start.
 pub fn a_line_of_the_program_goes_on()
-    ensures in_flight { (count last lines line : ℕ) (steps : List Step) (gateway after : Gateway) (was is : Box Office) →
-        was.value.exchange ≡ opening count last → was.value.cares.items ≡ replicate lines new_care → RunsAnyhow steps gateway was after is →
+    ensures in_flight { (count last line : ℕ) (steps : List Step) (gateway after : Gateway) (was is : Box Office) →
+        was.value.exchange ≡ opening count last → RunsAnyhow steps gateway was after is →
         is_in_flight is.value.exchange line ≡ true → flight_of (slice_get is.value.cares.items line) ≡ Some Route }
     ensures goes_on { (count last lines line : ℕ) (steps : List Step) (gateway after : Gateway) (was is : Box Office) (care : Care)
         (map : List ℕ) (phase : Phase) (of : Line) → was.value.exchange ≡ opening count last →
