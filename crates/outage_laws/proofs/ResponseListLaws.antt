@@ -2,6 +2,8 @@
 use Rattle.std.proofs.Common.{◌≡◌, ℕ, ◌+◌, ◌<◌, ◌≤◌, Bool, true, ◌==◌, if◌then◌else◌, List, [], ◌∷◌, ◌++◌, Option, Some, None, refl, sym, ap, ◌∙◌, subst, arith}
 use Rattle.std.specs.Prelude.{IfSome}
 use Rattle.std.specs.declared.net.socket_addr.SocketAddrV4.{SocketAddrV4}
+use Rattle.std.proofs.lemmas.Bool.{eqb-true}
+use Rattle.std.proofs.lemmas.Option.{none-some}
 use Rattle.mgcp_text.specs.declared.message.Message.TheVariants as messages
 use Rattle.mgcp_text.specs.declared.message.Param.{Param}
 use Rattle.mgcp_text.specs.Reading.{message, read_text}
@@ -11,10 +13,10 @@ use Rattle.mg_line.specs.State.TheVariants.{Notification}
 use Rattle.outbound.specs.declared.repeat.Repeat.TheVariants.{Sent as SentAgain}
 use Rattle.outbound.specs.declared.reply.Reply.{Reply}
 use Rattle.outbound.specs.declared.reply.Reply.TheVariants as replies
-use Rattle.outbound.specs.Flight.{InFlight, repeat_of, reply_of}
+use Rattle.outbound.specs.Flight.{InFlight, repeat_of, reply_by, reply_of}
 use Rattle.outbound.specs.Sends.{provisional_wait}
 use Rattle.restart.specs.declared.restart.Restart.{Restart}
-use Rattle.restart.specs.declared.restart.Restart.TheVariants.{Announced, Serving}
+use Rattle.restart.specs.declared.restart.Restart.TheVariants.{Announced, Serving, Waiting}
 use Rattle.restart.specs.declared.heard.Heard.{Heard}
 use Rattle.restart.specs.declared.heard.Heard.TheVariants.{PutOff, Redirected, Answered}
 use Rattle.restart.specs.Restarting.{answer_by, answer_of, heard_of}
@@ -26,7 +28,7 @@ use Rattle.plain_machine.specs.declared.setup.Setup.{Setup}
 use Rattle.plain_machine.specs.Announcing.{announcement, heard_by, heard_on, replied, replied_on}
 use Rattle.plain_machine.specs.Effect.{Effect}
 use Rattle.plain_machine.specs.Event.{GatewayEvent, datagram}
-use Rattle.plain_machine.specs.Flights.{HasOwnId, Waits}
+use Rattle.plain_machine.specs.Flights.{HasOwnId, OwnInOrderBy, Waits}
 use Rattle.plain_machine.specs.Lists.{plain}
 use Rattle.plain_machine.specs.Machine.{Endpoints, Machine, endpoint_at, on_line, on_own, opening}
 use Rattle.plain_machine.specs.Notifying.{posted}
@@ -35,7 +37,7 @@ use Rattle.plain_machine.specs.Requesting.{lines_meant}
 use Rattle.plain_machine.specs.Responding.{entity_in, lines_told, own_heard, redirected_on, responded, responded_as, responded_on, response_with}
 use Rattle.plain_machine.proofs.EffectLaws.{effect_now}
 use Rattle.plain_machine.proofs.ListLaws.{machine_on}
-use Rattle.machine_laws.proofs.FlightLaws.{has_own_id, waits_for_the_answer}
+use Rattle.machine_laws.proofs.FlightLaws.{has_own_id, posts_in_order, waits_for_the_answer}
 use Rattle.machine_laws.proofs.LineLemmas.{own_stays}
 use Rattle.world_laws.proofs.WorldLaws.{gateway_alone}
 use Rattle.delivery_laws.specs.GoingOn.{GoesOn}
@@ -44,6 +46,32 @@ use Rattle.outage_laws.specs.Alone.{HasResponseSince, IsSentSince}
 use Rattle.outage_laws.proofs.NextOwnLaws.{own_sent}
 use Rattle.outage_laws.proofs.NextTurns.{line_sent}
 use Rattle.outage_laws.proofs.ResponseLaws.{puts_off, redirects}
+
+-- a response that is one to a command in flight has its id
+has_its_id : (flight : InFlight) (id code : ℕ) → (reply_of flight id code ≡ replies.Stranger → ⊥) → flight.id ≡ id
+has_its_id flight id code known = by_test (flight.id == id) refl known where
+  by_test : (b : Bool) → (flight.id == id) ≡ b → ((if b then reply_by code else replies.Stranger) ≡ replies.Stranger → ⊥) → flight.id ≡ id
+  by_test true same known = eqb-true flight.id id same
+  by_test false other known = absurd (known refl)
+
+pub of_provisional : (flight : InFlight) (id code : ℕ) → reply_of flight id code ≡ replies.Provisional → flight.id ≡ id
+of_provisional flight id code is =
+    has_its_id flight id code (λ stranger. (let clash : replies.Provisional ≡ replies.Stranger = sym is ∙ stranger in cc))
+
+pub of_answer : (flight : InFlight) (id code : ℕ) → reply_of flight id code ≡ replies.Answered → flight.id ≡ id
+of_answer flight id code is =
+    has_its_id flight id code (λ stranger. (let clash : replies.Answered ≡ replies.Stranger = sym is ∙ stranger in cc))
+
+-- what a gateway itself has in flight is its announcement
+pub own_announces : (setup : Setup) (events : List GatewayEvent) (flight : InFlight) → (plain setup events).endpoints.own.pending ≡ Some flight
+    → (plain setup events).endpoints.own.restart ≡ Announced
+own_announces setup events flight flies =
+    by_restart (plain setup events).endpoints.own.restart refl (posts_in_order setup events).own where
+      by_restart : (restart : Restart) → (plain setup events).endpoints.own.restart ≡ restart → OwnInOrderBy restart (plain setup events).endpoints.own.pending
+          → (plain setup events).endpoints.own.restart ≡ Announced
+      by_restart (Waiting until) is none = absurd (none-some flight (sym none ∙ flies))
+      by_restart Announced is flown = is
+      by_restart Serving is none = absurd (none-some flight (sym none ∙ flies))
 
 put_off_later : (now was : ℕ) → was ≡ now → was < now + provisional_wait
 put_off_later now was same = omega (arith, same)

@@ -29,28 +29,28 @@ pub fn what_is_put_off_is_sent_later()
     ensures line { (setup : Setup) (events : List GatewayEvent) (source : SocketAddrV4) (bytes text : List ℕ) (code id : ℕ)
         (params : List Param) (body : List ℕ) (line : ℕ) (was : Endpoint) (flight : InFlight) → texts_of bytes ≡ text ∷ [] →
         read_text text ≡ message (messages.Response code id params body) → let m = plain setup events in
-        endpoint_at m.endpoints line ≡ Some was → was.post.pending ≡ Some flight → flight.id ≡ id → reply_of flight id code ≡ Provisional →
+        endpoint_at m.endpoints line ≡ Some was → was.post.pending ≡ Some flight → reply_of flight id code ≡ Provisional →
         endpoint_at (plain setup (events ++ datagram source bytes ∷ [])).endpoints line
         ≡ Some (record was { post = record was.post { pending = Some (record flight { due = m.now + provisional_wait }) } }) }
     ensures line_sent { (setup : Setup) (events after : List GatewayEvent) (source : SocketAddrV4) (bytes text : List ℕ) (code id : ℕ)
         (params : List Param) (body : List ℕ) (line : ℕ) (was : Endpoint) (flight : InFlight) → texts_of bytes ≡ text ∷ [] →
         read_text text ≡ message (messages.Response code id params body) → let m = plain setup events in
         let comes = events ++ datagram source bytes ∷ [] in let due = m.now + provisional_wait in
-        endpoint_at m.endpoints line ≡ Some was → was.post.pending ≡ Some flight → flight.id ≡ id → reply_of flight id code ≡ Provisional →
+        endpoint_at m.endpoints line ≡ Some was → was.post.pending ≡ Some flight → reply_of flight id code ≡ Provisional →
         repeat_of (record flight { due = due }) due ≡ SentAgain → ¬ HasResponseSince setup comes after flight.id →
         due ≤ (plain setup (comes ++ after)).now →
         IsSentSince setup comes after line flight.text due }
     ensures own { (setup : Setup) (events : List GatewayEvent) (source : SocketAddrV4) (bytes text : List ℕ) (code id : ℕ)
         (params : List Param) (body : List ℕ) (flight : InFlight) → texts_of bytes ≡ text ∷ [] →
         read_text text ≡ message (messages.Response code id params body) → let m = plain setup events in
-        m.endpoints.own.pending ≡ Some flight → flight.id ≡ id → reply_of flight id code ≡ Provisional →
+        m.endpoints.own.pending ≡ Some flight → reply_of flight id code ≡ Provisional →
         (plain setup (events ++ datagram source bytes ∷ [])).endpoints.own
         ≡ record m.endpoints.own { pending = Some (record flight { due = m.now + provisional_wait }) } }
     ensures own_sent { (setup : Setup) (events after : List GatewayEvent) (source : SocketAddrV4) (bytes text : List ℕ) (code id : ℕ)
         (params : List Param) (body : List ℕ) (flight : InFlight) → texts_of bytes ≡ text ∷ [] →
         read_text text ≡ message (messages.Response code id params body) → let m = plain setup events in
         let comes = events ++ datagram source bytes ∷ [] in let due = m.now + provisional_wait in
-        m.endpoints.own.pending ≡ Some flight → flight.id ≡ id → reply_of flight id code ≡ Provisional →
+        m.endpoints.own.pending ≡ Some flight → reply_of flight id code ≡ Provisional →
         repeat_of (record flight { due = due }) due ≡ SentAgain → ¬ HasResponseSince setup comes after flight.id →
         due ≤ (plain setup (comes ++ after)).now → IsSentSince setup comes after 0 flight.text due }
 {}
@@ -63,7 +63,7 @@ pub fn what_is_redirected_is_announced_anew()
         (params : List Param) (body : List ℕ) (line : ℕ) (was : Endpoint) (flight : InFlight) (agent : Entity) →
         texts_of bytes ≡ text ∷ [] →
         read_text text ≡ message (messages.Response 521 id params body) → let m = plain setup events in
-        endpoint_at m.endpoints line ≡ Some was → was.post.pending ≡ Some flight → flight.id ≡ id → was.post.restart ≡ Announced →
+        endpoint_at m.endpoints line ≡ Some was → was.post.pending ≡ Some flight → was.post.restart ≡ Announced →
         reply_of flight id 521 ≡ Answered → entity_in setup params ≡ Some agent →
         endpoint_at (plain setup (events ++ datagram source bytes ∷ [])).endpoints line
         ≡ Some (record was {
@@ -73,15 +73,14 @@ pub fn what_is_redirected_is_announced_anew()
     ensures own { (setup : Setup) (events : List GatewayEvent) (source : SocketAddrV4) (bytes text : List ℕ) (id : ℕ)
         (params : List Param) (body : List ℕ) (flight : InFlight) (agent : Entity) → texts_of bytes ≡ text ∷ [] →
         read_text text ≡ message (messages.Response 521 id params body) → let m = plain setup events in
-        m.endpoints.own.pending ≡ Some flight → flight.id ≡ id → m.endpoints.own.restart ≡ Announced →
-        reply_of flight id 521 ≡ Answered → entity_in setup params ≡ Some agent →
+        m.endpoints.own.pending ≡ Some flight → reply_of flight id 521 ≡ Answered → entity_in setup params ≡ Some agent →
         (plain setup (events ++ datagram source bytes ∷ [])).endpoints.own
         ≡ (with_command 0 m.now (record m.endpoints.own { entity = agent; restart = Announced })
         (announcement setup 0 (id_on 0 m.endpoints.own.number))).value }
     ensures notified { (setup : Setup) (events : List GatewayEvent) (source : SocketAddrV4) (bytes text : List ℕ) (code id : ℕ)
         (params : List Param) (body : List ℕ) (line : ℕ) (was : Endpoint) (flight : InFlight) → texts_of bytes ≡ text ∷ [] →
         read_text text ≡ message (messages.Response code id params body) → let m = plain setup events in
-        endpoint_at m.endpoints line ≡ Some was → was.post.pending ≡ Some flight → flight.id ≡ id → was.post.restart ≡ Serving →
+        endpoint_at m.endpoints line ≡ Some was → was.post.pending ≡ Some flight → was.post.restart ≡ Serving →
         reply_of flight id code ≡ Answered → (is : Endpoint)
         × (endpoint_at (plain setup (events ++ datagram source bytes ∷ [])).endpoints line ≡ Some is) × GoesOn line m.now was is }
 {}
