@@ -7,7 +7,8 @@ ghost use Rattle.plain_machine.specs.Example.{agent, naming_other, other_entity,
 ghost use Rattle.plain_machine.specs.Lists.{plain};
 ghost use Rattle.plain_machine.specs.Machine.{serves};
 ghost use Rattle.outage_laws.specs.Example.{own_due};
-ghost use Rattle.law_examples.specs.ResponseExample.{announced_again, lifted_at_once, line_flies, line_reports_to, line_sends};
+ghost use Rattle.law_examples.specs.ResponseExample.{announced_again, both_in_one, lifted_at_once, line_flies, line_reports_to, line_sends};
+ghost use Rattle.law_examples.specs.ResponseExample.{own_both_in_one, own_put_off_late, own_sends, put_off_late};
 
 /// A provisional response puts off what is in flight, to 5,000 ms later; one with another id doesn't, nor does the answer, or one that
 /// comes with the answer in one datagram. What is in flight is sent when it is due, and no sooner; nor where the answer came, or where it
@@ -30,6 +31,19 @@ pub fn what_a_provisional_response_puts_off()
     ensures no_sooner { line_sends (lifted_at_once ++ response 100 10000000 ∷ []) (tick 5999 ∷ []) ≡ [] }
     ensures came_since { line_sends (lifted_at_once ++ response 100 10000000 ∷ [])
         (response 200 10000000 ∷ tick 6000 ∷ []) ≡ [] }
+{}
+
+/// What was first sent at 1,000, or at 1, and is put off to a moment more than 20,000 ms later, is given up then, and isn't sent; nor is
+/// what is answered in the same datagram.
+pub fn what_is_put_off_in_vain()
+    ensures put_off { line_flies put_off_late ≡ Some (10000000, 25500) }
+    ensures given_up { line_sends put_off_late (tick 25500 ∷ []) ≡ [] }
+    ensures own_put_off { own_due own_put_off_late ≡ Some 24501 }
+    ensures own_given_up { own_sends own_put_off_late (tick 24501 ∷ []) ≡ [] }
+    ensures answered { line_sends (lifted_at_once ++ both_in_one ∷ []) (tick 6000 ∷ []) ≡ [] }
+    ensures own_answered { own_due (tick 1 ∷ own_both_in_one ∷ []) ≡ None }
+    ensures own_unsent { own_sends (tick 1 ∷ own_both_in_one ∷ []) (tick 5001 ∷ []) ≡ [] }
+    ensures own_sent { own_sends (tick 1 ∷ response 100 1 ∷ []) (tick 5001 ∷ []) ≡ 5001 ∷ [] }
 {}
 
 /// 521 that names another agent is announced to that one; where it names nobody it is the answer, and so it is to a notification. Behind

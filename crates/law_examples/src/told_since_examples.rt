@@ -26,7 +26,8 @@ ghost use Rattle.told_laws.specs.Stretch.{outliving};
 ghost use Rattle.outage_laws.specs.AfterOutage.{AgentHasRoomFrom, IsFairFrom};
 ghost use Rattle.outage_laws.specs.SinceThenExample.{KeptAllSince, done_between};
 ghost use Rattle.outage_laws.specs.ToldSince.{FlightBeganSince, FlightsBeganSince};
-ghost use Rattle.law_examples.specs.ToldSinceExample.{GaveNothingUpSince, ToldSince, dialled_since, kept_from_it, kept_longer, rested_since};
+ghost use Rattle.law_examples.specs.ToldSinceExample.{GaveNothingUpSince, ToldSince, dialled_since, kept_from_it};
+ghost use Rattle.law_examples.specs.ToldSinceExample.{kept_longer, rested_since};
 ghost use Rattle.law_examples.specs.ToldSinceExample.{waiting_since};
 ghost use Rattle.law_examples.specs.ToldSinceExample.{taken_since, told_at_once, told_before_it, underway_since, well_since};
 
