@@ -1,5 +1,5 @@
 -- What calls do to gateways and an exchange's office of which so much is known, and by which desks a line doesn't go on.
-use Rattle.std.proofs.Common.{◌≡◌, ℕ, zero, suc, ◌+◌, ◌<◌, ◌≤◌, List, [], ◌∷◌, ◌++◌, Some, None, inl, inr, refl, sym, subst, arith}
+use Rattle.std.proofs.Common.{◌≡◌, ℕ, zero, suc, ◌+◌, ◌<◌, ◌≤◌, false, List, [], ◌∷◌, ◌++◌, Some, None, inl, inr, refl, sym, subst, arith}
 use Rattle.std.specs.Prelude.{slice_get}
 use Rattle.std.specs.Global.{Box}
 use Rattle.std.proofs.lemmas.Option.{none-some}
@@ -17,9 +17,10 @@ use Rattle.live_agent.specs.Steps.{Begins}
 use Rattle.live_agent.proofs.StepExampleLemmas.{AnswersAt}
 use Rattle.desk_laws.specs.Attended.{WaitsFor}
 use Rattle.desk_laws.specs.Desk.{Desk, GoesOn, IsHeldUntil, StandsAmong, desk_of}
-use Rattle.desk_laws.specs.GatewayPremises.{GoesOnSomewhere, IsAsked, IsAudited, accepted_then, answers, asked_then, audited_then, audits, cleared_then, issues, sent_at_first}
+use Rattle.desk_laws.specs.GatewayPremises.{GoesOnSomewhere, IsAsked, IsAudited, accepted_then, answers, asked_then, audit_steps, audited_then, audits, cleared_then, issues, sent_at_first}
 use Rattle.desk_laws.specs.Gateways.{DoesOwn, Has, StepAt, StepDoes, StepsDo}
 use Rattle.desk_laws.specs.GatewaysExample.{IsOffice, IsPutOff, high, low, puts_off, third_is, with_lines}
+use Rattle.desk_laws.specs.Steps.{RunsForward, Step, issues_to, takes_answer}
 use Rattle.desk_laws.proofs.CareLemmas.{same_some}
 use Rattle.desk_laws.proofs.Computing.{on_examples}
 use Rattle.desk_laws.proofs.GatewayExampleLemmas.{carried, deletes_so, due_nowhere, has_so, not_back, puts_off_so, rests_so, same_clock, still_there}
@@ -101,6 +102,50 @@ audits_then steps exchange gateway another was first second third mid is so behi
   ),
 )
 
+-- so at one gateway that has all lines
+pub audits_forward : (steps : List Step) (exchange : ExchangeState) (gateway : Gateway) (was first second third mid is : Box Office)
+    → IsAudited exchange was first second third mid → RunsForward steps gateway mid gateway is → RunsForward (audit_steps ++ steps) gateway was gateway is
+audits_forward steps exchange gateway was first second third mid is so behind = (
+  gateway,
+  first,
+  not_back gateway,
+  (
+    (refl, refl),
+    begins_with was first exchange exchange (third_is new_care) (third_is (begun new_care)) so.new so.deletes (deletion_begins exchange),
+  ),
+  (
+    gateway,
+    second,
+    not_back gateway,
+    (
+      refl,
+      answered_with 250 gateway first second exchange (cleared_then exchange) (third_is (begun new_care)) (third_is cleared) so.deletes so.deleted
+          (deletion_over gateway.ticked gateway.wakes.items exchange),
+    ),
+    (
+      gateway,
+      third,
+      not_back gateway,
+      (
+        (refl, refl),
+        begins_with second third (cleared_then exchange) (cleared_then exchange) (third_is cleared) (third_is (begun cleared)) so.deleted so.inquires
+            (audit_begins (cleared_then exchange)),
+      ),
+      (
+        gateway,
+        mid,
+        not_back gateway,
+        (
+          refl,
+          answered_with 200 gateway third mid (cleared_then exchange) (audited_then exchange) (third_is (begun cleared)) (third_is audited) so.inquires so.found
+              (audit_over gateway.ticked gateway.wakes.items exchange),
+        ),
+        behind,
+      ),
+    ),
+  ),
+)
+
 -- where nothing is to be sent to it, nothing begins
 issues_nothing : (first another : Gateway) (is : Box Office) (exchange : ExchangeState) (cares : List Care) → IsOffice is exchange cares
     → Begins 2 exchange cares exchange cares → StepsDo DoesOwn (issues ∷ []) (first ∷ high another ∷ []) is (first ∷ high another ∷ []) is
@@ -149,6 +194,29 @@ asks_then steps gateway another was between mid is so behind = (
         (answered_with 200 another between mid asked_then accepted_then (third_is (begun audited)) (third_is audited) so.asked so.accepted
         (request_over another.ticked another.wakes.items)),
     behind,
+  ),
+)
+
+pub asks_forward : (gateway : Gateway) (was between is : Box Office) → IsAsked was between is
+    → RunsForward (issues_to false 2 ∷ takes_answer 2 200 [] ∷ []) gateway was gateway is
+asks_forward gateway was between is so = (
+  gateway,
+  between,
+  not_back gateway,
+  (
+    (refl, refl),
+    begins_with was between (audited_then (opening 4 0)) asked_then (third_is audited) (third_is (begun audited)) so.before so.asked request_begins,
+  ),
+  (
+    gateway,
+    is,
+    not_back gateway,
+    (
+      refl,
+      answered_with 200 gateway between is asked_then accepted_then (third_is (begun audited)) (third_is audited) so.asked so.accepted
+          (request_over gateway.ticked gateway.wakes.items),
+    ),
+    (refl, refl),
   ),
 )
 

@@ -15,7 +15,7 @@ use Rattle.live_agent.specs.Example.{audited, cleared}
 use Rattle.desk_laws.specs.Desk.{GoesOn, desk_of}
 use Rattle.desk_laws.specs.Gateways.{Has, StepAt, at_gateway}
 use Rattle.desk_laws.specs.GatewaysExample.{IsOffice, third_is}
-use Rattle.desk_laws.specs.Steps.{issues_to, takes_answer}
+use Rattle.desk_laws.specs.Steps.{Step, issues_to, takes_answer}
 
 -- the line goes on by the desk of one of these gateways, which has it
 abbrev pub GoesOnSomewhere : List Gateway → Box Office → ℕ → Care → Phase → Option Asked → Type 0
@@ -51,6 +51,10 @@ audited_then exchange = told (cleared_then exchange) 2 Flash
 abbrev pub audits : List StepAt
 audits = issues ∷ answers 250 ∷ issues ∷ answers 200 ∷ []
 
+-- the same of one gateway that has all lines
+abbrev pub audit_steps : List Step
+audit_steps = issues_to false 2 ∷ takes_answer 2 250 [] ∷ issues_to false 2 ∷ takes_answer 2 200 [] ∷ []
+
 pub record IsAudited (exchange : ExchangeState) (was first second third is : Box Office) : Type 0 where
   pub new : IsOffice was exchange (third_is new_care)
   pub deletes : IsOffice first exchange (third_is (begun new_care))
@@ -68,6 +72,9 @@ accepted_then = answered asked_then 2 (Answered 200)
 
 abbrev pub asks : List StepAt
 asks = audits ++ issues ∷ answers 200 ∷ []
+
+abbrev pub ask_steps : List Step
+ask_steps = audit_steps ++ issues_to false 2 ∷ takes_answer 2 200 [] ∷ []
 
 pub record IsAsked (was between is : Box Office) : Type 0 where
   pub before : IsOffice was (audited_then (opening 4 0)) (third_is audited)

@@ -1,7 +1,7 @@
 //! Worked examples of the laws of the program's exchange and desk, as theorems: each premise missing alone, where the law fails.
 #![tactic(auto, unfolding(crate::proofs::Computing::on_examples))]
 
-ghost use Rattle.std.specs.Prelude.{◌≡◌, ◌∷◌, ◌^◌, [], ℕ, List, None, replicate, slice_get, true};
+ghost use Rattle.std.specs.Prelude.{◌≡◌, ◌∷◌, ◌^◌, [], ℕ, List, None, replicate, slice_get, Some, true};
 ghost use Rattle.std.specs.Global.{Box};
 ghost use Rattle.call_routing.specs.Exchange.{opening};
 ghost use Rattle.call_laws.specs.Turns.{is_in_flight};
@@ -9,15 +9,16 @@ ghost use Rattle.live_agent.specs.declared.gateway.Gateway.{Gateway};
 ghost use Rattle.live_agent.specs.declared.office.Office.{Office};
 ghost use Rattle.live_agent.specs.AgentClock.{tick_to};
 ghost use Rattle.live_agent.specs.Duties.{new_care};
-ghost use Rattle.live_agent.specs.Example.{deleted_later, wake_at};
+ghost use Rattle.live_agent.specs.Example.{audited, deleted_later, wake_at};
 ghost use Rattle.live_agent.specs.Orders.{flight_of};
 ghost use Rattle.desk_laws.specs.Attended.{AttendedTurn, attended_by, attended_of};
 ghost use Rattle.desk_laws.specs.Desk.{DeskTurn, GoesOn, after_turns, desk_of, opening_desk};
 ghost use Rattle.desk_laws.specs.Example.{asked_meanwhile, held_care, routed_care};
+ghost use Rattle.desk_laws.specs.GatewayPremises.{IsAsked, IsAudited, ask_steps, audit_steps, sent_at_first};
 ghost use Rattle.desk_laws.specs.StepExample.{AreSo};
 ghost use Rattle.desk_laws.specs.Steps.{Flies, Runs, RunsAnyhow, RunsForward, Step, goes_on_to, takes_answer};
 
-use call_routing::Phase;
+use call_routing::{Asked, Phase};
 
 /// Without a call all is as it was. So where the exchange, or what is kept of its lines, wasn't as at the start, or isn't where calls lead,
 /// the exchange may have in flight what the desk hasn't, and a line may not go on. Nor does it where what was put off at 500 is to be sent
@@ -39,6 +40,25 @@ pub fn else_a_line_of_the_program_may_not_go_on()
     ensures goes_back { (gateway : Gateway) (office : Box Office) → office.value.exchange ≡ opening 3 0 →
         AreSo gateway office.value 100 (deleted_later ∷ []) (wake_at 1500 0 ∷ []) →
         ¬ GoesOn (desk_of gateway office.value) 0 deleted_later office.value.exchange [] Phase.Resting None }
+{}
+
+/// Nor does a line go on, once it was cleared and audited, to which the exchange had something in flight at the start; nor one that was
+/// asked, too, if it were in another phase, or hadn't been asked; nor by something else than what is kept of it.
+pub fn else_a_line_of_the_program_is_known_otherwise()
+    ensures was_in_flight { (gateway : Gateway) (was first second third is : Box Office) →
+        IsAudited sent_at_first was first second third is → RunsForward audit_steps gateway was gateway is }
+    ensures in_flight_still { (gateway : Gateway) (was first second third is : Box Office) →
+        IsAudited sent_at_first was first second third is →
+        ¬ GoesOn (desk_of gateway is.value) 2 audited is.value.exchange [] Phase.Resting None }
+    ensures asked { (gateway : Gateway) (was first second third fourth fifth is : Box Office) →
+        IsAudited (opening 4 0) was first second third fourth → IsAsked fourth fifth is → RunsForward ask_steps gateway was gateway is }
+    ensures another_phase { (gateway : Gateway) (was between is : Box Office) → IsAsked was between is →
+        ¬ GoesOn (desk_of gateway is.value) 2 audited is.value.exchange [] Phase.Dialling (Some Asked.Rest) }
+    ensures another_record { (gateway : Gateway) (was between is : Box Office) → IsAsked was between is →
+        ¬ GoesOn (desk_of gateway is.value) 2 audited is.value.exchange [] Phase.Resting None }
+    ensures another_care { (gateway : Gateway) (office : Box Office) → gateway.wakes.items ≡ [] → office.value.exchange ≡ opening 3 0 →
+        office.value.cares.items ≡ replicate 2 new_care →
+        ¬ GoesOn (desk_of gateway office.value) 0 (held_care 500) office.value.exchange [] Phase.Resting None }
 {}
 
 /// With calls that are turns of both a line goes on; and with more: an answer may come to a line to which nothing is in flight. For what is
