@@ -2,7 +2,7 @@
 //! one premise alone is missing and the law's sentence fails.
 #![tactic(auto, unfolding(crate::proofs::Computing::on_examples))]
 
-ghost use Rattle.std.specs.Prelude.{◌≡◌, ◌≤◌, ◌+◌, ◌*◌, ◌++◌, [], ◌∷◌, length, true};
+ghost use Rattle.std.specs.Prelude.{◌≡◌, ◌≤◌, ◌+◌, ◌*◌, ◌++◌, ℕ, [], ◌∷◌, length, true};
 ghost use Rattle.restart.specs.declared.restart.Restart.TheVariants.{Announced, Serving, Waiting};
 ghost use Rattle.plain_machine.specs.Example.{two_lines};
 ghost use Rattle.plain_machine.specs.Lists.{plain};
@@ -31,7 +31,8 @@ pub fn a_line_that_gave_up_has_its_agent_at_last()
     ensures fair { IsFairFrom two_lines connected_late 19502 300 }
     ensures fair_not_before { ¬ IsFairFrom two_lines connected_late 19501 300 }
     ensures room { AgentHasRoomFrom two_lines connected_late 19502 }
-    ensures goes { (b : Begun) → IsOfLine two_lines (world connected_late) 1 b → GoesToAgent two_lines (world connected_late) b.text }
+    ensures goes { (line : ℕ) (b : Begun) → IsOfLine two_lines (world connected_late) line b →
+        GoesToAgent two_lines (world connected_late) b.text }
     ensures moments { moments_in unconnected ≡ 1 ∷ 1 ∷ 1 ∷ 501 ∷ 1501 ∷ 3501 ∷ 7501 ∷ 11501 ∷ 15501 ∷ 19501 ∷ 28501 ∷ 28801 ∷ 29001 ∷ [] }
     ensures late { 19502 + gap_of 300 + two_lines.disconnected_wait + 2 * 300 ≡ now_in two_lines (world connected_late) + 1 }
     ensures not_yet { (endpoint_then unconnected).post.restart ≡ Announced }
@@ -57,7 +58,8 @@ pub fn what_was_dialled_is_out_after_an_outage()
     ensures fair { IsFairFrom two_lines asked_again 19502 100 }
     ensures fair_not_before { ¬ IsFairFrom two_lines asked_again 19501 100 }
     ensures room { AgentHasRoomFrom two_lines asked_again 19502 }
-    ensures goes { (b : Begun) → IsOfLine two_lines (world asked_again) 1 b → GoesToAgent two_lines (world asked_again) b.text }
+    ensures goes { (line : ℕ) (b : Begun) → IsOfLine two_lines (world asked_again) line b →
+        GoesToAgent two_lines (world asked_again) b.text }
     ensures split { (world asked_again).gateway_took ≡ took_first connected_in_step ++ took_between connected_in_step asked_again }
     ensures serving { serves (plain two_lines (took_first connected_in_step)).endpoints ≡ true }
     ensures held { of_telephone (endpoint_then connected_in_step).line.quarantined.events ≡ five ∷ six ∷ [] }
@@ -77,7 +79,8 @@ pub fn what_was_dialled_is_out_at_that_moment()
     ensures run { IsRun two_lines none_to_go }
     ensures fair { IsFairFrom two_lines none_to_go 19502 100 }
     ensures room { AgentHasRoomFrom two_lines none_to_go 19502 }
-    ensures goes { (b : Begun) → IsOfLine two_lines (world none_to_go) 1 b → GoesToAgent two_lines (world none_to_go) b.text }
+    ensures goes { (line : ℕ) (b : Begun) → IsOfLine two_lines (world none_to_go) line b →
+        GoesToAgent two_lines (world none_to_go) b.text }
     ensures split { (world none_to_go).gateway_took ≡ took_first pressed_since ++ took_between pressed_since none_to_go }
     ensures serving { serves (plain two_lines (took_first pressed_since)).endpoints ≡ true }
     ensures held { length (of_telephone (endpoint_then pressed_since).line.quarantined.events) ≡ 2 }

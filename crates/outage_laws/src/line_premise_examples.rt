@@ -37,7 +37,7 @@ pub fn else_a_line_has_no_agent()
     ensures steps { steps_are_taken long_winded world_opening announced_unheard_yet ≡ true }
     ensures fair { IsFairFrom long_winded announced_unheard_yet 19502 0 }
     ensures room { AgentHasRoomFrom long_winded announced_unheard_yet 19502 }
-    ensures goes { (b : Begun) → IsOfLine long_winded (plain_world long_winded announced_unheard_yet) 1 b →
+    ensures goes { (line : ℕ) (b : Begun) → IsOfLine long_winded (plain_world long_winded announced_unheard_yet) line b →
         GoesToAgent long_winded (plain_world long_winded announced_unheard_yet) b.text }
     ensures late { 19502 + gap_of 0 + long_winded.disconnected_wait + 2 * 0
         ≤ now_in long_winded (plain_world long_winded announced_unheard_yet) }
@@ -45,7 +45,7 @@ pub fn else_a_line_has_no_agent()
     ensures refused { steps_are_taken two_lines world_opening answered_before_yet ≡ false }
     ensures fair_then { IsFairFrom two_lines answered_before_yet 19502 0 }
     ensures room_then { AgentHasRoomFrom two_lines answered_before_yet 19502 }
-    ensures goes_then { (b : Begun) → IsOfLine two_lines (world answered_before_yet) 1 b →
+    ensures goes_then { (line : ℕ) (b : Begun) → IsOfLine two_lines (world answered_before_yet) line b →
         GoesToAgent two_lines (world answered_before_yet) b.text }
     ensures late_then { 19502 + gap_of 0 + two_lines.disconnected_wait + 2 * 0 ≤ now_in two_lines (world answered_before_yet) }
     ensures waits_then { restart_with two_lines answered_before_yet ≡ Announced }
@@ -57,7 +57,7 @@ pub fn else_a_line_is_given_up_again()
     ensures slow { oldest_packet < 13501 }
     ensures fair { IsFairFrom hasty answered_ever_later 1 13501 }
     ensures room { AgentHasRoomFrom hasty answered_ever_later 1 }
-    ensures goes { (b : Begun) → IsOfLine hasty (hasty_world answered_ever_later) 1 b →
+    ensures goes { (line : ℕ) (b : Begun) → IsOfLine hasty (hasty_world answered_ever_later) line b →
         GoesToAgent hasty (hasty_world answered_ever_later) b.text }
     ensures serving { serves (plain hasty (hasty_took answered_ever_later)).endpoints ≡ true }
     ensures late { 1 + gap_of 13501 + hasty.disconnected_wait + 2 * 13501 ≤ now_in hasty (hasty_world answered_ever_later) }
@@ -66,7 +66,8 @@ pub fn else_a_line_is_given_up_again()
     ensures run_yet { IsRun two_lines connected_soon }
     ensures fair_yet { IsFairFrom two_lines connected_soon 19502 300 }
     ensures room_yet { AgentHasRoomFrom two_lines connected_soon 19502 }
-    ensures goes_yet { (b : Begun) → IsOfLine two_lines (world connected_soon) 1 b → GoesToAgent two_lines (world connected_soon) b.text }
+    ensures goes_yet { (line : ℕ) (b : Begun) → IsOfLine two_lines (world connected_soon) line b →
+        GoesToAgent two_lines (world connected_soon) b.text }
     ensures soon { 19502 + gap_of 300 + two_lines.disconnected_wait + 2 * 300 ≡ now_in two_lines (world connected_soon) + 2 }
     ensures waits_yet { restart_with two_lines connected_soon ≡ Announced }
 {}
@@ -76,7 +77,8 @@ pub fn else_a_send_leaves_a_line_without_its_agent()
     ensures run { IsRun two_lines waits_yet }
     ensures fair { IsFairFrom two_lines waits_yet 19502 0 }
     ensures room { AgentHasRoomFrom two_lines waits_yet 19502 }
-    ensures goes { (b : Begun) → IsOfLine two_lines (world waits_yet) 1 b → GoesToAgent two_lines (world waits_yet) b.text }
+    ensures goes { (line : ℕ) (b : Begun) → IsOfLine two_lines (world waits_yet) line b →
+        GoesToAgent two_lines (world waits_yet) b.text }
     ensures none_of_the_eight { ¬ Any (λ (one : ℕ). one ≡ 19600) chances }
     ensures in_time { 19600 + 2 * 0 < answer_wait }
     ensures late { 19502 + answer_wait + two_lines.disconnected_wait + 2 * 0 ≡ now_in two_lines (world waits_yet) + 1 + 19600 }
@@ -84,7 +86,7 @@ pub fn else_a_send_leaves_a_line_without_its_agent()
     ensures run_then { IsRun two_lines answered_as_given_up }
     ensures fair_then { IsFairFrom two_lines answered_as_given_up 19501 2000 }
     ensures room_then { AgentHasRoomFrom two_lines answered_as_given_up 19501 }
-    ensures goes_then { (b : Begun) → IsOfLine two_lines (world answered_as_given_up) 1 b →
+    ensures goes_then { (line : ℕ) (b : Begun) → IsOfLine two_lines (world answered_as_given_up) line b →
         GoesToAgent two_lines (world answered_as_given_up) b.text }
     ensures one_of_the_eight { Any (λ (one : ℕ). one ≡ 19500) chances }
     ensures too_late { 19500 + 2 * 2000 ≡ answer_wait }
@@ -132,7 +134,7 @@ pub fn else_a_line_waits_for_another()
     ensures run_unserved { IsRun sluggish hung_up_unserved_yet }
     ensures fair_unserved { IsFairFrom sluggish hung_up_unserved_yet 1 0 }
     ensures room_unserved { AgentHasRoomFrom sluggish hung_up_unserved_yet 1 }
-    ensures goes_unserved { (b : Begun) → IsOfLine sluggish (plain_world sluggish hung_up_unserved_yet) 1 b →
+    ensures goes_unserved { (line : ℕ) (b : Begun) → IsOfLine sluggish (plain_world sluggish hung_up_unserved_yet) line b →
         GoesToAgent sluggish (plain_world sluggish hung_up_unserved_yet) b.text }
     ensures late_unserved { 1 + gap_of 0 + sluggish.disconnected_wait + 2 * 0 ≡ (plain sluggish (took_with sluggish hung_up_unserved)).now }
     ensures unserved { serves (plain sluggish (took_with sluggish hung_up_unserved)).endpoints ≡ false }
@@ -151,7 +153,8 @@ pub fn else_a_quarantine_is_not_out()
     ensures run { IsRun two_lines hung_up_yet }
     ensures fair { IsFairFrom two_lines hung_up_yet 19502 0 }
     ensures room { AgentHasRoomFrom two_lines hung_up_yet 19502 }
-    ensures goes { (b : Begun) → IsOfLine two_lines (world hung_up_yet) 1 b → GoesToAgent two_lines (world hung_up_yet) b.text }
+    ensures goes { (line : ℕ) (b : Begun) → IsOfLine two_lines (world hung_up_yet) line b →
+        GoesToAgent two_lines (world hung_up_yet) b.text }
     ensures soon { (plain two_lines (took_first hung_up)).now < 19502 + gap_of 0 + two_lines.disconnected_wait + 2 * 0 }
     ensures unanswered { ¬ IsAnsweredWithin two_lines 1 (took_first hung_up) (took_between hung_up hung_up_yet) 0 }
     ensures asked { IsAskedWithin two_lines 1 (took_first hung_up) (took_between hung_up hung_up_yet) 0 }
@@ -172,7 +175,7 @@ pub fn else_events_are_of_another_world()
     ensures run { IsRun two_lines back_yet }
     ensures fair { IsFairFrom two_lines back_yet 19502 0 }
     ensures room { AgentHasRoomFrom two_lines back_yet 19502 }
-    ensures goes { (b : Begun) → IsOfLine two_lines (world back_yet) 1 b → GoesToAgent two_lines (world back_yet) b.text }
+    ensures goes { (line : ℕ) (b : Begun) → IsOfLine two_lines (world back_yet) line b → GoesToAgent two_lines (world back_yet) b.text }
     ensures of_another { length (world back_yet).gateway_took ≡ length (took_first announced_unheard ++ []) + 2 }
     ensures late { 19502 + gap_of 0 + two_lines.disconnected_wait + 2 * 0 ≡ (plain two_lines (took_first announced_unheard)).now }
     ensures unanswered { ¬ IsAnsweredWithin two_lines 1 (took_first announced_unheard) [] 0 }

@@ -15,13 +15,13 @@ returns c = record {
   steps = refl;
   fair = fair_from_is long_winded announced_unheard_yet 19502 0 refl;
   room = room_from long_winded announced_unheard_yet 19502 (agent_has_room long_winded announced_unheard_yet refl);
-  goes = λ b of. to_agent long_winded announced_unheard_yet b.text refl;
+  goes = λ line b of. to_agent long_winded announced_unheard_yet b.text refl;
   late = leb-true _ _ refl;
   waits = refl;
   refused = refl;
   fair_then = fair_from_is two_lines answered_before_yet 19502 0 refl;
   room_then = room_from two_lines answered_before_yet 19502 (agent_has_room two_lines answered_before_yet refl);
-  goes_then = λ b of. to_agent two_lines answered_before_yet b.text refl;
+  goes_then = λ line b of. to_agent two_lines answered_before_yet b.text refl;
   late_then = leb-true _ _ refl;
   waits_then = refl;
 }

@@ -16,7 +16,7 @@ returns c = record {
   slow = ltb-true _ _ refl;
   fair = fair_from_is hasty answered_ever_later 1 13501 refl;
   room = room_from hasty answered_ever_later 1 (agent_has_room hasty answered_ever_later refl);
-  goes = λ b of. to_agent hasty answered_ever_later b.text refl;
+  goes = λ line b of. to_agent hasty answered_ever_later b.text refl;
   serving = refl;
   late = leb-true _ _ refl;
   waits = refl;
@@ -24,7 +24,7 @@ returns c = record {
   run_yet = (two_lines_set_up, refl);
   fair_yet = fair_from_is two_lines connected_soon 19502 300 refl;
   room_yet = room_from two_lines connected_soon 19502 (agent_has_room two_lines connected_soon refl);
-  goes_yet = λ b of. to_agent two_lines connected_soon b.text refl;
+  goes_yet = λ line b of. to_agent two_lines connected_soon b.text refl;
   soon = refl;
   waits_yet = refl;
 }

@@ -25,7 +25,7 @@ returns c = record {
   run_unserved = (record { domain = refl; agent = refl; lines = omega arith; address = refl; ports = omega arith; first = omega arith }, refl);
   fair_unserved = fair_from_is sluggish hung_up_unserved_yet 1 0 refl;
   room_unserved = room_from sluggish hung_up_unserved_yet 1 (agent_has_room sluggish hung_up_unserved_yet refl);
-  goes_unserved = λ b of. to_agent sluggish hung_up_unserved_yet b.text refl;
+  goes_unserved = λ line b of. to_agent sluggish hung_up_unserved_yet b.text refl;
   late_unserved = refl;
   unserved = refl;
   unanswered_unserved =
