@@ -2,7 +2,7 @@
 //! one premise alone is missing and the law's sentence fails.
 #![tactic(auto, unfolding(crate::proofs::Computing::on_examples))]
 
-ghost use Rattle.std.specs.Prelude.{◌≡◌, ◌≤◌, ◌+◌, ◌*◌, ◌++◌, ℕ, [], ◌∷◌, length, true};
+ghost use Rattle.std.specs.Prelude.{◌≡◌, ◌≤◌, ◌<◌, ◌+◌, ◌*◌, ◌++◌, ℕ, [], ◌∷◌, length, true};
 ghost use Rattle.restart.specs.declared.restart.Restart.TheVariants.{Announced, Serving, Waiting};
 ghost use Rattle.plain_machine.specs.Example.{two_lines};
 ghost use Rattle.plain_machine.specs.Lists.{plain};
@@ -115,4 +115,30 @@ pub fn what_is_wanting_leaves_a_quarantine()
     ensures fair_unserved { IsFairFrom sluggish not_begun 1 0 }
     ensures late_unserved { 1 + gap_of 0 + sluggish.disconnected_wait + 2 * 0 ≡ now_in sluggish (plain_world sluggish not_begun) }
     ensures unserved { ¬ IsAnsweredWithin sluggish 1 (took_with sluggish not_begun) [] 0 }
+{}
+
+/// All else holds there that the laws ask for, of each line, where no request comes, or an answer isn't handed over; and where that isn't
+/// the line waits for longer than twice the network's time, too.
+pub fn all_else_holds_where_a_quarantine_is_left()
+    ensures run_unasked { IsRun two_lines never_asked }
+    ensures room_unasked { AgentHasRoomFrom two_lines never_asked 19502 }
+    ensures goes_unasked { (line : ℕ) (b : Begun) → IsOfLine two_lines (world never_asked) line b →
+        GoesToAgent two_lines (world never_asked) b.text }
+    ensures split_unasked { (world never_asked).gateway_took ≡ took_first connected_in_step ++ took_between connected_in_step never_asked }
+    ensures over_unasked { (plain two_lines (took_first connected_in_step)).now + rounds_take 2 (2 * 100) 100
+        < now_in two_lines (world never_asked) }
+    ensures rests_unasked { done_in (course_from two_lines (plain two_lines (took_first connected_in_step)) 1
+        (took_between connected_in_step never_asked)) ≡ [] }
+    ensures run_unanswered { IsRun two_lines never_answered }
+    ensures room_unanswered { AgentHasRoomFrom two_lines never_answered 19502 }
+    ensures goes_unanswered { (line : ℕ) (b : Begun) → IsOfLine two_lines (world never_answered) line b →
+        GoesToAgent two_lines (world never_answered) b.text }
+    ensures split_unanswered { (world never_answered).gateway_took
+        ≡ took_first connected_in_step ++ took_between connected_in_step never_answered }
+    ensures over_unanswered { (plain two_lines (took_first connected_in_step)).now + rounds_take 2 (2 * 100) 100
+        < now_in two_lines (world never_answered) }
+    ensures rests_unanswered { done_in (course_from two_lines (plain two_lines (took_first connected_in_step)) 1
+        (took_between connected_in_step never_answered)) ≡ [] }
+    ensures not_answered { ¬ IsAnsweredWithin two_lines 1 (took_first connected_in_step)
+        (took_between connected_in_step never_answered) (2 * 100) }
 {}
