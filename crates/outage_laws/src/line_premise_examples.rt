@@ -3,7 +3,7 @@
 #![tactic(auto, unfolding(crate::proofs::Computing::on_examples))]
 
 ghost use Rattle.std.specs.Prelude.{◌≡◌, ◌<◌, ◌≤◌, ◌+◌, ◌*◌, ◌++◌, ℕ, Any, [], length, true, false};
-ghost use Rattle.restart.specs.declared.restart.Restart.TheVariants.{Announced, Waiting};
+ghost use Rattle.restart.specs.declared.restart.Restart.TheVariants.{Announced, Serving, Waiting};
 ghost use Rattle.plain_machine.specs.Example.{two_lines};
 ghost use Rattle.plain_machine.specs.Lists.{plain, sent_from};
 ghost use Rattle.plain_machine.specs.Machine.{serves};
@@ -116,6 +116,8 @@ pub fn else_a_line_waits_longer()
     ensures asked_then { IsAskedWithin two_lines 1 (took_first answered_before) (took_between answered_before answered_before_yet) 0 }
     ensures over_then { (plain two_lines (took_first answered_before)).now + rounds_take 1 (2 * 0) 0
         < now_in two_lines (world answered_before_yet) }
+    ensures rests_then { done_in (course_from two_lines (plain two_lines (took_first answered_before)) 1
+        (took_between answered_before answered_before_yet)) ≡ [] }
     ensures held_then { held_with two_lines answered_before_yet ≡ 1 }
 {}
 
@@ -124,12 +126,15 @@ pub fn else_a_line_waits_for_another()
     ensures run { IsRun two_lines hung_up_elsewhere_yet }
     ensures fair { IsFairFrom two_lines hung_up_elsewhere_yet 14501 0 }
     ensures room { AgentHasRoomFrom two_lines hung_up_elsewhere_yet 14501 }
+    ensures serving { serves (plain two_lines (took_first hung_up_elsewhere)).endpoints ≡ true }
     ensures late { 14501 + gap_of 0 + two_lines.disconnected_wait + 2 * 0 ≡ (plain two_lines (took_first hung_up_elsewhere)).now }
     ensures unanswered { ¬ IsAnsweredWithin two_lines 1 (took_first hung_up_elsewhere)
         (took_between hung_up_elsewhere hung_up_elsewhere_yet) 0 }
     ensures asked { IsAskedWithin two_lines 1 (took_first hung_up_elsewhere) (took_between hung_up_elsewhere hung_up_elsewhere_yet) 0 }
     ensures over { (plain two_lines (took_first hung_up_elsewhere)).now + rounds_take 1 (2 * 0) 0
         < now_in two_lines (world hung_up_elsewhere_yet) }
+    ensures rests { done_in (course_from two_lines (plain two_lines (took_first hung_up_elsewhere)) 1
+        (took_between hung_up_elsewhere hung_up_elsewhere_yet)) ≡ [] }
     ensures held { held_with two_lines hung_up_elsewhere_yet ≡ 1 }
     ensures run_unserved { IsRun sluggish hung_up_unserved_yet }
     ensures fair_unserved { IsFairFrom sluggish hung_up_unserved_yet 1 0 }
@@ -144,6 +149,8 @@ pub fn else_a_line_waits_for_another()
         (took_between_with sluggish hung_up_unserved hung_up_unserved_yet) 0 }
     ensures over_unserved { (plain sluggish (took_with sluggish hung_up_unserved)).now + rounds_take 2 (2 * 0) 0
         < now_in sluggish (plain_world sluggish hung_up_unserved_yet) }
+    ensures rests_unserved { done_in (course_from sluggish (plain sluggish (took_with sluggish hung_up_unserved)) 1
+        (took_between_with sluggish hung_up_unserved hung_up_unserved_yet)) ≡ [] }
     ensures held_unserved { held_with sluggish hung_up_unserved_yet ≡ 2 }
 {}
 
@@ -170,7 +177,8 @@ pub fn else_a_quarantine_is_not_out()
     ensures rests { done_in (course_from two_lines (plain two_lines (took_first hung_up)) 1 (took_between hung_up hung_up_yet)) ≡ [] }
 {}
 
-/// So it is where the events are those of another world; and before as many rounds.
+/// So it is where the events are those of another world, though all else holds, too, that the laws of a network that is fair since ask for;
+/// and before as many rounds.
 pub fn else_events_are_of_another_world()
     ensures run { IsRun two_lines back_yet }
     ensures fair { IsFairFrom two_lines back_yet 19502 0 }
@@ -183,17 +191,30 @@ pub fn else_events_are_of_another_world()
     ensures over { (plain two_lines (took_first announced_unheard)).now + rounds_take 1 (2 * 0) 0
         < now_in two_lines (world back_yet) }
     ensures held { held_with two_lines back_yet ≡ 1 }
+    ensures serving { serves (plain two_lines (took_first announced_unheard)).endpoints ≡ true }
+    ensures given_nothing_up { has_given_up (of_line 1 (sent_from two_lines (plain two_lines (took_first announced_unheard)) []))
+        (line_with two_lines (took_first back_yet)).post ≡ false }
+    ensures began { FlightsBeganSince two_lines 1 (took_first announced_unheard) [] 19502 }
+    ensures held_first { length (line_with two_lines (took_first announced_unheard)).line.quarantined.events ≡ 1 }
     ensures late_before { 19502 + gap_of 0 + two_lines.disconnected_wait + 2 * 0 ≡ (plain two_lines (took_first back_at_once)).now }
     ensures asked_before { IsAskedWithin two_lines 1 (took_first back_at_once) [] 0 }
     ensures not_over { now_in two_lines (world back_at_once) ≡ (plain two_lines (took_first back_at_once)).now + rounds_take 1 (2 * 0) 0 }
     ensures held_before { held_with two_lines back_at_once ≡ 1 }
 {}
 
-/// And where the telephone did something since, it isn't empty.
+/// And where the telephone did something since, it isn't empty, though all else holds, too, that the law of what is quarantined once the
+/// network is fair asks for.
 pub fn else_a_quarantine_is_not_empty()
     ensures run { IsRun two_lines pressed_again }
     ensures fair { IsFairFrom two_lines pressed_again 19502 100 }
     ensures room { AgentHasRoomFrom two_lines pressed_again 19502 }
+    ensures goes { (line : ℕ) (b : Begun) → IsOfLine two_lines (world pressed_again) line b →
+        GoesToAgent two_lines (world pressed_again) b.text }
+    ensures split { took_with two_lines pressed_again
+        ≡ took_first connected_in_step ++ took_between connected_in_step pressed_again }
+    ensures serving { serves (plain two_lines (took_first connected_in_step)).endpoints ≡ true }
+    ensures line_serves { restart_with two_lines connected_in_step ≡ Serving }
+    ensures began { FlightsBeganSince two_lines 1 (took_first connected_in_step) (took_between connected_in_step pressed_again) 19502 }
     ensures asked { IsAskedWithin two_lines 1 (took_first connected_in_step) (took_between connected_in_step pressed_again) 100 }
     ensures over { (plain two_lines (took_first connected_in_step)).now + rounds_take 2 (2 * 100) 100
         < now_in two_lines (world pressed_again) }

@@ -16,11 +16,13 @@ returns c = record {
   run = (two_lines_set_up, refl);
   fair = fair_from_is two_lines hung_up_elsewhere_yet 14501 0 refl;
   room = room_from two_lines hung_up_elsewhere_yet 14501 (agent_has_room two_lines hung_up_elsewhere_yet refl);
+  serving = refl;
   late = refl;
   unanswered =
       not_answered two_lines 1 (took_first hung_up_elsewhere) (took_between hung_up_elsewhere hung_up_elsewhere_yet) [] (took_between hung_up_elsewhere hung_up_elsewhere_yet) 0 refl refl;
   asked = asked_within two_lines 1 (took_first hung_up_elsewhere) (took_between hung_up_elsewhere hung_up_elsewhere_yet) 0 refl;
   over = ltb-true _ _ refl;
+  rests = refl;
   held = refl;
   run_unserved = (record { domain = refl; agent = refl; lines = omega arith; address = refl; ports = omega arith; first = omega arith }, refl);
   fair_unserved = fair_from_is sluggish hung_up_unserved_yet 1 0 refl;
@@ -33,5 +35,6 @@ returns c = record {
       (took_between_with sluggish hung_up_unserved hung_up_unserved_yet) 0 refl refl;
   asked_unserved = asked_within sluggish 1 (took_with sluggish hung_up_unserved) (took_between_with sluggish hung_up_unserved hung_up_unserved_yet) 0 refl;
   over_unserved = ltb-true _ _ refl;
+  rests_unserved = refl;
   held_unserved = refl;
 }

@@ -24,5 +24,6 @@ returns c = record {
   unanswered_then = not_answered two_lines 1 (took_first answered_before) (took_between answered_before answered_before_yet) [] (took_between answered_before answered_before_yet) 0 refl refl;
   asked_then = asked_within two_lines 1 (took_first answered_before) (took_between answered_before answered_before_yet) 0 refl;
   over_then = ltb-true _ _ refl;
+  rests_then = refl;
   held_then = refl;
 }

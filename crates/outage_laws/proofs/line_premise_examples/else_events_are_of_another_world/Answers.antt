@@ -7,6 +7,7 @@ use Rattle.delivery_laws.proofs.FrontLemmas.{agent_has_room, asked_within, not_a
 use Rattle.outage_laws.specs.LinePremises.{announced_unheard, back_at_once, back_yet}
 use Rattle.outage_laws.proofs.Computing.{on_examples}
 use Rattle.outage_laws.proofs.FairFromExamples.{fair_from_is, room_from}
+use Rattle.outage_laws.proofs.HadTimeExamples.{flights_since}
 use Rattle.outage_laws.proofs.line_premise_examples.else_events_are_of_another_world.Goals as goal
 
 pub returns : goal.returns
@@ -22,6 +23,10 @@ returns c = record {
   asked = asked_within two_lines 1 (took_first announced_unheard) [] 0 refl;
   over = ltb-true _ _ refl;
   held = refl;
+  serving = refl;
+  given_nothing_up = refl;
+  began = flights_since two_lines 1 (took_first announced_unheard) [] 19502 refl;
+  held_first = refl;
   late_before = refl;
   asked_before = asked_within two_lines 1 (took_first back_at_once) [] 0 refl;
   not_over = refl;
