@@ -23,7 +23,7 @@ ghost use Rattle.delivery_laws.specs.DialledExample.{endpoint_then};
 ghost use Rattle.delivery_laws.specs.GivenUp.{has_given_up};
 ghost use Rattle.delivery_laws.specs.OnceExample.{five, six};
 ghost use Rattle.delivery_laws.specs.Rounds.{IsAnsweredWithin, IsAskedWithin, rounds_take};
-ghost use Rattle.delivery_laws.specs.Example.{flying_after, lifted, line_with, notification};
+ghost use Rattle.delivery_laws.specs.Example.{flying_after, ids_come, lifted, line_with, notification};
 ghost use Rattle.delivery_laws.specs.Fairness.{GoesToAgent, IsFair};
 ghost use Rattle.delivery_laws.specs.OwnChances.{IsOfLine};
 ghost use Rattle.outage_laws.specs.AfterOutage.{AgentHasRoomFrom, IsFairFrom, gap_of, grown_old, longest_pause};
@@ -32,6 +32,7 @@ ghost use Rattle.outage_laws.specs.Carrying.{IsCarriedBack};
 ghost use Rattle.outage_laws.specs.Example.{all_lost, announcement, answered_late, came_at, came_at_1_and_2, dialled, first_round};
 ghost use Rattle.outage_laws.specs.Example.{found_again, held_then, last_copy, lost_at_first, moments_of, own_due, put_off};
 ghost use Rattle.outage_laws.specs.Example.{put_off_twice, saved, sent_elsewhere, serving_late, two_rounds, unserved};
+ghost use Rattle.outage_laws.specs.Premises.{reported_elsewhere};
 
 /// An announcement goes out again after 500 ms, unless a response to it came. A provisional one puts that off to 5,000 ms after the last of
 /// them, and 521 that names another agent is announced at once.
@@ -154,14 +155,19 @@ pub fn what_a_gap_is()
     ensures too_slow { gap_of 12000 ≡ 23500 }
 {}
 
-/// Where nothing is handed over it is never taken, nor where it goes elsewhere, nor where the last of its sends was before.
+/// Where nothing is handed over it is never taken, nor where it goes elsewhere, nor where the last of its sends was before. To what went
+/// elsewhere no response comes: what came is the response to the gateway's announcement, and the request.
 pub fn what_is_wanting_leaves_it_untaken()
     ensures unfair { ¬ IsFairFrom two_lines (lost_at_first ++ ticking 8101 ∷ []) 3502 300 }
     ensures none_taken { map key_reached (taken_in (world (lost_at_first ++ ticking 8101 ∷ []))) ≡ (1, 1) ∷ [] }
     ensures fair { IsFairFrom two_lines sent_elsewhere 0 0 }
     ensures run { steps_are_taken two_lines world_opening sent_elsewhere ≡ true }
     ensures late { 0 + longest_pause + 0 ≤ now_in two_lines (world sent_elsewhere) + 1 }
+    ensures room { AgentHasRoomFrom two_lines sent_elsewhere 0 }
+    ensures of_line { IsOfLine two_lines (world sent_elsewhere) 1 reported_elsewhere }
+    ensures goes_not { ¬ GoesToAgent two_lines (world sent_elsewhere) reported_elsewhere.text }
     ensures none_there { map key_reached (taken_in (world sent_elsewhere)) ≡ (1, 1) ∷ [] }
+    ensures none_came_there { ids_come two_lines sent_elsewhere ≡ Some 1 ∷ Some 1 ∷ [] }
     ensures fair_since { IsFairFrom two_lines all_lost 19502 0 }
     ensures late_too { 19502 + longest_pause + 0 ≤ now_in two_lines (world all_lost) + 1 }
     ensures none_left { map key_reached (taken_in (world all_lost)) ≡ (1, 1) ∷ [] }

@@ -22,7 +22,7 @@ ghost use Rattle.agent_core.specs.World.{gateway_in, now_in, plain_world, steps_
 ghost use Rattle.world_laws.specs.Reached.{key_reached, taken_in};
 ghost use Rattle.world_laws.specs.Example.{seconds, world};
 ghost use Rattle.delivery_laws.specs.Chances.{chances, last_chance};
-ghost use Rattle.delivery_laws.specs.Copies.{HasRoom, IsCopy, answer_wait};
+ghost use Rattle.delivery_laws.specs.Copies.{HasRoom, IsCopy, IsRun, answer_wait};
 ghost use Rattle.delivery_laws.specs.Example.{dotted, endless, ids_come, lifted, notification, notified};
 ghost use Rattle.delivery_laws.specs.Fairness.{GoesToAgent};
 ghost use Rattle.delivery_laws.specs.OwnChances.{IsOfLine};
@@ -105,9 +105,12 @@ pub fn else_no_copy_is_taken()
     ensures late_there { reported_elsewhere.moment + last_chance ≤ now_in two_lines (world all_elsewhere) }
     ensures no_copy_there { (number : ℕ) → ¬ IsCopy two_lines (world all_elsewhere) GatewayEnd reported_elsewhere.text number }
     ensures not_taken_there { map key_reached (taken_in (world all_elsewhere)) ≡ (1, 1) ∷ [] }
+    ensures of_line_soon { IsOfLine two_lines (world notified) 1 lifted }
+    ensures goes_soon { GoesToAgent two_lines (world notified) notification }
     ensures soon { now_in two_lines (world notified) < lifted.moment + last_chance }
     ensures all_lost_soon { (number : ℕ) → IsCopy two_lines (world notified) GatewayEnd notification number →
         Any (λ (n : ℕ). n ≡ number) (2 ∷ []) }
+    ensures not_taken_soon { map key_reached (taken_in (world notified)) ≡ (1, 1) ∷ [] }
     ensures eight_lost { (number : ℕ) → IsCopy two_lines (world all_lost) GatewayEnd notification number →
         Any (λ (n : ℕ). n ≡ number) (2 ∷ 3 ∷ 4 ∷ 5 ∷ 6 ∷ 7 ∷ 8 ∷ 9 ∷ []) }
     ensures too_many { length {A = ℕ} (2 ∷ 3 ∷ 4 ∷ 5 ∷ 6 ∷ 7 ∷ 8 ∷ 9 ∷ []) ≡ most_repeats + 1 }
@@ -217,6 +220,8 @@ pub fn else_there_was_no_time_yet()
     ensures too_soon { now_in two_lines (world answered_late) + 1 < 3502 + longest_pause + 2 * 301 }
     ensures none_came_yet { ids_come two_lines answered_late ≡ Some 1 ∷ [] }
     ensures not_begun { ¬ IsOfLine two_lines (world found_again) 1 never_begun }
+    ensures not_begun_of_its_own { ¬ IsOfLine two_lines (world found_again) 0 never_begun }
+    ensures never_begun_goes { GoesToAgent two_lines (world found_again) never_begun.text }
     ensures never_taken { map key_reached (taken_in (world found_again)) ≡ (1, 1) ∷ (10000000, 7801) ∷ [] }
     ensures never_answered { ids_come two_lines found_again ≡ Some 1 ∷ Some 10000000 ∷ [] }
     ensures fair_since { IsFairFrom two_lines all_lost 19502 0 }
@@ -247,6 +252,18 @@ pub fn else_there_was_no_time_for_its_own()
     ensures none_answered { ids_come two_lines own_all_lost ≡ [] }
     ensures unfair { ¬ IsFairFrom two_lines own_lost_at_first 3502 300 }
     ensures unfair_still { ¬ IsFairFrom two_lines own_answered_late 3502 300 }
+{}
+
+/// All else that the law asks for holds where the network isn't fair to it, or to its answer.
+pub fn all_else_holds_where_its_own_is_kept()
+    ensures run { IsRun two_lines own_lost_at_first }
+    ensures room { AgentHasRoomFrom two_lines own_lost_at_first 3502 }
+    ensures own { IsOfLine two_lines (world own_lost_at_first) 0 announcement }
+    ensures late { 3502 + longest_pause + 300 ≤ now_in two_lines (world own_lost_at_first) + 1 }
+    ensures run_still { IsRun two_lines own_answered_late }
+    ensures room_still { AgentHasRoomFrom two_lines own_answered_late 3502 }
+    ensures own_still { IsOfLine two_lines (world own_answered_late) 0 announcement }
+    ensures late_still { 3502 + longest_pause + 2 * 300 ≤ now_in two_lines (world own_answered_late) + 1 }
 {}
 
 /// A gateway serves later than the law says, or never, where it isn't set up well, a step is refused, the network isn't fair, or so long

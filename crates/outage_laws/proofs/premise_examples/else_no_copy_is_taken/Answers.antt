@@ -77,6 +77,15 @@ pub returns-clause-no_copy_there : goal.returns-clause-no_copy_there
 unfolding on_examples
 returns-clause-no_copy_there c = λ number copy. absurd (copies two_lines (world all_elsewhere) reported_elsewhere.text number copy)
 
+pub returns-clause-of_line_soon : goal.returns-clause-of_line_soon
+unfolding on_examples
+returns-clause-of_line_soon c =
+    any_from_one (λ (one : Begun). one ≡ lifted) (begun_in (of_line 1 (sent_of two_lines (world notified).gateway_took))) (inl refl)
+
+pub returns-clause-goes_soon : goal.returns-clause-goes_soon
+unfolding on_examples
+returns-clause-goes_soon c = to_agent two_lines notified notification refl
+
 pub returns-clause-soon : goal.returns-clause-soon
 unfolding on_examples
 returns-clause-soon c = ltb-true _ _ refl
