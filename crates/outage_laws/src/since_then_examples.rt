@@ -94,6 +94,11 @@ pub fn what_nobody_asked_for_isnt_told()
     ensures held { (endpoint_then pressed_again).line.quarantined.events ≡ [] }
     ensures more { (plain two_lines (took_first pressed_again)).now + rounds_take 0 (2 * 300) 1000 + 300
         < now_in two_lines (world never_asked) }
+    ensures began { FlightsBeganSince two_lines 1 (took_first pressed_again) (took_between pressed_again never_asked) 0 }
+    ensures reaches { (b : Begun) → IsOfLine two_lines (world never_asked) 1 b → 0 ≤ b.moment →
+        GoesToAgent two_lines (world never_asked) b.text }
+    ensures rests { done_in (course_from two_lines (plain two_lines (took_first pressed_again)) 1
+        (took_between pressed_again never_asked)) ≡ [] }
     ensures done { done_between rested_unasked pressed_again ≡ five ∷ [] }
     ensures taken { taken_between rested_unasked never_asked ≡ [] }
 {}

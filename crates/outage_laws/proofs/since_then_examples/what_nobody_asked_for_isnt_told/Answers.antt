@@ -14,10 +14,10 @@ use Rattle.mg_line.specs.Acting.{letter_at}
 use Rattle.mg_packages.specs.declared.event.LineEvent.TheVariants as events
 use Rattle.delivery_laws.specs.Keeping.{KeepsAll}
 use Rattle.outage_laws.specs.SinceThenExample.{never_asked, pressed_again, rested_unasked}
-use Rattle.outage_laws.specs.ToldSince.{loses_none}
+use Rattle.outage_laws.specs.ToldSince.{FlightsBeganSince, loses_none}
 use Rattle.outage_laws.proofs.Computing.{on_examples}
 use Rattle.outage_laws.proofs.FairFromExamples.{fair_from_is, room_from}
-use Rattle.outage_laws.proofs.HadTimeExamples.{flight_since}
+use Rattle.outage_laws.proofs.HadTimeExamples.{flight_since, flights_since}
 use Rattle.outage_laws.proofs.since_then_examples.what_nobody_asked_for_isnt_told.Goals as goal
 
 fair_then : IsFairFrom two_lines never_asked 0 300
@@ -35,6 +35,10 @@ answered_then = answered_within two_lines 1 (took_first pressed_again) (took_bet
 asked_then : IsAskedWithin two_lines 1 (took_first pressed_again) (took_between pressed_again never_asked) 1000
 unfolding on_examples
 asked_then = asked_within two_lines 1 (took_first pressed_again) (took_between pressed_again never_asked) 1000 refl
+
+began_then : FlightsBeganSince two_lines 1 (took_first pressed_again) (took_between pressed_again never_asked) 0
+unfolding on_examples
+began_then = flights_since two_lines 1 (took_first pressed_again) (took_between pressed_again never_asked) 0 refl
 
 keeps_none : KeepsAll (endpoint_then rested_unasked).line → ⊥
 unfolding on_examples
@@ -63,6 +67,9 @@ returns c = record {
   asked_again = asked_then;
   held = refl;
   more = ltb-true _ _ refl;
+  began = began_then;
+  reaches = λ b of past. to_agent two_lines never_asked b.text refl;
+  rests = refl;
   done = refl;
   taken = refl;
 }
