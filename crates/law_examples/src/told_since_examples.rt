@@ -90,6 +90,11 @@ pub fn what_was_dialled_since_is_told_no_sooner()
         ≡ now_in two_lines (world underway_since) + 1 }
     ensures late_for_none { (plain two_lines (took_first dialled_since)).now + rounds_take 1 0 100 + 300
         ≤ now_in two_lines (world underway_since) }
+    ensures began { FlightsBeganSince two_lines 1 (took_first dialled_since) (took_between dialled_since underway_since) 28502 }
+    ensures reaches { (b : Begun) → IsOfLine two_lines (world underway_since) 1 b → 28502 ≤ b.moment →
+        GoesToAgent two_lines (world underway_since) b.text }
+    ensures rests { done_in (course_from two_lines (plain two_lines (took_first dialled_since)) 1
+        (took_between dialled_since underway_since)) ≡ [] }
     ensures done { done_then dialled_since ≡ off_hook ∷ five ∷ hung_up ∷ [] }
     ensures done_since { done_between rested_since dialled_since ≡ five ∷ hung_up ∷ [] }
     ensures taken { taken_since underway_since ≡ five ∷ [] }
@@ -116,6 +121,11 @@ pub fn what_is_kept_from_the_agent_is_not_told()
     ensures late { (plain two_lines (took_first dialled_since)).now + rounds_take 1 (2 * 300) 100 < now_in two_lines (world kept_from_it) }
     ensures more { (plain two_lines (took_first dialled_since)).now + rounds_take 1 (2 * 300) 100 + 300
         ≤ now_in two_lines (world kept_from_it) }
+    ensures began { FlightsBeganSince two_lines 1 (took_first dialled_since) (took_between dialled_since kept_from_it) 28502 }
+    ensures reaches { (b : Begun) → IsOfLine two_lines (world kept_from_it) 1 b → 28502 ≤ b.moment →
+        GoesToAgent two_lines (world kept_from_it) b.text }
+    ensures rests { done_in (course_from two_lines (plain two_lines (took_first dialled_since)) 1
+        (took_between dialled_since kept_from_it)) ≡ [] }
     ensures done { done_then dialled_since ≡ off_hook ∷ five ∷ hung_up ∷ [] }
     ensures done_since { done_between rested_since dialled_since ≡ five ∷ hung_up ∷ [] }
     ensures taken { taken_since kept_from_it ≡ five ∷ [] }

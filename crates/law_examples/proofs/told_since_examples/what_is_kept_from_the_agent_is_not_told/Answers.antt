@@ -11,10 +11,10 @@ use Rattle.delivery_laws.proofs.FrontLemmas.{agent_has_room, answered_within, as
 use Rattle.outage_laws.specs.AfterOutage.{AgentHasRoomFrom, IsFairFrom}
 use Rattle.outage_laws.specs.SinceThenExample.{KeptAllSince}
 use Rattle.law_examples.specs.ToldSinceExample.{dialled_since, kept_from_it, rested_since}
-use Rattle.outage_laws.specs.ToldSince.{loses_none}
+use Rattle.outage_laws.specs.ToldSince.{FlightsBeganSince, loses_none}
 use Rattle.law_examples.proofs.Computing.{on_examples}
 use Rattle.outage_laws.proofs.FairFromExamples.{fair_from_is, not_fair_from, room_from}
-use Rattle.outage_laws.proofs.HadTimeExamples.{flight_since, not_since, not_flights_since}
+use Rattle.outage_laws.proofs.HadTimeExamples.{flight_since, flights_since, not_since, not_flights_since}
 use Rattle.law_examples.proofs.told_since_examples.what_is_kept_from_the_agent_is_not_told.Goals as goal
 
 fair_then : IsFairFrom two_lines kept_from_it 40702 300
@@ -32,6 +32,10 @@ answered_then = answered_within two_lines 1 (took_first dialled_since) (took_bet
 asked_then : IsAskedWithin two_lines 1 (took_first dialled_since) (took_between dialled_since kept_from_it) 100
 unfolding on_examples
 asked_then = asked_within two_lines 1 (took_first dialled_since) (took_between dialled_since kept_from_it) 100 refl
+
+began_then : FlightsBeganSince two_lines 1 (took_first dialled_since) (took_between dialled_since kept_from_it) 28502
+unfolding on_examples
+began_then = flights_since two_lines 1 (took_first dialled_since) (took_between dialled_since kept_from_it) 28502 refl
 
 kept_all : KeptAllSince rested_since dialled_since kept_from_it
 unfolding on_examples loses_none
@@ -68,6 +72,9 @@ returns c = record {
   asked_again = asked_then;
   late = ltb-true _ _ refl;
   more = leb-true _ _ refl;
+  began = began_then;
+  reaches = λ b of past. to_agent two_lines kept_from_it b.text refl;
+  rests = refl;
   done = refl;
   done_since = refl;
   taken = refl;

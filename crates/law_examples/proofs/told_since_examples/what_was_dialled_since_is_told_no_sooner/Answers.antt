@@ -12,10 +12,10 @@ use Rattle.delivery_laws.proofs.FrontLemmas.{agent_has_room, answered_within, as
 use Rattle.outage_laws.specs.AfterOutage.{AgentHasRoomFrom, IsFairFrom}
 use Rattle.outage_laws.specs.SinceThenExample.{KeptAllSince}
 use Rattle.law_examples.specs.ToldSinceExample.{dialled_since, rested_since, underway_since}
-use Rattle.outage_laws.specs.ToldSince.{loses_none}
+use Rattle.outage_laws.specs.ToldSince.{FlightsBeganSince, loses_none}
 use Rattle.law_examples.proofs.Computing.{on_examples}
 use Rattle.outage_laws.proofs.FairFromExamples.{fair_from_is, room_from}
-use Rattle.outage_laws.proofs.HadTimeExamples.{flight_since}
+use Rattle.outage_laws.proofs.HadTimeExamples.{flight_since, flights_since}
 use Rattle.law_examples.proofs.told_since_examples.what_was_dialled_since_is_told_no_sooner.Goals as goal
 
 fair_then : IsFairFrom two_lines underway_since 28502 300
@@ -38,6 +38,10 @@ not_at_once_then : IsAnsweredWithin two_lines 1 (took_first dialled_since) (took
 unfolding on_examples
 not_at_once_then =
     not_answered two_lines 1 (took_first dialled_since) (took_between dialled_since underway_since) (tick 40301 ∷ []) (drop 1 (took_between dialled_since underway_since)) 0 refl refl
+
+began_then : FlightsBeganSince two_lines 1 (took_first dialled_since) (took_between dialled_since underway_since) 28502
+unfolding on_examples
+began_then = flights_since two_lines 1 (took_first dialled_since) (took_between dialled_since underway_since) 28502 refl
 
 kept_all : KeptAllSince rested_since dialled_since underway_since
 unfolding on_examples loses_none
@@ -73,6 +77,9 @@ returns c = record {
   late = ltb-true _ _ refl;
   too_soon = refl;
   late_for_none = leb-true _ _ refl;
+  began = began_then;
+  reaches = λ b of past. to_agent two_lines underway_since b.text refl;
+  rests = refl;
   done = refl;
   done_since = refl;
   taken = refl;
