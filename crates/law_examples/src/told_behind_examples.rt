@@ -90,6 +90,25 @@ pub fn else_something_isnt_told_behind_an_outage()
     ensures held_soon { (endpoint_then connected_in_step).line.quarantined.events ≡ five ∷ six ∷ [] }
     ensures more_soon { (plain two_lines (took_first connected_in_step)).now + rounds_take 2 (2 * 100) 100 + 100
         ≡ now_in two_lines (world told_too_soon) }
+    ensures rests_soon { done_in (course_from two_lines (plain two_lines (took_first connected_in_step)) 1
+        (took_between connected_in_step told_too_soon)) ≡ [] }
     ensures taken_soon { taken_between connected_in_step told_too_soon ≡ lifted ∷ five ∷ six ∷ [] }
     ensures told_soon { ¬ ToldFrom connected_in_step connected_in_step told_too_soon }
+{}
+
+/// All else that the law asks for holds where what tells the handset isn't handed over: its telephone rests, and the time is over.
+pub fn all_else_holds_where_what_tells_it_is_kept()
+    ensures run { IsRun two_lines kept_in_step }
+    ensures room { AgentHasRoomFrom two_lines kept_in_step 19502 }
+    ensures goes { (line : ℕ) (b : Begun) → IsOfLine two_lines (world kept_in_step) line b →
+        GoesToAgent two_lines (world kept_in_step) b.text }
+    ensures split { took_first kept_in_step ≡ took_first put_back_in_step ++ took_between put_back_in_step kept_in_step }
+    ensures asked_again { IsAskedWithin two_lines 1 (took_first put_back_in_step) (took_between put_back_in_step kept_in_step) 100 }
+    ensures over { (plain two_lines (took_first put_back_in_step)).now + rounds_take 3 (2 * 100) 100
+        < now_in two_lines (world kept_in_step) }
+    ensures more { (plain two_lines (took_first put_back_in_step)).now + rounds_take 3 (2 * 100) 100 + 100
+        ≡ now_in two_lines (world kept_in_step) }
+    ensures rests { done_in (course_from two_lines (plain two_lines (took_first put_back_in_step)) 1
+        (took_between put_back_in_step kept_in_step)) ≡ [] }
+    ensures not_told { ¬ ToldFrom rested_in_step put_back_in_step kept_in_step }
 {}

@@ -71,6 +71,7 @@ returns c = record {
   asked_again_soon = asked_within two_lines 1 (took_first connected_in_step) (took_between connected_in_step told_too_soon) 100 refl;
   held_soon = refl;
   more_soon = refl;
+  rests_soon = refl;
   taken_soon = refl;
   told_soon = λ h. told_first_of_two h.late h.since h.rest h.late_is h.order h.whole;
 }
