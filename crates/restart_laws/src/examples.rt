@@ -28,7 +28,7 @@ ghost use Rattle.restart_laws.specs.Example.{announced_alike, answered_anew, ans
 ghost use Rattle.restart_laws.specs.Example.{lost_for_good, lost_still};
 ghost use Rattle.restart_laws.specs.Example.{behind_a_start, gateway_by, held_in, life_took, took_by, took_since};
 ghost use Rattle.restart_laws.specs.Example.{connected_anew, responses_after, restart_after, started_alike_slowly};
-ghost use Rattle.restart_laws.specs.Example.{started_anew, taken_anew};
+ghost use Rattle.restart_laws.specs.Example.{in_step_anew, started_anew, taken_anew};
 ghost use Rattle.restart_laws.specs.Example.{unanswered_yet, unconnected_anew, unconnected_elsewhere, unconnected_still};
 
 /// The gateway starts again at 1, while the network is down. The eight sends of its announcement are lost, and the network is there again
@@ -75,11 +75,15 @@ pub fn else_a_new_life_does_not_serve()
     ensures fair_then { LivesAreFairFrom two_lines served_never_again 19503 300 }
     ensures room_then { AgentHasRoomThen two_lines served_never_again 19503 }
     ensures late_then { 19503 + gap_of 300 + two_lines.restart_wait + 2 * 300 ≤ clock_of two_lines (lives served_never_again) + 1 }
+    ensures late_too_then { (lives served_never_again).life.start + gap_of 300 + two_lines.restart_wait + 2 * 300
+        ≤ clock_of two_lines (lives served_never_again) + 1 }
     ensures serves_not_then { serves_after served_never_again ≡ false }
     ensures run { IsRunOfLives two_lines unanswered_yet }
     ensures unfair { ¬ LivesAreFairFrom two_lines unanswered_yet 19503 300 }
     ensures room_yet { AgentHasRoomThen two_lines unanswered_yet 19503 }
     ensures late_yet { 19503 + gap_of 300 + two_lines.restart_wait + 2 * 300 ≤ clock_of two_lines (lives unanswered_yet) + 1 }
+    ensures late_too_yet { (lives unanswered_yet).life.start + gap_of 300 + two_lines.restart_wait + 2 * 300
+        ≤ clock_of two_lines (lives unanswered_yet) + 1 }
     ensures serves_not_yet { serves_after unanswered_yet ≡ false }
     ensures run_anew { IsRunOfLives two_lines started_anew }
     ensures fair_anew { LivesAreFairFrom two_lines started_anew 19503 300 }
@@ -237,4 +241,30 @@ pub fn else_a_quarantine_of_a_new_life_is_not_out()
     ensures over_unanswered { (gateway_by (behind_a_start connected_in_step) (behind_a_start never_answered)).now
         + rounds_take 2 (2 * 100) 100 < (gateway_of (lives (behind_a_start never_answered)).life).now }
     ensures held_unanswered { held_in (gateway_of (lives (behind_a_start never_answered)).life) ≡ Some 1 }
+{}
+
+/// All else holds there that the law asks for, where no request comes, or an answer isn't handed over; and where that isn't the line waits
+/// for longer than twice the network's time, too.
+pub fn all_else_holds_where_a_quarantine_of_a_new_life_is_left()
+    ensures goes_unasked { let w = lives (behind_a_start never_asked) in (b : Begun) → HasBegun w.life.setup w.life.took 1 b →
+        LifeGoesToAgent two_lines w b.text }
+    ensures serving_unasked { serves (gateway_by in_step_anew (behind_a_start never_asked)).endpoints ≡ true }
+    ensures late_unasked { 19503 + gap_of 100 + two_lines.disconnected_wait + 2 * 100
+        ≤ (lives (behind_a_start never_asked)).life.start + (gateway_by in_step_anew (behind_a_start never_asked)).now }
+    ensures held_unasked { held_in (gateway_by in_step_anew (behind_a_start never_asked)) ≡ Some 2 }
+    ensures rests_unasked { done_in (course_from (lives (behind_a_start never_asked)).life.setup
+        (gateway_by in_step_anew (behind_a_start never_asked)) 1
+        (took_since in_step_anew (behind_a_start never_asked))) ≡ [] }
+    ensures goes_unanswered { let w = lives (behind_a_start never_answered) in (b : Begun) → HasBegun w.life.setup w.life.took 1 b →
+        LifeGoesToAgent two_lines w b.text }
+    ensures serving_unanswered { serves (gateway_by in_step_anew (behind_a_start never_answered)).endpoints ≡ true }
+    ensures late_unanswered { 19503 + gap_of 100 + two_lines.disconnected_wait + 2 * 100
+        ≤ (lives (behind_a_start never_answered)).life.start + (gateway_by in_step_anew (behind_a_start never_answered)).now }
+    ensures held_unanswered { held_in (gateway_by in_step_anew (behind_a_start never_answered)) ≡ Some 2 }
+    ensures rests_unanswered { done_in (course_from (lives (behind_a_start never_answered)).life.setup
+        (gateway_by in_step_anew (behind_a_start never_answered)) 1
+        (took_since in_step_anew (behind_a_start never_answered))) ≡ [] }
+    ensures not_answered { ¬ IsAnsweredWithin (lives (behind_a_start never_answered)).life.setup 1
+        (took_by in_step_anew (behind_a_start never_answered))
+        (took_since in_step_anew (behind_a_start never_answered)) (2 * 100) }
 {}
