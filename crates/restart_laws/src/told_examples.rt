@@ -17,7 +17,7 @@ ghost use Rattle.life_laws.specs.Apart.{LieApart};
 ghost use Rattle.life_laws.specs.Lives.{clock_of, lives_of};
 ghost use Rattle.life_laws.specs.Example.{firsts_after, lives};
 ghost use Rattle.restart_laws.specs.AfterRestart.{AgentHasRoomThen, IsRunOfLives, LifeGoesToAgent};
-ghost use Rattle.restart_laws.specs.AfterRestart.{LivesAreFairFrom};
+ghost use Rattle.restart_laws.specs.AfterRestart.{IsToldByLife, LivesAreFairFrom, began_then};
 ghost use Rattle.restart_laws.specs.Example.{life_took, took_since};
 ghost use Rattle.restart_laws.specs.ToldExample.{a_ms, asked_anew, course_behind, done_by, from_twenty, ids_by};
 ghost use Rattle.restart_laws.specs.ToldExample.{line_behind, tells_by, told_anew, told_once, took_both};
@@ -64,7 +64,12 @@ pub fn else_a_telephone_of_a_new_life_does_not_rest()
     ensures held { (line_behind (took_both asked_anew asked_anew)).line.quarantined.events ≡ [] }
     ensures over { (plain from_twenty (took_both asked_anew asked_anew)).now + rounds_take 0 0 0
         < (plain from_twenty (took_both asked_anew asked_anew ++ took_since asked_anew told_anew)).now }
+    ensures by { (lives told_anew).life.start + (plain from_twenty (took_both asked_anew asked_anew ++ took_since asked_anew told_anew)).now
+        + 0 ≤ clock_of two_lines (lives told_anew) }
     ensures done_since { done_in (course_behind (took_both asked_anew asked_anew) (took_since asked_anew told_anew)) ≡ lifted ∷ [] }
     ensures done { done_by asked_anew asked_anew ≡ [] }
     ensures tells { tells_by asked_anew told_once ≡ lifted ∷ [] }
+    ensures told_more { let w = lives told_anew in ¬ ((told : IsToldByLife w 2
+        (began_then w 1 (life_took asked_anew) (took_since asked_anew asked_anew ++ took_since asked_anew told_anew))
+        (done_by asked_anew asked_anew)) × (told.rest ≡ [])) }
 {}
