@@ -8,3 +8,4 @@ mod RoomlessRest
 mod RoomlessTold
 mod RoomlessEver
 mod RoomlessCopies
+mod FewerLemmas

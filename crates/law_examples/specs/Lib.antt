@@ -5,3 +5,4 @@ pub mod ToldSinceExample
 pub mod SlowExample
 pub mod SlowerExample
 pub mod SinceExample
+pub mod FewerExample
