@@ -9,3 +9,4 @@ mod RoomlessTold
 mod RoomlessEver
 mod RoomlessCopies
 mod FewerLemmas
+mod ToldPremiseLemmas

@@ -6,3 +6,4 @@ pub mod SlowExample
 pub mod SlowerExample
 pub mod SinceExample
 pub mod FewerExample
+pub mod ToldPremiseExample

@@ -15,5 +15,6 @@ pub mod since_examples;
 pub mod slow_examples;
 pub mod told_behind_examples;
 pub mod told_exactly_examples;
+pub mod told_premise_examples;
 pub mod told_since_examples;
 pub mod well_examples;
