@@ -10,3 +10,4 @@ mod RoomlessEver
 mod RoomlessCopies
 mod FewerLemmas
 mod ToldPremiseLemmas
+mod FilledLine

@@ -2,18 +2,23 @@
 //! is seen.
 #![tactic(auto, unfolding(crate::proofs::Computing::on_examples))]
 
-ghost use Rattle.std.specs.Prelude.{◌≡◌, ◌-◌, true, false, [], ◌∷◌, None};
+ghost use Rattle.std.specs.Prelude.{◌≡◌, ◌≤◌, ◌-◌, ◌++◌, ℕ, true, false, [], ◌∷◌, None};
 ghost use Rattle.quarantine.specs.Held.{most_lost};
 ghost use Rattle.mg_line.specs.declared.phone.Act.TheVariants as acts;
 ghost use Rattle.mg_line.specs.declared.phone.Key.TheVariants as keys;
 ghost use Rattle.mg_line.specs.Line.{most_quarantined};
 ghost use Rattle.plain_machine.specs.Event.{phone, tick};
-ghost use Rattle.plain_machine.specs.Example.{two_lines};
+ghost use Rattle.plain_machine.specs.Example.{ready, two_lines};
+ghost use Rattle.plain_machine.specs.Lists.{plain};
 ghost use Rattle.agent_core.specs.World.{delivering};
 ghost use Rattle.world_laws.specs.Example.{world};
+ghost use Rattle.delivery_laws.specs.Dialled.{AskForAll};
 ghost use Rattle.delivery_laws.specs.DialledExample.{endpoint_then};
 ghost use Rattle.delivery_laws.specs.Example.{notified, redirected};
-ghost use Rattle.delivery_laws.specs.OnceExample.{five, lifted as off_hook, six};
+ghost use Rattle.delivery_laws.specs.Keeping.{KeepsAll};
+ghost use Rattle.delivery_laws.specs.OnceExample.{five, lifted as off_hook, line_then, six};
+ghost use Rattle.told_laws.specs.FrontExample.{filled_and_more};
+ghost use Rattle.told_laws.specs.Premises.{course_behind};
 ghost use Rattle.outage_laws.specs.AfterOutage.{AgentHasRoomFrom, IsFairFrom};
 ghost use Rattle.outage_laws.specs.Carrying.{IsHandedBack};
 ghost use Rattle.outage_laws.specs.Example.{found_again};
@@ -63,4 +68,18 @@ pub fn an_act_that_finds_no_room_is_lost()
         (phone 1 (acts.Key keys.Five) ∷ phone 1 (acts.Key keys.Five) ∷ []) ≡ false }
     ensures not_counted { KeepsAllSince two_lines 1 (gateway_with (losing most_lost))
         (phone 1 (acts.Key keys.Five) ∷ phone 1 (acts.Key keys.Six) ∷ []) (having_lost most_lost) }
+{}
+
+/// At the greatest count, which stays so, one act more is lost for want of room: though the line keeps all that its telephone does, and no
+/// request asks for less.
+pub fn else_an_act_is_lost_where_the_count_stays()
+    ensures greatest { (n : ℕ) → most_lost ≤ n → (line_then (filled_and_more n)).quarantined.lost ≡ most_lost }
+    ensures the_same { (n : ℕ) → most_lost ≤ n → (line_then (filled_and_more n ++ phone 1 (acts.Key keys.Six) ∷ [])).quarantined.lost
+        ≡ (line_then (filled_and_more n)).quarantined.lost }
+    ensures keeps { (n : ℕ) → most_lost ≤ n → KeepsAll (line_then (filled_and_more n)) }
+    ensures since { (n : ℕ) → most_lost ≤ n → AskForAll (course_behind (filled_and_more n) (phone 1 (acts.Key keys.Six) ∷ [])) }
+    ensures lost { (n : ℕ) → most_lost ≤ n →
+        loses_none two_lines 1 (plain two_lines (ready ++ filled_and_more n)) (phone 1 (acts.Key keys.Six) ∷ []) ≡ false }
+    ensures not_kept { (n : ℕ) → most_lost ≤ n → ¬ KeepsAllSince two_lines 1 (plain two_lines (ready ++ filled_and_more n))
+        (phone 1 (acts.Key keys.Six) ∷ []) (line_then (filled_and_more n)) }
 {}
