@@ -68,6 +68,8 @@ pub fn else_a_response_does_otherwise()
     ensures was_none { (replied_on two_lines 0 5 (responding 521 (Some other_entity)) (idle_in Announced)).sent ≡ [] }
     ensures was_provisional { (replied_on two_lines 0 5 (responding 100 (Some other_entity)) (post_in Announced)).sent ≡ [] }
     ensures was_answered { (replied_on two_lines 0 5 (responding 200 (Some other_entity)) (post_in Announced)).sent ≡ [] }
+    ensures was_of_another { (replied_on two_lines 0 5 (record (responding 521 (Some other_entity)) { id = 2 }) (post_in Announced)).sent
+        ≡ [] }
     ensures named_nobody { (replied_on two_lines 0 5 (responding 521 None) (post_in Announced)).sent ≡ [] }
     ensures announced { length (replied_on two_lines 0 5 (responding 521 (Some other_entity)) (post_in Announced)).sent ≡ 1 }
     ensures named_somebody { (replied_on two_lines 0 5 (responding 200 (Some other_entity)) (post_in Announced)).value.entity
