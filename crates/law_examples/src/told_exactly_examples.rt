@@ -1,5 +1,5 @@
 //! Worked examples of what is told a while behind an outage as late as the law says: at that very ms the last event is; and with all else
-//! that the law asks for it isn't 1 ms sooner, nor where the rounds end only then.
+//! that the law asks for it isn't 1 ms sooner, nor where the rounds end only then, though the telephone rests meanwhile.
 #![tactic(auto, unfolding(crate::proofs::Computing::on_examples))]
 
 ghost use Rattle.std.specs.Prelude.{◌≡◌, ◌≤◌, ◌<◌, ◌+◌, ◌*◌, ◌++◌, [], ◌∷◌, ℕ};
@@ -9,6 +9,8 @@ ghost use Rattle.machine_laws.specs.Saying.{Begun};
 ghost use Rattle.agent_core.specs.World.{now_in};
 ghost use Rattle.world_laws.specs.Example.{world};
 ghost use Rattle.delivery_laws.specs.Copies.{IsRun};
+ghost use Rattle.delivery_laws.specs.Course.{course_from};
+ghost use Rattle.delivery_laws.specs.Dialled.{done_in};
 ghost use Rattle.delivery_laws.specs.DialledExample.{endpoint_then};
 ghost use Rattle.delivery_laws.specs.Example.{took_between, took_first};
 ghost use Rattle.delivery_laws.specs.Fairness.{GoesToAgent};
@@ -47,6 +49,9 @@ pub fn all_is_told_at_the_last_ms()
     ensures done { done_between rested_in_step five_begun_in_step ≡ five ∷ six ∷ hung_up ∷ [] }
     ensures taken { taken_between rested_in_step told_at_last_in_step ≡ five ∷ six ∷ hung_up ∷ [] }
     ensures told { ToldFrom rested_in_step five_begun_in_step told_at_last_in_step }
+    ensures rests { done_in (course_from two_lines (plain two_lines (took_first five_begun_in_step)) 1
+        (took_between five_begun_in_step told_at_last_in_step)) ≡ [] }
+    ensures all { (told : ToldFrom rested_in_step five_begun_in_step told_at_last_in_step) × (told.rest ≡ []) }
 {}
 
 /// 1 ms sooner the rounds are over, and the last event is on its way yet.
@@ -67,9 +72,13 @@ pub fn else_something_isnt_told_a_ms_sooner()
         ≡ now_in two_lines (world told_but_one_in_step) + 1 }
     ensures taken { taken_between rested_in_step told_but_one_in_step ≡ five ∷ six ∷ [] }
     ensures told { ¬ ToldFrom rested_in_step five_begun_in_step told_but_one_in_step }
+    ensures rests { done_in (course_from two_lines (plain two_lines (took_first five_begun_in_step)) 1
+        (took_between five_begun_in_step told_but_one_in_step)) ≡ [] }
+    ensures not_all { ¬ ((told : ToldFrom rested_in_step five_begun_in_step told_but_one_in_step) × (told.rest ≡ [])) }
 {}
 
-/// Over a network that takes no time, at the end of two rounds of 100 ms, in which it was asked once, the second event isn't told.
+/// Over a network that takes no time, at the end of two rounds of 100 ms, in which it was asked once, the second event isn't told: it is
+/// quarantined yet.
 pub fn else_something_isnt_told_as_the_rounds_end()
     ensures run { IsRun two_lines asked_once_at_once }
     ensures fair { IsFairFrom two_lines asked_once_at_once 28703 0 }
@@ -91,4 +100,8 @@ pub fn else_something_isnt_told_as_the_rounds_end()
     ensures done { done_between rested_longer_in_step rested_longer_in_step ≡ five ∷ six ∷ [] }
     ensures taken { taken_between rested_longer_in_step asked_once_at_once ≡ five ∷ [] }
     ensures told { ¬ ToldFrom rested_longer_in_step rested_longer_in_step asked_once_at_once }
+    ensures rests { done_in (course_from two_lines (plain two_lines (took_first rested_longer_in_step)) 1
+        (took_between rested_longer_in_step asked_once_at_once)) ≡ [] }
+    ensures left { (endpoint_then asked_once_at_once).line.quarantined.events ≡ six ∷ [] }
+    ensures not_all { ¬ ((told : ToldFrom rested_longer_in_step rested_longer_in_step asked_once_at_once) × (told.rest ≡ [])) }
 {}

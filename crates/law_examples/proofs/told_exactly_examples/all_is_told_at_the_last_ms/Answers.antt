@@ -66,4 +66,16 @@ returns c = record {
   done = done_is;
   taken = taken_is;
   told = is_told;
+  rests = refl;
+  all = (
+    record {
+      late = [];
+      since = five ∷ six ∷ hung_up ∷ [];
+      late_is = none_flew;
+      order = taken_is;
+      rest = [];
+      whole = ap (λ (x : List Observed). x ++ []) (sym done_is);
+    },
+    refl,
+  );
 }

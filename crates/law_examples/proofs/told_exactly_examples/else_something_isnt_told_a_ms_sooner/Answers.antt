@@ -64,4 +64,6 @@ returns c = record {
   too_soon = refl;
   taken = taken_is;
   told = not_told;
+  rests = refl;
+  not_all = λ all. not_told all.0;
 }

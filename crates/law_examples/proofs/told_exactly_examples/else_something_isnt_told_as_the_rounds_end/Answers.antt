@@ -67,4 +67,7 @@ returns c = record {
   done = done_is;
   taken = taken_is;
   told = not_told;
+  rests = refl;
+  left = refl;
+  not_all = λ all. not_told all.0;
 }
