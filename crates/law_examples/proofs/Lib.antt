@@ -11,3 +11,5 @@ mod RoomlessCopies
 mod FewerLemmas
 mod ToldPremiseLemmas
 mod FilledLine
+mod UntimedTurns
+mod KeepingLaws

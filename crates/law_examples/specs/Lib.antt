@@ -7,3 +7,4 @@ pub mod SlowerExample
 pub mod SinceExample
 pub mod FewerExample
 pub mod ToldPremiseExample
+pub mod Keeping
