@@ -13,3 +13,4 @@ mod ToldPremiseLemmas
 mod FilledLine
 mod UntimedTurns
 mod KeepingLaws
+mod KeepingExamples

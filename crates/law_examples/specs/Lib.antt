@@ -8,3 +8,4 @@ pub mod SinceExample
 pub mod FewerExample
 pub mod ToldPremiseExample
 pub mod Keeping
+pub mod KeepingExample

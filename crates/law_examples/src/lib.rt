@@ -8,6 +8,7 @@ pub mod apart_examples;
 pub mod carried_examples;
 pub mod fewer_examples;
 pub mod fewer_room_examples;
+pub mod keeping_examples;
 pub mod keeping_laws;
 pub mod response_examples;
 pub mod roomless_examples;
