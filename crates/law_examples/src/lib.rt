@@ -15,6 +15,7 @@ pub mod roomless_examples;
 pub mod sent_examples;
 pub mod since_examples;
 pub mod slow_examples;
+pub mod stretch_examples;
 pub mod told_behind_examples;
 pub mod told_exactly_examples;
 pub mod told_premise_examples;
