@@ -6,4 +6,5 @@ pub mod CarriedBack
 pub mod CarriedExample
 pub mod ToldExample
 pub mod ToldPhoneExample
+pub mod ToldKeepingExample
 pub mod ToldNetExample

@@ -13,6 +13,7 @@ pub mod laws;
 pub mod quarantine_examples;
 pub mod roomless_examples;
 pub mod told_examples;
+pub mod told_keeping_examples;
 pub mod told_net_examples;
 pub mod told_phone_examples;
 pub mod word_examples;
