@@ -48,3 +48,6 @@ mod RoomlessBack
 mod RoomlessBackLine
 mod RoomlessOnce
 mod ToldRoomless
+mod AuditTexts
+mod AuditRounds
+mod FullLife

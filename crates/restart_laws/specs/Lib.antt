@@ -8,3 +8,4 @@ pub mod ToldExample
 pub mod ToldPhoneExample
 pub mod ToldKeepingExample
 pub mod ToldNetExample
+pub mod HistoryExample

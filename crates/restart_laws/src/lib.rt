@@ -8,6 +8,7 @@
 
 pub mod carried_examples;
 pub mod examples;
+pub mod history_examples;
 pub mod in_flight_examples;
 pub mod laws;
 pub mod quarantine_examples;
